@@ -1,0 +1,4 @@
+pub mod Connectives
+pub mod SquareTests
+pub mod MenLemmas
+pub mod Facts

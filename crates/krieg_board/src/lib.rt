@@ -1,0 +1,28 @@
+//! Squares, men, moves and valid positions of chess, and units of work.
+//!
+//! The rules of this crate are the definitions of `specs/`; each function here answers exactly what
+//! the definition of its name says. No call takes memory.
+#![tactic(auto)]
+
+mod attack;
+mod board;
+mod hand;
+mod memory;
+mod men;
+mod position;
+mod square;
+#[cfg(test)]
+mod tests;
+mod units;
+
+pub use attack::{apart, attacks, is_attacked, is_clear, is_king_attacked};
+pub use board::{Board, is_man, is_of};
+pub use hand::same_hand;
+pub use memory::NoMemory;
+pub use men::{Kind, Man, Move, Promo, Rights, Side};
+pub use position::{BadPosition, Position};
+pub use square::{
+    Square, crossed_rank, file_of, home_rank, landing_rank, last_rank, pawn_rank, rank_of,
+    square_at,
+};
+pub use units::{NoUnits, Units};
