@@ -1,5 +1,5 @@
 -- Valid positions, and the first fault of one that is not.
-use Rattle.std.specs.Prelude.{ℕ, Bool, true, ◌≡◌, ◌+◌, Option, Some, None, not, ◌&&◌, ◌||◌, ◌==◌, nat_le, cond, count_by, length}
+use Rattle.std.specs.Prelude.{ℕ, Bool, true, ◌≡◌, Option, Some, None, not, ◌&&◌, ◌||◌, ◌==◌, nat_le, cond, count_by, length}
 use Rattle.krieg_board.specs.Men.{other}
 use Rattle.krieg_board.specs.Squares.{file_of, rank_of, square_at, home_rank, pawn_rank, crossed_rank, landing_rank, every_square}
 use Rattle.krieg_board.specs.Board.{Board, man_at, is_empty, is_of, is_man}

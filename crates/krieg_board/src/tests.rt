@@ -73,3 +73,44 @@ fn refuses_too_many_men(rt: HostRuntime) {
     let nine = Position::make(board, Side::White, NO_RIGHTS, None).err();
     assert_eq!(rt; nine, Some(BadPosition::TooManyMen));
 }
+
+/// The men of the first and the second rank of the start of a game, for one side.
+fn first_ranks(board: &mut Board) {
+    use Kind::{Bishop, King, Knight, Pawn, Queen, Rook};
+    let officers = [Rook, Knight, Bishop, Queen, King, Bishop, Knight, Rook];
+    for file in 0..8 {
+        let side = Side::White;
+        board[file] = Some(Man {
+            side,
+            kind: officers[file],
+        });
+        board[file + 8] = Some(Man { side, kind: Pawn });
+    }
+}
+
+/// At the start of a game g1, e2 and g2 attack f3, and nothing else of White's does.
+#[test]
+fn attacks_f3_at_the_start(rt: HostRuntime) {
+    let mut board = [None; 64];
+    first_ranks(&mut board);
+    for from in 0..64 {
+        let expected = from == 6 || from == 12 || from == 14;
+        assert_eq!(rt; attacks(&board, from, 21), expected, "from {from}");
+    }
+    assert!(rt; is_attacked(&board, 21, Side::White));
+    assert!(rt; !is_attacked(&board, 21, Side::Black));
+}
+
+/// A hand is a side's own men and rights and the turn: the other side's men do not count.
+#[test]
+fn compares_hands(rt: HostRuntime) -> Result<(), BadPosition> {
+    let kings = board_of(&[(4, Side::White, Kind::King), (60, Side::Black, Kind::King)]);
+    let moved = board_of(&[(4, Side::White, Kind::King), (56, Side::Black, Kind::King)]);
+    let here = Position::make(kings, Side::White, NO_RIGHTS, None)?;
+    let there = Position::make(moved, Side::White, NO_RIGHTS, None)?;
+    let turned = Position::make(kings, Side::Black, NO_RIGHTS, None)?;
+    assert!(rt; same_hand(&here, &there, Side::White));
+    assert!(rt; !same_hand(&here, &there, Side::Black));
+    assert!(rt; !same_hand(&here, &turned, Side::White));
+    Ok(())
+}
