@@ -1,0 +1,20 @@
+-- The two diagonals through a square, and which of them is the longer.
+use Rattle.std.specs.Prelude.{ℕ, Bool, ◌+◌, ◌-◌, ◌==◌, nat_lt, cond}
+use Rattle.krieg_board.specs.Squares.{file_of, rank_of}
+use Rattle.krieg_board.specs.Attacks.{apart}
+
+-- both squares are on one diagonal that rises from the a-file to the h-file
+abbrev pub is_rising : ℕ → ℕ → Bool
+is_rising k s = file_of s + rank_of k == file_of k + rank_of s
+
+-- how many squares the rising diagonal through k has
+abbrev pub rising_length : ℕ → ℕ
+rising_length k = 8 - apart (file_of k) (rank_of k)
+
+-- how many squares the falling diagonal through k has
+abbrev pub falling_length : ℕ → ℕ
+falling_length k = 8 - apart (file_of k + rank_of k) 7
+
+-- of the two diagonals through k, the one that goes through s too is the longer
+abbrev pub is_long_diagonal : ℕ → ℕ → Bool
+is_long_diagonal k s = cond (is_rising k s) (nat_lt (falling_length k) (rising_length k)) (nat_lt (rising_length k) (falling_length k))

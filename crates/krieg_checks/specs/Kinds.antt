@@ -1,0 +1,61 @@
+-- The kinds of check that the side to move is in.
+use Rattle.std.specs.Prelude.{ℕ, Bool, true, false, ◌+◌, Option, ◌&&◌, ◌||◌, ◌==◌, cond}
+use Rattle.krieg_board.specs.Men.{other}
+use Rattle.krieg_board.specs.Squares.{file_of, rank_of, some_square}
+use Rattle.krieg_board.specs.Board.{Board, man_at, is_of, is_man}
+use Rattle.krieg_board.specs.Attacks.{attacks}
+use Rattle.krieg_board.specs.Pos.{Pos}
+use Rattle.krieg_board.specs.declared.men.Man.{Man}
+use Rattle.krieg_board.specs.declared.men.Side.{Side}
+use Rattle.krieg_board.specs.declared.men.Side.TheVariants.{White, Black}
+use Rattle.krieg_board.specs.declared.men.Kind.TheVariants.{King, Knight}
+use Rattle.krieg_checks.specs.Diagonals.{is_long_diagonal}
+use Rattle.krieg_checks.specs.declared.kinds.CheckKind.{CheckKind}
+use Rattle.krieg_checks.specs.declared.kinds.CheckKind.TheVariants.{File, Rank, Long, Short, Leap}
+use Rattle.krieg_checks.specs.declared.kinds.Kinds.{Kinds}
+
+abbrev pub is_knight : Option Man → Bool
+is_knight m = is_man White Knight m || is_man Black Knight m
+
+-- the kind of check that this man gives from s to a king on k, where it attacks that square
+abbrev pub kind_from : Option Man → ℕ → ℕ → CheckKind
+kind_from man k s =
+    cond (is_knight man) Leap
+    (cond (file_of s == file_of k) File
+    (cond (rank_of s == rank_of k) Rank
+    (cond (is_long_diagonal k s) Long Short)))
+
+abbrev pub is_same_check : CheckKind → CheckKind → Bool
+is_same_check File File = true
+is_same_check Rank Rank = true
+is_same_check Long Long = true
+is_same_check Short Short = true
+is_same_check Leap Leap = true
+is_same_check _ _ = false
+
+-- an enemy man on s gives the king on k a check of that kind
+unfoldable pub checks_from : Board → Side → CheckKind → ℕ → ℕ → Bool
+checks_from b side which k s =
+    is_of (other side) (man_at b s) && (attacks b s k && is_same_check (kind_from (man_at b s) k s) which)
+
+-- some enemy man gives the king on k a check of that kind
+unfoldable pub is_checked_at : Board → Side → CheckKind → ℕ → Bool
+is_checked_at b side which k = some_square (checks_from b side which k)
+
+-- that side's king is in a check of that kind
+unfoldable pub is_checked : Board → Side → CheckKind → Bool
+is_checked b side which = some_square (λ k. is_man side King (man_at b k) && is_checked_at b side which k)
+
+-- the kinds of check that the side to move is in
+unfoldable pub kinds : Pos → Kinds
+kinds p = record {
+  knight = is_checked p.board p.side Leap;
+  short = is_checked p.board p.side Short;
+  long = is_checked p.board p.side Long;
+  rank = is_checked p.board p.side Rank;
+  file = is_checked p.board p.side File;
+}
+
+-- the kinds as a number: file 1, rank 2, long diagonal 4, short diagonal 8, knight 16
+abbrev pub bits_of : Kinds → ℕ
+bits_of k = cond k.file 1 0 + cond k.rank 2 0 + cond k.long 4 0 + cond k.short 8 0 + cond k.knight 16 0

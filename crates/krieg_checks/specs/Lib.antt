@@ -1,0 +1,2 @@
+pub mod Diagonals
+pub mod Kinds
