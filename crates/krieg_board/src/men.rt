@@ -29,7 +29,7 @@ pub struct Man {
 }
 
 /// What a move makes of the man that moves: `Plain` leaves it as it is, the others name what a pawn
-/// becomes on the last rank (FIDE Laws, article 3.7.5). The order is that of moves.
+/// becomes on the last rank (FIDE Laws, article 3.7). The order is that of moves.
 #[derive(Clone, Copy, Debug, PartialEq, Eq, PartialOrd, Ord, Default)]
 pub enum Promo {
     #[default]
