@@ -1,0 +1,2 @@
+pub mod ToldBytes
+pub mod Counts

@@ -1,0 +1,13 @@
+use Rattle.std.proofs.Common.{◌≤◌, ◌-◌, length, take}
+use Rattle.std.specs.Io.KnownBytes.{Appends}
+use Rattle.krieg_ports.proofs.whole.write_all.Given as goal
+
+abbrev pub invariant-loop-sent : goal.invariant-loop-sent
+invariant-loop-sent g l = record {
+  within : l.sent ≤ length l.bytes;
+  later : g.O.Sink.faults l.initial.sink ≤ g.O.Sink.faults l.sink;
+  front : Appends (g.O.Sink.got l.initial.sink) (g.O.Sink.got l.sink) (take l.sent l.bytes);
+}
+
+abbrev pub decreases-loop-sent : goal.decreases-loop-sent
+decreases-loop-sent g l = length l.bytes - l.sent

@@ -1,0 +1,11 @@
+-- How many bytes a source gave before a whole read failed.
+use Rattle.std.specs.Prelude.{◌≡◌, ℕ, ◌+◌, ◌≤◌}
+use Rattle.krieg_ports.specs.declared.whole.ReadEnd.{ReadEnd}
+use Rattle.krieg_ports.specs.declared.whole.ReadEnd.TheVariants.{ReadFault, TooLong, NoMemory}
+
+-- the number of bytes that came before each failure of a read of at most `max` bytes: one too many
+-- where it was too long, and no more than were allowed before a fault or want of memory
+abbrev pub CameBefore : ReadEnd → ℕ → ℕ → Type 0
+CameBefore TooLong max n = n ≡ max + 1
+CameBefore ReadFault max n = n ≤ max
+CameBefore NoMemory max n = n ≤ max

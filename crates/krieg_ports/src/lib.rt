@@ -1,0 +1,19 @@
+// Where bytes come from and go to: sources and sinks that count their faults.
+//
+// - `ports`: the traits `Source` and `Sink`, and their one failure.
+// - `memory`: a source and a sink in memory, which fail at the calls that they are told.
+// - `adapters`: a source over any reader of std, and a sink over any writer.
+// - `whole`: reading a source to its end, and writing a whole text to a sink.
+#![tactic(auto)]
+
+mod adapters;
+mod memory;
+mod ports;
+#[cfg(test)]
+mod tests;
+mod whole;
+
+pub use adapters::{Adapter, AdapterOut};
+pub use memory::{MemSink, MemSource};
+pub use ports::{Failed, Sink, Source};
+pub use whole::{ReadEnd, WriteFault, read_all, write_all};

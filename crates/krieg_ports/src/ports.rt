@@ -1,0 +1,55 @@
+// The traits of what gives bytes and of what takes them.
+ghost use Rattle.std.specs.Prelude.{◌≡◌, ℕ, ◌≤◌, List, Option, OnErr};
+ghost use Rattle.std.specs.Io.{ReadsAtMost};
+ghost use Rattle.std.specs.Io.KnownBytes.{ReadConsumes, WriteAppends};
+ghost use Rattle.krieg_ports.specs.Bytes.{TakesSome};
+ghost use Rattle.krieg_ports.specs.Faults.{one_more, Rose};
+
+/// A call of a source or of a sink failed. The count of its faults rose in that call, or stands at
+/// its last value.
+#[derive(Clone, Copy, Debug, PartialEq, Eq)]
+pub struct Failed;
+
+/// Where bytes come from.
+pub trait Source {
+    // The bytes that are left, or `None` where the source does not tell them.
+    ghost left: { Self → Option (List ℕ) };
+
+    // How many of its calls failed.
+    ghost faults: { Self → ℕ };
+
+    /// Puts the next bytes into the front of the buffer and says how many they are. `Ok(0)` on a
+    /// buffer that is not empty is the end. `Failed` is a fault of the source, and then it gave no
+    /// byte: what is left can still be read.
+    fn read(&mut self, buf: &mut [u8]) -> Result<usize, Failed>
+        ensures bound { ReadsAtMost result buf.new }
+        ensures bytes { ReadConsumes (left self.old) (left self.new) result buf.new }
+        ensures failed { OnErr result (Rose (faults self.old) (faults self.new)) }
+        ensures later { faults self.old ≤ faults self.new };
+}
+
+/// Where bytes go to.
+pub trait Sink {
+    // The bytes that it has got, or `None` where the sink does not tell them.
+    ghost got: { Self → Option (List ℕ) };
+
+    // How many of its calls failed.
+    ghost faults: { Self → ℕ };
+
+    /// Takes bytes from the front of the piece, at least one where there is one, and says how many.
+    /// `Failed` is a fault of the sink, and then it took nothing.
+    fn write(&mut self, piece: &[u8]) -> Result<usize, Failed>
+        ensures takes { TakesSome result piece.now }
+        ensures bytes { WriteAppends (got self.old) (got self.new) result piece.now }
+        ensures failed { OnErr result (Rose (faults self.old) (faults self.new)) }
+        ensures later { faults self.old ≤ faults self.new };
+}
+
+/// Counts one more fault, and is the failure to answer. At its last value the count stands still.
+pub(crate) fn count_fault(faults: &mut u64) -> Failed
+    ensures counted { faults.new ≡ one_more faults.old }
+    ensures later { faults.old ≤ faults.new }
+{
+    *faults = faults.saturating_add(1);
+    Failed
+}
