@@ -1,5 +1,5 @@
 -- Bytes that are told over two calls in a row: what a sink got, and what a source gave.
-use Rattle.std.proofs.Common.{◌≡◌, ℕ, ◌+◌, ◌-◌, ◌<◌, List, [], ◌++◌, length, take, drop, refl, sym, ap, ◌∙◌, arith, subst, append_assoc, append-nil, length-append, length-drop, take-add}
+use Rattle.std.proofs.Common.{◌≡◌, ℕ, ◌+◌, ◌-◌, List, [], ◌++◌, length, take, drop, refl, sym, ap, ◌∙◌, arith, subst, append_assoc, append-nil, length-append, length-drop, take-add}
 use Rattle.std.proofs.lemmas.List.{take_all}
 use Rattle.std.proofs.lemmas.Grind.{common_steps}
 use Rattle.std.specs.Prelude.{Option, Some, None, IfSome, Result, Ok, Err}
@@ -100,26 +100,20 @@ ReadConsumes-after first middle last (Ok n) buf kept (read, end) = (Consumes-aft
 ReadConsumes-after first middle last (Err e) buf kept read = Keeps-then first middle last kept read
 
 -- what was read up to the end are all bytes that were left
-pub Consumes-whole : (old new : Option (List ℕ)) (s : List ℕ) → Consumes old new s → IsAtEnd new → IfSome old (λ bytes. bytes ≡ s)
-Consumes-whole None new s read end = tt
-Consumes-whole (Some x) None s read end = absurd read
-Consumes-whole (Some x) (Some y) s read end = read ∙ ap (λ xs. s ++ xs) end ∙ append-nil s
+pub Consumes-all : (old new : Option (List ℕ)) (s : List ℕ) → Consumes old new s → IsAtEnd new → IfSome old (λ bytes. bytes ≡ s)
+Consumes-all None new s read end = tt
+Consumes-all (Some x) None s read end = absurd read
+Consumes-all (Some x) (Some y) s read end = read ∙ ap (λ xs. s ++ xs) end ∙ append-nil s
 
 -- the bytes of two calls count together
 pub Gave-then : (first middle last : Option (List ℕ)) (s t : List ℕ) (P : ℕ → Type 0) → Consumes first middle s → Consumes middle last t → P (length s + length t) → Gave first last P
 Gave-then first middle last s t P one two count =
     (s ++ t, Consumes-then first middle last s t one two, subst P (sym (length-append s t)) count)
 
--- a source that gave more than n bytes had more than n left
-pub Gave-longer : (old new : Option (List ℕ)) (n : ℕ) → Gave old new (λ m. m ≡ n + 1) → IfSome old (λ bytes. n < length bytes)
-Gave-longer None new n gave = tt
-Gave-longer (Some x) None n (given, read, count) = absurd read
-Gave-longer (Some x) (Some y) n (given, read, count) = rw read (grind (arith, common_steps, count))
-
 -- ---- a loop over the parts of a text
 
 -- the first i elements, and then n more of the rest
 pub take_more : (i n : ℕ) (xs : List ℕ) → take (i + n) xs ≡ take i xs ++ take n (take (length xs - i) (drop i xs))
 take_more i n xs =
-    let whole : take (length xs - i) (drop i xs) ≡ drop i xs = take_all (length xs - i) (drop i xs) (omega (arith, length-drop i xs)) in
-    rw whole (take-add i n xs)
+    let all : take (length xs - i) (drop i xs) ≡ drop i xs = take_all (length xs - i) (drop i xs) (omega (arith, length-drop i xs)) in
+    rw all (take-add i n xs)

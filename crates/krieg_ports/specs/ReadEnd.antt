@@ -1,7 +1,7 @@
--- How many bytes a source gave before a whole read failed.
+-- How many bytes a source gave before it was not read to its end.
 use Rattle.std.specs.Prelude.{◌≡◌, ℕ, ◌+◌, ◌≤◌}
-use Rattle.krieg_ports.specs.declared.whole.ReadEnd.{ReadEnd}
-use Rattle.krieg_ports.specs.declared.whole.ReadEnd.TheVariants.{ReadFault, TooLong, NoMemory}
+use Rattle.krieg_ports.specs.declared.transfer.ReadEnd.{ReadEnd}
+use Rattle.krieg_ports.specs.declared.transfer.ReadEnd.TheVariants.{ReadFault, TooLong, NoMemory}
 
 -- the number of bytes that came before each failure of a read of at most `max` bytes: one too many
 -- where it was too long, and no more than were allowed before a fault or want of memory

@@ -1,6 +1,6 @@
-// A source over a reader of std, and a sink over a writer: the edge where the system's streams come in.
-// The clauses of std say what a reader and a writer tell of their bytes. Those of the system tell nothing.
-ghost use Rattle.std.specs.Prelude.{◌≡◌, ◌≤◌, ◌<◌, length, IfOk, OnErr, is_ok, if◌then◌else◌};
+// A source over a reader of std and a sink over a writer: the edge where the system's streams come
+// in. The clauses of std are trusted for what a reader gives and a writer takes.
+ghost use Rattle.std.specs.Prelude.{◌≡◌, ◌≤◌, OnErr, is_ok, if◌then◌else◌};
 ghost use Rattle.std.specs.Io.{ReadsAtMost, WritesAtMost};
 ghost use Rattle.std.specs.Io.KnownBytes.{ReadConsumes, WriteAppends};
 ghost use Rattle.krieg_ports.specs.Adapters.{inner_reader, inner_writer, read_faults, write_faults};
@@ -41,12 +41,14 @@ impl<R: Read> Source for Adapter<R> {
     /// fault once it was interrupted a thousand times in a row.
     fn read(&mut self, buf: &mut [u8]) -> Result<usize, Failed>
         ensures bound { ReadsAtMost result buf.new }
-        ensures bytes { ReadConsumes (R.remaining (inner_reader self.old)) (R.remaining (inner_reader self.new)) result buf.new }
+        ensures bytes { ReadConsumes (R.remaining (inner_reader self.old))
+            (R.remaining (inner_reader self.new)) result buf.new }
         ensures failed { OnErr result (Rose (read_faults self.old) (read_faults self.new)) }
         ensures later { read_faults self.old ≤ read_faults self.new }
 
         // The count goes up by one at a failure, and at no other call.
-        ensures counted { read_faults self.new ≡ (if is_ok result then read_faults self.old else one_more (read_faults self.old)) }
+        ensures counted { read_faults self.new
+            ≡ (if is_ok result then read_faults self.old else one_more (read_faults self.old)) }
     {
         match read_uninterrupted(&mut self.inner, buf) {
             Ok(n) => Ok(n),
@@ -97,12 +99,14 @@ impl<W: Write> Sink for AdapterOut<W> {
     /// interrupted a thousand times in a row.
     fn write(&mut self, piece: &[u8]) -> Result<usize, Failed>
         ensures takes { TakesSome result piece.now }
-        ensures bytes { WriteAppends (W.contents (inner_writer self.old)) (W.contents (inner_writer self.new)) result piece.now }
+        ensures bytes { WriteAppends (W.contents (inner_writer self.old))
+            (W.contents (inner_writer self.new)) result piece.now }
         ensures failed { OnErr result (Rose (write_faults self.old) (write_faults self.new)) }
         ensures later { write_faults self.old ≤ write_faults self.new }
 
         // The count goes up by one at a failure, and at no other call.
-        ensures counted { write_faults self.new ≡ (if is_ok result then write_faults self.old else one_more (write_faults self.old)) }
+        ensures counted { write_faults self.new
+            ≡ (if is_ok result then write_faults self.old else one_more (write_faults self.old)) }
     {
         match write_uninterrupted(&mut self.inner, piece) {
             Ok(n) if n > 0 || piece.is_empty() => Ok(n),

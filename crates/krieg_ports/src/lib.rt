@@ -3,7 +3,7 @@
 // - `ports`: the traits `Source` and `Sink`, and their one failure.
 // - `memory`: a source and a sink in memory, which fail at the calls that they are told.
 // - `adapters`: a source over any reader of std, and a sink over any writer.
-// - `whole`: reading a source to its end, and writing a whole text to a sink.
+// - `transfer`: reading a source to its end, and writing a whole text to a sink.
 #![tactic(auto)]
 
 mod adapters;
@@ -11,9 +11,9 @@ mod memory;
 mod ports;
 #[cfg(test)]
 mod tests;
-mod whole;
+mod transfer;
 
 pub use adapters::{Adapter, AdapterOut};
 pub use memory::{MemSink, MemSource};
 pub use ports::{Failed, Sink, Source};
-pub use whole::{ReadEnd, WriteFault, read_all, write_all};
+pub use transfer::{ReadEnd, WriteFault, read_all, write_all};

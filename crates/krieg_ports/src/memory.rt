@@ -1,10 +1,13 @@
-// A source and a sink in memory, for tests and for callers that have their bytes already. Nothing here
-// takes memory.
-ghost use Rattle.std.specs.Prelude.{◌≡◌, ℕ, ◌+◌, ◌-◌, ◌<◌, ◌≤◌, ◌⊎◌, ◌↔◌, List, [], ◌++◌, length, take, drop, min, Some, IfOk, OnErr, IsErr, Contains, vec_len};
+// A source and a sink in memory, for tests and for callers that have their bytes already. Nothing
+// here takes memory.
+ghost use Rattle.std.specs.Prelude.{◌≡◌, ℕ, ◌+◌, ◌-◌, ◌<◌, ◌≤◌, ◌↔◌, [], ◌++◌, length, take, drop};
+ghost use Rattle.std.specs.Prelude.{min, Some, IfOk, OnErr, IsErr, vec_len};
 ghost use Rattle.std.specs.Io.{ReadsAtMost};
 ghost use Rattle.std.specs.Io.KnownBytes.{ReadConsumes, WriteAppends};
 ghost use Rattle.krieg_ports.specs.Bytes.{TakesSome};
-ghost use Rattle.krieg_ports.specs.Faults.{one_more, Rose};
+ghost use Rattle.krieg_ports.specs.Faults.{Rose};
+ghost use Rattle.krieg_ports.specs.Memory.{FailsNext, given_count, after_read, after_failed_read};
+ghost use Rattle.krieg_ports.specs.Memory.{RefusesNext, taken_count, after_write, after_failed_write};
 
 use crate::ports::{Failed, Sink, Source, count_fault};
 use std::marker::Model;
@@ -26,7 +29,13 @@ impl Model for MemSource {
 
     ghost Value = { SourceInMemory };
 
-    ghost view = { λ s. record { left = drop s.at s.bytes.items; piece = s.piece; fails = s.fails.items; calls = s.calls; faults = s.faults } };
+    ghost view = { λ s. record {
+      left = drop s.at s.bytes.items;
+      piece = s.piece;
+      fails = s.fails.items;
+      calls = s.calls;
+      faults = s.faults;
+    } };
 
     ghost invariant = { λ s. (s.at ≤ vec_len s.bytes) × (0 < s.piece) };
 }
@@ -36,7 +45,13 @@ impl MemSource {
     /// from 1 on, stand in `fails` fail. After 2^64 - 1 calls every call has that last number.
     pub fn new(bytes: Vec<u8>, piece: usize, fails: Vec<u64>) -> MemSource
         requires { 0 < piece }
-        ensures { result ≡ record { left = bytes.items; piece = piece; fails = fails.items; calls = 0; faults = 0 } }
+        ensures { result ≡ record {
+          left = bytes.items;
+          piece = piece;
+          fails = fails.items;
+          calls = 0;
+          faults = 0;
+        } }
     {
         MemSource {
             bytes,
@@ -54,7 +69,7 @@ impl Source for MemSource {
 
     ghost faults = { λ s. s.faults };
 
-    /// Gives as many bytes as a call may, the buffer has places and there are left.
+    /// Gives as many bytes as one call may, the buffer has places for and there are left.
     fn read(&mut self, buf: &mut [u8]) -> Result<usize, Failed>
         ensures bound { ReadsAtMost result buf.new }
         ensures bytes { ReadConsumes (Some self.old.left) (Some self.new.left) result buf.new }
@@ -62,14 +77,14 @@ impl Source for MemSource {
         ensures later { self.old.faults ≤ self.new.faults }
 
         // Which calls fail, and how many bytes the others give.
-        ensures fails { IsErr result ↔ Contains self.old.fails (one_more self.old.calls) }
-        ensures count { IfOk result (λ n. n ≡ min self.old.piece (min (length buf.old) (length self.old.left))) }
+        ensures fails { IsErr result ↔ FailsNext self.old }
+        ensures count { IfOk result (λ n. n ≡ given_count self.old (length buf.old)) }
 
         // What becomes of the buffer and of the source.
         ensures given { IfOk result (λ n. buf.new ≡ take n self.old.left ++ drop n buf.old) }
-        ensures ok { IfOk result (λ n. self.new ≡ record self.old { left = drop n self.old.left; calls = one_more self.old.calls }) }
+        ensures ok { IfOk result (λ n. self.new ≡ after_read self.old n) }
         ensures untouched { OnErr result (buf.new ≡ buf.old) }
-        ensures err { OnErr result (self.new ≡ record self.old { calls = one_more self.old.calls; faults = one_more self.old.faults }) }
+        ensures err { OnErr result (self.new ≡ after_failed_read self.old) }
     {
         self.calls = self.calls.saturating_add(1);
         if self.fails.contains(&self.calls) {
@@ -81,7 +96,7 @@ impl Source for MemSource {
     }
 }
 
-/// Copies as many bytes from the front of `from` to the front of `to` as both have, but at most `most`.
+/// Copies the front of `from` to the front of `to`: as many bytes as both have, but at most `most`.
 fn copy_front(from: &[u8], most: usize, to: &mut [u8]) -> usize
     requires { 0 < most }
     ensures count { result ≡ min most (min (length to.old) (length from.now)) }
@@ -111,18 +126,32 @@ impl Model for MemSink {
 
     ghost Value = { SinkInMemory };
 
-    ghost view = { λ s. record { got = take s.at s.space.items; room = vec_len s.space - s.at; piece = s.piece; fails = s.fails.items; calls = s.calls; faults = s.faults } };
+    ghost view = { λ s. record {
+      got = take s.at s.space.items;
+      room = vec_len s.space - s.at;
+      piece = s.piece;
+      fails = s.fails.items;
+      calls = s.calls;
+      faults = s.faults;
+    } };
 
     ghost invariant = { λ s. (s.at ≤ vec_len s.space) × (0 < s.piece) };
 }
 
 impl MemSink {
     /// A sink with as many places as `space` has, which takes at most `piece` bytes a call. Exactly
-    /// the calls whose numbers, from 1 on, stand in `fails` fail, and those with a piece that is not
-    /// empty once no place is free. After 2^64 - 1 calls every call has that last number.
+    /// these calls fail: those whose numbers, from 1 on, stand in `fails`, and those with a piece
+    /// that is not empty once no place is free. After 2^64 - 1 calls every call has that last number.
     pub fn new(space: Vec<u8>, piece: usize, fails: Vec<u64>) -> MemSink
         requires { 0 < piece }
-        ensures { result ≡ record { got = []; room = vec_len space; piece = piece; fails = fails.items; calls = 0; faults = 0 } }
+        ensures { result ≡ record {
+          got = [];
+          room = vec_len space;
+          piece = piece;
+          fails = fails.items;
+          calls = 0;
+          faults = 0;
+        } }
     {
         MemSink {
             space,
@@ -147,7 +176,7 @@ impl Sink for MemSink {
 
     ghost faults = { λ s. s.faults };
 
-    /// Takes as many bytes as a call may, the piece has and there are free places.
+    /// Takes as many bytes as one call may, the piece has and there are free places for.
     fn write(&mut self, piece: &[u8]) -> Result<usize, Failed>
         ensures takes { TakesSome result piece.now }
         ensures bytes { WriteAppends (Some self.old.got) (Some self.new.got) result piece.now }
@@ -155,12 +184,12 @@ impl Sink for MemSink {
         ensures later { self.old.faults ≤ self.new.faults }
 
         // Which calls fail, and how many bytes the others take.
-        ensures fails { IsErr result ↔ (Contains self.old.fails (one_more self.old.calls) ⊎ ((0 < length piece.now) × (self.old.room ≡ 0))) }
-        ensures count { IfOk result (λ n. n ≡ min self.old.piece (min (length piece.now) self.old.room)) }
+        ensures fails { IsErr result ↔ RefusesNext self.old piece.now }
+        ensures count { IfOk result (λ n. n ≡ taken_count self.old piece.now) }
 
         // What becomes of the sink.
-        ensures ok { IfOk result (λ n. self.new ≡ record self.old { got = self.old.got ++ take n piece.now; room = self.old.room - n; calls = one_more self.old.calls }) }
-        ensures err { OnErr result (self.new ≡ record self.old { calls = one_more self.old.calls; faults = one_more self.old.faults }) }
+        ensures ok { IfOk result (λ n. self.new ≡ after_write self.old piece.now n) }
+        ensures err { OnErr result (self.new ≡ after_failed_write self.old) }
     {
         self.calls = self.calls.saturating_add(1);
         let is_full = !piece.is_empty() && self.at == self.space.len();
@@ -173,8 +202,8 @@ impl Sink for MemSink {
     }
 }
 
-/// Copies as many bytes from the front of `piece` to the places from `at` on as both have, but at
-/// most `most`.
+/// Copies the front of `piece` to the places from `at` on: as many bytes as both have, but at most
+/// `most`.
 fn copy_to(space: &mut [u8], at: usize, piece: &[u8], most: usize) -> usize
     requires { at ≤ length space.old }
     ensures count { result ≡ min most (min (length piece.now) (length space.old - at)) }

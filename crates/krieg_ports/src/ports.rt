@@ -10,7 +10,8 @@ ghost use Rattle.krieg_ports.specs.Faults.{one_more, Rose};
 #[derive(Clone, Copy, Debug, PartialEq, Eq)]
 pub struct Failed;
 
-/// Where bytes come from.
+/// Where bytes come from: the bytes that are left, where it tells them, and a count of faults that
+/// never falls.
 pub trait Source {
     // The bytes that are left, or `None` where the source does not tell them.
     ghost left: { Self → Option (List ℕ) };
@@ -19,8 +20,11 @@ pub trait Source {
     ghost faults: { Self → ℕ };
 
     /// Puts the next bytes into the front of the buffer and says how many they are. `Ok(0)` on a
-    /// buffer that is not empty is the end. `Failed` is a fault of the source, and then it gave no
-    /// byte: what is left can still be read.
+    /// buffer that is not empty is the end.
+    ///
+    /// # Errors
+    ///
+    /// `Failed` is a fault of the source. It gave no byte then: what was left still is.
     fn read(&mut self, buf: &mut [u8]) -> Result<usize, Failed>
         ensures bound { ReadsAtMost result buf.new }
         ensures bytes { ReadConsumes (left self.old) (left self.new) result buf.new }
@@ -28,7 +32,8 @@ pub trait Source {
         ensures later { faults self.old ≤ faults self.new };
 }
 
-/// Where bytes go to.
+/// Where bytes go to: the bytes that it has got, where it tells them, and a count of faults that
+/// never falls.
 pub trait Sink {
     // The bytes that it has got, or `None` where the sink does not tell them.
     ghost got: { Self → Option (List ℕ) };
@@ -37,7 +42,10 @@ pub trait Sink {
     ghost faults: { Self → ℕ };
 
     /// Takes bytes from the front of the piece, at least one where there is one, and says how many.
-    /// `Failed` is a fault of the sink, and then it took nothing.
+    ///
+    /// # Errors
+    ///
+    /// `Failed` is a fault of the sink. It took no byte then.
     fn write(&mut self, piece: &[u8]) -> Result<usize, Failed>
         ensures takes { TakesSome result piece.now }
         ensures bytes { WriteAppends (got self.old) (got self.new) result piece.now }

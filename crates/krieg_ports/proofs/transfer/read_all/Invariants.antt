@@ -1,6 +1,7 @@
+-- What was found so far came from the source and is no longer than allowed.
 use Rattle.std.proofs.Common.{◌≤◌, ◌-◌, vec_len}
 use Rattle.std.specs.Io.KnownBytes.{Consumes}
-use Rattle.krieg_ports.proofs.whole.read_all.Given as goal
+use Rattle.krieg_ports.proofs.transfer.read_all.Given as goal
 
 abbrev pub invariant-loop-found : goal.invariant-loop-found
 invariant-loop-found g l = record {

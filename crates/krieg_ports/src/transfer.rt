@@ -1,9 +1,10 @@
 // Reading a source to its end, and writing a whole text.
-ghost use Rattle.std.specs.Prelude.{◌≡◌, ℕ, ◌≤◌, ◌<◌, List, length, IfOk, IfErr, IfSome, OnOk, OnErr, vec_len};
+ghost use Rattle.std.specs.Prelude.{◌≡◌, ◌≤◌, ◌<◌, length, vec_len};
+ghost use Rattle.std.specs.Prelude.{IfOk, IfErr, IfSome, OnOk, OnErr};
 ghost use Rattle.std.specs.Io.KnownBytes.{Appends, Consumes, IsAtEnd};
 ghost use Rattle.krieg_ports.specs.Bytes.{AppendsPrefix, Gave};
-ghost use Rattle.krieg_ports.specs.ReadEnd.{CameBefore};
 ghost use Rattle.krieg_ports.specs.Faults.{Rose};
+ghost use Rattle.krieg_ports.specs.ReadEnd.{CameBefore};
 
 use crate::ports::{Failed, Sink, Source};
 use std::alloc::Global;
@@ -11,7 +12,7 @@ use std::alloc::Global;
 /// Why a source was not read to its end.
 #[derive(Clone, Copy, Debug, PartialEq, Eq)]
 pub enum ReadEnd {
-    /// A read failed. No more bytes than allowed had come.
+    /// A read failed. No more bytes than are allowed had come.
     ReadFault,
     /// More bytes came than are allowed, before an end or a fault.
     TooLong,
@@ -26,16 +27,24 @@ pub struct WriteFault;
 /// The most bytes that one read asks for.
 const CHUNK: usize = 65_536;
 
-/// All bytes of the source up to its end, where there are at most `max`. It asks for at most one byte
-/// more than that. After an error the bytes that came are gone from the source.
+/// All bytes of the source up to its end, where there are at most `max`.
+///
+/// # Errors
+///
+/// `TooLong` comes exactly where more than `max` bytes came before an end or a fault, and
+/// `ReadFault` only where the source's count of faults rose in this call, or stands at its last
+/// value. The bytes that came before an error are gone from the source: `max + 1` of them before
+/// `TooLong`, and at most `max` before the others.
 pub fn read_all<S: Source>(alloc: Global, src: &mut S, max: usize) -> Result<Vec<u8>, ReadEnd>
-    ensures all { IfOk result (λ v. Consumes (S.left src.old) (S.left src.new) v.items) }
+    ensures all { IfOk result (λ found. Consumes (S.left src.old) (S.left src.new) found.items) }
     ensures end { OnOk result (IsAtEnd (S.left src.new)) }
-    ensures fits { IfOk result (λ v. vec_len v ≤ max) }
+    ensures fits { IfOk result (λ found. vec_len found ≤ max) }
 
     // How many bytes came before each error.
-    ensures came { IfErr result (λ why. Gave (S.left src.old) (S.left src.new) (CameBefore why max)) }
-    ensures long { result ≡ Err ReadEnd.TooLong → IfSome (S.left src.old) (λ bytes. max < length bytes) }
+    ensures came { IfErr result (λ why.
+        Gave (S.left src.old) (S.left src.new) (CameBefore why max)) }
+    ensures long { result ≡ Err ReadEnd.TooLong →
+        IfSome (S.left src.old) (λ bytes. max < length bytes) }
 
     // A fault only by the source's own count, which never falls.
     ensures fault { result ≡ Err ReadEnd.ReadFault → Rose (S.faults src.old) (S.faults src.new) }
@@ -59,7 +68,12 @@ pub fn read_all<S: Source>(alloc: Global, src: &mut S, max: usize) -> Result<Vec
     }
 }
 
-/// Writes all bytes, in order. After a fault the sink has got a front part of them. It takes no memory.
+/// Writes all bytes, in order. It takes no memory.
+///
+/// # Errors
+///
+/// `WriteFault` comes only where the sink's count of faults rose in this call, or stands at its last
+/// value. The sink has got a front part of the bytes then.
 pub fn write_all<O: Sink>(sink: &mut O, bytes: &[u8]) -> Result<(), WriteFault>
     ensures all { OnOk result (Appends (O.got sink.old) (O.got sink.new) bytes.now) }
     ensures prefix { OnErr result (AppendsPrefix (O.got sink.old) (O.got sink.new) bytes.now) }

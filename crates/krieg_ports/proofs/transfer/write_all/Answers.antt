@@ -1,6 +1,7 @@
+-- What the sink got after each write is a front part of the text.
 use Rattle.std.proofs.Common.{arith}
 use Rattle.krieg_ports.proofs.ToldBytes.{Appends-then, Appends-kept, AppendsPrefix-take, take_more}
-use Rattle.krieg_ports.proofs.whole.write_all.Goals as goal
+use Rattle.krieg_ports.proofs.transfer.write_all.Goals as goal
 
 pub returns-in-Err-clause-prefix : goal.returns-in-Err-clause-prefix
 returns-in-Err-clause-prefix g c =

@@ -1,6 +1,7 @@
+-- The sink got the first `sent` bytes.
 use Rattle.std.proofs.Common.{◌≤◌, ◌-◌, length, take}
 use Rattle.std.specs.Io.KnownBytes.{Appends}
-use Rattle.krieg_ports.proofs.whole.write_all.Given as goal
+use Rattle.krieg_ports.proofs.transfer.write_all.Given as goal
 
 abbrev pub invariant-loop-sent : goal.invariant-loop-sent
 invariant-loop-sent g l = record {
