@@ -1,0 +1,12 @@
+pub mod Boards
+pub mod Effects
+pub mod Movers
+pub mod Shapes
+pub mod Castling
+pub mod Pawns
+pub mod Arrivals
+pub mod Keeps
+pub mod Marks
+pub mod KeepsValid
+pub mod LegalMoves
+pub mod MoveLists

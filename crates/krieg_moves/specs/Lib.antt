@@ -1,0 +1,4 @@
+pub mod Wings
+pub mod After
+pub mod Legal
+pub mod Moves

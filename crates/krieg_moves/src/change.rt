@@ -1,0 +1,183 @@
+ghost use Rattle.std.specs.Prelude.{◌≡◌, ◌<◌, ℕ, IsTrue};
+ghost use Rattle.krieg_board.specs.Validity.{IsValid};
+ghost use Rattle.krieg_moves.specs.After as spec;
+ghost use Rattle.krieg_moves.specs.Legal.{is_legal};
+
+use crate::wing::{Wing, arrival, corner, crossing, king_square};
+use krieg_board::{
+    Board, Kind, Man, Move, Position, Promo, Rights, Side, Square, crossed_rank, file_of,
+    landing_rank, pawn_rank, rank_of, square_at,
+};
+
+fn kind_after(promo: Promo, kind: Kind) -> Kind
+    ensures { result ≡ spec.kind_after promo kind }
+{
+    match promo {
+        Promo::Plain => kind,
+        Promo::Queen => Kind::Queen,
+        Promo::Rook => Kind::Rook,
+        Promo::Bishop => Kind::Bishop,
+        Promo::Knight => Kind::Knight,
+    }
+}
+
+fn placed(man: Man, mv: &Move) -> Man
+    ensures { result ≡ spec.placed man mv.now }
+{
+    Man {
+        side: man.side,
+        kind: kind_after(mv.promo, man.kind),
+    }
+}
+
+fn moved(board: &Board, man: Man, mv: &Move) -> Board
+    ensures { result ≡ spec.moved board.now man mv.now }
+{
+    let mut next = *board;
+    next[mv.from.number() as usize] = None;
+    next[mv.to.number() as usize] = Some(placed(man, mv));
+    next
+}
+
+/// Whether the mark is that square.
+pub fn is_marked(mark: &Option<Square>, s: u8) -> bool
+    ensures { result ≡ spec.is_marked mark.now s }
+{
+    match mark {
+        None => false,
+        Some(mark) => mark.number() == s,
+    }
+}
+
+/// Whether the move of this man captures in passing (FIDE Laws, article 3.7.4.1): a pawn leaves its
+/// file and arrives on the mark.
+pub fn is_en_passant(mark: &Option<Square>, man: Man, mv: &Move) -> bool
+    ensures { result ≡ spec.is_en_passant mark.now man mv.now }
+{
+    man.kind == Kind::Pawn
+        && is_marked(mark, mv.to.number())
+        && file_of(mv.from.number()) != file_of(mv.to.number())
+}
+
+fn passed_number(mv: &Move) -> u8
+    ensures value { result ≡ spec.passed_square mv.now }
+    ensures below { result < 64 }
+{
+    square_at(file_of(mv.to.number()), rank_of(mv.from.number()))
+}
+
+/// Where the pawn stands that a move captures in passing: on the file where the move arrives, and on
+/// the rank from which it departs.
+pub fn passed_square(mv: &Move) -> Square
+    ensures { result ≡ spec.passed_square mv.now }
+{
+    Square::new(passed_number(mv)).unwrap()
+}
+
+fn is_castling(wing: Wing, man: Man, mv: &Move) -> bool
+    ensures { result ≡ spec.is_castling wing man mv.now }
+{
+    man.kind == Kind::King
+        && mv.from.number() == king_square(man.side)
+        && mv.to.number() == arrival(wing, man.side)
+}
+
+fn with_rook(wing: Wing, side: Side, board: &Board) -> Board
+    ensures { result ≡ spec.with_rook wing side board.now }
+{
+    let rook = Man {
+        side,
+        kind: Kind::Rook,
+    };
+    let mut next = *board;
+    next[corner(wing, side) as usize] = None;
+    next[crossing(wing, side) as usize] = Some(rook);
+    next
+}
+
+/// The board after the move of this man.
+pub fn board_after(board: &Board, mark: &Option<Square>, man: Man, mv: &Move) -> Board
+    ensures { result ≡ spec.board_after board.now mark.now man mv.now }
+{
+    let mut next = moved(board, man, mv);
+    if is_en_passant(mark, man, mv) {
+        next[passed_number(mv) as usize] = None;
+        return next;
+    }
+    if is_castling(Wing::Short, man, mv) {
+        return with_rook(Wing::Short, man.side, &next);
+    }
+    if is_castling(Wing::Long, man, mv) {
+        return with_rook(Wing::Long, man.side, &next);
+    }
+    next
+}
+
+fn keeps_right(held: bool, wing: Wing, side: Side, man: Man, mv: &Move) -> bool
+    ensures { result ≡ spec.keeps_right held wing side man mv.now }
+{
+    held && !(man.kind == Kind::King && man.side == side)
+        && mv.from.number() != corner(wing, side)
+        && mv.to.number() != corner(wing, side)
+}
+
+fn rights_after(rights: Rights, man: Man, mv: &Move) -> Rights
+    ensures { result ≡ spec.rights_after rights man mv.now }
+{
+    Rights {
+        white_short: keeps_right(rights.white_short, Wing::Short, Side::White, man, mv),
+        white_long: keeps_right(rights.white_long, Wing::Long, Side::White, man, mv),
+        black_short: keeps_right(rights.black_short, Wing::Short, Side::Black, man, mv),
+        black_long: keeps_right(rights.black_long, Wing::Long, Side::Black, man, mv),
+    }
+}
+
+fn is_advance(man: Man, mv: &Move) -> bool
+    ensures { result ≡ spec.is_advance man mv.now }
+{
+    man.kind == Kind::Pawn
+        && rank_of(mv.from.number()) == pawn_rank(man.side)
+        && rank_of(mv.to.number()) == landing_rank(man.side)
+}
+
+/// The square on the file of `s` that a side's pawn crosses in a two-square advance.
+pub fn crossed(side: Side, s: u8) -> u8
+    ensures value { result ≡ spec.crossed side s }
+    ensures below { result < 64 }
+{
+    square_at(file_of(s), crossed_rank(side))
+}
+
+fn mark_after(man: Man, mv: &Move) -> Option<Square>
+    ensures { result ≡ spec.mark_after man mv.now }
+{
+    if is_advance(man, mv) {
+        Square::new(crossed(man.side, mv.from.number()))
+    } else {
+        None
+    }
+}
+
+/// The position after a legal move (FIDE Laws, articles 3.7 and 3.8): the man or the man to which it
+/// is promoted has moved, what it captured is gone, in castling the rook stands beside the king, the
+/// rights and the mark are those that the move leaves, and the other side is to move.
+#[tactic(auto, unfolding(crate::specs::After::after))]
+pub fn after(p: &Position, mv: Move) -> Position
+    requires { IsTrue (is_legal p.now mv) }
+    ensures value { result ≡ spec.after p.now mv }
+    ensures valid { IsValid result }
+{
+    let mv = &mv;
+    match p.man_at(mv.from) {
+        None => *p,
+        Some(man) => {
+            let board = board_after(p.board(), &p.mark(), man, mv);
+            Position::from_valid(
+                board,
+                p.side().other(),
+                rights_after(p.rights(), man, mv),
+                mark_after(man, mv),
+            )
+        }
+    }
+}

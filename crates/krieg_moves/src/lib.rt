@@ -1,0 +1,21 @@
+//! The legal moves of a position, the position after one, and the ends of a game.
+//!
+//! The rules of this crate are the definitions of `specs/`: which moves are legal (`Legal`), what a
+//! move changes (`After`), where a king castles (`Wings`), and the list of the legal moves with mate
+//! and stalemate (`Moves`). Each function here answers exactly what the definition of its name says.
+//! `legal_moves` alone takes memory.
+#![tactic(auto)]
+
+mod change;
+mod ends;
+mod legality;
+mod list;
+#[cfg(test)]
+mod tests;
+mod wing;
+
+pub use change::{after, is_en_passant, passed_square};
+pub use ends::{has_move, in_check, is_mate, is_stalemate};
+pub use legality::is_legal;
+pub use list::legal_moves;
+pub use wing::Wing;
