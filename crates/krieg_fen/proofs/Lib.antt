@@ -1,0 +1,11 @@
+pub mod LineCuts
+pub mod PieceCuts
+pub mod NameLemmas
+pub mod Numbers
+pub mod MoveTexts
+pub mod Fronts
+pub mod RankReading
+pub mod FieldCounts
+pub mod Free
+pub mod RankTexts
+pub mod FenTexts

@@ -1,0 +1,11 @@
+pub mod Outcomes
+pub mod Lines
+pub mod Pieces
+pub mod Names
+pub mod Decimals
+pub mod MoveText
+pub mod Letters
+pub mod Ranks
+pub mod Fields
+pub mod Fen
+pub mod FenText

@@ -1,0 +1,21 @@
+-- The lines of a text. A line feed is byte 10; a carriage return is a byte like others.
+use Rattle.std.specs.Prelude.{ℕ, ◌==◌, List, [], ◌∷◌, ◌++◌, if◌then◌else◌}
+use Rattle.std.specs.List.{flat_map}
+
+-- the byte at the front of the first line
+abbrev pub onto_line : ℕ → List (List ℕ) → List (List ℕ)
+onto_line b [] = (b ∷ []) ∷ []
+onto_line b (l ∷ ls) = (b ∷ l) ∷ ls
+
+-- a text cut at each line feed; a last piece that is empty is no line, so the last line feed may be absent
+abbrev pub lines : List ℕ → List (List ℕ)
+lines [] = []
+lines (b ∷ bs) = if b == 10 then ([] ∷ lines bs) else onto_line b (lines bs)
+
+-- a line with its line feed
+abbrev pub ended_line : List ℕ → List ℕ
+ended_line l = l ++ (10 ∷ [])
+
+-- the written text of these lines, with a line feed after every one
+abbrev pub with_ends : List (List ℕ) → List ℕ
+with_ends ls = flat_map ended_line ls

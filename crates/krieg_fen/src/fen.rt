@@ -1,0 +1,148 @@
+ghost use Rattle.std.specs.Prelude.{◌≡◌, ◌≢◌, ◌<◌, ◌∷◌, [], IfSome, IfNone, length};
+ghost use Rattle.std.specs.Option.{option_copied};
+ghost use Rattle.krieg_fen.specs.Fen as spec;
+ghost use Rattle.krieg_fen.specs.Pieces.{pieces, pieces_left};
+
+use crate::fields::{is_clock, mark_of, rights_of, side_of};
+use crate::pieces::cut_at;
+use crate::ranks::board_of;
+use krieg_board::{BadPosition, Man, Position, Rights, Side, Square};
+use std::marker::Model;
+
+/// Why a text is no position: the first of these faults that it has.
+#[derive(Clone, Copy, Debug, PartialEq, Eq)]
+pub enum FenFault {
+    /// It has neither four nor six fields.
+    Fields,
+    /// The first field, from 1 on, that is outside its grammar.
+    Field(u8),
+    /// The position that it spells is not valid.
+    Bad(BadPosition),
+}
+
+/// What the first four fields say, valid or not.
+#[derive(Drop)]
+struct Parts {
+    board: [Option<Man>; 64],
+    side: Side,
+    rights: Rights,
+    mark: Option<Square>,
+}
+
+impl Model for Parts {
+    ghost use Rattle.krieg_board.specs.Pos.{Pos};
+
+    ghost Value = { Pos };
+
+    ghost view = { λ p. record { board = p.board; side = p.side; rights = p.rights; mark = p.mark } };
+}
+
+fn clock(number: u8, field: &[u8]) -> Result<(), FenFault>
+    ensures { result ≡ spec.clock number field.now }
+{
+    if is_clock(field) {
+        Ok(())
+    } else {
+        Err(FenFault::Field(number))
+    }
+}
+
+fn clocks_at(half: &[u8], full: &[u8]) -> Result<(), FenFault>
+    ensures { result ≡ spec.clocks_at half.now full.now }
+{
+    clock(5, half)?;
+    clock(6, full)
+}
+
+fn parts_of(board: &[u8], side: &[u8], rights: &[u8], mark: &[u8]) -> Result<Parts, FenFault>
+    ensures { result ≡ spec.parts_at board.now side.now rights.now mark.now }
+{
+    Ok(Parts {
+        board: board_of(board).ok_or(FenFault::Field(1))?,
+        side: side_of(side).ok_or(FenFault::Field(2))?,
+        rights: rights_of(rights).ok_or(FenFault::Field(3))?,
+        mark: mark_of(mark).ok_or(FenFault::Field(4))?,
+    })
+}
+
+fn checked(parts: &Parts) -> Result<Position, FenFault>
+    ensures { result ≡ spec.checked parts.now }
+{
+    match Position::make(parts.board, parts.side, parts.rights, parts.mark) {
+        Ok(position) => Ok(position),
+        Err(fault) => Err(FenFault::Bad(fault)),
+    }
+}
+
+/// The first four fields, and what stands behind them.
+#[tactic(auto, using(crate::proofs::FieldCounts::counts))]
+fn four_of(text: &[u8]) -> Option<(&[u8], &[u8], &[u8], &[u8], Option<&[u8]>)>
+    ensures some { IfSome result (λ f. pieces 32 text.now
+        ≡ f.0.now ∷ f.1.now ∷ f.2.now ∷ f.3.now ∷ pieces_left 32 (option_copied f.4)) }
+    ensures none { IfNone result (length (pieces 32 text.now) < 4) }
+{
+    let (board, rest) = cut_at(text, b' ');
+    let (side, rest) = cut_at(rest?, b' ');
+    let (rights, rest) = cut_at(rest?, b' ');
+    let (mark, rest) = cut_at(rest?, b' ');
+    Some((board, side, rights, mark, rest))
+}
+
+/// The two fields, where there are two.
+#[tactic(auto, using(crate::proofs::FieldCounts::counts))]
+fn two_of(text: &[u8]) -> Option<(&[u8], &[u8])>
+    ensures some { IfSome result (λ f. pieces 32 text.now ≡ f.0.now ∷ f.1.now ∷ []) }
+    ensures none { IfNone result (length (pieces 32 text.now) ≢ 2) }
+{
+    let (half, rest) = cut_at(text, b' ');
+    let (full, rest) = cut_at(rest?, b' ');
+    if rest.is_none() {
+        Some((half, full))
+    } else {
+        None
+    }
+}
+
+fn read_four(board: &[u8], side: &[u8], rights: &[u8], mark: &[u8]) -> Result<Position, FenFault>
+    ensures { result ≡ spec.position_at (board.now ∷ side.now ∷ rights.now ∷ mark.now ∷ []) }
+{
+    match parts_of(board, side, rights, mark) {
+        Ok(parts) => checked(&parts),
+        Err(fault) => Err(fault),
+    }
+}
+
+fn read_six(
+    board: &[u8],
+    side: &[u8],
+    rights: &[u8],
+    mark: &[u8],
+    half: &[u8],
+    full: &[u8],
+) -> Result<Position, FenFault>
+    ensures { result ≡ spec.position_at (board.now ∷ side.now ∷ rights.now ∷ mark.now ∷ half.now ∷ full.now ∷ []) }
+{
+    match parts_of(board, side, rights, mark) {
+        Ok(parts) => match clocks_at(half, full) {
+            Ok(()) => checked(&parts),
+            Err(fault) => Err(fault),
+        },
+        Err(fault) => Err(fault),
+    }
+}
+
+#[tactic(auto, using(crate::proofs::FieldCounts::fields), unfolding(crate::specs::Fen::position_of))]
+pub fn read_position(text: &[u8]) -> Result<Position, FenFault>
+    ensures { result ≡ spec.position_of text.now }
+{
+    let Some((board, side, rights, mark, rest)) = four_of(text) else {
+        return Err(FenFault::Fields);
+    };
+    let Some(clocks) = rest else {
+        return read_four(board, side, rights, mark);
+    };
+    match two_of(clocks) {
+        None => Err(FenFault::Fields),
+        Some((half, full)) => read_six(board, side, rights, mark, half, full),
+    }
+}
