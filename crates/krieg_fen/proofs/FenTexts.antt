@@ -17,7 +17,7 @@ use Rattle.krieg_fen.specs.Ranks.{board_of}
 use Rattle.krieg_fen.specs.Fields.{side_of, rights_of, mark_of, mark_at}
 use Rattle.krieg_fen.specs.declared.fen.FenFault.{FenFault}
 use Rattle.krieg_fen.specs.Fen.{field, parts_at, unless, checked, position_at, position_of}
-use Rattle.krieg_fen.specs.FenText.{board_text, side_text, rights_text, mark_text, position_text}
+use Rattle.krieg_fen.specs.FenText.{board_text, side_text, rights_text, mark_text, state_text, position_text}
 use Rattle.krieg_fen.proofs.MoveTexts.{square_again}
 use Rattle.krieg_fen.proofs.Free.{Above, pieces_first, pieces_last}
 use Rattle.krieg_fen.proofs.RankTexts.{board_above, board_again}
@@ -99,7 +99,7 @@ mark_above (Some s) = (omega arith, (omega arith, tt))
 
 -- the four fields of a written position
 pub fields_again : (p : Pos) → pieces 32 (position_text p) ≡ board_text p.board ∷ side_text p.side ∷ rights_text p.rights ∷ mark_text p.mark ∷ []
-unfolding position_text
+unfolding position_text state_text
 fields_again p =
     pieces_first 32 (board_text p.board) _ (board_above p.board)
     ∙ ap (λ (ls : List (List ℕ)). board_text p.board ∷ ls) (pieces_first 32 (side_text p.side) _ (side_above p.side)
@@ -126,3 +126,9 @@ position_again p valid =
     ∙ ap (λ (r : Result Pos FenFault). r >>= checked)
     (parts_again p _ _ _ _ (board_again p.board valid.squares) (side_again p.side) (rights_again p.rights) (mark_again p.board p.side p.mark f.mark))
     ∙ ap (unless p) valid.no_fault
+
+-- the same of a text that is said to be the written position
+pub position_read : (text : List ℕ) (p : Pos) → IsValid p → text ≡ position_text p → position_of text ≡ Ok p
+position_read text p valid is = ap position_of is ∙ position_again p valid
+
+pub ruleset again = (position_read)

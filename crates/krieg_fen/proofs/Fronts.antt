@@ -1,5 +1,5 @@
 -- A text that is written piece by piece, up to a want of memory.
-use Rattle.std.proofs.Common.{◌<◌, ◌≤◌, ◌+◌, zero, suc, length, take, drop, get_or, arith, add-one, ◌≡◌, ℕ, List, [], ◌∷◌, ◌++◌, refl, sym, ap, ◌∙◌, append_assoc}
+use Rattle.std.proofs.Common.{subst, ◌<◌, ◌≤◌, ◌+◌, zero, suc, length, take, drop, get_or, arith, add-one, ◌≡◌, ℕ, List, [], ◌∷◌, ◌++◌, refl, sym, ap, ◌∙◌, append_assoc}
 use Rattle.std.proofs.lemmas.List.{append-nil, flat_map_more, take_more, take_all}
 use Rattle.std.specs.List.{flat_map}
 use Rattle.std.specs.Result.{IsErrAnd}
@@ -24,6 +24,15 @@ pub writes_err : {E : Type 0} (Q : E → Type 0) (r : Result (Unit {0}) E) (old 
 writes_err Q (Ok u) old new text fails h = absurd fails
 writes_err Q (Err e) old new text fails h = h
 
+-- a front of the rest was written behind a piece
+pub fails_more : (old mid new piece rest : List ℕ) → mid ≡ old ++ piece → AppendsFront mid new rest → AppendsFront old new (piece ++ rest)
+fails_more old mid new piece rest put h = front_more old new piece rest (subst (λ t. AppendsFront t new rest) put h)
+
+-- a writer of one's own goes on behind a piece
+pub writes_more : {E : Type 0} (r : Result (Unit {0}) E) (old mid new piece rest : List ℕ) → mid ≡ old ++ piece → Writes r mid new rest → Writes r old new (piece ++ rest)
+writes_more (Ok u) old mid new piece rest put h = h ∙ ap (λ (t : List ℕ). t ++ rest) put ∙ append_assoc old piece rest
+writes_more (Err e) old mid new piece rest put h = fails_more old mid new piece rest put h
+
 pub ruleset fronts = (front_none, front_more, front_piece)
 
 -- a list that is written element by element
@@ -47,3 +56,42 @@ flat_fails f xs i d old text new lt so h =
     (all.0, all.1, flat_split f xs i d lt ∙ all.2, all.3)
 
 pub ruleset loops = (flat_step, flat_end, flat_fails)
+
+-- Of the whole text a front is written already, and the rest is left.
+pub record IsWritten (old new rest whole : List ℕ) : Type 0 where
+  pub sent : List ℕ
+  pub is : new ≡ old ++ sent
+  pub left : whole ≡ sent ++ rest
+
+-- nothing is written yet
+pub written_none : (old whole : List ℕ) → IsWritten old old whole whole
+written_none old whole = record { sent = []; is = sym (append-nil old); left = refl }
+
+-- a piece more is written
+pub written_more : (old mid new piece rest next whole : List ℕ) → IsWritten old mid rest whole → rest ≡ piece ++ next → new ≡ mid ++ piece → IsWritten old new next whole
+written_more old mid new piece rest next whole w is put = record {
+  sent = w.sent ++ piece;
+  is = put ∙ ap (λ (t : List ℕ). t ++ piece) w.is ∙ append_assoc old w.sent piece;
+  left = w.left ∙ ap (λ (t : List ℕ). w.sent ++ t) is ∙ sym (append_assoc w.sent piece next);
+}
+
+-- the last piece is written
+pub written_all : (old mid new rest whole : List ℕ) → IsWritten old mid rest whole → new ≡ mid ++ rest → new ≡ old ++ whole
+written_all old mid new rest whole w put =
+    put ∙ ap (λ (t : List ℕ). t ++ rest) w.is ∙ append_assoc old w.sent rest ∙ ap (λ (t : List ℕ). old ++ t) (sym w.left)
+
+-- memory ran out in the next piece
+pub written_fails : (old mid new piece rest next whole : List ℕ) → IsWritten old mid rest whole → rest ≡ piece ++ next → AppendsFront mid new piece → AppendsFront old new whole
+written_fails old mid new piece rest next whole w is h = (
+  w.sent ++ h.0,
+  h.1 ++ next,
+  w.left ∙ ap (λ (t : List ℕ). w.sent ++ t) (is ∙ ap (λ (t : List ℕ). t ++ next) h.2 ∙ append_assoc h.0 h.1 next) ∙ sym (append_assoc w.sent h.0 (h.1 ++ next)),
+  h.3 ∙ ap (λ (t : List ℕ). t ++ h.0) w.is ∙ append_assoc old w.sent h.0,
+)
+
+-- the last piece, as a writer of its own left it
+pub written_last : {E : Type 0} (r : Result (Unit {0}) E) (old mid new rest whole : List ℕ) → IsWritten old mid rest whole → Writes r mid new rest → Writes r old new whole
+written_last (Ok u) old mid new rest whole w put = written_all old mid new rest whole w put
+written_last (Err e) old mid new rest whole w h = written_fails old mid new rest rest [] whole w (sym (append-nil rest)) h
+
+pub ruleset written = (written_none, written_more, written_all, written_fails, written_last)

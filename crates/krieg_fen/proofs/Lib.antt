@@ -9,3 +9,4 @@ pub mod FieldCounts
 pub mod Free
 pub mod RankTexts
 pub mod FenTexts
+pub mod RankWriting

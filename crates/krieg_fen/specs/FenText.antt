@@ -61,6 +61,10 @@ abbrev pub mark_text : Option ℕ → List ℕ
 mark_text None = 45 ∷ []
 mark_text (Some s) = square_text s
 
--- the four fields, with a space between
+-- the fields behind the first, each behind a space, which is byte 32
+unfoldable pub state_text : Side → Rights → Option ℕ → List ℕ
+state_text side rights mark = 32 ∷ (side_text side ++ (32 ∷ (rights_text rights ++ (32 ∷ mark_text mark))))
+
+-- the four fields
 unfoldable pub position_text : Pos → List ℕ
-position_text p = board_text p.board ++ (32 ∷ (side_text p.side ++ (32 ∷ (rights_text p.rights ++ (32 ∷ mark_text p.mark)))))
+position_text p = board_text p.board ++ state_text p.side p.rights p.mark

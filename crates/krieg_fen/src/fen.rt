@@ -1,6 +1,9 @@
-ghost use Rattle.std.specs.Prelude.{◌≡◌, ◌≢◌, ◌<◌, ◌∷◌, [], IfSome, IfNone, length};
+ghost use Rattle.std.specs.Prelude.{◌≡◌, ◌≢◌, ◌<◌, ◌∷◌, [], IfSome, IfNone, length, Ok};
 ghost use Rattle.std.specs.Option.{option_copied};
+ghost use Rattle.krieg_board.specs.Pos.{Pos};
+ghost use Rattle.krieg_board.specs.Validity.{IsValid};
 ghost use Rattle.krieg_fen.specs.Fen as spec;
+ghost use Rattle.krieg_fen.specs.FenText.{position_text};
 ghost use Rattle.krieg_fen.specs.Pieces.{pieces, pieces_left};
 
 use crate::fields::{is_clock, mark_of, rights_of, side_of};
@@ -132,7 +135,7 @@ fn read_six(
 }
 
 #[tactic(auto, using(crate::proofs::FieldCounts::fields), unfolding(crate::specs::Fen::position_of))]
-pub fn read_position(text: &[u8]) -> Result<Position, FenFault>
+fn position_of(text: &[u8]) -> Result<Position, FenFault>
     ensures { result ≡ spec.position_of text.now }
 {
     let Some((board, side, rights, mark, rest)) = four_of(text) else {
@@ -145,4 +148,19 @@ pub fn read_position(text: &[u8]) -> Result<Position, FenFault>
         None => Err(FenFault::Fields),
         Some((half, full)) => read_six(board, side, rights, mark, half, full),
     }
+}
+
+/// The position that the text spells: four fields, or six of which the last two, the clocks, are dropped
+/// (PGN standard, section 16.1).
+///
+/// `Fields` comes exactly where there are neither four nor six fields, `Field(n)` where the n-th field is
+/// the first that is outside its grammar, and `Bad` where all fields are well formed and the position has
+/// a fault, of which it carries the first.
+#[tactic(auto, using(crate::proofs::FenTexts::again))]
+pub fn read_position(text: &[u8]) -> Result<Position, FenFault>
+    ensures exact { result ≡ spec.position_of text.now }
+    // What is written of a position is read as that position.
+    ensures only { (p : Pos) → IsValid p → text.now ≡ position_text p → result ≡ Ok p }
+{
+    position_of(text)
 }

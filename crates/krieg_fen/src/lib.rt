@@ -6,6 +6,7 @@
 #![tactic(auto)]
 
 mod fen;
+mod fen_text;
 mod fields;
 mod lines;
 mod moves;
@@ -15,6 +16,7 @@ mod pieces;
 mod ranks;
 
 pub use fen::{FenFault, read_position};
+pub use fen_text::write_position;
 pub use lines::{Lines, lines_of};
 pub use moves::{MoveFault, read_move, read_square, square_of, write_move, write_square};
 pub use names::{behind, cut, is_name};

@@ -2,7 +2,7 @@ use Rattle.std.proofs.Common.{◌≡◌, ◌∷◌, rules}
 use Rattle.krieg_fen.specs.Pieces.{pieces}
 use Rattle.krieg_fen.specs.Fen.{position_of}
 use Rattle.krieg_fen.proofs.FieldCounts.{five_fields}
-use Rattle.krieg_fen.proofs.fen.read_position.Goals as goal
+use Rattle.krieg_fen.proofs.fen.position_of.Goals as goal
 
 pub returns-in-None : goal.returns-in-None
 unfolding position_of
