@@ -10,3 +10,8 @@ pub mod Free
 pub mod RankTexts
 pub mod FenTexts
 pub mod RankWriting
+pub mod ReadingLemmas
+pub mod Locality
+pub mod Loops
+pub mod FirstBadLine
+pub mod Listing

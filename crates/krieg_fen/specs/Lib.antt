@@ -9,3 +9,6 @@ pub mod Ranks
 pub mod Fields
 pub mod Fen
 pub mod FenText
+pub mod Reading
+pub mod FirstBad
+pub mod Forms

@@ -1,0 +1,71 @@
+-- The forms of lines that several formats have: what each gives, or the kind of its fault.
+use Rattle.std.specs.Prelude.{ℕ, zero, suc, List, [], ◌∷◌, ◌++◌, codes, Option, Some, None, Result, Ok, Err, if◌then◌else◌, unwrap_or}
+use Rattle.std.specs.Str.{bytes_eq}
+use Rattle.krieg_board.specs.Pos.{Pos}
+use Rattle.krieg_board.specs.Hand.{same_hand}
+use Rattle.krieg_board.specs.declared.men.Side.{Side}
+use Rattle.krieg_board.specs.declared.men.Side.TheVariants.{White, Black}
+use Rattle.krieg_fen.specs.declared.fault.TextKind.{TextKind}
+use Rattle.krieg_fen.specs.declared.fault.TextKind.TheVariants.{Version, Syntax, Count, Position, Differs}
+use Rattle.krieg_fen.specs.declared.fen.FenFault.{FenFault}
+use Rattle.krieg_fen.specs.declared.fen.FenFault.TheVariants.{Fields, Field, Bad}
+use Rattle.krieg_fen.specs.declared.number.NumberFault.{NumberFault}
+use Rattle.krieg_fen.specs.declared.number.NumberFault.TheVariants.{NotPlain, OutOfRange}
+use Rattle.krieg_fen.specs.Names.{behind}
+use Rattle.krieg_fen.specs.Decimals.{number_between}
+use Rattle.krieg_fen.specs.Fen.{position_of}
+use Rattle.krieg_fen.specs.Outcomes.{◌>>=◌}
+use Rattle.krieg_fen.specs.Reading.{LineReader, taken}
+
+-- no plain decimal is syntax, and one out of range is of the kind that the line names
+abbrev pub ranged : TextKind → Result ℕ NumberFault → Result ℕ TextKind
+ranged outside (Ok n) = Ok n
+ranged outside (Err NotPlain) = Err Syntax
+ranged outside (Err OutOfRange) = Err outside
+
+abbrev pub number_behind : TextKind → ℕ → ℕ → Option (List ℕ) → Result ℕ TextKind
+number_behind outside least most None = Err Syntax
+number_behind outside least most (Some text) = ranged outside (number_between text least most)
+
+-- a plain decimal within a range behind a name
+unfoldable pub number_form : TextKind → List ℕ → ℕ → ℕ → List ℕ → Result ℕ TextKind
+number_form outside name least most text = number_behind outside least most (behind name text)
+
+-- a format's name and its version, of which there are as many as newest says
+abbrev pub version_form : List ℕ → ℕ → List ℕ → Result ℕ TextKind
+version_form name newest text = number_form Version name 1 newest text
+
+-- a name and a number of things
+abbrev pub count_form : List ℕ → ℕ → ℕ → List ℕ → Result ℕ TextKind
+count_form name least most text = number_form Count name least most text
+
+-- whose text it is
+unfoldable pub side_form : List ℕ → Result Side TextKind
+side_form text = if bytes_eq text (codes "side w") then Ok White else (if bytes_eq text (codes "side b") then Ok Black else Err Syntax)
+
+-- a text that spells no position is syntax, and one whose position is not valid has the fault of it
+abbrev pub position_kind : Result Pos FenFault → Result Pos TextKind
+position_kind (Ok p) = Ok p
+position_kind (Err (Bad fault)) = Err (Position fault)
+position_kind (Err Fields) = Err Syntax
+position_kind (Err (Field n)) = Err Syntax
+
+-- a position
+unfoldable pub position_form : List ℕ → Result Pos TextKind
+position_form text = position_kind (position_of text)
+
+abbrev pub matching : Side → Option Pos → Pos → Result Pos TextKind
+matching who None p = Ok p
+matching who (Some first) p = if same_hand first p who then Ok p else Err Differs
+
+-- a listed position: its hand, for that side, is that of the first one
+unfoldable pub listed_form : Side → Option Pos → List ℕ → Result Pos TextKind
+listed_form who first text = position_form text >>= matching who first
+
+-- n listed positions, where first is the first of all, once there is one
+abbrev pub positions_at : Side → Option Pos → ℕ → LineReader (List Pos)
+positions_at who first zero p = Ok ([], p)
+positions_at who first (suc n) p = do
+  one ← taken (listed_form who first) p
+  others ← positions_at who (Some (unwrap_or first one.0)) n one.1
+  Ok (one.0 ∷ others.0, others.1)

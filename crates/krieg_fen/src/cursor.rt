@@ -1,0 +1,113 @@
+ghost use Rattle.std.specs.Prelude.{◌≡◌, ◌<◌, ◌≤◌, ◌+◌, ◌^◌, ◌≢◌, IfOk, IfErr, OnOk, OnErr, Ok, Err, None, length, slice_get};
+ghost use Rattle.std.specs.Option.{option_copied};
+ghost use Rattle.krieg_fen.specs.Reading.{begin, line_at, ended, GivesOn};
+ghost use Rattle.krieg_fen.specs.Forms.{positions_at};
+ghost use Rattle.krieg_fen.specs.declared.fault.TextFault.TheVariants.{NoMemory as OutOfMemory};
+
+use crate::fault::{TextFault, TextKind};
+use crate::lines::{Lines, lines_of};
+use crate::list::list_at;
+use krieg_board::{Position, Side};
+use std::alloc::Global;
+use std::marker::Model;
+
+/// A reader of a text line by line: the lines that are left, and the number of the first of them.
+///
+/// In contracts it is a `Place`.
+#[derive(Drop)]
+pub struct Cursor<'a> {
+    source: Lines<'a>,
+    number: usize,
+}
+
+impl<'a> Model for Cursor<'a> {
+    ghost use Rattle.std.specs.Prelude.{◌≤◌, ◌+◌, ◌^◌, length};
+    ghost use Rattle.krieg_fen.specs.Reading.{Place, place};
+
+    ghost Value = { Place };
+
+    ghost view = { λ c. place c.number c.source };
+
+    ghost invariant = { λ c. c.number + length c.source ≤ 2 ^ 63 };
+}
+
+impl<'a> Cursor<'a> {
+    /// Stands before the first line, which has number 1.
+    pub fn new(text: &'a [u8]) -> Cursor<'a>
+        ensures { result ≡ begin text.now }
+    {
+        Cursor {
+            source: lines_of(text),
+            number: 1,
+        }
+    }
+
+    /// The next line. Where none is left, the text is not complete.
+    pub fn line(&mut self) -> Result<&'a [u8], TextFault>
+        ensures ok { IfOk result (λ l. line_at self.old ≡ Ok (l.now, self.new)) }
+        ensures err { IfErr result (λ e. (line_at self.old ≡ Err e) × (e ≢ OutOfMemory)) }
+        ensures fewer { OnOk result (length self.new.left + 1 ≡ length self.old.left) }
+        ensures same { OnErr result (self.new ≡ self.old) }
+    {
+        match self.source.next() {
+            Some(line) => {
+                self.number += 1;
+                Ok(line)
+            }
+            None => Err(TextFault::At {
+                line: self.number,
+                kind: TextKind::Syntax,
+            }),
+        }
+    }
+
+    /// The next line, which stays.
+    pub fn peek(&self) -> Option<&'a [u8]>
+        ensures { option_copied result ≡ slice_get self.now.left 0 }
+    {
+        self.source.peek()
+    }
+
+    /// The number of the next line.
+    pub fn number(&self) -> usize
+        ensures value { result ≡ self.now.number }
+        ensures bound { result ≤ 2 ^ 63 }
+    {
+        self.number
+    }
+
+    /// The next `n` lines as positions that all have the hand of the first one, for the side `who`.
+    pub fn list(
+        &mut self,
+        alloc: Global,
+        n: usize,
+        who: Side,
+    ) -> Result<Vec<Position>, TextFault>
+        requires { n < 2 ^ 48 }
+        ensures value { GivesOn (λ v. v.items) result self.new (positions_at who None n self.old) }
+        ensures fewer { length self.new.left ≤ length self.old.left }
+    {
+        match list_at(alloc, &mut self.source, n, self.number, who) {
+            Ok(list) => {
+                self.number += n;
+                Ok(list)
+            }
+            Err(fault) => Err(fault),
+        }
+    }
+
+    /// That no line is left: one that is there is a fault of kind `Syntax`.
+    #[tactic(auto, using(crate::proofs::ReadingLemmas::ends))]
+    pub fn end(&self) -> Result<(), TextFault>
+        ensures { result ≡ ended tt self.now.number self.now.left }
+    {
+        if self.source.is_empty() {
+            Ok(())
+        } else {
+            Err(TextFault::At {
+                line: self.number,
+                kind: TextKind::Syntax,
+            })
+        }
+    }
+}

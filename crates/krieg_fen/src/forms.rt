@@ -1,0 +1,126 @@
+ghost use Rattle.std.specs.Prelude.{◌≡◌};
+ghost use Rattle.std.specs.Option.{option_copied};
+ghost use Rattle.krieg_fen.specs.Forms as spec;
+ghost use Rattle.krieg_fen.specs.Reading.{taken, GivesOn};
+
+use crate::cursor::Cursor;
+use crate::fault::{TextFault, TextKind};
+use crate::fen::{FenFault, read_position};
+use crate::names::{behind, is_name};
+use crate::number::{NumberFault, read_number_between};
+use krieg_board::{Position, Side, same_hand};
+
+/// The number from `least` to `most` that stands behind the name. A plain decimal outside the range is of
+/// the kind `outside`, and everything else is `Syntax`.
+#[tactic(auto, unfolding(crate::specs::Forms::number_form))]
+pub fn number_line(
+    outside: TextKind,
+    name: &[u8],
+    least: u64,
+    most: u64,
+    text: &[u8],
+) -> Result<u64, TextKind>
+    ensures { result ≡ spec.number_form outside name.now least most text.now }
+{
+    match behind(name, text) {
+        None => Err(TextKind::Syntax),
+        Some(number) => match read_number_between(number, least, most) {
+            Ok(number) => Ok(number),
+            Err(NumberFault::NotPlain) => Err(TextKind::Syntax),
+            Err(NumberFault::OutOfRange) => Err(outside),
+        },
+    }
+}
+
+/// The version, from 1 to `newest`, that stands behind a format's name. Another plain decimal is of the
+/// kind `Version`.
+pub fn version_line(name: &[u8], newest: u64, text: &[u8]) -> Result<u64, TextKind>
+    ensures { result ≡ spec.version_form name.now newest text.now }
+{
+    number_line(TextKind::Version, name, 1, newest, text)
+}
+
+/// The number from `least` to `most` that stands behind the name. Another plain decimal is of the kind
+/// `Count`.
+pub fn count_line(name: &[u8], least: u64, most: u64, text: &[u8]) -> Result<u64, TextKind>
+    ensures { result ≡ spec.count_form name.now least most text.now }
+{
+    number_line(TextKind::Count, name, least, most, text)
+}
+
+/// The side of the line `side w` or `side b`.
+#[tactic(auto, unfolding(crate::specs::Forms::side_form))]
+pub fn side_line(text: &[u8]) -> Result<Side, TextKind>
+    ensures { result ≡ spec.side_form text.now }
+{
+    if is_name(b"side w", text) {
+        Ok(Side::White)
+    } else if is_name(b"side b", text) {
+        Ok(Side::Black)
+    } else {
+        Err(TextKind::Syntax)
+    }
+}
+
+/// The position that the line spells. A text that spells none is of the kind `Syntax`, and one whose
+/// position is not valid of the kind `Position`.
+#[tactic(auto, unfolding(crate::specs::Forms::position_form))]
+pub fn position_line(text: &[u8]) -> Result<Position, TextKind>
+    ensures { result ≡ spec.position_form text.now }
+{
+    match read_position(text) {
+        Ok(position) => Ok(position),
+        Err(FenFault::Bad(fault)) => Err(TextKind::Position(fault)),
+        Err(_) => Err(TextKind::Syntax),
+    }
+}
+
+/// The position that the line spells, where its hand is that of the first one, for the side `who`. A hand
+/// that is another is of the kind `Differs`.
+#[tactic(auto, unfolding(crate::specs::Forms::listed_form))]
+pub fn listed_line(who: Side, first: Option<&Position>, text: &[u8]) -> Result<Position, TextKind>
+    ensures { result ≡ spec.listed_form who (option_copied first.entry) text.now }
+{
+    match position_line(text) {
+        Err(kind) => Err(kind),
+        Ok(position) => match first {
+            None => Ok(position),
+            Some(first) => {
+                if same_hand(first, &position, who) {
+                    Ok(position)
+                } else {
+                    Err(TextKind::Differs)
+                }
+            }
+        },
+    }
+}
+
+/// The next line, as a format's name and its version.
+pub fn read_version(from: &mut Cursor<'_>, name: &[u8], newest: u64) -> Result<u64, TextFault>
+    ensures { GivesOn (λ n. n) result from.new (taken (spec.version_form name.now newest) from.old) }
+{
+    let line = from.number();
+    version_line(name, newest, from.line()?).map_err(|kind| TextFault::At { line, kind })
+}
+
+/// The next line, as a name and a number from `least` to `most`.
+pub fn read_count(
+    from: &mut Cursor<'_>,
+    name: &[u8],
+    least: u64,
+    most: u64,
+) -> Result<u64, TextFault>
+    ensures { GivesOn (λ n. n) result from.new (taken (spec.count_form name.now least most) from.old) }
+{
+    let line = from.number();
+    count_line(name, least, most, from.line()?).map_err(|kind| TextFault::At { line, kind })
+}
+
+/// The next line, as the side whose text it is.
+pub fn read_side(from: &mut Cursor<'_>) -> Result<Side, TextFault>
+    ensures { GivesOn (λ s. s) result from.new (taken spec.side_form from.old) }
+{
+    let line = from.number();
+    side_line(from.line()?).map_err(|kind| TextFault::At { line, kind })
+}
