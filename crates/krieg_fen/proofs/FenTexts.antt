@@ -26,7 +26,7 @@ side_again : (side : Side) → side_of (side_text side) ≡ Some side
 side_again White = refl
 side_again Black = refl
 
-side_above : (side : Side) → Above 32 (side_text side)
+pub side_above : (side : Side) → Above 32 (side_text side)
 side_above White = (omega arith, tt)
 side_above Black = (omega arith, tt)
 
@@ -74,7 +74,7 @@ above_by false false true false = (omega arith, tt)
 above_by false false false true = (omega arith, tt)
 above_by false false false false = (omega arith, tt)
 
-rights_above : (r : Rights) → Above 32 (rights_text r)
+pub rights_above : (r : Rights) → Above 32 (rights_text r)
 rights_above r = above_by r.white_short r.white_long r.black_short r.black_long
 
 -- a mark is on the third or on the sixth rank
@@ -93,7 +93,7 @@ mark_again board side (Some s) has =
     ap (λ (t : Bool). cond t (mark_at (square_of (97 + s % 8) (49 + s / 8))) None) (mark_digit (other side) s on)
     ∙ ap mark_at (square_again s (mark_low (other side) s on))
 
-mark_above : (mark : Option ℕ) → Above 32 (mark_text mark)
+pub mark_above : (mark : Option ℕ) → Above 32 (mark_text mark)
 mark_above None = (omega arith, tt)
 mark_above (Some s) = (omega arith, (omega arith, tt))
 

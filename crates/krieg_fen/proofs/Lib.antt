@@ -15,3 +15,5 @@ pub mod Locality
 pub mod Loops
 pub mod FirstBadLine
 pub mod Listing
+pub mod LineTexts
+pub mod CleanTexts

@@ -39,6 +39,9 @@ own = numerals_by_value _ (search rules)
 pub value_again : (n : ℕ) → n < 2 ^ 64 → plain_value (number_text n) ≡ n
 value_again n fits = (decimal_is_IsNumeral n fits).1
 
+pub digits_again : (n : ℕ) → n < 2 ^ 64 → list_all is_ascii_digit (number_text n) ≡ true
+digits_again n fits = digits_decimal own n fits
+
 -- a zero in front stands alone
 first_again : (n : ℕ) → n < 2 ^ 64 → (not (eqb (get_or (number_text n) 0 0) 48) || eqb (length (number_text n)) 1) ≡ true
 first_again zero fits = rw (decimal_digit 0 (omega arith)) refl

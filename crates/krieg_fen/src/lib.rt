@@ -18,6 +18,8 @@ mod names;
 mod number;
 mod pieces;
 mod ranks;
+#[cfg(test)]
+mod tests;
 
 pub use cursor::Cursor;
 pub use fault::{TextFault, TextKind};

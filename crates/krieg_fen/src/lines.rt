@@ -1,7 +1,7 @@
 ghost use Rattle.std.specs.Prelude.{◌≡◌, ◌<◌, ◌≤◌, ◌∷◌, ◌==◌, ◌↔◌, ℕ, List, [], length, IfNone, IfSome, IsTrue, true, false, slice_index, slice_get};
 ghost use Rattle.std.specs.Iterator.{YieldsFirstRef, item_count};
 ghost use Rattle.std.specs.Option.{option_copied};
-ghost use Rattle.krieg_fen.specs.Lines.{lines};
+ghost use Rattle.krieg_fen.specs.Lines.{lines, with_ends, AreLines, EndsLines};
 
 use crate::pieces::first_of;
 use std::marker::Model;
@@ -25,9 +25,12 @@ impl<'a> Model for Lines<'a> {
 
 /// The lines of the text: it is cut at each line feed, and a last piece that is empty is dropped, so the
 /// last line feed may be absent. A carriage return is a byte like others.
-#[tactic(auto, using(crate::proofs::LineCuts::sizes))]
+#[tactic(auto, using(crate::proofs::LineCuts::sizes, crate::proofs::LineTexts::again))]
 pub fn lines_of<'a>(text: &'a [u8]) -> Lines<'a>
     ensures value { result ≡ lines text.now }
+    // The lines with their line feeds are the text, and lines that were written so are read again.
+    ensures found { AreLines result × EndsLines text.now result }
+    ensures only { (ls : List (List ℕ)) → AreLines ls → text.now ≡ with_ends ls → result ≡ ls }
     ensures short { length result ≤ length text.now }
 {
     Lines { rest: text }

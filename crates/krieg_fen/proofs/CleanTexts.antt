@@ -1,0 +1,63 @@
+-- Which bytes stand in written numbers, squares, moves and positions: none is a line feed, and only a position has spaces.
+use Rattle.std.proofs.Common.{◌≡◌, ℕ, ◌+◌, ◌^◌, ◌<◌, ◌≤◌, Bool, true, ◌&&◌, leb, List, [], ◌∷◌, ◌++◌, arith, rules}
+use Rattle.std.proofs.lemmas.Bool.{and_parts, leb-true}
+use Rattle.std.specs.List.{list_all}
+use Rattle.std.specs.Char.{is_ascii_digit}
+use Rattle.krieg_board.specs.declared.men.Move.{Move}
+use Rattle.krieg_board.specs.declared.men.Promo.{Promo}
+use Rattle.krieg_board.specs.declared.men.Promo.TheVariants.{Plain, Queen, Rook, Bishop, Knight}
+use Rattle.krieg_board.specs.Pos.{Pos}
+use Rattle.krieg_fen.specs.Lines.{is_line}
+use Rattle.krieg_fen.specs.Decimals.{number_text}
+use Rattle.krieg_fen.specs.MoveText.{square_text, promo_text, move_text}
+use Rattle.krieg_fen.specs.FenText.{board_text, side_text, rights_text, mark_text, state_text, position_text}
+use Rattle.krieg_fen.proofs.Free.{Above, above-append, above-less}
+use Rattle.krieg_fen.proofs.Numbers.{digits_again}
+use Rattle.krieg_fen.proofs.RankTexts.{board_above}
+use Rattle.krieg_fen.proofs.FenTexts.{side_above, rights_above, mark_above}
+use Rattle.krieg_fen.proofs.LineTexts.{line_above}
+
+digits_above : (ds : List ℕ) → list_all is_ascii_digit ds ≡ true → Above 47 ds
+digits_above [] all = tt
+digits_above (d ∷ ds) all =
+    let p = and_parts (is_ascii_digit d) (list_all is_ascii_digit ds) all in
+    let low : 48 ≤ d = leb-true 48 d (and_parts (leb 48 d) (leb d 57) p.0).0 in
+    (omega arith, digits_above ds p.1)
+
+-- digits alone
+pub number_above : (n : ℕ) → n < 2 ^ 64 → Above 47 (number_text n)
+number_above n fits = digits_above (number_text n) (digits_again n fits)
+
+pub square_above : (s : ℕ) → Above 48 (square_text s)
+square_above s = (omega arith, (omega arith, tt))
+
+promo_above : (p : Promo) → Above 48 (promo_text p)
+promo_above Plain = tt
+promo_above Queen = (omega arith, tt)
+promo_above Rook = (omega arith, tt)
+promo_above Bishop = (omega arith, tt)
+promo_above Knight = (omega arith, tt)
+
+-- letters and digits alone
+pub move_above : (m : Move) → Above 48 (move_text m)
+unfolding move_text
+move_above m = above-append 48 (square_text m.from) (square_text m.to ++ promo_text m.promo) (square_above m.from) (above-append 48 (square_text m.to) (promo_text m.promo) (square_above m.to) (promo_above m.promo))
+
+-- no byte below a space
+pub position_above : (p : Pos) → Above 31 (position_text p)
+unfolding position_text state_text
+position_above p =
+    above-append 31 (board_text p.board) _ (above-less 31 32 _ (omega arith) (board_above p.board)) (omega arith,
+    above-append 31 (side_text p.side) _ (above-less 31 32 _ (omega arith) (side_above p.side)) (omega arith,
+    above-append 31 (rights_text p.rights) _ (above-less 31 32 _ (omega arith) (rights_above p.rights)) (omega arith,
+    above-less 31 32 _ (omega arith) (mark_above p.mark))))
+
+-- each of them is part of a line
+pub number_line : (n : ℕ) → n < 2 ^ 64 → is_line (number_text n) ≡ true
+number_line n fits = line_above 47 (number_text n) (omega arith) (number_above n fits)
+
+pub move_line : (m : Move) → is_line (move_text m) ≡ true
+move_line m = line_above 48 (move_text m) (omega arith) (move_above m)
+
+pub position_line : (p : Pos) → is_line (position_text p) ≡ true
+position_line p = line_above 31 (position_text p) (omega arith) (position_above p)

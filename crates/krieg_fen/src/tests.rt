@@ -1,0 +1,142 @@
+//! Facts from outside: the examples of the PGN standard's FEN section, and the texts that a format must
+//! take or refuse.
+
+use crate::*;
+use krieg_board::{BadPosition, Side};
+
+/// The start position, and the positions after 1.e4, 1...c5 and 2.Nf3.
+const OPENING: [&[u8]; 4] = [
+    b"rnbqkbnr/pppppppp/8/8/8/8/PPPPPPPP/RNBQKBNR w KQkq -",
+    b"rnbqkbnr/pppppppp/8/8/4P3/8/PPPP1PPP/RNBQKBNR b KQkq e3",
+    b"rnbqkbnr/pp1ppppp/8/2p5/4P3/8/PPPP1PPP/RNBQKBNR w KQkq c6",
+    b"rnbqkbnr/pp1ppppp/8/2p5/4P3/5N2/PPPP1PPP/RNBQKB1R b KQkq -",
+];
+
+fn fault_of(text: &[u8]) -> Option<FenFault> {
+    read_position(text).err()
+}
+
+/// What is read is written back as four fields, with the clocks and without.
+#[test]
+fn positions_are_read_and_written(rt: HostRuntime) {
+    for fields in &OPENING {
+        for clocks in [&b""[..], b" 0 1", b" 0000000000 9999999999"] {
+            let mut text = Vec::new(rt.alloc());
+            assert!(rt; text.extend_from_slice(fields).is_ok());
+            assert!(rt; text.extend_from_slice(clocks).is_ok());
+            let mut written = Vec::new(rt.alloc());
+            match read_position(&text) {
+                Ok(position) => assert!(rt; write_position(&position, &mut written).is_ok()),
+                Err(_) => {}
+            }
+            assert!(rt; is_name(fields, &written));
+        }
+    }
+}
+
+#[test]
+fn other_texts_are_refused(rt: HostRuntime) {
+    use FenFault::{Bad, Field, Fields};
+    assert!(rt; fault_of(b"1k6/8/1K6/8/8/8/8/7R w - -").is_none());
+    assert!(rt; fault_of(b"1k6/8/1K6/8/8/8/8/7R w - - 0 1").is_none());
+    assert!(rt; fault_of(b"11111k2/8/1K114/8/8/8/8/7R w - -").is_none());
+    for (text, fault) in [
+        (&b"8/8/8/8/8/8/8/8 w - -"[..], Bad(BadPosition::Kings)),
+        (b"", Fields),
+        (b"1k6/8/1K6/8/8/8/8/7R w -", Fields),
+        (b"1k6/8/1K6/8/8/8/8/7R w - - 0", Fields),
+        (b"1k6/8/1K6/8/8/8/8/7R w - - 0 1 ", Fields),
+        (b"1k6/8/1K6/8/8/8/8/7R  w - -", Fields),
+        (b"1k6/8/1K6/8/8/8/8/8R w - -", Field(1)),
+        (b"1k6/8/1K6/8/8/8/8/6R w - -", Field(1)),
+        (b"1k6/8/1K6/8/8/8/7R w - -", Field(1)),
+        (b"1k6/8/1K6/8/8/8/8/7R/8 w - -", Field(1)),
+        (b"1k6/8/1K6/8/8/8/8/07R w - -", Field(1)),
+        (b"1k6/8/1K6/8/8/8/8/7R x - -", Field(2)),
+        (b"4k3/8/8/8/8/8/8/4K2R w kqKQ -", Field(3)),
+        (b"4k3/8/8/8/8/8/8/4K2R w KK -", Field(3)),
+        (b"4k3/8/8/8/8/8/8/4K2R w  -", Field(3)),
+        (b"1k6/8/1K6/8/8/8/8/7R w - e4", Field(4)),
+        (b"1k6/8/1K6/8/8/8/8/7R w - -\r", Field(4)),
+        (b"1k6/8/1K6/8/8/8/8/7R w - - - 1", Field(5)),
+        (b"1k6/8/1K6/8/8/8/8/7R w - - 0 12345678901", Field(6)),
+    ] {
+        assert_eq!(rt; fault_of(text), Some(fault));
+    }
+}
+
+/// A plain decimal has no zero in front, and one of any length is told from what is none.
+#[test]
+fn numbers_are_read(rt: HostRuntime) {
+    let forty = b"9999999999999999999999999999999999999999";
+    for (text, number) in [
+        (&b"0"[..], Some(0)),
+        (b"18446744073709551615", Some(u64::MAX)),
+        (b"18446744073709551616", None),
+        (b"01", None),
+        (b"", None),
+        (b"+1", None),
+        (b"1 ", None),
+        (forty, None),
+    ] {
+        assert_eq!(rt; read_number(text, u64::MAX), number);
+    }
+    assert_eq!(rt; read_number_between(forty, 1, 9), Err(NumberFault::OutOfRange));
+    assert_eq!(rt; read_number_between(b"0", 1, 9), Err(NumberFault::OutOfRange));
+    assert_eq!(rt; read_number_between(b"00", 1, 9), Err(NumberFault::NotPlain));
+    let mut text = Vec::new(rt.alloc());
+    assert!(rt; write_number(u64::MAX, &mut text).is_ok());
+    assert!(rt; is_name(b"18446744073709551615", &text));
+}
+
+#[test]
+fn moves_are_read_and_written(rt: HostRuntime) {
+    for text in [&b"e2e4"[..], b"e7e8q", b"a1a1", b"e2e4r", b"a2h8b", b"h1a8n"] {
+        let mut written = Vec::new(rt.alloc());
+        match read_move(text) {
+            Ok(mv) => assert!(rt; write_move(mv, &mut written).is_ok()),
+            Err(MoveFault) => {}
+        }
+        assert!(rt; is_name(text, &written));
+    }
+    for text in [&b"e2e4x"[..], b"i1a1", b"a0a1", b"a9a1", b"e2e", b"e2e4qq", b"E2E4", b""] {
+        assert_eq!(rt; read_move(text), Err(MoveFault));
+    }
+}
+
+/// A text is cut at line feeds alone, and the last one may be absent.
+#[test]
+fn lines_are_counted(rt: HostRuntime) {
+    for (text, count) in [
+        (&b""[..], 0),
+        (b"\n", 1),
+        (b"a", 1),
+        (b"a\n", 1),
+        (b"a\n\n", 2),
+        (b"a\r\rb\r\n", 1),
+    ] {
+        assert_eq!(rt; lines_of(text).count(), count);
+    }
+}
+
+/// Three positions of one black hand, of which the second differs from the first in a right of White.
+#[test]
+fn lists_are_read(rt: HostRuntime) {
+    let text = b"4k3/8/8/8/8/8/8/4K2R w K -\n4k3/8/8/8/8/8/8/4K2R w - - 0 1\n4k3/8/8/8/8/8/8/4K3 w - -";
+    for (n, line, who, fault) in [
+        (3, 7, Side::Black, None),
+        (0, 1, Side::White, None),
+        (3, 7, Side::White, Some((8, TextKind::Differs))),
+        (4, 7, Side::Black, Some((10, TextKind::Syntax))),
+    ] {
+        let mut from = lines_of(text);
+        match read_list(rt.alloc(), &mut from, n, line, who) {
+            Ok(list) => {
+                assert!(rt; fault.is_none());
+                assert_eq!(rt; list.len(), n);
+            }
+            Err(TextFault::At { line, kind }) => assert_eq!(rt; Some((line, kind)), fault),
+            Err(TextFault::NoMemory) => assert!(rt; false),
+        }
+    }
+}
