@@ -17,7 +17,7 @@ use Rattle.krieg_fen.proofs.RankTexts.{board_above}
 use Rattle.krieg_fen.proofs.FenTexts.{side_above, rights_above, mark_above}
 use Rattle.krieg_fen.proofs.LineTexts.{line_above}
 
-digits_above : (ds : List ℕ) → list_all is_ascii_digit ds ≡ true → Above 47 ds
+pub digits_above : (ds : List ℕ) → list_all is_ascii_digit ds ≡ true → Above 47 ds
 digits_above [] all = tt
 digits_above (d ∷ ds) all =
     let p = and_parts (is_ascii_digit d) (list_all is_ascii_digit ds) all in

@@ -22,7 +22,7 @@ use Rattle.krieg_fen.proofs.MoveTexts.{square_again}
 use Rattle.krieg_fen.proofs.Free.{Above, pieces_first, pieces_last}
 use Rattle.krieg_fen.proofs.RankTexts.{board_above, board_again}
 
-side_again : (side : Side) → side_of (side_text side) ≡ Some side
+pub side_again : (side : Side) → side_of (side_text side) ≡ Some side
 side_again White = refl
 side_again Black = refl
 
@@ -52,7 +52,7 @@ rights_by false false true false = refl
 rights_by false false false true = refl
 rights_by false false false false = refl
 
-rights_again : (r : Rights) → rights_of (rights_text r) ≡ Some r
+pub rights_again : (r : Rights) → rights_of (rights_text r) ≡ Some r
 rights_again r = rights_by r.white_short r.white_long r.black_short r.black_long
 
 above_by : (a b c d : Bool) → Above 32 (rights_text (rights a b c d))
@@ -86,7 +86,7 @@ mark_low : (side : Side) (s : ℕ) → rank_of s ≡ crossed_rank side → s < 6
 mark_low White s on = omega arith
 mark_low Black s on = omega arith
 
-mark_again : (board : Board) (side : Side) (mark : Option ℕ) → has_mark board side mark ≡ true → mark_of (mark_text mark) ≡ Some mark
+pub mark_again : (board : Board) (side : Side) (mark : Option ℕ) → has_mark board side mark ≡ true → mark_of (mark_text mark) ≡ Some mark
 mark_again board side None has = refl
 mark_again board side (Some s) has =
     let on : rank_of s ≡ crossed_rank (other side) = eqb-true (rank_of s) (crossed_rank (other side)) (and-both (eqb (rank_of s) (crossed_rank (other side))) _ has).0 in
@@ -106,7 +106,7 @@ fields_again p =
     ∙ ap (λ (ls : List (List ℕ)). side_text p.side ∷ ls) (pieces_first 32 (rights_text p.rights) _ (rights_above p.rights)
     ∙ ap (λ (ls : List (List ℕ)). rights_text p.rights ∷ ls) (pieces_last 32 (mark_text p.mark) (mark_above p.mark))))
 
-abbrev parts : Option Board → Option Side → Option Rights → Option (Option ℕ) → Result Pos FenFault
+abbrev pub parts : Option Board → Option Side → Option Rights → Option (Option ℕ) → Result Pos FenFault
 parts a b c d = do
   board ← field 1 a
   side ← field 2 b
@@ -114,7 +114,7 @@ parts a b c d = do
   mark ← field 4 d
   Ok (record { board = board; side = side; rights = rights; mark = mark })
 
-parts_again : (p : Pos) (a : Option Board) (b : Option Side) (c : Option Rights) (d : Option (Option ℕ)) → a ≡ Some p.board → b ≡ Some p.side → c ≡ Some p.rights → d ≡ Some p.mark → parts a b c d ≡ Ok p
+pub parts_again : (p : Pos) (a : Option Board) (b : Option Side) (c : Option Rights) (d : Option (Option ℕ)) → a ≡ Some p.board → b ≡ Some p.side → c ≡ Some p.rights → d ≡ Some p.mark → parts a b c d ≡ Ok p
 parts_again p a b c d ha hb hc hd = rw (ha, hb, hc, hd) refl
 
 -- what is written of a valid position spells it

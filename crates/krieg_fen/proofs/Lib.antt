@@ -17,3 +17,6 @@ pub mod FirstBadLine
 pub mod Listing
 pub mod LineTexts
 pub mod CleanTexts
+pub mod BoardSpellings
+pub mod FieldSpellings
+pub mod PositionSpellings

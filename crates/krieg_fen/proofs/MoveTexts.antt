@@ -15,7 +15,7 @@ square_parts : (t : Bool) (s r : ℕ) → cond t (Some s) None ≡ Some r → (t
 square_parts true s r e = (refl, cc)
 square_parts false s r e = absurd cc
 
-square_spells : (a b s : ℕ) → square_of a b ≡ Some s → (s < 64) × (square_text s ≡ a ∷ b ∷ [])
+pub square_spells : (a b s : ℕ) → square_of a b ≡ Some s → (s < 64) × (square_text s ≡ a ∷ b ∷ [])
 square_spells a b s e =
     let p = square_parts _ _ _ e in
     let both = and_parts (leb 97 a && leb a 104) (leb 49 b && leb b 56) p.0 in

@@ -100,7 +100,7 @@ ranks_above (suc (suc n)) board =
     above-append 32 (rank_text (rank_at board (suc n))) (47 ∷ ranks_text (suc n) board)
     (above-less 32 47 (rank_text (rank_at board (suc n))) (omega arith) (row_above (rank_at board (suc n)) 0)) (omega arith, ranks_above (suc n) board)
 
-rank_long : (n : ℕ) (board : Board) → 8 * n + 8 ≤ length board → length (rank_at board n) ≡ 8
+pub rank_long : (n : ℕ) (board : Board) → 8 * n + 8 ≤ length board → length (rank_at board n) ≡ 8
 rank_long n board le = length-take-le 8 (drop (8 * n) board) (omega (arith, length-drop (8 * n) board))
 
 -- the n + 1 lowest ranks

@@ -12,3 +12,4 @@ pub mod FenText
 pub mod Reading
 pub mod FirstBad
 pub mod Forms
+pub mod Spelling

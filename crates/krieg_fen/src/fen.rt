@@ -1,9 +1,10 @@
-ghost use Rattle.std.specs.Prelude.{◌≡◌, ◌≢◌, ◌<◌, ◌∷◌, [], IfSome, IfNone, length, Ok};
+ghost use Rattle.std.specs.Prelude.{◌≡◌, ◌≢◌, ◌<◌, ◌∷◌, [], IfSome, IfNone, IfOk, length, Ok};
 ghost use Rattle.std.specs.Option.{option_copied};
 ghost use Rattle.krieg_board.specs.Pos.{Pos};
 ghost use Rattle.krieg_board.specs.Validity.{IsValid};
 ghost use Rattle.krieg_fen.specs.Fen as spec;
 ghost use Rattle.krieg_fen.specs.FenText.{position_text};
+ghost use Rattle.krieg_fen.specs.Spelling.{Spells};
 ghost use Rattle.krieg_fen.specs.Pieces.{pieces, pieces_left};
 
 use crate::fields::{is_clock, mark_of, rights_of, side_of};
@@ -156,11 +157,14 @@ fn position_of(text: &[u8]) -> Result<Position, FenFault>
 /// `Fields` comes exactly where there are neither four nor six fields, `Field(n)` where the n-th field is
 /// the first that is outside its grammar, and `Bad` where all fields are well formed and the position has
 /// a fault, of which it carries the first.
-#[tactic(auto, using(crate::proofs::FenTexts::again))]
+#[tactic(auto, using(crate::proofs::FenTexts::again, crate::proofs::PositionSpellings::spellings))]
 pub fn read_position(text: &[u8]) -> Result<Position, FenFault>
     ensures exact { result ≡ spec.position_of text.now }
+    // What is read is spelled so, and what is spelled so is read.
+    ensures found { IfOk result (λ p. Spells text.now p) }
+    ensures only { (p : Pos) → Spells text.now p → result ≡ Ok p }
     // What is written of a position is read as that position.
-    ensures only { (p : Pos) → IsValid p → text.now ≡ position_text p → result ≡ Ok p }
+    ensures again { (p : Pos) → IsValid p → text.now ≡ position_text p → result ≡ Ok p }
 {
     position_of(text)
 }
