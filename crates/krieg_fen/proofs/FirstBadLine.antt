@@ -1,12 +1,13 @@
 -- The law of the first bad line: what a reader of a whole text answers, where what it is made of is local.
-use Rattle.std.proofs.Common.{◌≡◌, ◌⊎◌, inl, inr, ℕ, zero, suc, ◌+◌, List, [], ◌∷◌, ◌++◌, length, Result, Ok, Err, refl, sym, ap, subst, ◌∙◌, arith}
+use Rattle.std.proofs.Common.{◌≡◌, ◌≢◌, ◌⊎◌, inl, inr, ℕ, zero, suc, ◌+◌, List, [], ◌∷◌, ◌++◌, length, Result, Ok, Err, refl, sym, ap, subst, ◌∙◌, arith}
+use Rattle.std.specs.Prelude.{IfErr}
 use Rattle.std.proofs.lemmas.List.{append-nil}
 use Rattle.krieg_fen.specs.declared.fault.TextFault.{TextFault}
 use Rattle.krieg_fen.specs.declared.fault.TextFault.TheVariants.{At, NoMemory}
 use Rattle.krieg_fen.specs.declared.fault.TextKind.{TextKind}
 use Rattle.krieg_fen.specs.declared.fault.TextKind.TheVariants.{Syntax}
 use Rattle.krieg_fen.specs.Outcomes.{◌>>=◌}
-use Rattle.krieg_fen.specs.Reading.{Place, place, LineReader, ended, whole}
+use Rattle.krieg_fen.specs.Reading.{Place, place, LineReader, ended, whole, Gives}
 use Rattle.krieg_fen.specs.FirstBad.{IsFirstBad, FirstBad, ReadFrom, BadLine, FaultAt, IsLocal}
 
 abbrev close : {A : Type 0} → Result (A × Place) TextFault → Result A TextFault
@@ -43,3 +44,10 @@ first_by r local ls e (Err d) is h = let same : d ≡ e = cc in subst (FirstBad 
 
 pub first_bad : {A : Type 0} (r : LineReader A) → IsLocal r → (ls : List (List ℕ)) (e : TextFault) → whole r ls ≡ Err e → FirstBad (whole r) ls e
 first_bad r local ls e h = first_by r local ls e (r (place 1 ls)) refl h
+
+-- the same of what the code answered
+pub code_first_bad : {X A : Type 0} (view : X → A) (answer : Result X TextFault) (r : LineReader A) → IsLocal r → (ls : List (List ℕ)) →
+    Gives view answer (whole r ls) → IfErr answer (λ e. e ≢ NoMemory → FirstBad (whole r) ls e)
+code_first_bad view (Ok x) r local ls given = tt
+code_first_bad view (Err NoMemory) r local ls given = λ other. absurd (other refl)
+code_first_bad view (Err (At line kind)) r local ls given = λ other. first_bad r local ls (At line kind) given

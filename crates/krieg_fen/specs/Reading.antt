@@ -1,5 +1,5 @@
 -- Reading a text line by line: where a reader stands, what it takes, and the first line that it refuses.
-use Rattle.std.specs.Prelude.{◌≡◌, ℕ, ◌+◌, List, [], ◌∷◌, Result, Ok, Err}
+use Rattle.std.specs.Prelude.{◌≡◌, ℕ, ◌+◌, List, [], ◌∷◌, ◌++◌, Result, Ok, Err}
 use Rattle.krieg_fen.specs.declared.fault.TextFault.{TextFault}
 use Rattle.krieg_fen.specs.declared.fault.TextFault.TheVariants.{At, NoMemory}
 use Rattle.krieg_fen.specs.declared.fault.TextKind.{TextKind}
@@ -18,6 +18,11 @@ place number left = record { number = number; left = left }
 -- the lines of a text are numbered from 1
 abbrev pub begin : List ℕ → Place
 begin text = place 1 (lines text)
+
+-- the lines that are left, new, are those behind the lines that were given
+pub record IsRest (old new : List (List ℕ)) : Type 0 where
+  pub given : List (List ℕ)
+  pub is : old ≡ given ++ new
 
 -- A reader of lines gives a value and goes on behind the lines that it took, or refuses a line.
 abbrev pub LineReader : Type 0 → Type 0

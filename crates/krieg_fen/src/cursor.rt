@@ -1,6 +1,6 @@
 ghost use Rattle.std.specs.Prelude.{◌≡◌, ◌<◌, ◌≤◌, ◌+◌, ◌^◌, ◌≢◌, IfOk, IfErr, OnOk, OnErr, Ok, Err, None, length, slice_get};
 ghost use Rattle.std.specs.Option.{option_copied};
-ghost use Rattle.krieg_fen.specs.Reading.{begin, line_at, ended, GivesOn};
+ghost use Rattle.krieg_fen.specs.Reading.{begin, line_at, ended, IsRest, GivesOn};
 ghost use Rattle.krieg_fen.specs.Forms.{positions_at};
 ghost use Rattle.krieg_fen.specs.declared.fault.TextFault.TheVariants.{NoMemory as OutOfMemory};
 
@@ -85,7 +85,7 @@ impl<'a> Cursor<'a> {
     ) -> Result<Vec<Position>, TextFault>
         requires { n < 2 ^ 48 }
         ensures value { GivesOn (λ v. v.items) result self.new (positions_at who None n self.old) }
-        ensures fewer { length self.new.left ≤ length self.old.left }
+        ensures rest { IsRest self.old.left self.new.left }
     {
         match list_at(alloc, &mut self.source, n, self.number, who) {
             Ok(list) => {
