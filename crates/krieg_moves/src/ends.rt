@@ -7,38 +7,19 @@ use crate::legality::is_legal;
 use crate::list::is_promotion;
 use krieg_board::{Move, Position, Promo, Square, is_king_attacked, is_of};
 
+fn can_go(p: &Position, from: Square, to: Square, promo: Promo) -> bool
+    ensures { result ≡ spec.is_legal p.now (record { from = from; to = to; promo = promo }) }
+{
+    is_legal(p, Move { from, to, promo })
+}
+
 fn has_promotions(p: &Position, from: Square, to: Square) -> bool
     ensures { result ≡ list_any (spec.is_legal p.now) (list.promotions from to) }
 {
-    is_legal(
-        p,
-        Move {
-            from,
-            to,
-            promo: Promo::Queen,
-        },
-    ) || is_legal(
-        p,
-        Move {
-            from,
-            to,
-            promo: Promo::Rook,
-        },
-    ) || is_legal(
-        p,
-        Move {
-            from,
-            to,
-            promo: Promo::Bishop,
-        },
-    ) || is_legal(
-        p,
-        Move {
-            from,
-            to,
-            promo: Promo::Knight,
-        },
-    )
+    can_go(p, from, to, Promo::Queen)
+        || can_go(p, from, to, Promo::Rook)
+        || can_go(p, from, to, Promo::Bishop)
+        || can_go(p, from, to, Promo::Knight)
 }
 
 #[tactic(auto, using(crate::proofs::MoveLists::between))]
@@ -48,14 +29,7 @@ fn has_between(p: &Position, from: Square, to: Square) -> bool
     if is_promotion(p, from, to) {
         has_promotions(p, from, to)
     } else {
-        is_legal(
-            p,
-            Move {
-                from,
-                to,
-                promo: Promo::Plain,
-            },
-        )
+        can_go(p, from, to, Promo::Plain)
     }
 }
 

@@ -20,9 +20,16 @@ pub fn is_promotion(p: &Position, from: Square, to: Square) -> bool
 }
 
 /// Adds the move, where it is legal.
-fn push_legal(p: &Position, mv: &Move, moves: &mut SmallVec<Move, 64>) -> Result<(), NoMemory>
-    ensures { OnOk result (moves.new.items ≡ moves.old.items ++ filter (spec.is_legal p.now) (mv.now ∷ [])) }
+fn push_legal(
+    p: &Position,
+    from: Square,
+    to: Square,
+    promo: Promo,
+    moves: &mut SmallVec<Move, 64>,
+) -> Result<(), NoMemory>
+    ensures { OnOk result (moves.new.items ≡ moves.old.items ++ filter (spec.is_legal p.now) (record { from = from; to = to; promo = promo } ∷ [])) }
 {
+    let mv = &Move { from, to, promo };
     if is_legal(p, *mv) {
         moves.push(*mv)?;
     }
@@ -37,42 +44,10 @@ fn push_promotions(
 ) -> Result<(), NoMemory>
     ensures { OnOk result (moves.new.items ≡ moves.old.items ++ filter (spec.is_legal p.now) (list.promotions from to)) }
 {
-    push_legal(
-        p,
-        &Move {
-            from,
-            to,
-            promo: Promo::Queen,
-        },
-        moves,
-    )?;
-    push_legal(
-        p,
-        &Move {
-            from,
-            to,
-            promo: Promo::Rook,
-        },
-        moves,
-    )?;
-    push_legal(
-        p,
-        &Move {
-            from,
-            to,
-            promo: Promo::Bishop,
-        },
-        moves,
-    )?;
-    push_legal(
-        p,
-        &Move {
-            from,
-            to,
-            promo: Promo::Knight,
-        },
-        moves,
-    )
+    push_legal(p, from, to, Promo::Queen, moves)?;
+    push_legal(p, from, to, Promo::Rook, moves)?;
+    push_legal(p, from, to, Promo::Bishop, moves)?;
+    push_legal(p, from, to, Promo::Knight, moves)
 }
 
 /// Adds the legal moves between two squares: promotions where a pawn reaches the last rank, and
@@ -89,15 +64,7 @@ fn push_between(
     if is_promotion(p, from, to) {
         push_promotions(p, from, to, moves)
     } else {
-        push_legal(
-            p,
-            &Move {
-                from,
-                to,
-                promo: Promo::Plain,
-            },
-            moves,
-        )
+        push_legal(p, from, to, Promo::Plain, moves)
     }
 }
 
