@@ -10,3 +10,4 @@ pub mod Marks
 pub mod KeepsValid
 pub mod LegalMoves
 pub mod MoveLists
+pub mod Listed

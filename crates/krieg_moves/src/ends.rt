@@ -3,14 +3,14 @@ ghost use Rattle.std.specs.List.{list_any};
 ghost use Rattle.krieg_moves.specs.Legal as spec;
 ghost use Rattle.krieg_moves.specs.Moves as list;
 
-use crate::legality::is_legal;
+use crate::legality::is_legal_move;
 use crate::list::is_promotion;
 use krieg_board::{Move, Position, Promo, Square, is_king_attacked, is_of};
 
 fn can_go(p: &Position, from: Square, to: Square, promo: Promo) -> bool
     ensures { result ≡ spec.is_legal p.now (record { from = from; to = to; promo = promo }) }
 {
-    is_legal(p, Move { from, to, promo })
+    is_legal_move(p, &Move { from, to, promo })
 }
 
 fn has_promotions(p: &Position, from: Square, to: Square) -> bool

@@ -152,16 +152,23 @@ fn leaves_king_safe(p: &Position, man: Man, mv: &Move) -> bool
     !is_king_attacked(&board_after(p.board(), &p.mark(), man, mv), p.side())
 }
 
-/// Whether the move is legal in the position (FIDE Laws, articles 3.1 to 3.10): a man of the side to
-/// move goes as its kind goes, to a square that holds no man of its side, with a promotion exactly
-/// where a pawn reaches the last rank; and after it the mover's own king is not attacked.
+/// Whether the move is legal: `is_legal` of a move that is lent, so that the lists copy only what they
+/// keep.
 #[tactic(auto, unfolding(crate::specs::Legal::is_legal, crate::specs::Legal::is_candidate, crate::specs::After::after))]
-pub fn is_legal(p: &Position, mv: Move) -> bool
-    ensures { result ≡ spec.is_legal p.now mv }
+pub fn is_legal_move(p: &Position, mv: &Move) -> bool
+    ensures { result ≡ spec.is_legal p.now mv.now }
 {
-    let mv = &mv;
     match p.man_at(mv.from) {
         None => false,
         Some(man) => is_candidate(p, mv, man) && leaves_king_safe(p, man, mv),
     }
+}
+
+/// Whether the move is legal in the position (FIDE Laws, articles 3.1 to 3.10): a man of the side to
+/// move goes as its kind goes, to a square that holds no man of its side, with a promotion exactly
+/// where a pawn reaches the last rank; and after it the mover's own king is not attacked.
+pub fn is_legal(p: &Position, mv: Move) -> bool
+    ensures { result ≡ spec.is_legal p.now mv }
+{
+    is_legal_move(p, &mv)
 }

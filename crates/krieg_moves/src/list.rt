@@ -5,7 +5,7 @@ ghost use Rattle.krieg_board.specs.declared.men.Kind.TheVariants.{Pawn};
 ghost use Rattle.krieg_moves.specs.Legal as spec;
 ghost use Rattle.krieg_moves.specs.Moves as list;
 
-use crate::legality::is_legal;
+use crate::legality::is_legal_move;
 use krieg_board::{
     Kind, Move, NoMemory, Position, Promo, Square, is_man, is_of, last_rank, rank_of,
 };
@@ -30,7 +30,7 @@ fn push_legal(
     ensures { OnOk result (moves.new.items ≡ moves.old.items ++ filter (spec.is_legal p.now) (record { from = from; to = to; promo = promo } ∷ [])) }
 {
     let mv = &Move { from, to, promo };
-    if is_legal(p, *mv) {
+    if is_legal_move(p, mv) {
         moves.push(*mv)?;
     }
     Ok(())
