@@ -1,0 +1,40 @@
+-- What `solve 1` answers of one position: the plan of the first move that mates, or that there is none.
+use Rattle.std.specs.Prelude.{ℕ, List, [], ◌∷◌, ◌++◌, Option, Some, None, codes}
+use Rattle.std.specs.List.{find}
+use Rattle.krieg_board.specs.Pos.{Pos}
+use Rattle.krieg_board.specs.declared.men.Move.{Move}
+use Rattle.krieg_moves.specs.After.{after}
+use Rattle.krieg_moves.specs.Moves.{moves, is_mate}
+use Rattle.krieg_fen.specs.Lines.{with_ends}
+use Rattle.krieg_fen.specs.MoveText.{move_text}
+use Rattle.krieg_fen.specs.FenText.{position_text}
+use Rattle.krieg_cli.specs.LoneSheet.{side_line}
+
+-- the first of the legal moves, in their order, that mates
+unfoldable pub mating_move : Pos → Option Move
+mating_move p = find (λ m. is_mate (after p m)) (moves p)
+
+-- the line of a node without a `no` and without edges
+abbrev pub play_line : Move → List ℕ
+play_line m = codes "play " ++ (move_text m ++ codes " 0")
+
+-- the lines of the plan file whose one node is that move
+abbrev pub plan_lines : Pos → Move → List (List ℕ)
+plan_lines p m =
+    codes "krieg plan 1"
+    ∷ side_line p.side
+    ∷ codes "list 1"
+    ∷ position_text p
+    ∷ codes "worst 1"
+    ∷ codes "roots 1"
+    ∷ codes "on silent"
+    ∷ play_line m
+    ∷ codes "end" ∷ []
+
+abbrev pub solution_lines : Pos → Option Move → List (List ℕ)
+solution_lines p None = codes "none 1" ∷ []
+solution_lines p (Some m) = plan_lines p m
+
+-- the answer's text, with a line feed after every line
+unfoldable pub solution_text : Pos → List ℕ
+solution_text p = with_ends (solution_lines p (mating_move p))

@@ -1,0 +1,150 @@
+//! The worked examples of the first command, and every refusal, over streams in memory.
+
+use crate::run;
+use krieg_ports::{MemSink, MemSource};
+use std::alloc::{AllocError, Global};
+
+const SOLVE: [&str; 4] = ["solve", "1", "64", "1"];
+
+const ROOK: &str = "krieg sheet 1\nside w\nlist 1\n1k6/8/1K6/8/8/8/8/7R w - -\nend\n";
+
+const ROOK_PLAN: &str = "krieg plan 1\nside w\nlist 1\n1k6/8/1K6/8/8/8/8/7R w - -\nworst 1\n\
+    roots 1\non silent\nplay h1h8 0\nend\n";
+
+/// How a run ended, and what it wrote.
+#[derive(Drop)]
+struct Ran {
+    status: u8,
+    out: Vec<u8>,
+    err: Vec<u8>,
+}
+
+/// A sink with `room` places, which takes at most `piece` bytes a call.
+fn sink(alloc: Global, room: usize, piece: usize, fails: &[u64]) -> Result<MemSink, AllocError> {
+    let space = vec![in alloc; 0u8; room]?;
+    Ok(MemSink::new(space, piece.max(1), fails.to_vec(alloc)?))
+}
+
+fn strings(alloc: Global, words: &[&str]) -> Result<Vec<String>, AllocError> {
+    let mut strings = Vec::new(alloc);
+    for word in words {
+        strings.push(String::from_str(alloc, word)?)?;
+    }
+    Ok(strings)
+}
+
+/// Runs the words on the text. The reads of these numbers fail.
+fn run_to(
+    alloc: Global,
+    words: &[&str],
+    text: &str,
+    read_fails: &[u64],
+    mut out: MemSink,
+) -> Result<Ran, AllocError> {
+    let words = strings(alloc, words)?;
+    let bytes = text.as_bytes().to_vec(alloc)?;
+    let mut input = MemSource::new(bytes, 7, read_fails.to_vec(alloc)?);
+    let mut err = sink(alloc, 100, 100, &[])?;
+    let status = run(alloc, &words, &mut input, &mut out, &mut err);
+    Ok(Ran {
+        status,
+        out: out.bytes().to_vec(alloc)?,
+        err: err.bytes().to_vec(alloc)?,
+    })
+}
+
+/// Runs the words on the text, over streams that never fail.
+fn run_on(alloc: Global, words: &[&str], text: &str) -> Result<Ran, AllocError> {
+    let out = sink(alloc, 1000, 1000, &[])?;
+    run_to(alloc, words, text, &[], out)
+}
+
+/// The rook mates on h8; against a king on c8 no move mates.
+#[test]
+fn solves_in_one(rt: HostRuntime) -> Result<(), AllocError> {
+    let ran = run_on(rt.alloc(), &SOLVE, ROOK)?;
+    assert_eq!(rt; ran.status, 0);
+    assert!(rt; ran.out.as_slice() == ROOK_PLAN.as_bytes());
+    assert!(rt; ran.err.is_empty());
+    let king_on_c8 = "krieg sheet 1\nside w\nlist 1\n2k5/8/1K6/8/8/8/8/7R w - -\nend";
+    let ran = run_on(rt.alloc(), &["solve", "1", "10000", "1"], king_on_c8)?;
+    assert_eq!(rt; ran.status, 0);
+    assert!(rt; ran.out.as_slice() == b"none 1\n".as_slice());
+    Ok(())
+}
+
+/// Words of other forms and numbers out of range are not built, and nothing is written for them.
+#[test]
+fn refuses_other_words(rt: HostRuntime) -> Result<(), AllocError> {
+    let refused: [&[&str]; 8] = [
+        &[],
+        &["solve", "1", "64"],
+        &["solve", "2", "64", "1"],
+        &["solve", "1", "0", "1"],
+        &["solve", "1", "50000001", "1"],
+        &["solve", "1", "64", "200001"],
+        &["solve", "1", "064", "1"],
+        &["check", "64"],
+    ];
+    for words in refused {
+        let ran = run_on(rt.alloc(), words, ROOK)?;
+        assert_eq!(rt; ran.status, 15);
+        assert!(rt; ran.out.is_empty());
+        assert!(rt; ran.err.as_slice() == b"krieg: not built\n".as_slice());
+    }
+    Ok(())
+}
+
+/// Sheets of other forms are not built.
+#[test]
+fn refuses_other_sheets(rt: HostRuntime) -> Result<(), AllocError> {
+    let refused = [
+        "",
+        "krieg sheet 2\nside w\nlist 1\n1k6/8/1K6/8/8/8/8/7R w - -\nend\n",
+        "krieg sheet 1\nside b\nlist 1\n1k6/8/1K6/8/8/8/8/7R w - -\nend\n",
+        "krieg sheet 1\nside w\nlist 2\n1k6/8/1K6/8/8/8/8/7R w - -\n1k6/8/1K6/8/8/8/8/7R w - -\nend\n",
+        "krieg sheet 1\nside w\nlist 1\n1k5R/8/1K6/8/8/8/8/8 w - -\nend\n",
+        "krieg sheet 1\nside w\nlist 1\n1k6/8/1K6/8/8/8/8/7R w - -\n",
+        "krieg sheet 1\nside w\nlist 1\n1k6/8/1K6/8/8/8/8/7R w - -\nopens silent\nend\n",
+        "krieg sheet 1\nside w\nlist 1\n1k6/8/1K6/8/8/8/8/7R w - -\nend\n\n",
+    ];
+    for text in refused {
+        let ran = run_on(rt.alloc(), &SOLVE, text)?;
+        assert_eq!(rt; ran.status, 15, "{text}");
+        assert!(rt; ran.out.is_empty());
+    }
+    Ok(())
+}
+
+/// A read that fails, at the first call, in mid-stream or at the end, gives no answer: the text comes in
+/// nine reads, and the tenth finds its end.
+#[test]
+fn tells_a_read_fault(rt: HostRuntime) -> Result<(), AllocError> {
+    for call in 1..11 {
+        let out = sink(rt.alloc(), 1000, 1000, &[])?;
+        let ran = run_to(rt.alloc(), &SOLVE, ROOK, &[call], out)?;
+        assert_eq!(rt; ran.status, 9, "call {call}");
+        assert!(rt; ran.out.is_empty());
+        assert!(rt; ran.err.as_slice() == b"krieg: read fault\n".as_slice());
+    }
+    Ok(())
+}
+
+/// Whether the first example's run over a sink that fails ends so, with this much written.
+fn breaks_off(alloc: Global, out: MemSink, written: &[u8]) -> Result<bool, AllocError> {
+    let ran = run_to(alloc, &SOLVE, ROOK, &[], out)?;
+    let is_told = ran.err.as_slice() == b"krieg: write fault\n".as_slice();
+    Ok(ran.status == 10 && ran.out.as_slice() == written && is_told)
+}
+
+/// A write that fails leaves what was written before it, and nothing else.
+#[test]
+fn tells_a_write_fault(rt: HostRuntime) -> Result<(), AllocError> {
+    let first = sink(rt.alloc(), 1000, 1000, &[1])?;
+    let fourth = sink(rt.alloc(), 1000, 1, &[4])?;
+    let full = sink(rt.alloc(), 3, 1000, &[])?;
+    assert!(rt; breaks_off(rt.alloc(), first, b"")?);
+    assert!(rt; breaks_off(rt.alloc(), fourth, b"kri")?);
+    assert!(rt; breaks_off(rt.alloc(), full, b"kri")?);
+    Ok(())
+}
