@@ -1,0 +1,5 @@
+use Rattle.krieg_theory.proofs.Theorems.{canon_plan_is_least}
+use Rattle.krieg_theory.proofs.laws.canon_plan_is_least.Goals as goal
+
+pub returns : goal.returns
+returns g c = canon_plan_is_least g.G.HiddenGame.game g.G.HiddenGame.lawful g.G.HiddenGame.outset g.G.HiddenGame.outset_lawful

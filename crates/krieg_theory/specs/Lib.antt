@@ -1,0 +1,10 @@
+pub mod Sets
+pub mod Tree
+pub mod Game
+pub mod Wins
+pub mod Split
+pub mod Can
+pub mod Canonical
+pub mod Computed
+pub mod Plans
+pub mod Laws

@@ -1,0 +1,48 @@
+-- What a player has decided in advance: a tree of tries.
+-- M are the moves. K are the keys: what the player hears between two own turns.
+use Rattle.std.specs.Prelude.{ℕ, ◌+◌, Bool, cond, max}
+use Rattle.krieg_theory.specs.Sets.{same}
+
+mutual
+  -- a try; where to go on if the umpire calls it illegal; and where to go on by what is heard if it is legal
+  pub data Tree (M K : Type 0) : Type 0 where
+    Try : M → Maybe M K → Edges M K → Tree M K
+
+  pub data Maybe (M K : Type 0) : Type 0 where
+    Nothing : Maybe M K
+    Just : Tree M K → Maybe M K
+
+  pub data Edges (M K : Type 0) : Type 0 where
+    NoEdges : Edges M K
+    Edge : K → Tree M K → Edges M K → Edges M K
+
+-- the node at the first edge with the key, by the order of keys
+abbrev pub first_edge : {M K : Type 0} → (K → K → Bool) → Edges M K → K → Maybe M K
+first_edge lt NoEdges key = Nothing
+first_edge lt (Edge key' n es) key = cond (same lt key' key) (Just n) (first_edge lt es key)
+
+abbrev mutual
+  -- how many nodes there are
+  pub size : {M K : Type 0} → Tree M K → ℕ
+  size (Try t other es) = 1 + (size_other other + size_edges es)
+
+  pub size_other : {M K : Type 0} → Maybe M K → ℕ
+  size_other Nothing = 0
+  size_other (Just n) = size n
+
+  pub size_edges : {M K : Type 0} → Edges M K → ℕ
+  size_edges NoEdges = 0
+  size_edges (Edge key n es) = size n + size_edges es
+
+abbrev mutual
+  -- how many nodes the longest path has
+  pub depth : {M K : Type 0} → Tree M K → ℕ
+  depth (Try t other es) = 1 + max (depth_other other) (depth_edges es)
+
+  pub depth_other : {M K : Type 0} → Maybe M K → ℕ
+  depth_other Nothing = 0
+  depth_other (Just n) = depth n
+
+  pub depth_edges : {M K : Type 0} → Edges M K → ℕ
+  depth_edges NoEdges = 0
+  depth_edges (Edge key n es) = max (depth n) (depth_edges es)
