@@ -1,7 +1,7 @@
 -- The least number of a set, and its canonical node at that number.
-use Rattle.std.proofs.Common.{◌≡◌, ℕ, zero, suc, ◌≤◌, ◌<◌, Bool, true, false, cond, ◌⊎◌, List, refl, sym, ap, subst, inl, inr, ◌∙◌, arith, eq-or-lt_of_le}
-use Rattle.std.proofs.lemmas.Bool.{cases_Bool, cases_lt, cond-true, cond-false, both_ways, false_from_ne_true}
-use Rattle.krieg_theory.specs.Tree.{Tree, Try, Maybe, Nothing, Just}
+use Rattle.std.proofs.Common.{◌≡◌, ℕ, zero, suc, ◌≤◌, ◌<◌, true, false, cond, ◌⊎◌, List, refl, sym, subst, inl, inr, ◌∙◌, arith, eq-or-lt_of_le}
+use Rattle.std.proofs.lemmas.Bool.{cases_Bool, cases_lt, cond-true, cond-false, both_ways}
+use Rattle.krieg_theory.specs.Tree.{Tree, Try}
 use Rattle.krieg_theory.specs.Game.{Game, IsGame}
 use Rattle.krieg_theory.specs.Wins.{wins, WinsAll}
 use Rattle.krieg_theory.specs.Can.{can, least}

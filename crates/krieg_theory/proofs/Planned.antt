@@ -1,23 +1,21 @@
 -- Plans: from a plan that mates to the sets that can be won, and from there to the canonical plan.
-use Rattle.std.proofs.Common.{◌≡◌, ℕ, zero, suc, ◌≤◌, ◌<◌, Bool, true, false, cond, not, ◌&&◌, max, ◌⊎◌, List, [], ◌∷◌, map, flat_map, refl, sym, ap, subst, inl, inr, ◌∙◌, arith}
+use Rattle.std.proofs.Common.{◌≡◌, ℕ, ◌≤◌, true, false, not, ◌&&◌, max, ◌⊎◌, List, [], ◌∷◌, map, refl, sym, ap, subst, inl, inr, ◌∙◌, arith}
 use Rattle.std.specs.List.{list_all, list_any}
-use Rattle.std.proofs.lemmas.Bool.{and_parts, and_from, or_parts, cases_Bool, not-true, not_from_false, cond-true, cond-false, both_ways, false_from_ne_true}
-use Rattle.krieg_theory.specs.Sets.{In, IsOrder, same, at_key, is_nil}
+use Rattle.std.proofs.lemmas.Bool.{and_parts, and_from, cases_Bool, not-true, not_from_false, cond-true, cond-false, both_ways, false_from_ne_true}
+use Rattle.krieg_theory.specs.Sets.{In, same}
 use Rattle.krieg_theory.specs.Tree.{Tree, Maybe, Nothing, Just}
 use Rattle.krieg_theory.specs.Game.{Game, IsGame}
-use Rattle.krieg_theory.specs.Wins.{wins, WinsAll}
+use Rattle.krieg_theory.specs.Wins.{wins}
 use Rattle.krieg_theory.specs.Can.{can, least}
-use Rattle.krieg_theory.specs.Canonical.{IsCanon}
 use Rattle.krieg_theory.specs.Computed.{canon}
 use Rattle.krieg_theory.specs.Plans.{Outset, IsOutset, is_over, all_starts, openings, opening_set, Plan, wins_root, mates, IsWorst, AreCanonRoots, IsCanonPlan, can_plan, root_with, roots_of, canon_plan, greatest, canon_worst}
-use Rattle.krieg_theory.proofs.Lists.{all_at, all_from, any_from, any_at, any_none, in_flat, flat_in}
+use Rattle.krieg_theory.proofs.Lists.{all_at, all_from, any_at, any_none, in_flat, flat_in}
 use Rattle.krieg_theory.proofs.Ascending.{in_as_set, as_set_in, same_eq, same_refl}
 use Rattle.krieg_theory.proofs.Keys.{at_key_in, in_at_key, key_occurs, occurs_at}
 use Rattle.krieg_theory.proofs.Steps.{Member}
 use Rattle.krieg_theory.proofs.Shown.{node_shows}
-use Rattle.krieg_theory.proofs.Built.{Won}
 use Rattle.krieg_theory.proofs.Unique.{can_upto, canon_only}
-use Rattle.krieg_theory.proofs.Exists.{Made, canon_is}
+use Rattle.krieg_theory.proofs.Exists.{canon_is}
 use Rattle.krieg_theory.proofs.Least.{wins_upto, least_le, least_least, canon_wins_least, canon_can}
 
 pub greatest_at : {X : Type 0} (f : X → ℕ) (xs : List X) (x : X) → In x xs → f x ≤ greatest f xs
@@ -103,11 +101,14 @@ module _ (G : Game) (L : IsGame G) (O : Outset G) (R : IsOutset G O) where
 
   -- the canonical plan mates within the greatest of the least numbers
   pub canon_mates : (j : ℕ) (S : List G.Position) → can_plan G O j S ≡ true → mates G O (canon_plan G O j S) S (canon_worst G O j S) ≡ true
-  canon_mates j S c = mates_from (canon_plan G O j S) S (canon_worst G O j S) (λ p i. (any_none (is_over G O) S (can_plan_at S j c).0 p i, λ s h.
-      let C = opening_set G O S s.0 in
-      let o = opens S p s i h in
-      let w = canon_wins_least G L j C ((can_plan_at S j c).1 s.0 o) in
-      at_roots (openings G O S) (λ key. canon G j (opening_set G O S key)) s.0 w.0 s.1 (canon_worst G O j S) o w.1 (wins_upto G (least G j C) (canon_worst G O j S) w.0 s.1 (greatest_at (λ key. least G j (opening_set G O S key)) (openings G O S) s.0 o) (w.2 s.1 (in_opening S p s i h)))))
+  canon_mates j S c = mates_from (canon_plan G O j S) S (canon_worst G O j S) (λ p i. (
+    any_none (is_over G O) S (can_plan_at S j c).0 p i,
+    λ s h.
+        let C = opening_set G O S s.0 in
+        let o = opens S p s i h in
+        let w = canon_wins_least G L j C ((can_plan_at S j c).1 s.0 o) in
+        at_roots (openings G O S) (λ key. canon G j (opening_set G O S key)) s.0 w.0 s.1 (canon_worst G O j S) o w.1 (wins_upto G (least G j C) (canon_worst G O j S) w.0 s.1 (greatest_at (λ key. least G j (opening_set G O S key)) (openings G O S) s.0 o) (w.2 s.1 (in_opening S p s i h))),
+  ))
 
   -- and so within every number within which the sets can be won
   pub worst_enough : (j : ℕ) (S : List G.Position) → can_plan G O j S ≡ true → canon_worst G O j S ≤ j

@@ -1,16 +1,15 @@
 -- The laws, proved for every game.
-use Rattle.std.proofs.Common.{◌≡◌, ℕ, zero, suc, ◌≤◌, Bool, true, false, cond, ◌⊎◌, List, [], ◌∷◌, refl, sym, ap, subst, inl, inr, ◌∙◌, arith}
+use Rattle.std.proofs.Common.{◌≡◌, zero, suc, true, false, cond, ◌⊎◌, List, [], ◌∷◌, refl, sym, subst, inl, inr, ◌∙◌}
 use Rattle.std.specs.List.{list_any}
-use Rattle.std.proofs.lemmas.Bool.{cases_Bool, cond-true, cond-false, both_ways, false_from_ne_true}
+use Rattle.std.proofs.lemmas.Bool.{both_ways, false_from_ne_true}
 use Rattle.krieg_theory.specs.Sets.{In, same, at_key, is_nil}
-use Rattle.krieg_theory.specs.Tree.{Tree, Try, Maybe, Nothing, Just, Edges, NoEdges, Edge, first_edge}
+use Rattle.krieg_theory.specs.Tree.{Just, NoEdges, Edge, first_edge}
 use Rattle.krieg_theory.specs.Game.{Game, IsGame}
-use Rattle.krieg_theory.specs.Wins.{wins, wins_other, wins_at, WinsAll}
-use Rattle.krieg_theory.specs.Split.{refused, legal_in_some, keys, class, all_outcomes}
-use Rattle.krieg_theory.specs.Can.{can, begins}
-use Rattle.krieg_theory.specs.Canonical.{IsCanon}
+use Rattle.krieg_theory.specs.Wins.{wins, wins_other, wins_at}
+use Rattle.krieg_theory.specs.Split.{refused, keys, class, all_outcomes}
+use Rattle.krieg_theory.specs.Can.{begins}
 use Rattle.krieg_theory.specs.Computed.{canon}
-use Rattle.krieg_theory.specs.Plans.{Outset, IsOutset, Plan, mates, IsWorst, IsCanonPlan, can_plan, canon_plan, canon_worst}
+use Rattle.krieg_theory.specs.Plans.{Outset, IsOutset, mates, IsWorst, can_plan, canon_plan, canon_worst}
 use Rattle.krieg_theory.specs.Laws.{MoreMovesWin, FirstEdgeWins, SetsAreEqual, ComesBy, ClassesAreSplit, CanBegins, CanIsWon, BeginsIsWon, LeastIsLeast, CanonIsOne, CanonIsComputed, CanPlanIsMated, CanonPlanIsOne, CanonPlanIsThere, CanonPlanIsLeast, CanonPlanIsComputed}
 use Rattle.krieg_theory.proofs.Lists.{any_at, nil_or_member, nil_none}
 use Rattle.krieg_theory.proofs.Ascending.{same_set, as_set_ascending}
@@ -18,10 +17,10 @@ use Rattle.krieg_theory.proofs.Keys.{key_occurs, occurs_at}
 use Rattle.krieg_theory.proofs.Steps.{Member, outs_in, in_outs, in_class, class_in, can_step}
 use Rattle.krieg_theory.proofs.Shown.{node_shows, try_meets}
 use Rattle.krieg_theory.proofs.Built.{wins_more, build, canon_wins}
-use Rattle.krieg_theory.proofs.Unique.{can_upto, member_of, canon_only}
+use Rattle.krieg_theory.proofs.Unique.{canon_only}
 use Rattle.krieg_theory.proofs.Exists.{canon_is}
 use Rattle.krieg_theory.proofs.Least.{least_is, canon_can}
-use Rattle.krieg_theory.proofs.Planned.{can_plan_from, mates_shows, canon_mates, canon_plan_worst, canon_plan_is, canon_plan_only, canon_plan_can, worst_least, worst_enough, mates_upto}
+use Rattle.krieg_theory.proofs.Planned.{mates_shows, canon_mates, canon_plan_worst, canon_plan_is, canon_plan_only, canon_plan_can, worst_least, worst_enough, mates_upto}
 
 module _ (G : Game) where
   pub more_moves_win : MoreMovesWin G

@@ -1,5 +1,5 @@
 -- The laws, each a statement that a function of this crate has as its contract.
-use Rattle.std.specs.Prelude.{◌≡◌, ℕ, zero, suc, ◌≤◌, ◌↔◌, Bool, true, false, List}
+use Rattle.std.specs.Prelude.{◌≡◌, ℕ, suc, ◌≤◌, ◌↔◌, true, false, List}
 use Rattle.std.specs.List.{list_any}
 use Rattle.krieg_theory.specs.Sets.{In, Ascending, is_nil}
 use Rattle.krieg_theory.specs.Tree.{Tree, Try, Maybe, Just, Edges, first_edge}

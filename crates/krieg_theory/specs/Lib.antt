@@ -8,3 +8,5 @@ pub mod Canonical
 pub mod Computed
 pub mod Plans
 pub mod Laws
+pub mod Toy
+pub mod ToyLawful

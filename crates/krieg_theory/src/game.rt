@@ -9,7 +9,10 @@ ghost use Rattle.krieg_theory.specs.Plans.{Outset, IsOutset};
 /// player's first turn, and the proofs that both meet their laws.
 pub trait HiddenGame {
     ghost game: { Game };
+
     ghost outset: { Outset game };
+
     ghost lawful: { IsGame game };
+
     ghost outset_lawful: { IsOutset game outset };
 }

@@ -1,8 +1,8 @@
 //! The laws: each function here does nothing, and its contract is a theorem about every game.
 
-use crate::game::HiddenGame;
-
 ghost use Rattle.krieg_theory.specs.Laws.{MoreMovesWin, FirstEdgeWins, SetsAreEqual, ClassesAreSplit, CanBegins, CanIsWon, BeginsIsWon, LeastIsLeast, CanonIsOne, CanonIsComputed, CanPlanIsMated, CanonPlanIsOne, CanonPlanIsThere, CanonPlanIsLeast, CanonPlanIsComputed};
+
+use crate::game::HiddenGame;
 
 /// A tree that wins within some number of own moves wins within one more.
 pub fn more_moves_win<G: HiddenGame>()

@@ -9,5 +9,6 @@
 
 mod game;
 pub mod laws;
+pub mod toy;
 
 pub use game::HiddenGame;
