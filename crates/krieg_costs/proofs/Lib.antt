@@ -1,0 +1,4 @@
+pub mod Totals
+pub mod Pairs
+pub mod Costs
+pub mod Reached

@@ -1,0 +1,35 @@
+-- What a search takes that never looks at a set with the same number twice.
+use Rattle.std.specs.Prelude.{◌≡◌, ℕ, zero, suc, ◌+◌, ◌<◌, ◌≤◌, true, false, cond, List, [], ◌∷◌, ◌++◌, length, flat_map}
+use Rattle.krieg_theory.specs.Sets.{In, is_nil}
+use Rattle.krieg_theory.specs.Game.{Game}
+use Rattle.krieg_theory.specs.Split.{refused, legal_in_some, tries, keys, class}
+use Rattle.krieg_theory.specs.Plans.{Outset, openings, opening_set}
+use Rattle.krieg_costs.specs.Sums.{Pair, total, once}
+use Rattle.krieg_costs.specs.Cost.{price, first_made}
+
+module _ (G : Game) where
+  -- the pairs that the recursion meets, with its repeats, for a set of at most n members
+  abbrev pub reach_within : ℕ → (List G.Position → List (Pair G)) → ℕ → List G.Position → List (Pair G)
+  reach_within j less zero B = []
+  reach_within j less (suc n) B =
+      cond (is_nil B) [] ((B, suc j) ∷ (less B ++ flat_map (λ t. reach_within j less n (refused G B t) ++ flat_map (λ key. less (class G B t key)) (keys G B t)) (tries G B)))
+
+  -- the pairs that are met from a set with every number up to j
+  abbrev pub reach : ℕ → List G.Position → List (Pair G)
+  reach zero B = []
+  reach (suc j) B = reach_within j (reach j) (length B) B
+
+module _ (G : Game) (O : Outset G) where
+  abbrev pub reach_of : ℕ → List G.Position → List (Pair G)
+  reach_of n S = flat_map (λ key. reach G n (opening_set G O S key)) (openings G O S)
+
+  -- each distinct pair is paid for once
+  abbrev pub fresh : ℕ → List G.Position → ℕ
+  fresh n S = first_made G O S + total (λ q. price G q.0) (once G (reach_of n S))
+
+  -- A list that has each opening set with every number up to n, and with a pair and a try that is legal in some
+  -- member also the refused part with every number up to the pair's, and each class with every smaller one.
+  pub record IsReach (n : ℕ) (S : List G.Position) (R : List (Pair G)) : Type 0 where
+    pub opened : (key : O.Root) → In key (openings G O S) → (i : ℕ) → 0 < i → i ≤ n → In (opening_set G O S key, i) R
+    pub refused_part : (B : List G.Position) (j : ℕ) → In (B, j) R → (t : G.Move) → legal_in_some G B t ≡ true → is_nil (refused G B t) ≡ false → (i : ℕ) → 0 < i → i ≤ j → In (refused G B t, i) R
+    pub classes : (B : List G.Position) (j : ℕ) → In (B, j) R → (t : G.Move) → legal_in_some G B t ≡ true → (key : G.Key) → In key (keys G B t) → (i : ℕ) → 0 < i → i < j → In (class G B t key, i) R
