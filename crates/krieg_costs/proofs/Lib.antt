@@ -4,3 +4,6 @@ pub mod Costs
 pub mod Reached
 pub mod Blocks
 pub mod Refuted
+pub mod LostSets
+pub mod WonSets
+pub mod Backed
