@@ -6,3 +6,4 @@ pub mod Backing
 pub mod BackingRules
 pub mod Refutation
 pub mod Laws
+pub mod Toy

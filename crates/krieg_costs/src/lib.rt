@@ -1,10 +1,10 @@
-// Test
+//! What a search for a plan takes: what it takes without storing anything, what it takes at most if it never looks
+//! at a set with the same number twice, and what it must take. And how a list of claims shows that no plan mates.
+//!
+//! The units are those of splits: a try is made on a set of positions, which takes one unit for each member and one
+//! for each reply. Everything stands over the abstract game of `krieg_theory`. `specs/` has the definitions, in the
+//! order of its `Lib.antt`, and `laws` what is proved of them.
 #![tactic(auto)]
 
-ghost use Rattle.std.specs.Prelude.{◌≡◌};
-
-pub fn one() -> u8
-    ensures { result ≡ 1 }
-{
-    1
-}
+pub mod laws;
+pub mod toy;

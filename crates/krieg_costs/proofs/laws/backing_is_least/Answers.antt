@@ -1,0 +1,5 @@
+use Rattle.krieg_costs.proofs.Backed.{backing_is_least}
+use Rattle.krieg_costs.proofs.laws.backing_is_least.Goals as goal
+
+pub returns : goal.returns
+returns g c = backing_is_least g.G.HiddenGame.game g.G.HiddenGame.lawful g.G.HiddenGame.outset g.G.HiddenGame.outset_lawful
