@@ -115,8 +115,8 @@ module _ (G : Game) (L : IsGame G) (O : Outset G) (W : IsOutset G O) where
       go : (b : Block G.Key) → BlockSays G L j B t b → IfSome (pair_of G j B t b) (λ q. In q (reach_of G O n S))
       go Lives s = tt
       go Stale s = tt
-      go (LostClass key) s = (reach_is_least G L O W n S).0.classes B (suc j) i t l key s.0 j s.2 (omega arith)
-      go LostRefused s = (reach_is_least G L O W n S).0.refused_part B (suc j) i t l s.0 (suc j) (omega arith) (omega arith)
+      go (LostClass key) s = ((reach_is_least G L O W n S).0.leads B (suc j) i t l).classes key s.0 j s.2 (omega arith)
+      go LostRefused s = ((reach_is_least G L O W n S).0.leads B (suc j) i t l).refused_part s.0 (suc j) (omega arith) (omega arith)
       go NoBlock s = tt
 
   reach_keeps : (n : ℕ) (S : List G.Position) → IsBacking G O n S (reach_of G O n S)
@@ -137,10 +137,10 @@ module _ (G : Game) (L : IsGame G) (O : Outset G) (W : IsOutset G O) where
         classes = λ key k.
             let C = class G B m key in
             let a = least_le G j C in
-            (reach_is_least G L O W n S).0.classes B (suc j) i m f.legal key k (least G j C) (least_some j C (f.class_won key k)) (omega arith);
+            ((reach_is_least G L O W n S).0.leads B (suc j) i m f.legal).classes key k (least G j C) (least_some j C (f.class_won key k)) (omega arith);
         refused_part = λ e.
             let C = refused G B m in
-            (reach_is_least G L O W n S).0.refused_part B (suc j) i m f.legal e (least G (suc j) C) (least_some (suc j) C (f.refused_won e)) (least_le G (suc j) C);
+            ((reach_is_least G L O W n S).0.leads B (suc j) i m f.legal).refused_part e (least G (suc j) C) (least_some (suc j) C (f.refused_won e)) (least_le G (suc j) C);
         earlier = λ t l b. reach_keeps_block n S B (suc j) i t l;
       }
 

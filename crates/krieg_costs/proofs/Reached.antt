@@ -10,7 +10,7 @@ use Rattle.krieg_theory.proofs.Steps.{refused_lt}
 use Rattle.krieg_theory.proofs.Theorems.{classes_are_split}
 use Rattle.krieg_theory.proofs.Planned.{opening_member}
 use Rattle.krieg_costs.specs.Sums.{Pair}
-use Rattle.krieg_costs.specs.Reach.{reach_within, reach, reach_of}
+use Rattle.krieg_costs.specs.Reach.{reach_within, reach, reach_of, HasParts}
 use Rattle.krieg_costs.specs.Laws.{ReachIsLeast}
 use Rattle.krieg_costs.proofs.Costs.{try_legal, legal_try}
 
@@ -22,17 +22,12 @@ module _ (G : Game) (L : IsGame G) where
   pub class_some : (B : List G.Position) (t : G.Move) (key : G.Key) → In key (keys G B t) → is_nil (class G B t key) ≡ false
   class_some B t key i = (classes_are_split G L B t key).2.0 i
 
-  -- the parts of a set and a try, with the numbers that a pair with j leads to
-  pub record HasParts (R : List (Pair G)) (B : List G.Position) (j : ℕ) (t : G.Move) : Type 0 where
-    pub other : is_nil (refused G B t) ≡ false → (i : ℕ) → 0 < i → i ≤ j → In (refused G B t, i) R
-    pub classes : (key : G.Key) → In key (keys G B t) → (i : ℕ) → 0 < i → i < j → In (class G B t key, i) R
-
   -- all of small stands in R, and what each of its pairs leads to, and each pair with fewer moves
   abbrev pub Inside : List (Pair G) → List (Pair G) → Type 0
   Inside small R = (q : Pair G) → In q small → In q R
 
   abbrev pub Leads : List (Pair G) → List (Pair G) → Type 0
-  Leads small R = (C : List G.Position) (i : ℕ) → In (C, i) small → (t : G.Move) → legal_in_some G C t ≡ true → HasParts R C i t
+  Leads small R = (C : List G.Position) (i : ℕ) → In (C, i) small → (t : G.Move) → legal_in_some G C t ≡ true → HasParts G R C i t
 
   abbrev pub Sinks : List (Pair G) → List (Pair G) → Type 0
   Sinks small R = (C : List G.Position) (i : ℕ) → In (C, suc i) small → 0 < i → In (C, i) R
@@ -93,18 +88,18 @@ module _ (G : Game) (L : IsGame G) where
   leads_within j zero ih B R l inside C i m t k = absurd m
   leads_within j (suc n) ih [] R l inside C i m t k = absurd m
   leads_within j (suc n) ih (p ∷ B) R l inside C i m t k =
-      by_place j n p B (λ q. legal_in_some G q.0 t ≡ true → HasParts R q.0 q.1 t) itself
+      by_place j n p B (λ q. legal_in_some G q.0 t ≡ true → HasParts G R q.0 q.1 t) itself
       (λ q s. ih (p ∷ B) R (λ x y. inside x (in_less j n p B x y)) q.0 q.1 s t)
       (λ u a q s. (let d = refused_lt G L (p ∷ B) u (try_legal G L (p ∷ B) u a) in leads_within j n ih (refused G (p ∷ B) u) R (omega arith) (λ x y. inside x (in_other j n p B u a x y)) q.0 q.1 s t))
       (λ u a key b q s. ih (class G (p ∷ B) u key) R (λ x y. inside x (in_one j n p B u a key b x y)) q.0 q.1 s t)
       (C, i) m k
     where
-      itself : legal_in_some G (p ∷ B) t ≡ true → HasParts R (p ∷ B) (suc j) t
+      itself : legal_in_some G (p ∷ B) t ≡ true → HasParts G R (p ∷ B) (suc j) t
       itself e =
           let a = legal_try G L (p ∷ B) t e in
           let d = refused_lt G L (p ∷ B) t e in
           record {
-            other = λ f x h g. inside (refused G (p ∷ B) t, x) (in_other j n p B t a (refused G (p ∷ B) t, x) (other_all j n x (refused G (p ∷ B) t) (omega arith) f h g));
+            refused_part = λ f x h g. inside (refused G (p ∷ B) t, x) (in_other j n p B t a (refused G (p ∷ B) t, x) (other_all j n x (refused G (p ∷ B) t) (omega arith) f h g));
             classes = λ key b x h g. inside (class G (p ∷ B) t key, x) (in_one j n p B t a key b (class G (p ∷ B) t key, x) (reach_all j x (class G (p ∷ B) t key) (class_some (p ∷ B) t key b) h (omega arith)));
           }
 
@@ -141,7 +136,7 @@ module _ (G : Game) (L : IsGame G) where
   inside_within j (suc n) R leads ih (p ∷ B) h q m =
       by_place j n p B (λ q. In q R) here
       (λ q s. ih (p ∷ B) (λ e i a b. h e i a (omega arith)) q s)
-      (λ u a q s. inside_within j n R leads ih (refused G (p ∷ B) u) (λ e i x y. (leads (p ∷ B) (suc j) here u (try_legal G L (p ∷ B) u a)).other e i x y) q s)
+      (λ u a q s. inside_within j n R leads ih (refused G (p ∷ B) u) (λ e i x y. (leads (p ∷ B) (suc j) here u (try_legal G L (p ∷ B) u a)).refused_part e i x y) q s)
       (λ u a key b q s. ih (class G (p ∷ B) u key) (λ e i x y. (leads (p ∷ B) (suc j) here u (try_legal G L (p ∷ B) u a)).classes key b i x (omega arith)) q s)
       q m
     where
@@ -174,10 +169,9 @@ module _ (G : Game) (L : IsGame G) (O : Outset G) (W : IsOutset G O) where
   reach_is_least n S = (
     record {
       opened = λ key i j h k. in_reach_of n S key i (opening_set G O S key, j) (reach_all G L n j (opening_set G O S key) (opening_some S key i) h k);
-      refused_part = λ B j m t l e i h k. (reach_of_leads n S B j m t l).other e i h k;
-      classes = λ B j m t l key o i h k. (reach_of_leads n S B j m t l).classes key o i h k;
+      leads = λ B j m t l. reach_of_leads n S B j m t l;
     },
     λ R r q m.
         let f = flat_in (λ key. reach G n (opening_set G O S key)) (openings G O S) q m in
-        reach_inside G L n R (λ B j x t l. record { other = λ e i h k. r.refused_part B j x t l e i h k; classes = λ key o i h k. r.classes B j x t l key o i h k }) (opening_set G O S f.0) (λ e i h k. r.opened f.0 f.1 i h k) q f.2,
+        reach_inside G L n R r.leads (opening_set G O S f.0) (λ e i h k. r.opened f.0 f.1 i h k) q f.2,
   )

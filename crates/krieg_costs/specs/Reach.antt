@@ -19,6 +19,15 @@ module _ (G : Game) where
   reach zero B = []
   reach (suc j) B = reach_within j (reach j) (length B) B
 
+  -- what goes with a pair and a try: the refused part with every number up to the pair's, and each class with every
+  -- smaller one
+  pub record HasParts (R : List (Pair G)) (B : List G.Position) (j : ℕ) (t : G.Move) : Type 0 where
+    pub refused_part : is_nil (refused G B t) ≡ false → (i : ℕ) → 0 < i → i ≤ j → In (refused G B t, i) R
+    pub classes : (key : G.Key) → In key (keys G B t) → (i : ℕ) → 0 < i → i < j → In (class G B t key, i) R
+
+  abbrev pub LeadsOn : List (Pair G) → Type 0
+  LeadsOn R = (B : List G.Position) (j : ℕ) → In (B, j) R → (t : G.Move) → legal_in_some G B t ≡ true → HasParts R B j t
+
 module _ (G : Game) (O : Outset G) where
   abbrev pub reach_of : ℕ → List G.Position → List (Pair G)
   reach_of n S = flat_map (λ key. reach G n (opening_set G O S key)) (openings G O S)
@@ -27,9 +36,7 @@ module _ (G : Game) (O : Outset G) where
   abbrev pub fresh : ℕ → List G.Position → ℕ
   fresh n S = first_made G O S + total (λ q. price G q.0) (once G (reach_of n S))
 
-  -- A list that has each opening set with every number up to n, and with a pair and a try that is legal in some
-  -- member also the refused part with every number up to the pair's, and each class with every smaller one.
+  -- a list that keeps the rules of reach: it has each opening set with every number up to n, and leads on
   pub record IsReach (n : ℕ) (S : List G.Position) (R : List (Pair G)) : Type 0 where
     pub opened : (key : O.Root) → In key (openings G O S) → (i : ℕ) → 0 < i → i ≤ n → In (opening_set G O S key, i) R
-    pub refused_part : (B : List G.Position) (j : ℕ) → In (B, j) R → (t : G.Move) → legal_in_some G B t ≡ true → is_nil (refused G B t) ≡ false → (i : ℕ) → 0 < i → i ≤ j → In (refused G B t, i) R
-    pub classes : (B : List G.Position) (j : ℕ) → In (B, j) R → (t : G.Move) → legal_in_some G B t ≡ true → (key : G.Key) → In key (keys G B t) → (i : ℕ) → 0 < i → i < j → In (class G B t key, i) R
+    pub leads : LeadsOn G R

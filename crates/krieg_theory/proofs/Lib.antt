@@ -9,3 +9,4 @@ pub mod Exists
 pub mod Least
 pub mod Planned
 pub mod Theorems
+pub mod First

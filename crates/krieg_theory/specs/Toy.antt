@@ -1,4 +1,4 @@
--- A game that is small enough to work by hand: eight positions and four tries, all of them numbers.
+-- A game that is small enough to work by hand: nine positions and four tries, all of them numbers.
 use Rattle.std.specs.Prelude.{ℕ, Bool, true, false, ◌&&◌, ◌==◌, ◌||◌, nat_lt, List, [], ◌∷◌, slice_index_or}
 use Rattle.krieg_theory.specs.Tree.{Tree, Try, Nothing, Just, NoEdges, Edge}
 use Rattle.krieg_theory.specs.Game.{Game}
@@ -19,8 +19,12 @@ verdicts =
     ∷ (Illegal ∷ Mate ∷ Replies ((0, 0) ∷ []) ∷ Illegal ∷ [])
     ∷ (Replies ((0, 0) ∷ (1, 1) ∷ []) ∷ Illegal ∷ Stalemate ∷ Illegal ∷ [])
     ∷ (Illegal ∷ Replies ((0, 0) ∷ (0, 1) ∷ []) ∷ Illegal ∷ Illegal ∷ [])
-    ∷ (Stalemate ∷ Illegal ∷ Replies ((3, 2) ∷ []) ∷ Illegal ∷ [])
-    -- in 5 the player has no legal try
+    ∷ (Stalemate ∷ Illegal ∷ Replies ((3, 2) ∷ (0, 0) ∷ []) ∷ Illegal ∷ [])
+    -- in 5 the player has no legal try, and in 6 and 7 the opponent is to move
+    ∷ []
+    ∷ []
+    ∷ []
+    ∷ (Illegal ∷ Mate ∷ Mate ∷ Illegal ∷ [])
     ∷ []
 
 abbrev pub verdict : ℕ → ℕ → Verdict
@@ -58,14 +62,24 @@ toy = record {
   key_lt = nat_lt;
 }
 
--- in 6 and 7 the opponent is to move: he has three moves in 6, and none in 7
-abbrev pub first_moves : List (List (ℕ × ℕ))
-first_moves = ((1, 0) ∷ (1, 1) ∷ (2, 2) ∷ []) ∷ [] ∷ []
+-- A row for each position. The opponent has three moves in 6, two of which sound alike, and none in 7.
+abbrev pub first_heard : List (List (ℕ × ℕ))
+first_heard =
+    ((0, 0) ∷ [])
+    ∷ ((0, 1) ∷ [])
+    ∷ ((0, 2) ∷ [])
+    ∷ ((0, 3) ∷ [])
+    ∷ ((9, 4) ∷ [])
+    ∷ ((0, 5) ∷ [])
+    ∷ ((1, 0) ∷ (1, 1) ∷ (2, 2) ∷ [])
+    ∷ []
+    ∷ ((0, 8) ∷ [])
+    ∷ []
 
 abbrev pub toy_start : Outset toy
 toy_start = record {
   Root = ℕ;
-  starts = λ p. slice_index_or (((0, 0) ∷ []) ∷ ((0, 1) ∷ []) ∷ ((0, 2) ∷ []) ∷ ((0, 3) ∷ []) ∷ ((9, 4) ∷ []) ∷ ((0, 5) ∷ []) ∷ first_moves) p [];
+  starts = λ p. slice_index_or first_heard p [];
   waits = λ p. (p == 6) || (p == 7);
   root_lt = nat_lt;
 }

@@ -1,4 +1,4 @@
-//! A game of eight positions and four tries, on which each definition is evaluated. The numbers were worked by hand.
+//! A game of nine positions and four tries, on which each definition is evaluated. The numbers were worked by hand.
 //!
 //! | Position | try 0 | try 1 | try 2 | try 3 |
 //! |---|---|---|---|---|
@@ -6,16 +6,20 @@
 //! | 1 | illegal | mates | heard 0, position 0 | illegal |
 //! | 2 | heard 0, position 0, or heard 1, position 1 | illegal | stalemates | illegal |
 //! | 3 | illegal | heard 0, position 0 or 1 | illegal | illegal |
-//! | 4 | stalemates | illegal | heard 3, position 2 | illegal |
+//! | 4 | stalemates | illegal | heard 3, position 2, or heard 0, position 0 | illegal |
 //! | 5 | illegal | illegal | illegal | illegal |
+//! | 8 | illegal | mates | mates | illegal |
 //!
-//! In 6 and 7 the opponent is to move first.
+//! In 6 and 7 the opponent is to move first: in 6 the player then hears 1, position 0 or 1, or 2, position 2, and in 7
+//! there is no move. In the others the player is to move, and heard 9 in position 4 and 0 elsewhere.
 
-ghost use Rattle.std.specs.Prelude.{◌≡◌, true, false, List, [], ◌∷◌, Some, None};
+ghost use Rattle.std.specs.Prelude.{◌≡◌, true, false, nat_lt, List, [], ◌∷◌, Some, None};
+ghost use Rattle.krieg_theory.specs.Sets.{as_set};
 ghost use Rattle.krieg_theory.specs.Tree.{Try, Nothing, Just, NoEdges, Edge, size, depth};
 ghost use Rattle.krieg_theory.specs.Wins.{wins};
 ghost use Rattle.krieg_theory.specs.Split.{refused, tries, keys, class, mates_at};
 ghost use Rattle.krieg_theory.specs.Can.{can, begins, first_try, least};
+ghost use Rattle.krieg_theory.specs.Canonical.{IsCanon};
 ghost use Rattle.krieg_theory.specs.Computed.{canon};
 ghost use Rattle.krieg_theory.specs.Plans.{openings, opening_set, mates, can_plan, canon_plan, canon_worst};
 ghost use Rattle.krieg_theory.specs.Toy.{toy, toy_start, only, or_else, by_ear};
@@ -71,7 +75,9 @@ pub fn splitting()
     ensures heard { keys toy (2 ∷ []) 0 ≡ 0 ∷ 1 ∷ [] }
     ensures heard_once { keys toy (3 ∷ []) 1 ≡ 0 ∷ [] }
     ensures behind { class toy (3 ∷ []) 1 0 ≡ 0 ∷ 1 ∷ [] }
-    ensures merged { class toy (1 ∷ 2 ∷ []) 2 0 ≡ 0 ∷ [] }
+    ensures merged { class toy (1 ∷ 4 ∷ []) 2 0 ≡ 0 ∷ [] }
+    ensures in_order { keys toy (4 ∷ []) 2 ≡ 0 ∷ 3 ∷ [] }
+    ensures each_once { as_set nat_lt (2 ∷ 0 ∷ 2 ∷ 1 ∷ []) ≡ 0 ∷ 1 ∷ 2 ∷ [] }
     ensures never_heard { class toy (2 ∷ []) 0 7 ≡ [] }
     ensures mated { mates_at toy 0 0 ≡ true }
     ensures stalemated { mates_at toy 0 2 ≡ false }
@@ -98,7 +104,18 @@ pub fn recursion()
     ensures least_of_the_refused { least toy 3 (refused toy (1 ∷ 2 ∷ []) 0) ≡ 1 }
 {}
 
-/// Canonical nodes and plans.
+/// Canonical nodes, by what holds of them among all trees.
+pub fn canonical_nodes()
+    ensures by_ear { IsCanon toy by_ear (2 ∷ []) }
+    ensures first { IsCanon toy (only 1) (8 ∷ []) }
+    ensures not_the_second { IsCanon toy (only 2) (8 ∷ []) → ⊥ }
+    ensures no_useless_try { IsCanon toy (or_else 0 (only 1)) (8 ∷ []) → ⊥ }
+    ensures no_spare_node { IsCanon toy (or_else 1 (only 2)) (8 ∷ []) → ⊥ }
+    ensures no_spare_edge { IsCanon toy (Try 1 Nothing (Edge 0 (only 0) NoEdges)) (8 ∷ []) → ⊥ }
+    ensures in_order { IsCanon toy (Try 0 Nothing (Edge 1 (only 1) (Edge 0 (only 0) NoEdges))) (2 ∷ []) → ⊥ }
+{}
+
+/// Canonical nodes and plans, as they are computed.
 pub fn canonical()
     ensures in_one { canon toy 2 (0 ∷ 1 ∷ []) ≡ Just (or_else 0 (only 1)) }
     ensures in_two { canon toy 2 (2 ∷ []) ≡ Just by_ear }
