@@ -7,8 +7,8 @@ use Rattle.krieg_theory.specs.Sets.{In, IsOrder, same}
 use Rattle.krieg_theory.specs.Game.{Game, IsGame}
 use Rattle.krieg_theory.proofs.Lists.{any_at, any_from}
 use Rattle.krieg_theory.proofs.Ascending.{same_eq, same_refl}
-use Rattle.krieg_costs.specs.Sums.{Pair, total, same_list, same_pair, once}
-use Rattle.krieg_costs.proofs.Totals.{IsOnce}
+use Rattle.krieg_costs.specs.Sums.{Pair, total, IsOnce, same_list, same_pair, once}
+use Rattle.krieg_costs.specs.Laws.{OnceIsOnce}
 
 module _ {X : Type 0} (lt : X → X → Bool) (O : IsOrder lt) where
   pub same_list_eq : (xs ys : List X) → same_list lt xs ys ≡ true → xs ≡ ys
@@ -72,3 +72,6 @@ module _ (G : Game) (L : IsGame G) where
   pub total_once : (f : Pair G → ℕ) (R : List (Pair G)) → total f (once G R) ≤ total f R
   total_once f [] = omega arith
   total_once f (p ∷ R) = let ih = total_once f R in elim (list_any (same_pair G p) R) as (λ b. total f (cond b (once G R) (p ∷ once G R)) ≤ f p + total f R) [ true ↦ omega arith | false ↦ omega arith ]
+
+  pub once_is_once : OnceIsOnce G
+  once_is_once R = (once_is R, λ q. (once_in R q, in_once R q))

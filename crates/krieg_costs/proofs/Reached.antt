@@ -9,9 +9,10 @@ use Rattle.krieg_theory.proofs.Lists.{in_append_left, in_append_right, append_in
 use Rattle.krieg_theory.proofs.Steps.{refused_lt}
 use Rattle.krieg_theory.proofs.Theorems.{classes_are_split}
 use Rattle.krieg_theory.proofs.Planned.{opening_member}
-use Rattle.krieg_costs.specs.Sums.{Pair}
-use Rattle.krieg_costs.specs.Reach.{reach_within, reach, reach_of, HasParts}
+use Rattle.krieg_costs.specs.Sums.{Pair, once}
+use Rattle.krieg_costs.specs.Reach.{reach_within, reach, reach_of, HasParts, IsReach}
 use Rattle.krieg_costs.specs.Laws.{ReachIsLeast}
+use Rattle.krieg_costs.proofs.Pairs.{in_once, once_in}
 use Rattle.krieg_costs.proofs.Costs.{try_legal, legal_try}
 
 pub not_nil : {X : Type 0} (xs : List X) (x : X) → In x xs → is_nil xs ≡ false
@@ -175,3 +176,15 @@ module _ (G : Game) (L : IsGame G) (O : Outset G) (W : IsOutset G O) where
         let f = flat_in (λ key. reach G n (opening_set G O S key)) (openings G O S) q m in
         reach_inside G L n R r.leads (opening_set G O S f.0) (λ e i h k. r.opened f.0 f.1 i h k) q f.2,
   )
+
+  -- without its repeats it keeps the rules too
+  pub fresh_is_reach : (n : ℕ) (S : List G.Position) → IsReach G O n S (once G (reach_of G O n S))
+  fresh_is_reach n S =
+      let R = reach_of G O n S in
+      let r = (reach_is_least n S).0 in
+      record {
+        opened = λ key i j h k. in_once G L R _ (r.opened key i j h k);
+        leads = λ B j m t l.
+            let p = r.leads B j (once_in G L R (B, j) m) t l in
+            record { refused_part = λ e i h k. in_once G L R _ (p.refused_part e i h k); classes = λ key o i h k. in_once G L R _ (p.classes key o i h k) };
+      }

@@ -1,7 +1,7 @@
 -- Sums over lists.
 use Rattle.std.proofs.Common.{◌≡◌, ℕ, ◌+◌, ◌≤◌, Bool, true, false, cond, ◌⊎◌, List, [], ◌∷◌, ◌++◌, length, flat_map, refl, sym, ap, subst, inl, inr, ◌∙◌, arith, length-append}
 use Rattle.krieg_theory.specs.Sets.{In}
-use Rattle.krieg_costs.specs.Sums.{total, up_to}
+use Rattle.krieg_costs.specs.Sums.{total, up_to, IsOnce}
 
 module _ {X : Type 0} where
   pub total_agree : (f g : X → ℕ) (xs : List X) → ((x : X) → In x xs → f x ≡ g x) → total f xs ≡ total g xs
@@ -19,11 +19,6 @@ module _ {X : Type 0} where
   pub total_up_to : (f : X → ℕ) (p : X → Bool) (xs : List X) → total f (up_to p xs) ≤ total f xs
   total_up_to f p [] = omega arith
   total_up_to f p (x ∷ xs) = let ih = total_up_to f p xs in elim (p x) as (λ b. f x + total f (cond b [] (up_to p xs)) ≤ f x + total f xs) [ true ↦ omega arith | false ↦ omega arith ]
-
-  -- a list without repeats
-  abbrev pub IsOnce : List X → Type 0
-  IsOnce [] = Unit
-  IsOnce (x ∷ xs) = (In x xs → ⊥) × IsOnce xs
 
   -- a list without one of its places
   abbrev pub Without : (X → ℕ) → X → List X → Type 0

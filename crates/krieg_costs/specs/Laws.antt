@@ -5,7 +5,7 @@ use Rattle.krieg_theory.specs.Game.{Game}
 use Rattle.krieg_theory.specs.Split.{legal_in_some}
 use Rattle.krieg_theory.specs.Can.{can, begins, least}
 use Rattle.krieg_theory.specs.Plans.{Outset, Plan, mates}
-use Rattle.krieg_costs.specs.Sums.{Pair, total, numbers_to}
+use Rattle.krieg_costs.specs.Sums.{Pair, total, numbers_to, IsOnce, once}
 use Rattle.krieg_costs.specs.Cost.{cost, round, cost_of}
 use Rattle.krieg_costs.specs.Reach.{reach_of, fresh, IsReach}
 use Rattle.krieg_costs.specs.Block.{NoBlock, block, block_pair}
@@ -14,6 +14,10 @@ use Rattle.krieg_costs.specs.BackingRules.{IsBacking}
 use Rattle.krieg_costs.specs.Refutation.{Claim, refutes}
 
 module _ (G : Game) where
+  -- a list without its repeats has the same pairs, and none of them twice
+  abbrev pub OnceIsOnce : Type 0
+  OnceIsOnce = (R : List (Pair G)) → IsOnce (once G R) × ((q : Pair G) → In q (once G R) ↔ In q R)
+
   -- what one number adds to the cost of a set
   abbrev pub round_at : ℕ → List G.Position → ℕ
   round_at zero B = 0

@@ -1,7 +1,7 @@
 -- Sums over lists, and lists without repeats.
-use Rattle.std.specs.Prelude.{ℕ, zero, suc, ◌+◌, ◌==◌, ◌&&◌, Bool, true, false, cond, List, [], ◌∷◌}
+use Rattle.std.specs.Prelude.{ℕ, zero, suc, ◌+◌, ◌==◌, ◌&&◌, Bool, true, false, cond, List, [], ◌∷◌, ⊤}
 use Rattle.std.specs.List.{list_any}
-use Rattle.krieg_theory.specs.Sets.{same}
+use Rattle.krieg_theory.specs.Sets.{In, same}
 use Rattle.krieg_theory.specs.Game.{Game}
 
 abbrev pub total : {X : Type 0} → (X → ℕ) → List X → ℕ
@@ -17,6 +17,11 @@ numbers_to (suc n) = suc n ∷ numbers_to n
 abbrev pub up_to : {X : Type 0} → (X → Bool) → List X → List X
 up_to f [] = []
 up_to f (x ∷ xs) = x ∷ cond (f x) [] (up_to f xs)
+
+-- nothing stands twice in the list
+abbrev pub IsOnce : {X : Type 0} → List X → Type 0
+IsOnce [] = ⊤
+IsOnce (x ∷ xs) = (In x xs → ⊥) × IsOnce xs
 
 -- the same members at the same places
 abbrev pub same_list : {X : Type 0} → (X → X → Bool) → List X → List X → Bool

@@ -2,7 +2,12 @@
 
 use krieg_theory::HiddenGame;
 
-ghost use Rattle.krieg_costs.specs.Laws.{CostIsSum, ReachIsLeast, FreshIsAtMostCost, BlockIsThere, BlockIsLost, BackingIsLeast, BackingIsReached, FloorIsAtMostFresh, RefutationExcludes};
+ghost use Rattle.krieg_costs.specs.Laws.{OnceIsOnce, CostIsSum, ReachIsLeast, FreshIsAtMostCost, BlockIsThere, BlockIsLost, BackingIsLeast, BackingIsReached, FloorIsAtMostFresh, RefutationExcludes};
+
+/// A list of pairs without its repeats has the same pairs, and none of them twice.
+pub fn once_is_once<G: HiddenGame>()
+    ensures { OnceIsOnce G.game }
+{}
 
 /// The cost of a set within a number is the sum over the numbers from 1 to it.
 pub fn cost_is_sum<G: HiddenGame>()

@@ -87,6 +87,8 @@ pub fn refuting()
     ensures cited { refutes toy toy_start 2 (0 ∷ 5 ∷ []) (claim 2 (5 ∷ []) [] ∷ claim 2 (0 ∷ 5 ∷ []) ((0, ByRefused 1) ∷ (2, ByStalemate) ∷ (3, ByClass 0 1) ∷ []) ∷ []) ≡ true }
     ensures cited_for_one_more { refutes toy toy_start 2 (0 ∷ 5 ∷ []) (claim 1 (5 ∷ []) [] ∷ claim 2 (0 ∷ 5 ∷ []) ((0, ByRefused 1) ∷ (2, ByStalemate) ∷ (3, ByClass 0 1) ∷ []) ∷ []) ≡ false }
     ensures class_with_one_less { refutes toy toy_start 2 (0 ∷ []) (claim 1 (5 ∷ []) [] ∷ claim 2 (0 ∷ []) ((0, ByClass 0 1) ∷ (2, ByStalemate) ∷ (3, ByClass 0 1) ∷ []) ∷ []) ≡ false }
-    ensures itself { refutes toy toy_start 2 (0 ∷ 5 ∷ []) (claim 2 (5 ∷ []) [] ∷ claim 2 (0 ∷ 5 ∷ []) ((0, ByRefused 2) ∷ (2, ByStalemate) ∷ (3, ByClass 0 1) ∷ []) ∷ []) ≡ false }
+    ensures the_smaller_number { refutes toy toy_start 2 (9 ∷ []) (claim 1 (9 ∷ []) ((0, ByLife) ∷ []) ∷ claim 2 (9 ∷ []) ((0, ByClass 4 1) ∷ []) ∷ []) ≡ true }
+    ensures itself { refutes toy toy_start 2 (9 ∷ []) (claim 2 (9 ∷ []) ((0, ByClass 4 1) ∷ []) ∷ []) ≡ false }
+    ensures a_later_one { refutes toy toy_start 1 (9 ∷ []) (claim 2 (9 ∷ []) ((0, ByClass 4 2) ∷ []) ∷ claim 1 (9 ∷ []) ((0, ByLife) ∷ []) ∷ []) ≡ false }
     ensures place_nought { refutes toy toy_start 2 (0 ∷ 5 ∷ []) (claim 2 (5 ∷ []) [] ∷ claim 2 (0 ∷ 5 ∷ []) ((0, ByRefused 0) ∷ (2, ByStalemate) ∷ (3, ByClass 0 1) ∷ []) ∷ []) ≡ false }
 {}

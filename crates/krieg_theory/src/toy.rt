@@ -1,4 +1,4 @@
-//! A game of nine positions and four tries, on which each definition is evaluated. The numbers were worked by hand.
+//! A game of ten positions and four tries, on which each definition is evaluated. The numbers were worked by hand.
 //!
 //! | Position | try 0 | try 1 | try 2 | try 3 |
 //! |---|---|---|---|---|
@@ -9,6 +9,7 @@
 //! | 4 | stalemates | illegal | heard 3, position 2, or heard 0, position 0 | illegal |
 //! | 5 | illegal | illegal | illegal | illegal |
 //! | 8 | illegal | mates | mates | illegal |
+//! | 9 | heard 4, position 9 | illegal | illegal | illegal |
 //!
 //! In 6 and 7 the opponent is to move first: in 6 the player then hears 1, position 0 or 1, or 2, position 2, and in 7
 //! there is no move. In the others the player is to move, and heard 9 in position 4 and 0 elsewhere.
@@ -93,6 +94,7 @@ pub fn recursion()
     ensures both { can toy 2 (1 ∷ 2 ∷ []) ≡ true }
     ensures lost { can toy 3 (5 ∷ []) ≡ false }
     ensures lost_with_another { can toy 3 (0 ∷ 5 ∷ []) ≡ false }
+    ensures never { can toy 4 (9 ∷ []) ≡ false }
     ensures three { can toy 3 (4 ∷ []) ≡ true }
     ensures not_two { can toy 2 (4 ∷ []) ≡ false }
     ensures stalemate_begins_nothing { begins toy 3 (0 ∷ []) 2 ≡ false }
