@@ -11,7 +11,7 @@ use Rattle.krieg_theory.proofs.Theorems.{classes_are_split}
 use Rattle.krieg_theory.proofs.Planned.{opening_member}
 use Rattle.krieg_costs.specs.Sums.{Pair, once}
 use Rattle.krieg_costs.specs.Reach.{reach_within, reach, reach_of, HasParts, IsReach}
-use Rattle.krieg_costs.specs.Laws.{ReachIsLeast}
+use Rattle.krieg_costs.specs.Laws.{ReachIsLeast, ReachIsOfSets}
 use Rattle.krieg_costs.proofs.Pairs.{in_once, once_in}
 use Rattle.krieg_costs.proofs.Costs.{try_legal, legal_try}
 
@@ -148,6 +148,27 @@ module _ (G : Game) (L : IsGame G) where
   reach_inside zero R leads B h q m = absurd m
   reach_inside (suc j) R leads B h q m = inside_within j (length B) R leads (reach_inside j R leads) B h q m
 
+  -- a set that is reached has members, and its number is from 1 on
+  abbrev pub IsSome : ℕ → Pair G → Type 0
+  IsSome n q = (is_nil q.0 ≡ false) × (0 < q.1) × (q.1 ≤ n)
+
+  one_more : (j : ℕ) (q : Pair G) → IsSome j q → IsSome (suc j) q
+  one_more j q s = (s.0, s.1, (let a = s.2 in omega arith))
+
+  some_within : (j n : ℕ) → ((B : List G.Position) (q : Pair G) → In q (reach G j B) → IsSome j q) → (B : List G.Position) (q : Pair G) → In q (reach_within G j (reach G j) n B) → IsSome (suc j) q
+  some_within j zero ih B q m = absurd m
+  some_within j (suc n) ih [] q m = absurd m
+  some_within j (suc n) ih (p ∷ B) q m =
+      by_place j n p B (IsSome (suc j)) (refl, omega arith, omega arith)
+      (λ x s. one_more j x (ih (p ∷ B) x s))
+      (λ u a x s. some_within j n ih (refused G (p ∷ B) u) x s)
+      (λ u a key b x s. one_more j x (ih (class G (p ∷ B) u key) x s))
+      q m
+
+  pub reach_some : (j : ℕ) (B : List G.Position) (q : Pair G) → In q (reach G j B) → IsSome j q
+  reach_some zero B q m = absurd m
+  reach_some (suc j) B q m = some_within j (length B) (reach_some j) B q m
+
 module _ (G : Game) (L : IsGame G) (O : Outset G) (W : IsOutset G O) where
   -- a property of all that is reached from an opening set, with what is reached at all around it
   pub in_reach_of : (n : ℕ) (S : List G.Position) (key : O.Root) → In key (openings G O S) → Inside G L (reach G n (opening_set G O S key)) (reach_of G O n S)
@@ -188,3 +209,8 @@ module _ (G : Game) (L : IsGame G) (O : Outset G) (W : IsOutset G O) where
             let p = r.leads B j (once_in G L R (B, j) m) t l in
             record { refused_part = λ e i h k. in_once G L R _ (p.refused_part e i h k); classes = λ key o i h k. in_once G L R _ (p.classes key o i h k) };
       }
+
+  pub reach_is_of_sets : ReachIsOfSets G O
+  reach_is_of_sets n S q m =
+      let f = flat_in (λ key. reach G n (opening_set G O S key)) (openings G O S) q m in
+      reach_some G L n (opening_set G O S f.0) q f.2

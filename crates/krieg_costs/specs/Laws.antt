@@ -40,6 +40,10 @@ module _ (G : Game) (O : Outset G) where
   abbrev pub ReachIsLeast : Type 0
   ReachIsLeast = (n : ℕ) (S : List G.Position) → IsReach G O n S (reach_of G O n S) × ((R : List (Pair G)) → IsReach G O n S R → (q : Pair G) → In q (reach_of G O n S) → In q R)
 
+  -- what is reached has members, and a number from 1 to n
+  abbrev pub ReachIsOfSets : Type 0
+  ReachIsOfSets = (n : ℕ) (S : List G.Position) (q : Pair G) → In q (reach_of G O n S) → (is_nil q.0 ≡ false) × (0 < q.1) × (q.1 ≤ n)
+
   abbrev pub FreshIsAtMostCost : Type 0
   FreshIsAtMostCost = (n : ℕ) (S : List G.Position) → fresh G O n S ≤ cost_of G O n S
 

@@ -2,7 +2,7 @@
 
 use krieg_theory::HiddenGame;
 
-ghost use Rattle.krieg_costs.specs.Laws.{OnceIsOnce, CostIsSum, ReachIsLeast, FreshIsAtMostCost, BlockIsThere, BlockIsLost, BackingIsLeast, BackingIsReached, FloorIsAtMostFresh, RefutationExcludes};
+ghost use Rattle.krieg_costs.specs.Laws.{OnceIsOnce, CostIsSum, ReachIsLeast, ReachIsOfSets, FreshIsAtMostCost, BlockIsThere, BlockIsLost, BackingIsLeast, BackingIsReached, FloorIsAtMostFresh, RefutationExcludes};
 
 /// A list of pairs without its repeats has the same pairs, and none of them twice.
 pub fn once_is_once<G: HiddenGame>()
@@ -17,6 +17,11 @@ pub fn cost_is_sum<G: HiddenGame>()
 /// What is reached keeps its rules, and stands in each list that keeps them.
 pub fn reach_is_least<G: HiddenGame>()
     ensures { ReachIsLeast G.game G.outset }
+{}
+
+/// What is reached has members, and a number from 1 to the one that is asked.
+pub fn reach_is_of_sets<G: HiddenGame>()
+    ensures { ReachIsOfSets G.game G.outset }
 {}
 
 /// What is fresh is at most the cost.

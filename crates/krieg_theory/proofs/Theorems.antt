@@ -1,7 +1,7 @@
 -- The laws, proved for every game.
-use Rattle.std.proofs.Common.{◌≡◌, zero, suc, true, false, cond, ◌⊎◌, List, [], ◌∷◌, refl, sym, subst, inl, inr, ◌∙◌}
+use Rattle.std.proofs.Common.{◌≡◌, ℕ, zero, suc, ◌≤◌, ◌<◌, true, false, cond, ◌⊎◌, List, [], ◌∷◌, refl, sym, subst, inl, inr, ◌∙◌, arith}
 use Rattle.std.specs.List.{list_any}
-use Rattle.std.proofs.lemmas.Bool.{both_ways, false_from_ne_true}
+use Rattle.std.proofs.lemmas.Bool.{cases_lt, cases_Bool, both_ways, false_from_ne_true}
 use Rattle.krieg_theory.specs.Sets.{In, same, at_key, is_nil}
 use Rattle.krieg_theory.specs.Tree.{Just, NoEdges, Edge, first_edge}
 use Rattle.krieg_theory.specs.Game.{Game, IsGame}
@@ -10,7 +10,7 @@ use Rattle.krieg_theory.specs.Split.{refused, keys, class, all_outcomes}
 use Rattle.krieg_theory.specs.Can.{begins}
 use Rattle.krieg_theory.specs.Computed.{canon}
 use Rattle.krieg_theory.specs.Plans.{Outset, IsOutset, mates, IsWorst, can_plan, canon_plan, canon_worst}
-use Rattle.krieg_theory.specs.Laws.{MoreMovesWin, FirstEdgeWins, SetsAreEqual, ComesBy, ClassesAreSplit, CanBegins, CanIsWon, BeginsIsWon, LeastIsLeast, CanonIsOne, CanonIsComputed, CanPlanIsMated, CanonPlanIsOne, CanonPlanIsThere, CanonPlanIsLeast, CanonPlanIsComputed}
+use Rattle.krieg_theory.specs.Laws.{MoreMovesWin, FirstEdgeWins, SetsAreEqual, ComesBy, ClassesAreSplit, CanBegins, CanIsWon, BeginsIsWon, LeastIsLeast, CanonIsOne, CanonIsComputed, MoreMovesMate, WorstIsThere, CanPlanIsMated, CanonPlanIsOne, CanonPlanIsThere, CanonPlanIsLeast, CanonPlanIsComputed}
 use Rattle.krieg_theory.proofs.Lists.{any_at, nil_or_member, nil_none}
 use Rattle.krieg_theory.proofs.Ascending.{same_set, as_set_ascending}
 use Rattle.krieg_theory.proofs.Keys.{key_occurs, occurs_at}
@@ -88,6 +88,21 @@ module _ (G : Game) (L : IsGame G) where
   canon_is_computed B j c = canon_is G L j B c
 
 module _ (G : Game) (L : IsGame G) (O : Outset G) (R : IsOutset G O) where
+  pub more_moves_mate : MoreMovesMate G O
+  more_moves_mate plan S k m = mates_upto G L O R k (suc k) S plan (omega arith) m
+
+  pub worst_is_there : WorstIsThere G O
+  worst_is_there plan S zero m = (0, omega arith, record { mates_within = m; least = λ i h. omega arith })
+  worst_is_there plan S (suc k) m = go (cases_Bool (mates G O plan S k)) (worst_is_there plan S k)
+    where
+      least_here : mates G O plan S k ≡ false → (i : ℕ) → mates G O plan S i ≡ true → (k < i) ⊎ (i ≤ k) → suc k ≤ i
+      least_here e i h (inl l) = omega arith
+      least_here e i h (inr l) = absurd (both_ways _ e (mates_upto G L O R i k S plan l h))
+
+      go : (mates G O plan S k ≡ true) ⊎ (mates G O plan S k ≡ false) → (mates G O plan S k ≡ true → (w : ℕ) × (w ≤ k) × IsWorst G O plan S w) → (w : ℕ) × (w ≤ suc k) × IsWorst G O plan S w
+      go (inl e) r = let a = r e in (a.0, (let b = a.1 in omega arith), a.2)
+      go (inr e) r = (suc k, omega arith, record { mates_within = m; least = λ i h. least_here e i h (cases_lt k i) })
+
   pub can_plan_is_mated : CanPlanIsMated G O
   can_plan_is_mated S j = (λ c. (canon_plan G O j S, enough c), λ m. mates_shows G L O R m.0 S j m.1)
     where

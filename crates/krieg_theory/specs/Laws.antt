@@ -59,6 +59,13 @@ module _ (G : Game) where
   CanonIsComputed = (B : List G.Position) (j : ℕ) → can G j B ≡ true → (n : Tree G.Move G.Key) × (canon G j B ≡ Just n) × IsCanon G n B
 
 module _ (G : Game) (O : Outset G) where
+  abbrev pub MoreMovesMate : Type 0
+  MoreMovesMate = (plan : Plan G O) (S : List G.Position) (k : ℕ) → mates G O plan S k ≡ true → mates G O plan S (suc k) ≡ true
+
+  -- a plan that mates within some number has a worst case
+  abbrev pub WorstIsThere : Type 0
+  WorstIsThere = (plan : Plan G O) (S : List G.Position) (k : ℕ) → mates G O plan S k ≡ true → (w : ℕ) × (w ≤ k) × IsWorst G O plan S w
+
   abbrev pub CanPlanIsMated : Type 0
   CanPlanIsMated = (S : List G.Position) (j : ℕ) → (can_plan G O j S ≡ true) ↔ ((plan : Plan G O) × (mates G O plan S j ≡ true))
 

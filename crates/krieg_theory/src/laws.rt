@@ -1,6 +1,6 @@
 //! The laws: each function here does nothing, and its contract is a theorem about every game.
 
-ghost use Rattle.krieg_theory.specs.Laws.{MoreMovesWin, FirstEdgeWins, SetsAreEqual, ClassesAreSplit, CanBegins, CanIsWon, BeginsIsWon, LeastIsLeast, CanonIsOne, CanonIsComputed, CanPlanIsMated, CanonPlanIsOne, CanonPlanIsThere, CanonPlanIsLeast, CanonPlanIsComputed};
+ghost use Rattle.krieg_theory.specs.Laws.{MoreMovesWin, FirstEdgeWins, SetsAreEqual, ClassesAreSplit, CanBegins, CanIsWon, BeginsIsWon, LeastIsLeast, CanonIsOne, CanonIsComputed, MoreMovesMate, WorstIsThere, CanPlanIsMated, CanonPlanIsOne, CanonPlanIsThere, CanonPlanIsLeast, CanonPlanIsComputed};
 
 use crate::game::HiddenGame;
 
@@ -53,6 +53,16 @@ pub fn canon_is_one<G: HiddenGame>()
 /// A set that can be won has a canonical node, and it is the one that is computed.
 pub fn canon_is_computed<G: HiddenGame>()
     ensures { CanonIsComputed G.game }
+{}
+
+/// A plan that mates within some number of own moves mates within one more.
+pub fn more_moves_mate<G: HiddenGame>()
+    ensures { MoreMovesMate G.game G.outset }
+{}
+
+/// A plan that mates within a number has a worst case, which is at most that number.
+pub fn worst_is_there<G: HiddenGame>()
+    ensures { WorstIsThere G.game G.outset }
 {}
 
 /// Some plan mates within a number exactly where each opening set can be won within it and nothing is over.
