@@ -57,8 +57,8 @@ module _ (G : Game) (L : IsGame G) (O : Outset G) (W : IsOutset G O) where
   backing_backed : (n : ℕ) (S : List G.Position) (q : Pair G) → In q (backing G O n S) → IsBacked G L (backing G O n S) q.0 q.1
   backing_backed n S q i = by_case n S (λ R. Inside G L R (backing G O n S) → In q R → IsBacked G L (backing G O n S) q.0 q.1) (λ x k. absurd k)
       (λ c x k.
-        let f = flat_in (λ key. won G n (opening_set G O S key)) (openings G O S) q k in
-        won_backed G L n (opening_set G O S f.0) (backing G O n S) (at_opening n S c f.0 f.1) (λ y z. x y (in_flat (λ key. won G n (opening_set G O S key)) (openings G O S) f.0 y f.1 z)) q f.2)
+      let f = flat_in (λ key. won G n (opening_set G O S key)) (openings G O S) q k in
+      won_backed G L n (opening_set G O S f.0) (backing G O n S) (at_opening n S c f.0 f.1) (λ y z. x y (in_flat (λ key. won G n (opening_set G O S key)) (openings G O S) f.0 y f.1 z)) q f.2)
       (λ key e f k d x y. lost_is_backed G L (lost G n (opening_set G O S key)) (backing G O n S) (lost_lost G L n (opening_set G O S key) d) (lost_backs G L n (opening_set G O S key) (backing G O n S) x) q y)
       (λ y z. z) i
 

@@ -1,8 +1,8 @@
 //! The laws: each function here does nothing, and its contract is a theorem about every game.
 
-use krieg_theory::HiddenGame;
-
 ghost use Rattle.krieg_costs.specs.Laws.{OnceIsOnce, CostIsSum, ReachIsLeast, ReachIsOfSets, FreshIsAtMostCost, BlockIsThere, BlockIsLost, BackingIsLeast, BackingIsReached, FloorIsAtMostFresh, RefutationExcludes};
+
+use krieg_theory::HiddenGame;
 
 /// A list of pairs without its repeats has the same pairs, and none of them twice.
 pub fn once_is_once<G: HiddenGame>()
