@@ -19,11 +19,12 @@ module _ (G : Game) where
   behind less here B t LostRefused = here (refused G B t)
   behind less here B t NoBlock = []
 
-  -- what backs a set that cannot be won: the pair itself, and the block of each try
+  -- the same for a set of at most n members: the pair itself, and what is behind the block of each try
   abbrev pub lost_within : ℕ → (List G.Position → List (Pair G)) → ℕ → List G.Position → List (Pair G)
   lost_within j less zero B = []
   lost_within j less (suc n) B = (B, suc j) ∷ flat_map (λ t. behind less (lost_within j less n) B t (block G (suc j) B t)) (tries G B)
 
+  -- what backs a set that cannot be won within j
   abbrev pub lost : ℕ → List G.Position → List (Pair G)
   lost zero B = []
   lost (suc j) B = lost_within j (lost j) (length B) B
@@ -41,6 +42,7 @@ module _ (G : Game) where
       ++ (refused_won j less here (refused G B m)
       ++ flat_map (λ t. behind (lost j) (lost (suc j)) B t (block G (suc j) B t)) (filter (λ t. G.move_lt t m) (tries G B)))))
 
+  -- the same for a set of at most n members
   abbrev pub won_within : ℕ → (List G.Position → List (Pair G)) → ℕ → List G.Position → List (Pair G)
   won_within j less zero B = []
   won_within j less (suc n) B = won_by j less (won_within j less n) B (first_try G (suc j) B)
@@ -59,14 +61,16 @@ module _ (G : Game) (O : Outset G) where
   abbrev pub first_lost : ℕ → List G.Position → Option O.Root
   first_lost n S = find (λ key. not (can G n (opening_set G O S key))) (openings G O S)
 
+  -- what backs it
   abbrev pub lost_opening : ℕ → List G.Position → Option O.Root → List (Pair G)
   lost_opening n S None = []
   lost_opening n S (Some key) = lost G n (opening_set G O S key)
 
-  -- all opening sets where they can be won, or else the first that cannot; nothing where something is over
+  -- what backs all opening sets where they can be won, or else the first that cannot; nothing where something is over
   abbrev pub backing : ℕ → List G.Position → List (Pair G)
   backing n S =
       cond (list_any (is_over G O) S) [] (cond (can_plan G O n S) (flat_map (λ key. won G n (opening_set G O S key)) (openings G O S)) (lost_opening n S (first_lost n S)))
 
+  -- the units that every search must take
   abbrev pub floor : ℕ → List G.Position → ℕ
   floor n S = first_made G O S + total (floor_price G) (once G (backing n S))

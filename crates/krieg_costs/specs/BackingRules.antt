@@ -22,10 +22,12 @@ module _ (G : Game) where
     pub refused_part : is_nil (refused G B m) ≡ false → In (refused G B m, least G (suc j) (refused G B m)) R
     pub earlier : (t : G.Move) → legal_in_some G B t ≡ true → G.move_lt t m ≡ true → IfSome (block_pair G (suc j) B t) (λ q. In q R)
 
+  -- with a pair at its least number: all that goes with it
   abbrev pub KeepsWon : List (Pair G) → Type 0
   KeepsWon R = (B : List G.Position) (j : ℕ) (m : G.Move) → In (B, suc j) R → can G j B ≡ false → first_try G (suc j) B ≡ Some m → HasWon R B j m
 
 module _ (G : Game) (O : Outset G) where
+  -- the list keeps all rules of backing
   pub record IsBacking (n : ℕ) (S : List G.Position) (R : List (Pair G)) : Type 0 where
     -- where all opening sets can be won, each at its least number; else the first that cannot, with n
     pub all_won : can_plan G O n S ≡ true → (key : O.Root) → In key (openings G O S) → In (opening_set G O S key, least G n (opening_set G O S key)) R

@@ -20,9 +20,11 @@ pub data Block (K : Type 0) : Type 0 where
   NoBlock : Block K
 
 module _ (G : Game) where
+  -- there is a member in which the try is legal and does not mate
   abbrev pub lives_in_some : List G.Position → G.Move → Bool
   lives_in_some B t = list_any (λ p. G.legal p t && not (mates_at G p t)) B
 
+  -- the block by the first lost class, or by the refused part where no class is lost
   abbrev pub by_class : ℕ → List G.Position → G.Move → Option G.Key → Block G.Key
   by_class j B t (Some key) = LostClass key
   by_class j B t None = cond (is_nil (refused G B t) || can G j (refused G B t)) NoBlock LostRefused
@@ -41,6 +43,7 @@ module _ (G : Game) where
   pair_of j B t LostRefused = Some (refused G B t, suc j)
   pair_of j B t NoBlock = None
 
+  -- the pair of the block of a try
   abbrev pub block_pair : ℕ → List G.Position → G.Move → Option (Pair G)
   block_pair zero B t = None
   block_pair (suc j) B t = pair_of j B t (block (suc j) B t)

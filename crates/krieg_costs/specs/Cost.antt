@@ -19,7 +19,7 @@ module _ (G : Game) where
   abbrev pub round : (List G.Position → ℕ) → (List G.Position → ℕ) → List G.Position → ℕ
   round less here B = total (λ t. made B t + (here (refused G B t) + total (λ key. less (class G B t key)) (keys G B t))) (tries G B)
 
-  -- for a set of at most n members; less is the cost with one number fewer
+  -- the cost of a set of at most n members; less is its cost with one number fewer
   abbrev pub cost_within : (List G.Position → ℕ) → ℕ → List G.Position → ℕ
   cost_within less zero B = 0
   cost_within less (suc n) B = less B + round less (cost_within less n) B

@@ -36,7 +36,7 @@ module _ (G : Game) where
   BlockIsLost = (B : List G.Position) (j : ℕ) (t : G.Move) → IfSome (block_pair G j B t) (λ q. (is_nil q.0 ≡ false) × (0 < q.1) × (can G q.1 q.0 ≡ false))
 
 module _ (G : Game) (O : Outset G) where
-  -- what is reached keeps the rules, and is in each list that keeps them
+  -- what is reached keeps the rules of reach, and is in each list that keeps them
   abbrev pub ReachIsLeast : Type 0
   ReachIsLeast = (n : ℕ) (S : List G.Position) → IsReach G O n S (reach_of G O n S) × ((R : List (Pair G)) → IsReach G O n S R → (q : Pair G) → In q (reach_of G O n S) → In q R)
 
@@ -44,9 +44,11 @@ module _ (G : Game) (O : Outset G) where
   abbrev pub ReachIsOfSets : Type 0
   ReachIsOfSets = (n : ℕ) (S : List G.Position) (q : Pair G) → In q (reach_of G O n S) → (is_nil q.0 ≡ false) × (0 < q.1) × (q.1 ≤ n)
 
+  -- what is fresh is at most the cost
   abbrev pub FreshIsAtMostCost : Type 0
   FreshIsAtMostCost = (n : ℕ) (S : List G.Position) → fresh G O n S ≤ cost_of G O n S
 
+  -- backing keeps its rules, and is in each list that keeps them
   abbrev pub BackingIsLeast : Type 0
   BackingIsLeast = (n : ℕ) (S : List G.Position) → IsBacking G O n S (backing G O n S) × ((R : List (Pair G)) → IsBacking G O n S R → (q : Pair G) → In q (backing G O n S) → In q R)
 
@@ -54,6 +56,7 @@ module _ (G : Game) (O : Outset G) where
   abbrev pub BackingIsReached : Type 0
   BackingIsReached = (n : ℕ) (S : List G.Position) (q : Pair G) → In q (backing G O n S) → ((can G q.1 q.0 ≡ false) ⊎ ((can G q.1 q.0 ≡ true) × (least G q.1 q.0 ≡ q.1))) × In q (reach_of G O n S)
 
+  -- the floor is at most what is fresh
   abbrev pub FloorIsAtMostFresh : Type 0
   FloorIsAtMostFresh = (n : ℕ) (S : List G.Position) → floor G O n S ≤ fresh G O n S
 

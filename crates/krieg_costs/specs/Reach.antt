@@ -25,14 +25,16 @@ module _ (G : Game) where
     pub refused_part : is_nil (refused G B t) ≡ false → (i : ℕ) → 0 < i → i ≤ j → In (refused G B t, i) R
     pub classes : (key : G.Key) → In key (keys G B t) → (i : ℕ) → 0 < i → i < j → In (class G B t key, i) R
 
+  -- each pair of the list has with each try its parts in the list
   abbrev pub LeadsOn : List (Pair G) → Type 0
   LeadsOn R = (B : List G.Position) (j : ℕ) → In (B, j) R → (t : G.Move) → legal_in_some G B t ≡ true → HasParts R B j t
 
 module _ (G : Game) (O : Outset G) where
+  -- the pairs that are met from the opening sets of a list
   abbrev pub reach_of : ℕ → List G.Position → List (Pair G)
   reach_of n S = flat_map (λ key. reach G n (opening_set G O S key)) (openings G O S)
 
-  -- each distinct pair is paid for once
+  -- the units where each distinct pair is paid for once
   abbrev pub fresh : ℕ → List G.Position → ℕ
   fresh n S = first_made G O S + total (λ q. price G q.0) (once G (reach_of n S))
 

@@ -20,12 +20,14 @@ pub record Claim (G : Game) : Type 0 where
   pub set : List G.Position
   pub reasons : List (G.Move × Reason G.Key)
 
+-- what stands at a place, counted from 1
 abbrev pub cited : {X : Type 0} → List X → ℕ → Option X
 cited cs zero = None
 cited [] (suc i) = None
 cited (c ∷ cs) (suc zero) = Some c
 cited (c ∷ cs) (suc (suc i)) = cited cs (suc i)
 
+-- the last of a list
 abbrev pub last_of : {X : Type 0} → List X → Option X
 last_of [] = None
 last_of (c ∷ []) = Some c
@@ -54,6 +56,7 @@ module _ (G : Game) where
   are_reasons before (suc j) B rs =
       list_all (λ t. list_any (λ r. same G.move_lt r.0 t) rs) (tries G B) && list_all (λ r. legal_in_some G B r.0 && holds before j B r.0 r.1) rs
 
+  -- the claim's set has members, and its reasons hold by the claims before
   abbrev pub claim_holds : List (Claim G) → Claim G → Bool
   claim_holds before c = not (is_nil c.set) && are_reasons before c.number c.set c.reasons
 

@@ -4,6 +4,7 @@ use Rattle.std.specs.List.{list_any}
 use Rattle.krieg_theory.specs.Sets.{In, same}
 use Rattle.krieg_theory.specs.Game.{Game}
 
+-- the sum of a number over a list
 abbrev pub total : {X : Type 0} → (X → ℕ) → List X → ℕ
 total f [] = 0
 total f (x ∷ xs) = f x + total f xs
@@ -35,6 +36,7 @@ module _ (G : Game) where
   abbrev pub Pair : Type 0
   Pair = List G.Position × ℕ
 
+  -- the same set and the same number
   abbrev pub same_pair : Pair → Pair → Bool
   same_pair a b = (a.1 == b.1) && same_list G.position_lt a.0 b.0
 

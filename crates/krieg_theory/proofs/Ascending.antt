@@ -106,3 +106,8 @@ module _ {X : Type 0} (lt : X → X → Bool) (O : IsOrder lt) where
 
   pub asym : (a b : X) → lt a b ≡ true → lt b a ≡ false
   asym a b h = false_from_ne_true _ (λ k. both_ways (lt a a) (O.never_itself a) (O.trans a b a h k))
+
+  -- and so does any other test of equality
+  pub same_is : (a b : X) (e : Bool) → (e ≡ true → a ≡ b) → (a ≡ b → e ≡ true) → same lt a b ≡ e
+  same_is a b true f g = subst (λ x. same lt a x ≡ true) (f refl) (same_refl a)
+  same_is a b false f g = false_from_ne_true _ (λ h. both_ways false refl (g (same_eq a b h)))

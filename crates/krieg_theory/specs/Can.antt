@@ -17,6 +17,7 @@ module _ (G : Game) where
   within less zero B = false
   within less (suc n) B = list_any (begins_with less (within less n) B) G.moves
 
+  -- the set can be won within j own moves
   abbrev pub can : ℕ → List G.Position → Bool
   can zero B = false
   can (suc j) B = within (can j) (length B) B
@@ -26,6 +27,7 @@ module _ (G : Game) where
   begins zero B t = false
   begins (suc j) B t = begins_with (can j) (can (suc j)) B t
 
+  -- the first try that meets its conditions, where there is one
   abbrev pub first_try : ℕ → List G.Position → Option G.Move
   first_try j B = find (begins j B) G.moves
 

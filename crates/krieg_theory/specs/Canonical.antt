@@ -6,6 +6,7 @@ use Rattle.krieg_theory.specs.Game.{Game}
 use Rattle.krieg_theory.specs.Wins.{WinsAll}
 use Rattle.krieg_theory.specs.Split.{refused, legal_in_some, keys, class}
 
+-- the keys of the edges, in their order
 abbrev pub edge_keys : {M K : Type 0} → Edges M K → List K
 edge_keys NoEdges = []
 edge_keys (Edge key n es) = key ∷ edge_keys es
@@ -33,10 +34,12 @@ module _ (G : Game) where
           parts : AreCanon es B t;
         }
 
+    -- there is a node for the illegal case just where some member refuses the try, and then it is canonical
     pub IsCanonOther : Maybe G.Move G.Key → List G.Position → Type 0
     IsCanonOther Nothing R = is_nil R ≡ true
     IsCanonOther (Just n) R = (is_nil R ≡ false) × IsCanon n R
 
+    -- each edge has the canonical node of its class
     pub AreCanon : Edges G.Move G.Key → List G.Position → G.Move → Type 0
     AreCanon NoEdges B t = ⊤
     AreCanon (Edge key n es) B t = IsCanon n (class G B t key) × AreCanon es B t

@@ -12,6 +12,7 @@ module _ (G : Game) where
   edge_with key Nothing es = es
   edge_with key (Just n) es = Edge key n es
 
+  -- an edge for each key that has a node
   abbrev pub edges_of : List G.Key → (G.Key → Maybe G.Move G.Key) → Edges G.Move G.Key
   edges_of [] f = NoEdges
   edges_of (key ∷ ks) f = edge_with key (f key) (edges_of ks f)

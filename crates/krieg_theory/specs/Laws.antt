@@ -12,9 +12,11 @@ use Rattle.krieg_theory.specs.Computed.{canon}
 use Rattle.krieg_theory.specs.Plans.{Outset, Plan, mates, IsWorst, IsCanonPlan, can_plan, canon_plan, canon_worst}
 
 module _ (G : Game) where
+  -- one move more does no harm
   abbrev pub MoreMovesWin : Type 0
   MoreMovesWin = (n : Tree G.Move G.Key) (p : G.Position) (k : ℕ) → wins G n p k ≡ true → wins G n p (suc k) ≡ true
 
+  -- what the tree does after a key is what the node at the first edge with it does
   abbrev pub FirstEdgeWins : Type 0
   FirstEdgeWins = (es : Edges G.Move G.Key) (key : G.Key) (p : G.Position) (k : ℕ) → wins_at G es key p k ≡ wins_other G (first_edge G.key_lt es key) p k
 
@@ -48,9 +50,11 @@ module _ (G : Game) where
   abbrev pub BeginsIsWon : Type 0
   BeginsIsWon = (B : List G.Position) (j : ℕ) (t : G.Move) → legal_in_some G B t ≡ true → (begins G j B t ≡ true) ↔ ((other : Maybe G.Move G.Key) × (es : Edges G.Move G.Key) × WinsAll G (Try t other es) B j)
 
+  -- the computed least number is the least over all trees
   abbrev pub LeastIsLeast : Type 0
   LeastIsLeast = (B : List G.Position) (j : ℕ) → can G j B ≡ true → IsLeast G B (least G j B)
 
+  -- a set has at most one canonical node
   abbrev pub CanonIsOne : Type 0
   CanonIsOne = (a b : Tree G.Move G.Key) (B : List G.Position) → IsCanon G a B → IsCanon G b B → a ≡ b
 
@@ -59,6 +63,7 @@ module _ (G : Game) where
   CanonIsComputed = (B : List G.Position) (j : ℕ) → can G j B ≡ true → (n : Tree G.Move G.Key) × (canon G j B ≡ Just n) × IsCanon G n B
 
 module _ (G : Game) (O : Outset G) where
+  -- one move more does no harm
   abbrev pub MoreMovesMate : Type 0
   MoreMovesMate = (plan : Plan G O) (S : List G.Position) (k : ℕ) → mates G O plan S k ≡ true → mates G O plan S (suc k) ≡ true
 
@@ -66,9 +71,11 @@ module _ (G : Game) (O : Outset G) where
   abbrev pub WorstIsThere : Type 0
   WorstIsThere = (plan : Plan G O) (S : List G.Position) (k : ℕ) → mates G O plan S k ≡ true → (w : ℕ) × (w ≤ k) × IsWorst G O plan S w
 
+  -- each opening set can be won exactly where some plan mates
   abbrev pub CanPlanIsMated : Type 0
   CanPlanIsMated = (S : List G.Position) (j : ℕ) → (can_plan G O j S ≡ true) ↔ ((plan : Plan G O) × (mates G O plan S j ≡ true))
 
+  -- a list of positions has at most one canonical plan
   abbrev pub CanonPlanIsOne : Type 0
   CanonPlanIsOne = (a b : Plan G O) (S : List G.Position) → IsCanonPlan G O a S → IsCanonPlan G O b S → a ≡ b
 
@@ -80,5 +87,6 @@ module _ (G : Game) (O : Outset G) where
   abbrev pub CanonPlanIsLeast : Type 0
   CanonPlanIsLeast = (S : List G.Position) (plan : Plan G O) → IsCanonPlan G O plan S → (k : ℕ) × IsWorst G O plan S k × ((other : Plan G O) (i : ℕ) → mates G O other S i ≡ true → k ≤ i)
 
+  -- the computed plan is the canonical one, and so is its worst case
   abbrev pub CanonPlanIsComputed : Type 0
   CanonPlanIsComputed = (S : List G.Position) (j : ℕ) → can_plan G O j S ≡ true → IsCanonPlan G O (canon_plan G O j S) S × IsWorst G O (canon_plan G O j S) S (canon_worst G O j S)

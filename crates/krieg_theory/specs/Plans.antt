@@ -1,10 +1,9 @@
 -- Plans: a tree for each thing that the player may hear before the first own turn.
 use Rattle.std.specs.Prelude.{◌≡◌, ℕ, zero, ◌≤◌, Bool, true, false, cond, not, ◌&&◌, max, List, [], ◌∷◌, map, flat_map, ⊤}
 use Rattle.std.specs.List.{list_all, list_any}
-use Rattle.krieg_theory.specs.Sets.{as_set, at_key, keys_in, same, is_nil}
+use Rattle.krieg_theory.specs.Sets.{IsOrder, as_set, at_key, keys_in, same, is_nil}
 use Rattle.krieg_theory.specs.Tree.{Tree, Maybe, Nothing, Just}
 use Rattle.krieg_theory.specs.Game.{Game}
-use Rattle.krieg_theory.specs.Sets.{IsOrder}
 use Rattle.krieg_theory.specs.Wins.{wins}
 use Rattle.krieg_theory.specs.Can.{can, least}
 use Rattle.krieg_theory.specs.Canonical.{IsCanon}
@@ -34,6 +33,7 @@ module _ (G : Game) (O : Outset G) where
   abbrev pub is_over : G.Position → Bool
   is_over p = is_nil (O.starts p)
 
+  -- all ways in which a game from a listed position can come to the first own turn
   abbrev pub all_starts : List G.Position → List (O.Root × G.Position)
   all_starts S = flat_map O.starts S
 
@@ -45,6 +45,7 @@ module _ (G : Game) (O : Outset G) where
   abbrev pub opening_set : List G.Position → O.Root → List G.Position
   opening_set S key = as_set G.position_lt (at_key O.root_lt key (all_starts S))
 
+  -- trees by what is heard, which is their root's key
   abbrev pub Plan : Type 0
   Plan = List (O.Root × Tree G.Move G.Key)
 
@@ -62,6 +63,7 @@ module _ (G : Game) (O : Outset G) where
     pub mates_within : mates plan S k ≡ true
     pub least : (i : ℕ) → mates plan S i ≡ true → k ≤ i
 
+  -- each root has the canonical node of its opening set
   abbrev pub AreCanonRoots : Plan → List G.Position → Type 0
   AreCanonRoots [] S = ⊤
   AreCanonRoots (r ∷ rs) S = IsCanon G r.1 (opening_set S r.0) × AreCanonRoots rs S
@@ -81,6 +83,7 @@ module _ (G : Game) (O : Outset G) where
   root_with key Nothing rs = rs
   root_with key (Just n) rs = (key, n) ∷ rs
 
+  -- a root for each key that has a tree
   abbrev pub roots_of : List O.Root → (O.Root → Maybe G.Move G.Key) → Plan
   roots_of [] f = []
   roots_of (key ∷ ks) f = root_with key (f key) (roots_of ks f)

@@ -9,6 +9,7 @@ module _ (G : Game) where
   abbrev pub refused : List G.Position → G.Move → List G.Position
   refused B t = filter (λ p. not (G.legal p t)) B
 
+  -- there is a member in which the try is legal
   abbrev pub legal_in_some : List G.Position → G.Move → Bool
   legal_in_some B t = list_any (λ p. G.legal p t) B
 
@@ -16,6 +17,7 @@ module _ (G : Game) where
   abbrev pub tries : List G.Position → List G.Move
   tries B = filter (legal_in_some B) G.moves
 
+  -- there is a member in which it is legal and stalemates
   abbrev pub stale_in_some : List G.Position → G.Move → Bool
   stale_in_some B t = list_any (λ p. G.legal p t && G.stalemates p t) B
 

@@ -1,4 +1,4 @@
--- A game that is small enough to work by hand: ten positions and four tries, all of them numbers.
+-- A game that is small enough to work by hand: eleven positions and four tries, all of them numbers.
 use Rattle.std.specs.Prelude.{ℕ, Bool, true, false, ◌&&◌, ◌==◌, ◌||◌, nat_lt, List, [], ◌∷◌, slice_index_or}
 use Rattle.krieg_theory.specs.Tree.{Tree, Try, Nothing, Just, NoEdges, Edge}
 use Rattle.krieg_theory.specs.Game.{Game}
@@ -26,6 +26,7 @@ verdicts =
     ∷ []
     ∷ (Illegal ∷ Mate ∷ Mate ∷ Illegal ∷ [])
     ∷ (Replies ((4, 9) ∷ []) ∷ Illegal ∷ Illegal ∷ Illegal ∷ [])
+    ∷ (Illegal ∷ Replies ((0, 0) ∷ []) ∷ Mate ∷ Illegal ∷ [])
     ∷ []
 
 abbrev pub verdict : ℕ → ℕ → Verdict
@@ -76,6 +77,7 @@ first_heard =
     ∷ []
     ∷ ((0, 8) ∷ [])
     ∷ ((0, 9) ∷ [])
+    ∷ ((0, 10) ∷ [])
     ∷ []
 
 abbrev pub toy_start : Outset toy

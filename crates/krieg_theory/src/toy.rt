@@ -1,4 +1,4 @@
-//! A game of ten positions and four tries, on which each definition is evaluated. The numbers were worked by hand.
+//! A game of eleven positions and four tries, on which each definition is evaluated. The numbers were worked by hand.
 //!
 //! | Position | try 0 | try 1 | try 2 | try 3 |
 //! |---|---|---|---|---|
@@ -10,6 +10,7 @@
 //! | 5 | illegal | illegal | illegal | illegal |
 //! | 8 | illegal | mates | mates | illegal |
 //! | 9 | heard 4, position 9 | illegal | illegal | illegal |
+//! | 10 | illegal | heard 0, position 0 | mates | illegal |
 //!
 //! In 6 and 7 the opponent is to move first: in 6 the player then hears 1, position 0 or 1, or 2, position 2, and in 7
 //! there is no move. In the others the player is to move, and heard 9 in position 4 and 0 elsewhere.
@@ -101,6 +102,8 @@ pub fn recursion()
     ensures lost_class_begins_nothing { begins toy 3 (0 ∷ []) 3 ≡ false }
     ensures begun { begins toy 2 (1 ∷ []) 2 ≡ true }
     ensures first { first_try toy 2 (1 ∷ []) ≡ Some 1 }
+    ensures first_of_two { first_try toy 2 (10 ∷ []) ≡ Some 1 }
+    ensures first_of_one { first_try toy 1 (10 ∷ []) ≡ Some 2 }
     ensures none_first { first_try toy 2 (4 ∷ []) ≡ None }
     ensures least_of_the_set { least toy 3 (1 ∷ 2 ∷ []) ≡ 2 }
     ensures least_of_the_refused { least toy 3 (refused toy (1 ∷ 2 ∷ []) 0) ≡ 1 }
@@ -122,6 +125,7 @@ pub fn canonical()
     ensures in_one { canon toy 2 (0 ∷ 1 ∷ []) ≡ Just (or_else 0 (only 1)) }
     ensures in_two { canon toy 2 (2 ∷ []) ≡ Just by_ear }
     ensures with_refused { canon toy 2 (1 ∷ 2 ∷ []) ≡ Just (Try 0 (Just (only 1)) (Edge 0 (only 0) (Edge 1 (only 1) NoEdges))) }
+    ensures refused_at_its_least { canon toy 2 (2 ∷ 10 ∷ []) ≡ Just (Try 0 (Just (only 2)) (Edge 0 (only 0) (Edge 1 (only 1) NoEdges))) }
     ensures nothing { canon toy 3 (5 ∷ []) ≡ Nothing }
     ensures one_opening { openings toy toy_start (0 ∷ 1 ∷ []) ≡ 0 ∷ [] }
     ensures two_openings { openings toy toy_start (0 ∷ 4 ∷ []) ≡ 0 ∷ 9 ∷ [] }
