@@ -1,18 +1,15 @@
 -- The first field of a position is read exactly where it spells a board.
-use Rattle.std.proofs.Common.{◌≡◌, ◌≢◌, ◌⊎◌, inl, inr, ℕ, zero, suc, ◌+◌, ◌*◌, ◌<◌, ◌≤◌, Bool, true, false, ◌&&◌, cond, eqb, leb, eq-eqb, eqb-true, List, [], ◌∷◌, ◌++◌, length, take, drop, Option, Some, None, refl, sym, subst, ap, ◌∙◌, append_assoc, arith, length-append, take-add}
-use Rattle.std.specs.Prelude.{is_some}
+use Rattle.std.proofs.Common.{◌≡◌, inl, inr, ℕ, zero, suc, ◌+◌, ◌*◌, ◌<◌, ◌≤◌, Bool, false, cond, eqb, eq-eqb, eqb-true, List, [], ◌∷◌, ◌++◌, length, take, drop, Option, Some, None, refl, sym, subst, ap, ◌∙◌, append_assoc, arith, length-append, take-add}
 use Rattle.std.specs.List.{join_with_byte}
 use Rattle.std.proofs.lemmas.Bool.{ne_eqb, lt-leb, cases_lt}
 use Rattle.std.proofs.lemmas.Option.{cond_some}
-use Rattle.std.proofs.lemmas.List.{append-nil, take_at, drop_at, take_all, length-take-le, length-drop}
+use Rattle.std.proofs.lemmas.List.{append-nil, take_at, drop_at, take_all}
 use Rattle.std.proofs.lemmas.List.Splits.{join_with_byte-slice_split}
-use Rattle.krieg_board.specs.declared.men.Man.{Man}
-use Rattle.krieg_board.specs.declared.men.Side.TheVariants.{White, Black}
 use Rattle.krieg_board.specs.declared.men.Kind.{Kind}
 use Rattle.krieg_board.specs.declared.men.Kind.TheVariants.{Pawn, Knight, Bishop, Rook, Queen, King}
 use Rattle.krieg_board.specs.Board.{Board}
 use Rattle.krieg_fen.specs.Pieces.{pieces}
-use Rattle.krieg_fen.specs.Letters.{capital, small_letter, kind_by, man_as, man_of}
+use Rattle.krieg_fen.specs.Letters.{capital, small_letter, kind_by, man_of}
 use Rattle.krieg_fen.specs.Ranks.{Row, squares_at, row_of, onto_row, eight, ranks_of, board_of}
 use Rattle.krieg_fen.specs.FenText.{rank_at}
 use Rattle.krieg_fen.specs.Spelling.{SpellRanks, SpellsBoard}
@@ -42,10 +39,12 @@ ranks_spell (suc n) [] low e = absurd cc
 ranks_spell (suc n) (r ∷ rs) low e =
     let p = onto_parts (ranks_of n rs) (eight (row_of r)) low e in
     let q = eight_parts (row_of r) p.1 p.3 in
-    let m = ranks_spell n rs p.0 p.2 in
-    (omega (arith, ap length p.4, length-append p.0 p.1, m.0, q.1), λ more.
-        let all : low ++ more ≡ p.0 ++ (p.1 ++ more) = ap (λ (t : Row). t ++ more) (sym p.4) ∙ append_assoc p.0 p.1 more in
-        (q.0 ∙ ap Some (rank_there p.0 p.1 more (low ++ more) n m.0 q.1 all), subst (SpellRanks rs n) (sym all) (m.1 (p.1 ++ more))))
+    let m = ranks_spell n rs p.0 p.2 in (
+      omega (arith, ap length p.4, length-append p.0 p.1, m.0, q.1),
+      λ more.
+          let all : low ++ more ≡ p.0 ++ (p.1 ++ more) = ap (λ (t : Row). t ++ more) (sym p.4) ∙ append_assoc p.0 p.1 more in
+          (q.0 ∙ ap Some (rank_there p.0 p.1 more (low ++ more) n m.0 q.1 all), subst (SpellRanks rs n) (sym all) (m.1 (p.1 ++ more))),
+    )
 
 pub board_spells : (field : List ℕ) (board : Board) → board_of field ≡ Some board → SpellsBoard field board
 board_spells field board e =
@@ -86,8 +85,8 @@ no_squares b le = rw (lt-leb 49 b (omega arith), no_man b le) refl
 
 square_high : (b : ℕ) (x : Row) → squares_at b ≡ Some x → 47 < b
 square_high b x e = elim (cases_lt 47 b) [
-    | inl high ↦ high
-    | inr low ↦ absurd (let none : squares_at b ≡ None = no_squares b low in cc)
+  | inl high ↦ high
+  | inr low ↦ absurd (let none : squares_at b ≡ None = no_squares b low in cc)
 ]
 
 row_high : (r : List ℕ) (row : Row) → row_of r ≡ Some row → Above 47 r

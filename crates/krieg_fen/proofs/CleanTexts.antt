@@ -1,5 +1,5 @@
 -- Which bytes stand in written numbers, squares, moves and positions: none is a line feed, and only a position has spaces.
-use Rattle.std.proofs.Common.{◌≡◌, ℕ, ◌+◌, ◌^◌, ◌<◌, ◌≤◌, Bool, true, ◌&&◌, leb, List, [], ◌∷◌, ◌++◌, arith, rules}
+use Rattle.std.proofs.Common.{◌≡◌, ℕ, ◌^◌, ◌<◌, ◌≤◌, true, leb, List, [], ◌∷◌, ◌++◌, arith}
 use Rattle.std.proofs.lemmas.Bool.{and_parts, leb-true}
 use Rattle.std.specs.List.{list_all}
 use Rattle.std.specs.Char.{is_ascii_digit}
@@ -10,7 +10,7 @@ use Rattle.krieg_board.specs.Pos.{Pos}
 use Rattle.krieg_fen.specs.Lines.{is_line}
 use Rattle.krieg_fen.specs.Decimals.{number_text}
 use Rattle.krieg_fen.specs.MoveText.{square_text, promo_text, move_text}
-use Rattle.krieg_fen.specs.FenText.{board_text, side_text, rights_text, mark_text, state_text, position_text}
+use Rattle.krieg_fen.specs.FenText.{board_text, side_text, rights_text, state_text, position_text}
 use Rattle.krieg_fen.proofs.Free.{Above, above-append, above-less}
 use Rattle.krieg_fen.proofs.Numbers.{digits_again}
 use Rattle.krieg_fen.proofs.RankTexts.{board_above}
@@ -47,10 +47,16 @@ move_above m = above-append 48 (square_text m.from) (square_text m.to ++ promo_t
 pub position_above : (p : Pos) → Above 31 (position_text p)
 unfolding position_text state_text
 position_above p =
-    above-append 31 (board_text p.board) _ (above-less 31 32 _ (omega arith) (board_above p.board)) (omega arith,
-    above-append 31 (side_text p.side) _ (above-less 31 32 _ (omega arith) (side_above p.side)) (omega arith,
-    above-append 31 (rights_text p.rights) _ (above-less 31 32 _ (omega arith) (rights_above p.rights)) (omega arith,
-    above-less 31 32 _ (omega arith) (mark_above p.mark))))
+    above-append 31 (board_text p.board) _ (above-less 31 32 _ (omega arith) (board_above p.board)) (
+      omega arith,
+      above-append 31 (side_text p.side) _ (above-less 31 32 _ (omega arith) (side_above p.side)) (
+        omega arith,
+        above-append 31 (rights_text p.rights) _ (above-less 31 32 _ (omega arith) (rights_above p.rights)) (
+          omega arith,
+          above-less 31 32 _ (omega arith) (mark_above p.mark),
+        ),
+      ),
+    )
 
 -- each of them is part of a line
 pub number_line : (n : ℕ) → n < 2 ^ 64 → is_line (number_text n) ≡ true

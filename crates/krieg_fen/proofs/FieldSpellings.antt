@@ -1,5 +1,5 @@
 -- A side, rights, a mark and clocks that are read are spelled so.
-use Rattle.std.proofs.Common.{◌≡◌, ℕ, zero, suc, ◌<◌, Bool, true, false, ◌&&◌, ◌||◌, cond, eqb, leb, eqb-true, List, [], ◌∷◌, ◌++◌, length, Option, Some, None, Result, Ok, Err, refl, sym, ap, ◌∙◌, append_assoc, arith}
+use Rattle.std.proofs.Common.{◌≡◌, ℕ, Bool, true, false, ◌&&◌, ◌||◌, cond, eqb, leb, eqb-true, List, [], ◌∷◌, ◌++◌, length, Option, Some, None, Result, Ok, Err, refl, sym, ap, ◌∙◌, append_assoc}
 use Rattle.std.specs.List.{list_all}
 use Rattle.std.specs.Char.{is_ascii_digit}
 use Rattle.std.proofs.lemmas.Bool.{and_parts}
@@ -9,11 +9,11 @@ use Rattle.krieg_board.specs.declared.men.Side.{Side}
 use Rattle.krieg_board.specs.declared.men.Side.TheVariants.{White, Black}
 use Rattle.krieg_board.specs.declared.men.Rights.{Rights}
 use Rattle.krieg_fen.specs.declared.fen.FenFault.{FenFault}
-use Rattle.krieg_fen.specs.declared.fen.FenFault.TheVariants.{Fields, Field, Bad}
+use Rattle.krieg_fen.specs.declared.fen.FenFault.TheVariants.{Field}
 use Rattle.krieg_fen.specs.Outcomes.{◌>>=◌}
-use Rattle.krieg_fen.specs.MoveText.{square_text, square_of}
+use Rattle.krieg_fen.specs.MoveText.{square_of}
 use Rattle.krieg_fen.specs.Fields.{side_of, letter_at, letters_of, no_rights, rights_of, mark_at, mark_of, is_clock}
-use Rattle.krieg_fen.specs.Fen.{clock, clocks_at}
+use Rattle.krieg_fen.specs.Fen.{clocks_at}
 use Rattle.krieg_fen.specs.FenText.{side_text, held_text, or_dash, rights_text, mark_text}
 use Rattle.krieg_fen.proofs.MoveTexts.{square_spells}
 use Rattle.krieg_fen.proofs.Free.{Above}
@@ -66,7 +66,7 @@ unfolding rights_text
 held_spells b bs h =
     let none : (letters_of (b ∷ bs)).1 ≡ [] = nil_from_length (letters_of (b ∷ bs)).1 (eqb-true (length (letters_of (b ∷ bs)).1) 0 h) in
     let held : b ∷ bs ≡ held_text (letters_of (b ∷ bs)).0 =
-        letters_spell (b ∷ bs) ∙ ap (λ (t : List ℕ). held_text (letters_of (b ∷ bs)).0 ++ t) none ∙ append-nil (held_text (letters_of (b ∷ bs)).0) in
+    letters_spell (b ∷ bs) ∙ ap (λ (t : List ℕ). held_text (letters_of (b ∷ bs)).0 ++ t) none ∙ append-nil (held_text (letters_of (b ∷ bs)).0) in
     ap or_dash held
 
 rights_by : (b : ℕ) (bs : List ℕ) (r : Rights) (t u : Bool) → (eqb (length bs) 0 && eqb b 45) ≡ t → eqb (length (letters_of (b ∷ bs)).1) 0 ≡ u →

@@ -1,14 +1,13 @@
 -- The law of the first bad line: what a reader of a whole text answers, where what it is made of is local.
-use Rattle.std.proofs.Common.{◌≡◌, ◌≢◌, ◌⊎◌, inl, inr, ℕ, zero, suc, ◌+◌, List, [], ◌∷◌, ◌++◌, length, Result, Ok, Err, refl, sym, ap, subst, ◌∙◌, arith}
+use Rattle.std.proofs.Common.{◌≡◌, ◌≢◌, inl, inr, ℕ, List, [], ◌∷◌, Result, Ok, Err, refl, sym, ap, subst, ◌∙◌, arith}
 use Rattle.std.specs.Prelude.{IfErr}
 use Rattle.std.proofs.lemmas.List.{append-nil}
 use Rattle.krieg_fen.specs.declared.fault.TextFault.{TextFault}
 use Rattle.krieg_fen.specs.declared.fault.TextFault.TheVariants.{At, NoMemory}
-use Rattle.krieg_fen.specs.declared.fault.TextKind.{TextKind}
 use Rattle.krieg_fen.specs.declared.fault.TextKind.TheVariants.{Syntax}
 use Rattle.krieg_fen.specs.Outcomes.{◌>>=◌}
 use Rattle.krieg_fen.specs.Reading.{Place, place, LineReader, ended, whole, Gives}
-use Rattle.krieg_fen.specs.FirstBad.{IsFirstBad, FirstBad, ReadFrom, BadLine, FaultAt, IsLocal}
+use Rattle.krieg_fen.specs.FirstBad.{FirstBad, ReadFrom, FaultAt, IsLocal}
 
 abbrev close : {A : Type 0} → Result (A × Place) TextFault → Result A TextFault
 close t = t >>= λ x. ended x.0 x.1.number x.1.left
@@ -18,10 +17,13 @@ inside : {A : Type 0} (r : LineReader A) (ls : List (List ℕ)) (e : TextFault) 
 inside r ls NoMemory h = h
 inside r ls (At line kind) (inl past) = inl (omega (arith, past.0), past.1)
 inside {A = A} r ls (At line kind) (inr b) = inr (record {
-  before = b.used; bad = b.bad; behind = b.rest; is = b.is;
+  before = b.used;
+  bad = b.bad;
+  behind = b.rest;
+  is = b.is;
   number = omega (arith, b.number);
   refused = λ other. ap (λ (t : Result (A × Place) TextFault). close t) (b.again other);
-  unrefused = inr (ap (λ (t : Result (A × Place) TextFault). close t) b.short)
+  unrefused = inr (ap (λ (t : Result (A × Place) TextFault). close t) b.short);
 })
 
 -- a line behind the last one
@@ -32,10 +34,13 @@ behind_last {A = A} r ls x n (l ∷ left) (At line kind) a h =
     let m : n ≡ line = cc in
     let same : At n Syntax ≡ At line kind = cc in
     inr (record {
-      before = a.used; bad = l; behind = left; is = a.is;
+      before = a.used;
+      bad = l;
+      behind = left;
+      is = a.is;
       number = omega (arith, a.number);
       refused = λ other. ap (λ (t : Result (A × Place) TextFault). close t) (a.again (l ∷ other)) ∙ ap Err same;
-      unrefused = inl (x, ap (λ (t : List (List ℕ)). whole r t) (sym (append-nil a.used)) ∙ ap (λ (t : Result (A × Place) TextFault). close t) (a.again []))
+      unrefused = inl (x, ap (λ (t : List (List ℕ)). whole r t) (sym (append-nil a.used)) ∙ ap (λ (t : Result (A × Place) TextFault). close t) (a.again []));
     })
 
 first_by : {A : Type 0} (r : LineReader A) → IsLocal r → (ls : List (List ℕ)) (e : TextFault) (res : Result (A × Place) TextFault) → r (place 1 ls) ≡ res → close res ≡ Err e → FirstBad (whole r) ls e

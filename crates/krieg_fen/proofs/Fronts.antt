@@ -1,5 +1,5 @@
 -- A text that is written piece by piece, up to a want of memory.
-use Rattle.std.proofs.Common.{subst, ◌<◌, ◌≤◌, ◌+◌, zero, suc, length, take, drop, get_or, arith, add-one, ◌≡◌, ℕ, List, [], ◌∷◌, ◌++◌, refl, sym, ap, ◌∙◌, append_assoc}
+use Rattle.std.proofs.Common.{subst, ◌<◌, ◌≤◌, ◌+◌, zero, suc, length, take, drop, get_or, arith, ◌≡◌, ℕ, List, [], ◌∷◌, ◌++◌, refl, sym, ap, ◌∙◌, append_assoc}
 use Rattle.std.proofs.lemmas.List.{append-nil, flat_map_more, take_more, take_all}
 use Rattle.std.specs.List.{flat_map}
 use Rattle.std.specs.Result.{IsErrAnd}

@@ -20,3 +20,4 @@ pub mod CleanTexts
 pub mod BoardSpellings
 pub mod FieldSpellings
 pub mod PositionSpellings
+pub mod ListSpellings

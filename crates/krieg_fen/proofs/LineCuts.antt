@@ -1,5 +1,5 @@
 -- Where a line is cut off.
-use Rattle.std.proofs.Common.{IsTrue, eqb-true, eq-eqb, ◌≡◌, ℕ, zero, suc, ◌+◌, ◌-◌, ◌<◌, ◌≤◌, Bool, true, false, cond, eqb, List, [], ◌∷◌, ◌++◌, length, get_or, take, drop, refl, sym, ap, ◌∙◌, arith, add-one, append_assoc}
+use Rattle.std.proofs.Common.{IsTrue, eqb-true, eq-eqb, ◌≡◌, ℕ, zero, suc, ◌+◌, ◌-◌, ◌<◌, ◌≤◌, Bool, true, false, cond, eqb, List, [], ◌∷◌, length, get_or, take, drop, refl, ap, arith, add-one}
 use Rattle.std.proofs.lemmas.List.{take_rest}
 use Rattle.krieg_fen.specs.Lines.{lines, onto_line}
 

@@ -1,8 +1,8 @@
 -- Lines that are written with their line feeds are read again, and what is read is the text.
-use Rattle.std.proofs.Common.{◌≡◌, ◌≢◌, ◌⊎◌, inl, inr, ℕ, ◌<◌, ◌≤◌, Bool, true, false, not, ◌&&◌, cond, eqb, eq-eqb, eqb-true, List, [], ◌∷◌, ◌++◌, refl, sym, subst, ap, ◌∙◌, append_assoc, arith}
+use Rattle.std.proofs.Common.{◌≡◌, inl, inr, ℕ, ◌<◌, ◌≤◌, Bool, true, false, not, cond, eqb, eqb-true, List, [], ◌∷◌, ◌++◌, refl, sym, subst, ap, ◌∙◌, append_assoc, arith}
 use Rattle.std.proofs.lemmas.Bool.{ne_eqb, and_parts, and_from, not-true}
 use Rattle.std.specs.List.{list_all}
-use Rattle.krieg_fen.specs.Lines.{lines, onto_line, ended_line, with_ends, is_line, AreLines, EndsLines}
+use Rattle.krieg_fen.specs.Lines.{lines, onto_line, with_ends, is_line, AreLines, EndsLines}
 use Rattle.krieg_fen.proofs.Free.{Above}
 
 -- a text of bytes that are all above the line feed is a line

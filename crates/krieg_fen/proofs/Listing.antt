@@ -7,7 +7,7 @@ use Rattle.krieg_board.specs.declared.men.Side.{Side}
 use Rattle.krieg_fen.specs.declared.fault.TextFault.{TextFault}
 use Rattle.krieg_fen.specs.declared.fault.TextFault.TheVariants.{At, NoMemory}
 use Rattle.krieg_fen.specs.Outcomes.{◌>>=◌}
-use Rattle.krieg_fen.specs.Reading.{Place, place, LineReader, taken, Fails, GivesOn}
+use Rattle.krieg_fen.specs.Reading.{Place, place, taken, Fails, GivesOn}
 use Rattle.krieg_fen.specs.FirstBad.{FaultAt, IsLocal}
 use Rattle.krieg_fen.specs.Forms.{listed_form, positions_at}
 use Rattle.krieg_fen.proofs.Locality.{local_pure, local_taken, local_bind}
@@ -35,8 +35,8 @@ listed_ok who list n i line from new p all lt read so =
     let rest = λ (x : Pos × Place). positions_at who (Some (unwrap_or (slice_get list 0) x.0)) (n - (i + 1)) x.1 >>= λ o. Ok (x.0 ∷ o.0, o.1) in
     let number : line + i + 1 ≡ line + (i + 1) = omega arith in
     let step : positions_at who (slice_get list 0) (n - i) (place (line + i) from) ≡ rest (p, place (line + (i + 1)) new) =
-        ap (λ (k : ℕ). positions_at who (slice_get list 0) k (place (line + i) from)) (more n i lt) ∙ ap (λ (r : Result (Pos × Place) TextFault). r >>= rest) read
-        ∙ ap (λ (k : ℕ). rest (p, place k new)) number in
+    ap (λ (k : ℕ). positions_at who (slice_get list 0) k (place (line + i) from)) (more n i lt) ∙ ap (λ (r : Result (Pos × Place) TextFault). r >>= rest) read
+    ∙ ap (λ (k : ℕ). rest (p, place k new)) number in
     ap (λ (f : Option Pos). with_front (list ++ p ∷ []) (positions_at who f (n - (i + 1)) (place (line + (i + 1)) new))) (first-push list p)
     ∙ sym (front-push list p (positions_at who (Some (unwrap_or (slice_get list 0) p)) (n - (i + 1)) (place (line + (i + 1)) new)))
     ∙ ap (with_front list) (sym step) ∙ so

@@ -1,13 +1,12 @@
 -- Readers of lines that are made of local ones are local, and the law of the first bad line.
-use Rattle.std.proofs.Common.{◌≡◌, ◌⊎◌, inl, inr, ℕ, zero, suc, ◌+◌, ◌<◌, ◌≤◌, List, [], ◌∷◌, ◌++◌, length, Result, Ok, Err, refl, sym, ap, subst, ◌∙◌, append_assoc, arith, length-append}
-use Rattle.std.proofs.lemmas.List.{append-nil}
+use Rattle.std.proofs.Common.{◌≡◌, inl, inr, ℕ, ◌+◌, List, [], ◌∷◌, ◌++◌, length, Result, Ok, Err, refl, sym, ap, subst, ◌∙◌, append_assoc, arith, length-append}
 use Rattle.krieg_fen.specs.declared.fault.TextFault.{TextFault}
 use Rattle.krieg_fen.specs.declared.fault.TextFault.TheVariants.{At, NoMemory}
 use Rattle.krieg_fen.specs.declared.fault.TextKind.{TextKind}
 use Rattle.krieg_fen.specs.declared.fault.TextKind.TheVariants.{Syntax}
 use Rattle.krieg_fen.specs.Outcomes.{◌>>=◌}
-use Rattle.krieg_fen.specs.Reading.{Place, place, LineReader, taken, on, Step, goes_on, stops, up_to_last, ended, whole}
-use Rattle.krieg_fen.specs.FirstBad.{IsFirstBad, FirstBad, ReadFrom, BadLine, FaultAt, IsLocal}
+use Rattle.krieg_fen.specs.Reading.{Place, place, LineReader, taken, on}
+use Rattle.krieg_fen.specs.FirstBad.{ReadFrom, FaultAt, IsLocal}
 
 pub ok_is : {A : Type 0} (x y : A) → ◌≡◌ {A = Result A TextFault} (Ok x) (Ok y) → x ≡ y
 ok_is x y e = cc
@@ -16,11 +15,11 @@ ok_is x y e = cc
 pub local_pure : {A : Type 0} (x : A) → IsLocal (λ p. Ok (x, p))
 local_pure {A = A} x = record {
   goes = λ n ls y q e.
-    let same = ok_is {A = A × Place} (x, place n ls) (y, q) e in
-    let v : x ≡ y = ap (λ (t : A × Place). t.0) same in
-    let m : n ≡ q.number = ap (λ (t : A × Place). t.1.number) same in
-    record { used = []; is = ap (λ (t : A × Place). t.1.left) same; number = omega arith; again = λ other. ap (λ (t : A). Ok (t, place n other)) v ∙ ap (λ (t : ℕ). Ok (y, place t other)) m };
-  stays = λ n ls e h. absurd cc
+      let same = ok_is {A = A × Place} (x, place n ls) (y, q) e in
+      let v : x ≡ y = ap (λ (t : A × Place). t.0) same in
+      let m : n ≡ q.number = ap (λ (t : A × Place). t.1.number) same in
+      record { used = []; is = ap (λ (t : A × Place). t.1.left) same; number = omega arith; again = λ other. ap (λ (t : A). Ok (t, place n other)) v ∙ ap (λ (t : ℕ). Ok (y, place t other)) m };
+  stays = λ n ls e h. absurd cc;
 }
 
 abbrev after : {A : Type 0} → ℕ → List (List ℕ) → Result A TextKind → Result (A × Place) TextFault
@@ -36,7 +35,7 @@ taken_goes {A = A} form n l ls (Ok v) is x q e =
       used = l ∷ [];
       is = ap (λ (t : A × Place). l ∷ t.1.left) same;
       number = omega arith;
-      again = λ other. ap (after n other) is ∙ ap (λ (t : A × Place). Ok (t.0, place t.1.number other)) same
+      again = λ other. ap (after n other) is ∙ ap (λ (t : A × Place). Ok (t.0, place t.1.number other)) same;
     }
 
 -- where no line is left, the fault stands behind the last line
@@ -60,15 +59,16 @@ taken_stays form n l ls (Err kind) is (At line k) h =
 pub local_taken : {A : Type 0} (form : List ℕ → Result A TextKind) → IsLocal (taken form)
 local_taken form = record {
   goes = λ n ls x q e. go n ls x q e;
-  stays = λ n ls e h. stop n ls e h
+  stays = λ n ls e h. stop n ls e h;
 }
   where
-  go : (n : ℕ) (ls : List (List ℕ)) (x : _) (q : Place) → taken form (place n ls) ≡ Ok (x, q) → ReadFrom (taken form) n ls x q
-  go n [] x q e = absurd cc
-  go n (l ∷ ls) x q e = taken_goes form n l ls (form l) refl x q e
-  stop : (n : ℕ) (ls : List (List ℕ)) (e : TextFault) → taken form (place n ls) ≡ Err e → FaultAt (taken form) n ls e
-  stop n [] e h = at_end (taken form) n e cc
-  stop n (l ∷ ls) e h = taken_stays form n l ls (form l) refl e h
+    go : (n : ℕ) (ls : List (List ℕ)) (x : _) (q : Place) → taken form (place n ls) ≡ Ok (x, q) → ReadFrom (taken form) n ls x q
+    go n [] x q e = absurd cc
+    go n (l ∷ ls) x q e = taken_goes form n l ls (form l) refl x q e
+
+    stop : (n : ℕ) (ls : List (List ℕ)) (e : TextFault) → taken form (place n ls) ≡ Err e → FaultAt (taken form) n ls e
+    stop n [] e h = at_end (taken form) n e cc
+    stop n (l ∷ ls) e h = taken_stays form n l ls (form l) refl e h
 
 -- one reader, and then another that may rest on what the first gave
 abbrev pub followed : {A B : Type 0} → LineReader A → (A → LineReader B) → LineReader B
@@ -84,7 +84,7 @@ bind_goes {A = A} r f lr lf n ls y q (Ok x) is h =
       used = a.used ++ b.used;
       is = a.is ∙ ap (λ (t : List (List ℕ)). a.used ++ t) b.is ∙ sym (append_assoc a.used b.used q.left);
       number = omega (arith, a.number, b.number, length-append a.used b.used);
-      again = λ other. ap (λ (t : List (List ℕ)). followed r f (place n t)) (append_assoc a.used b.used other) ∙ ap (λ (t : Result (A × Place) TextFault). t >>= λ x. f x.0 x.1) (a.again (b.used ++ other)) ∙ b.again other
+      again = λ other. ap (λ (t : List (List ℕ)). followed r f (place n t)) (append_assoc a.used b.used other) ∙ ap (λ (t : Result (A × Place) TextFault). t >>= λ x. f x.0 x.1) (a.again (b.used ++ other)) ∙ b.again other;
     }
 
 bind_bad : {A B : Type 0} (r : LineReader A) (f : A → LineReader B) (n : ℕ) (ls : List (List ℕ)) (x : A × Place) (e : TextFault) →
@@ -98,16 +98,20 @@ bind_bad {A = A} r f n ls x (At line kind) a (inr b) = inr (record {
   is = a.is ∙ ap (λ (t : List (List ℕ)). a.used ++ t) b.is ∙ sym (append_assoc a.used b.used (b.bad ∷ b.rest));
   number = omega (arith, a.number, b.number, length-append a.used b.used);
   again = λ other. ap (λ (t : List (List ℕ)). followed r f (place n t)) (append_assoc a.used b.used (b.bad ∷ other)) ∙ ap (λ (t : Result (A × Place) TextFault). t >>= λ x. f x.0 x.1) (a.again (b.used ++ b.bad ∷ other)) ∙ b.again other;
-  short = ap (λ (t : Result (A × Place) TextFault). t >>= λ x. f x.0 x.1) (a.again b.used) ∙ b.short
+  short = ap (λ (t : Result (A × Place) TextFault). t >>= λ x. f x.0 x.1) (a.again b.used) ∙ b.short;
 })
 
 bind_first : {A B : Type 0} (r : LineReader A) (f : A → LineReader B) (n : ℕ) (ls : List (List ℕ)) (e : TextFault) → FaultAt r n ls e → FaultAt (followed r f) n ls e
 bind_first r f n ls NoMemory h = h
 bind_first r f n ls (At line kind) (inl past) = inl past
 bind_first {A = A} r f n ls (At line kind) (inr b) = inr (record {
-  used = b.used; bad = b.bad; rest = b.rest; is = b.is; number = b.number;
+  used = b.used;
+  bad = b.bad;
+  rest = b.rest;
+  is = b.is;
+  number = b.number;
   again = λ other. ap (λ (t : Result (A × Place) TextFault). t >>= λ x. f x.0 x.1) (b.again other);
-  short = ap (λ (t : Result (A × Place) TextFault). t >>= λ x. f x.0 x.1) b.short
+  short = ap (λ (t : Result (A × Place) TextFault). t >>= λ x. f x.0 x.1) b.short;
 })
 
 bind_stays : {A B : Type 0} (r : LineReader A) (f : A → LineReader B) → IsLocal r → ((x : A) → IsLocal (f x)) →
@@ -119,5 +123,5 @@ bind_stays r f lr lf n ls e (Err d) is h = let same : d ≡ e = cc in subst (Fau
 pub local_bind : {A B : Type 0} (r : LineReader A) (f : A → LineReader B) → IsLocal r → ((x : A) → IsLocal (f x)) → IsLocal (followed r f)
 local_bind r f lr lf = record {
   goes = λ n ls y q e. bind_goes r f lr lf n ls y q (r (place n ls)) refl e;
-  stays = λ n ls e h. bind_stays r f lr lf n ls e (r (place n ls)) refl h
+  stays = λ n ls e h. bind_stays r f lr lf n ls e (r (place n ls)) refl h;
 }

@@ -1,12 +1,12 @@
 -- A reader that takes line after line up to the one that stops it is local.
-use Rattle.std.proofs.Common.{◌≡◌, ◌⊎◌, inl, inr, ℕ, zero, suc, ◌+◌, ◌<◌, ◌≤◌, List, [], ◌∷◌, ◌++◌, length, Result, Ok, Err, refl, sym, ap, subst, ◌∙◌, arith}
+use Rattle.std.proofs.Common.{◌≡◌, inl, inr, ℕ, ◌+◌, List, [], ◌∷◌, ◌++◌, Result, Ok, Err, refl, sym, ap, ◌∙◌, arith}
 use Rattle.krieg_fen.specs.declared.fault.TextFault.{TextFault}
 use Rattle.krieg_fen.specs.declared.fault.TextFault.TheVariants.{At, NoMemory}
 use Rattle.krieg_fen.specs.declared.fault.TextKind.{TextKind}
 use Rattle.krieg_fen.specs.declared.fault.TextKind.TheVariants.{Syntax}
 use Rattle.krieg_fen.specs.Outcomes.{◌>>=◌}
 use Rattle.krieg_fen.specs.Reading.{Place, place, LineReader, on, Step, goes_on, stops, up_to_last}
-use Rattle.krieg_fen.specs.FirstBad.{ReadFrom, BadLine, FaultAt, IsLocal}
+use Rattle.krieg_fen.specs.FirstBad.{ReadFrom, FaultAt, IsLocal}
 use Rattle.krieg_fen.proofs.Locality.{ok_is}
 
 abbrev loop : {S A : Type 0} → (S → List ℕ → Result (Step S A) TextKind) → S → LineReader A
@@ -27,7 +27,7 @@ goes_by {A = A} form l ls s n x q (Ok (stops y)) more is h =
       used = l ∷ [];
       is = ap (λ (t : A × Place). l ∷ t.1.left) same;
       number = omega arith;
-      again = λ other. ap (next form n other) is ∙ ap (λ (t : A × Place). Ok (t.0, place t.1.number other)) same
+      again = λ other. ap (next form n other) is ∙ ap (λ (t : A × Place). Ok (t.0, place t.1.number other)) same;
     }
 goes_by form l ls s n x q (Ok (goes_on t)) more is h =
     let a = more t h in
@@ -35,7 +35,7 @@ goes_by form l ls s n x q (Ok (goes_on t)) more is h =
       used = l ∷ a.used;
       is = ap (λ (k : List (List ℕ)). l ∷ k) a.is;
       number = omega (arith, a.number);
-      again = λ other. ap (next form n (a.used ++ other)) is ∙ a.again other
+      again = λ other. ap (next form n (a.used ++ other)) is ∙ a.again other;
     }
 
 loop_goes : {S A : Type 0} (form : S → List ℕ → Result (Step S A) TextKind) (ls : List (List ℕ)) (s : S) (n : ℕ) (x : A) (q : Place) →
@@ -49,11 +49,13 @@ later : {S A : Type 0} (form : S → List ℕ → Result (Step S A) TextKind) (l
 later form l ls s t n NoMemory same h = h
 later form l ls s t n (At line kind) same (inl past) = inl (omega (arith, past.0), past.1)
 later form l ls s t n (At line kind) same (inr b) = inr (record {
-  used = l ∷ b.used; bad = b.bad; rest = b.rest;
+  used = l ∷ b.used;
+  bad = b.bad;
+  rest = b.rest;
   is = ap (λ (k : List (List ℕ)). l ∷ k) b.is;
   number = omega (arith, b.number);
   again = λ other. same (b.used ++ b.bad ∷ other) ∙ b.again other;
-  short = same b.used ∙ b.short
+  short = same b.used ∙ b.short;
 })
 
 here : {S A : Type 0} (form : S → List ℕ → Result (Step S A) TextKind) (l : List ℕ) (ls : List (List ℕ)) (s : S) (n : ℕ) (kind : TextKind) (e : TextFault) →

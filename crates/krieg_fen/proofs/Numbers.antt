@@ -1,5 +1,5 @@
 -- Reading digits, with a bound.
-use Rattle.std.proofs.Common.{not, ◌&&◌, ◌||◌, eqb, leb, eq-eqb, eqb-true, Result, Ok, Err, rules, ◌≡◌, ℕ, zero, suc, ◌+◌, ◌*◌, ◌^◌, ◌<◌, ◌≤◌, Bool, true, false, ltb, List, [], ◌∷◌, length, get_or, take, drop, cond, Option, Some, None, refl, arith, sym, ap, ◌∙◌}
+use Rattle.std.proofs.Common.{not, ◌&&◌, ◌||◌, eqb, leb, eq-eqb, eqb-true, Result, Ok, Err, rules, ◌≡◌, ℕ, zero, suc, ◌+◌, ◌*◌, ◌^◌, ◌<◌, ◌≤◌, Bool, true, false, ltb, List, [], ◌∷◌, length, get_or, take, cond, Some, None, refl, arith, sym, ap, ◌∙◌}
 use Rattle.std.specs.Char.{digit_value, is_ascii_digit}
 use Rattle.std.specs.List.{list_all}
 use Rattle.std.specs.Str.Parse.{digits_value}

@@ -1,6 +1,5 @@
 -- A text is read as a position exactly where it spells it.
-use Rattle.std.proofs.Common.{◌≡◌, ℕ, ◌+◌, ◌<◌, ◌≤◌, Bool, true, false, List, [], ◌∷◌, ◌++◌, length, Option, Some, None, Result, Ok, Err, refl, sym, subst, ap, ◌∙◌, arith}
-use Rattle.std.specs.Prelude.{IfOk}
+use Rattle.std.proofs.Common.{◌≡◌, ℕ, List, [], ◌∷◌, length, Option, Some, None, Result, Ok, Err, refl, sym, ap, ◌∙◌, arith}
 use Rattle.std.specs.List.{join_with_byte}
 use Rattle.std.proofs.lemmas.List.Splits.{join_with_byte-slice_split}
 use Rattle.krieg_board.specs.declared.men.Side.{Side}
@@ -15,10 +14,10 @@ use Rattle.krieg_fen.specs.Pieces.{pieces}
 use Rattle.krieg_fen.specs.Ranks.{board_of}
 use Rattle.krieg_fen.specs.Fields.{side_of, rights_of, mark_of}
 use Rattle.krieg_fen.specs.declared.fen.FenFault.{FenFault}
-use Rattle.krieg_fen.specs.Fen.{field, clocks_at, unless, checked, position_at, position_of}
+use Rattle.krieg_fen.specs.Fen.{clocks_at, unless, checked, position_at, position_of}
 use Rattle.krieg_fen.specs.FenText.{side_text, rights_text, mark_text}
-use Rattle.krieg_fen.specs.Spelling.{SpellsBoard, AreClocks, Spells}
-use Rattle.krieg_fen.proofs.Free.{Above, above-less}
+use Rattle.krieg_fen.specs.Spelling.{AreClocks, Spells}
+use Rattle.krieg_fen.proofs.Free.{above-less}
 use Rattle.krieg_fen.proofs.FenTexts.{side_again, side_above, rights_again, rights_above, mark_again, mark_above, parts, parts_again}
 use Rattle.krieg_fen.proofs.BoardSpellings.{board_spells, board_long, board_high, board_reads, AllAbove, pieces_join}
 use Rattle.krieg_fen.proofs.FieldSpellings.{side_spells, rights_spells, mark_spells, clocks_spell, clocks_read, clock_above}
@@ -54,7 +53,7 @@ parts_tell p (Some a) (Some b) (Some c) (Some d) (Ok u) e =
       rights = ap (λ (r : Pos). Some r.rights) t.0;
       mark = ap (λ (r : Pos). Some r.mark) t.0;
       clock = refl;
-      none = t.1
+      none = t.1;
     }
 
 spelled : (text a b c d : List ℕ) (clocks : List (List ℕ)) (p : Pos) (r : Result (Unit {0}) FenFault) → text ≡ join_with_byte 32 (a ∷ b ∷ c ∷ d ∷ clocks) → AreClocks clocks → length p.board ≡ 64 →
@@ -64,11 +63,12 @@ spelled text a b c d clocks p r is are long t =
     let sc : c ≡ rights_text p.rights = rights_spells c p.rights t.rights in
     let sd : d ≡ mark_text p.mark = mark_spells d p.mark t.mark in
     record {
-      board = a; clocks = clocks;
+      board = a;
+      clocks = clocks;
       joined = is ∙ ap (λ (x : List ℕ). join_with_byte 32 (a ∷ x ∷ c ∷ d ∷ clocks)) sb ∙ ap (λ (x : List ℕ). join_with_byte 32 (a ∷ side_text p.side ∷ x ∷ d ∷ clocks)) sc ∙ ap (λ (x : List ℕ). join_with_byte 32 (a ∷ side_text p.side ∷ rights_text p.rights ∷ x ∷ clocks)) sd;
       is_board = board_spells a p.board t.board;
       are_clocks = are;
-      is_valid = record { squares = long; no_fault = t.none }
+      is_valid = record { squares = long; no_fault = t.none };
     }
 
 fields_spell : (fs : List (List ℕ)) (text : List ℕ) (p : Pos) → text ≡ join_with_byte 32 fs → position_at fs ≡ Ok p → Spells text p
@@ -116,7 +116,7 @@ unfolding position_of
 position_reads text p s =
     ap (λ (t : List ℕ). position_at (pieces 32 t)) s.joined
     ∙ ap position_at (pieces_join 32 s.board (side_text p.side ∷ rights_text p.rights ∷ mark_text p.mark ∷ s.clocks) (board_high s.board p.board s.is_board)
-      (side_above p.side, (rights_above p.rights, (mark_above p.mark, clocks_above s.clocks s.are_clocks))))
+    (side_above p.side, (rights_above p.rights, (mark_above p.mark, clocks_above s.clocks s.are_clocks))))
     ∙ fields_read p s.board s.clocks s.are_clocks (board_reads s.board p.board s.is_valid.squares s.is_board) s.is_valid
 
 pub ruleset spellings = (position_spells, position_reads)

@@ -1,9 +1,7 @@
 -- Reading a rank and a board.
-use Rattle.std.proofs.Common.{◌≡◌, ◌≢◌, ℕ, zero, suc, ◌+◌, ◌-◌, ◌*◌, ◌<◌, ◌≤◌, Bool, true, false, cond, ◌&&◌, leb, eqb, List, [], ◌∷◌, ◌++◌, length, get_or, take, drop, set, replicate, Option, Some, None, refl, sym, ap, subst, ◌∙◌, arith, add-one, append_assoc, take-add}
+use Rattle.std.proofs.Common.{◌≡◌, ◌≢◌, ℕ, suc, ◌+◌, ◌-◌, ◌*◌, ◌<◌, ◌≤◌, true, false, ◌&&◌, leb, List, ◌∷◌, ◌++◌, length, get_or, take, drop, set, replicate, Option, Some, None, refl, sym, ap, ◌∙◌, arith, append_assoc, take-add}
 use Rattle.std.proofs.lemmas.Bool.{ne_eqb, leb-true, and_parts}
-use Rattle.std.proofs.lemmas.Bool.Decides.{nat_tests}
 use Rattle.std.proofs.lemmas.List.{drop_more, drop_all, take_all, drop-replicate, take-replicate, drop-drop, drop-set-lt, take_more_set, length-drop, length-replicate, length-append, append-nil, length-take-le}
-use Rattle.std.specs.Char.{is_ascii_digit}
 use Rattle.krieg_board.specs.declared.men.Man.{Man}
 use Rattle.std.specs.Option.{is_none}
 use Rattle.krieg_fen.specs.Pieces.{pieces, pieces_left}

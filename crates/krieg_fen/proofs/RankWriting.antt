@@ -1,11 +1,11 @@
 -- Writing a rank square by square, and a board rank by rank.
-use Rattle.std.proofs.Common.{◌≡◌, ℕ, zero, suc, ◌+◌, ◌-◌, ◌*◌, ◌<◌, ◌≤◌, List, [], ◌∷◌, ◌++◌, length, get_or, take, drop, Option, Some, None, refl, sym, ap, ◌∙◌, arith, append_assoc}
+use Rattle.std.proofs.Common.{◌≡◌, ℕ, suc, ◌+◌, ◌-◌, ◌<◌, ◌≤◌, [], ◌∷◌, ◌++◌, length, get_or, drop, Option, Some, None, sym, ap, ◌∙◌, arith, append_assoc}
 use Rattle.std.proofs.lemmas.List.{drop_more, drop_all}
 use Rattle.krieg_board.specs.declared.men.Man.{Man}
 use Rattle.krieg_board.specs.Board.{Board}
 use Rattle.krieg_fen.specs.Letters.{letter}
 use Rattle.krieg_fen.specs.Ranks.{Row}
-use Rattle.krieg_fen.specs.FenText.{run, row_text, rank_text, rank_at, ranks_text, board_text}
+use Rattle.krieg_fen.specs.FenText.{run, row_text, rank_text, rank_at, ranks_text}
 
 -- an empty square makes the run longer
 pub row_empty : (row : Row) (i e : ℕ) → i < length row → get_or row i None ≡ None → row_text e (drop i row) ≡ row_text (e + 1) (drop (i + 1) row)

@@ -1,8 +1,6 @@
 -- The end of a text of lines.
-use Rattle.std.proofs.Common.{◌≡◌, ◌≢◌, ℕ, List, [], ◌∷◌, ◌++◌, Result, Ok, Err, refl, sym, ap, ◌∙◌, append_assoc}
-use Rattle.krieg_fen.specs.declared.fault.TextFault.{TextFault}
-use Rattle.krieg_fen.specs.declared.fault.TextFault.TheVariants.{At, NoMemory}
-use Rattle.krieg_fen.specs.declared.fault.TextKind.{TextKind}
+use Rattle.std.proofs.Common.{◌≡◌, ◌≢◌, ℕ, List, [], ◌∷◌, ◌++◌, Ok, Err, refl, sym, ap, ◌∙◌, append_assoc}
+use Rattle.krieg_fen.specs.declared.fault.TextFault.TheVariants.{At}
 use Rattle.krieg_fen.specs.declared.fault.TextKind.TheVariants.{Syntax}
 use Rattle.krieg_fen.specs.Reading.{ended, IsRest}
 

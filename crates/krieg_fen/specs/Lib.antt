@@ -13,3 +13,4 @@ pub mod Reading
 pub mod FirstBad
 pub mod Forms
 pub mod Spelling
+pub mod Listing

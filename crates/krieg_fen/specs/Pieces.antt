@@ -1,5 +1,5 @@
 -- A text that is cut at each separator.
-use Rattle.std.specs.Prelude.{ℕ, ◌==◌, List, [], ◌∷◌, Option, Some, None}
+use Rattle.std.specs.Prelude.{ℕ, ◌==◌, List, [], Option, Some, None}
 use Rattle.std.specs.List.{slice_split}
 
 -- the pieces between the separators: at least one, and each may be empty

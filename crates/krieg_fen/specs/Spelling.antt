@@ -1,5 +1,5 @@
 -- Which texts spell a position: the grammar of its fields, without a reader.
-use Rattle.std.specs.Prelude.{◌≡◌, ℕ, zero, suc, true, List, [], ◌∷◌, length, Some}
+use Rattle.std.specs.Prelude.{◌≡◌, ℕ, zero, suc, true, List, [], ◌∷◌, Some}
 use Rattle.std.specs.List.{join_with_byte}
 use Rattle.krieg_board.specs.Board.{Board}
 use Rattle.krieg_board.specs.Pos.{Pos}

@@ -77,12 +77,7 @@ impl<'a> Cursor<'a> {
     }
 
     /// The next `n` lines as positions that all have the hand of the first one, for the side `who`.
-    pub fn list(
-        &mut self,
-        alloc: Global,
-        n: usize,
-        who: Side,
-    ) -> Result<Vec<Position>, TextFault>
+    pub fn list(&mut self, alloc: Global, n: usize, who: Side) -> Result<Vec<Position>, TextFault>
         requires { n < 2 ^ 48 }
         ensures value { GivesOn (λ v. v.items) result self.new (positions_at who None n self.old) }
         ensures rest { IsRest self.old.left self.new.left }

@@ -8,7 +8,7 @@ ghost use Rattle.krieg_fen.specs.Spelling.{Spells};
 ghost use Rattle.krieg_fen.specs.Pieces.{pieces, pieces_left};
 
 use crate::fields::{is_clock, mark_of, rights_of, side_of};
-use crate::pieces::cut_at;
+use crate::pieces::cut;
 use crate::ranks::board_of;
 use krieg_board::{BadPosition, Man, Position, Rights, Side, Square};
 use std::marker::Model;
@@ -85,10 +85,10 @@ fn four_of(text: &[u8]) -> Option<(&[u8], &[u8], &[u8], &[u8], Option<&[u8]>)>
         ≡ f.0.now ∷ f.1.now ∷ f.2.now ∷ f.3.now ∷ pieces_left 32 (option_copied f.4)) }
     ensures none { IfNone result (length (pieces 32 text.now) < 4) }
 {
-    let (board, rest) = cut_at(text, b' ');
-    let (side, rest) = cut_at(rest?, b' ');
-    let (rights, rest) = cut_at(rest?, b' ');
-    let (mark, rest) = cut_at(rest?, b' ');
+    let (board, rest) = cut(b' ', text);
+    let (side, rest) = cut(b' ', rest?);
+    let (rights, rest) = cut(b' ', rest?);
+    let (mark, rest) = cut(b' ', rest?);
     Some((board, side, rights, mark, rest))
 }
 
@@ -98,8 +98,8 @@ fn two_of(text: &[u8]) -> Option<(&[u8], &[u8])>
     ensures some { IfSome result (λ f. pieces 32 text.now ≡ f.0.now ∷ f.1.now ∷ []) }
     ensures none { IfNone result (length (pieces 32 text.now) ≢ 2) }
 {
-    let (half, rest) = cut_at(text, b' ');
-    let (full, rest) = cut_at(rest?, b' ');
+    let (half, rest) = cut(b' ', text);
+    let (full, rest) = cut(b' ', rest?);
     if rest.is_none() {
         Some((half, full))
     } else {

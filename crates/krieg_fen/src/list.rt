@@ -1,13 +1,19 @@
-ghost use Rattle.std.specs.Prelude.{◌≡◌, ◌≢◌, ◌<◌, ◌+◌, ◌^◌, IfErr, OnOk, None, length, slice_get};
+ghost use Rattle.std.specs.Prelude.{◌≡◌, ◌≢◌, ◌<◌, ◌+◌, ◌^◌, ◌++◌, ℕ, List, IfOk, IfErr, OnOk, Ok, None, length, slice_get};
+ghost use Rattle.krieg_board.specs.Pos.{Pos};
 ghost use Rattle.krieg_fen.specs.Forms as spec;
+ghost use Rattle.krieg_fen.specs.FenText.{position_text};
+ghost use Rattle.krieg_fen.specs.Lines.{ended_line};
+ghost use Rattle.krieg_fen.specs.Listing.{SpellList, IsListed, positions_text};
+ghost use Rattle.krieg_fen.specs.Outcomes.{Writes};
 ghost use Rattle.krieg_fen.specs.Reading.{place, taken, IsRest, GivesOn};
 ghost use Rattle.krieg_fen.specs.FirstBad.{FaultAt};
 ghost use Rattle.krieg_fen.specs.declared.fault.TextFault.TheVariants.{NoMemory as OutOfMemory};
 
 use crate::fault::{TextFault, TextKind};
+use crate::fen_text::write_position;
 use crate::forms::listed_line;
 use crate::lines::Lines;
-use krieg_board::{Position, Side};
+use krieg_board::{NoMemory, Position, Side};
 use std::alloc::Global;
 
 /// The next line, of that number, as a position with the hand of the first of the list.
@@ -62,7 +68,7 @@ pub(crate) fn list_at(
 /// these lines has the number `line`.
 ///
 /// The kinds of its faults are `Syntax`, also where a line is missing, `Position` and `Differs`.
-#[tactic(auto, using(crate::proofs::Listing::faults))]
+#[tactic(auto, using(crate::proofs::Listing::faults, crate::proofs::ListSpellings::spellings))]
 pub fn read_list(
     alloc: Global,
     from: &mut Lines<'_>,
@@ -73,8 +79,32 @@ pub fn read_list(
     requires { line + n < 2 ^ 48 }
     ensures exact { GivesOn (λ v. v.items) result (place (line + n) from.new) (spec.positions_at who None n (place line from.old)) }
     ensures rest { IsRest from.old from.new }
+    // What is read is spelled so, and what is spelled so is read.
+    ensures found { IfOk result (λ v. (length v.items ≡ n) × IsListed who from.old v.items from.new) }
+    ensures only { (listed rest : List (List ℕ)) (ps : List Pos) → length ps ≡ n → SpellList who None listed ps → from.old ≡ listed ++ rest
+        → GivesOn (λ v. v.items) result (place (line + n) from.new) (Ok (ps, place (line + n) rest)) }
     // A fault stands behind the last line or at the first bad one, and rests on the lines up to it alone.
     ensures first_bad { IfErr result (λ e. e ≢ OutOfMemory → FaultAt (spec.positions_at who None n) line from.old e) }
 {
     list_at(alloc, from, n, line, who)
+}
+
+#[tactic(auto, using(crate::proofs::Fronts::fronts))]
+fn write_position_line(p: &Position, text: &mut Vec<u8>) -> Result<(), NoMemory>
+    ensures { Writes result text.old.items text.new.items (ended_line (position_text p.now)) }
+{
+    write_position(p, text)?;
+    text.push(b'\n')?;
+    Ok(())
+}
+
+/// Appends each position in its written form, with a line feed behind it.
+#[tactic(auto, using(crate::proofs::Fronts::loops))]
+pub fn write_list(list: &[Position], text: &mut Vec<u8>) -> Result<(), NoMemory>
+    ensures { Writes result text.old.items text.new.items (positions_text list.now) }
+{
+    for p in list {
+        write_position_line(p, text)?;
+    }
+    Ok(())
 }

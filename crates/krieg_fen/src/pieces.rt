@@ -1,5 +1,6 @@
 ghost use Rattle.std.specs.Prelude.{◌≡◌, ◌<◌, ◌∷◌, ◌==◌, ℕ, length, IfNone, IfSome, true, false, slice_index};
 ghost use Rattle.std.specs.Option.{option_copied};
+ghost use Rattle.krieg_fen.specs.Names as names;
 ghost use Rattle.krieg_fen.specs.Pieces.{pieces, pieces_left};
 
 /// Where the separator stands for the first time.
@@ -12,9 +13,11 @@ pub(crate) fn first_of(text: &[u8], separator: u8) -> Option<usize>
 }
 
 /// The text up to the first separator, and what stands behind that one, where there is one.
-#[tactic(auto, using(crate::proofs::PieceCuts::cuts))]
-pub fn cut_at(text: &[u8], separator: u8) -> (&[u8], Option<&[u8]>)
-    ensures { pieces separator text.now ≡ result.0.now ∷ pieces_left separator (option_copied result.1) }
+#[tactic(auto, using(crate::proofs::PieceCuts::cuts, crate::proofs::NameLemmas::cuts))]
+pub fn cut(separator: u8, text: &[u8]) -> (&[u8], Option<&[u8]>)
+    ensures exact { (result.0.now, option_copied result.1) ≡ names.cut separator text.now }
+    // It is the first of the pieces into which the separators cut the text.
+    ensures first { pieces separator text.now ≡ result.0.now ∷ pieces_left separator (option_copied result.1) }
 {
     match first_of(text, separator) {
         None => (text, None),

@@ -2,7 +2,7 @@ ghost use Rattle.std.specs.Prelude.{◌≡◌, ◌<◌, ◌≤◌, ◌-◌, ◌+
 ghost use Rattle.krieg_fen.specs.Letters as letters;
 ghost use Rattle.krieg_fen.specs.Ranks as spec;
 
-use crate::pieces::cut_at;
+use crate::pieces::cut;
 use krieg_board::{Board, Kind, Man, Side};
 
 /// What stands on the eight squares of a rank, from the a-file on.
@@ -105,7 +105,7 @@ pub(crate) fn board_of(field: &[u8]) -> Option<Board>
     let mut board = [None; 64];
     let mut rest = Some(field);
     for rank in 0..8usize {
-        let (text, after) = cut_at(rest?, b'/');
+        let (text, after) = cut(b'/', rest?);
         let row = row_of(text)?;
         place(&mut board, 56 - 8 * rank, &row);
         rest = after;

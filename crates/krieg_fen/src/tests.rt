@@ -1,8 +1,11 @@
 //! Facts from outside: the examples of the PGN standard's FEN section, and the texts that a format must
 //! take or refuse.
 
+ghost use Rattle.std.specs.Prelude.{◌<◌, ◌^◌};
+
 use crate::*;
 use krieg_board::{BadPosition, Side};
+use std::alloc::Global;
 
 /// The start position, and the positions after 1.e4, 1...c5 and 2.Nf3.
 const OPENING: [&[u8]; 4] = [
@@ -81,9 +84,18 @@ fn numbers_are_read(rt: HostRuntime) {
     ] {
         assert_eq!(rt; read_number(text, u64::MAX), number);
     }
-    assert_eq!(rt; read_number_between(forty, 1, 9), Err(NumberFault::OutOfRange));
-    assert_eq!(rt; read_number_between(b"0", 1, 9), Err(NumberFault::OutOfRange));
-    assert_eq!(rt; read_number_between(b"00", 1, 9), Err(NumberFault::NotPlain));
+    assert_eq!(rt;
+        read_number_between(forty, 1, 9),
+        Err(NumberFault::OutOfRange)
+    );
+    assert_eq!(rt;
+        read_number_between(b"0", 1, 9),
+        Err(NumberFault::OutOfRange)
+    );
+    assert_eq!(rt;
+        read_number_between(b"00", 1, 9),
+        Err(NumberFault::NotPlain)
+    );
     let mut text = Vec::new(rt.alloc());
     assert!(rt; write_number(u64::MAX, &mut text).is_ok());
     assert!(rt; is_name(b"18446744073709551615", &text));
@@ -91,7 +103,14 @@ fn numbers_are_read(rt: HostRuntime) {
 
 #[test]
 fn moves_are_read_and_written(rt: HostRuntime) {
-    for text in [&b"e2e4"[..], b"e7e8q", b"a1a1", b"e2e4r", b"a2h8b", b"h1a8n"] {
+    for text in [
+        &b"e2e4"[..],
+        b"e7e8q",
+        b"a1a1",
+        b"e2e4r",
+        b"a2h8b",
+        b"h1a8n",
+    ] {
         let mut written = Vec::new(rt.alloc());
         match read_move(text) {
             Ok(mv) => assert!(rt; write_move(mv, &mut written).is_ok()),
@@ -99,7 +118,16 @@ fn moves_are_read_and_written(rt: HostRuntime) {
         }
         assert!(rt; is_name(text, &written));
     }
-    for text in [&b"e2e4x"[..], b"i1a1", b"a0a1", b"a9a1", b"e2e", b"e2e4qq", b"E2E4", b""] {
+    for text in [
+        &b"e2e4x"[..],
+        b"i1a1",
+        b"a0a1",
+        b"a9a1",
+        b"e2e",
+        b"e2e4qq",
+        b"E2E4",
+        b"",
+    ] {
         assert_eq!(rt; read_move(text), Err(MoveFault));
     }
 }
@@ -120,23 +148,39 @@ fn lines_are_counted(rt: HostRuntime) {
 }
 
 /// Three positions of one black hand, of which the second differs from the first in a right of White.
+const LIST: &[u8] =
+    b"4k3/8/8/8/8/8/8/4K2R w K -\n4k3/8/8/8/8/8/8/4K2R w - - 0 1\n4k3/8/8/8/8/8/8/4K3 w - -";
+
 #[test]
-fn lists_are_read(rt: HostRuntime) {
-    let text = b"4k3/8/8/8/8/8/8/4K2R w K -\n4k3/8/8/8/8/8/8/4K2R w - - 0 1\n4k3/8/8/8/8/8/8/4K3 w - -";
-    for (n, line, who, fault) in [
-        (3, 7, Side::Black, None),
-        (0, 1, Side::White, None),
-        (3, 7, Side::White, Some((8, TextKind::Differs))),
-        (4, 7, Side::Black, Some((10, TextKind::Syntax))),
-    ] {
-        let mut from = lines_of(text);
-        match read_list(rt.alloc(), &mut from, n, line, who) {
-            Ok(list) => {
-                assert!(rt; fault.is_none());
-                assert_eq!(rt; list.len(), n);
-            }
-            Err(TextFault::At { line, kind }) => assert_eq!(rt; Some((line, kind)), fault),
-            Err(TextFault::NoMemory) => assert!(rt; false),
-        }
+fn lists_are_read_and_written(rt: HostRuntime) {
+    let mut from = lines_of(LIST);
+    let mut written = Vec::new(rt.alloc());
+    match read_list(rt.alloc(), &mut from, 3, 7, Side::Black) {
+        Ok(list) => assert!(rt; write_list(&list, &mut written).is_ok()),
+        Err(_) => {}
     }
+    let text =
+        b"4k3/8/8/8/8/8/8/4K2R w K -\n4k3/8/8/8/8/8/8/4K2R w - -\n4k3/8/8/8/8/8/8/4K3 w - -\n";
+    assert!(rt; is_name(text, &written));
+}
+
+fn list_fault(alloc: Global, n: usize, who: Side) -> Option<TextFault>
+    requires { n < 2 ^ 32 }
+{
+    read_list(alloc, &mut lines_of(LIST), n, 7, who).err()
+}
+
+/// The number of a fault is that of its line, where the first one has the number 7.
+#[test]
+fn first_bad_lines_are_found(rt: HostRuntime) {
+    let differs = TextFault::At {
+        line: 8,
+        kind: TextKind::Differs,
+    };
+    let short = TextFault::At {
+        line: 10,
+        kind: TextKind::Syntax,
+    };
+    assert_eq!(rt; list_fault(rt.alloc(), 3, Side::White), Some(differs));
+    assert_eq!(rt; list_fault(rt.alloc(), 4, Side::Black), Some(short));
 }

@@ -1,5 +1,5 @@
-use Rattle.std.proofs.Common.{◌≡◌, ◌<◌, ◌≤◌, ◌+◌, ◌-◌, ◌*◌, ◌++◌, ◌∷◌, [], take, drop, arith, rules}
-use Rattle.krieg_fen.specs.FenText.{rank_text, rank_at, ranks_text, board_text}
+use Rattle.std.proofs.Common.{◌≡◌, ◌-◌, ◌++◌, ◌∷◌, [], arith, rules}
+use Rattle.krieg_fen.specs.FenText.{rank_text, rank_at, board_text}
 use Rattle.krieg_fen.specs.Outcomes.{AppendsFront}
 use Rattle.krieg_fen.proofs.Fronts.{writes_err, written_none, written_more, written_fails, written_last, IsWritten}
 use Rattle.krieg_fen.proofs.RankWriting.{ranks_step, ranks_end}

@@ -1,5 +1,4 @@
-use Rattle.std.proofs.Common.{◌≡◌, ◌++◌, ◌∷◌, [], List, ℕ, Bool, cond}
-use Rattle.krieg_fen.specs.Outcomes.{AppendsFront, Writes}
+use Rattle.std.proofs.Common.{◌∷◌, [], List, ℕ, Bool, cond}
 use Rattle.krieg_fen.proofs.Fronts.{writes_err, writes_more, fails_more, front_piece}
 use Rattle.krieg_fen.proofs.fen_text.write_held.Goals as goal
 

@@ -1,6 +1,5 @@
-use Rattle.std.proofs.Common.{◌≡◌, ◌<◌, ◌≤◌, ◌+◌, ◌++◌, ◌∷◌, [], get_or, drop, Some, None, arith, rules, refl, length}
-use Rattle.krieg_fen.specs.Letters.{letter}
-use Rattle.krieg_fen.specs.FenText.{run, row_text, rank_text}
+use Rattle.std.proofs.Common.{◌≡◌, get_or, Some, None, arith, rules}
+use Rattle.krieg_fen.specs.FenText.{run, row_text}
 use Rattle.krieg_fen.proofs.Fronts.{writes_err, written_more, written_fails, written_last, IsWritten}
 use Rattle.krieg_fen.proofs.RankWriting.{row_empty, row_man, row_end}
 use Rattle.krieg_fen.proofs.fen_text.write_rank.Goals.{in-None, in-Some+in_ok-write_man-in-Some}

@@ -1,8 +1,7 @@
-use Rattle.std.proofs.Common.{◌≡◌, ◌++◌, ◌∷◌, [], List, ℕ, Option, refl, sym, rules}
+use Rattle.std.proofs.Common.{◌≡◌, ◌++◌, ◌∷◌, [], List, ℕ, Option, refl, rules}
 use Rattle.krieg_board.specs.declared.men.Side.{Side}
 use Rattle.krieg_board.specs.declared.men.Side.TheVariants.{White, Black}
 use Rattle.krieg_board.specs.declared.men.Rights.{Rights}
-use Rattle.krieg_fen.specs.Outcomes.{AppendsFront, Writes}
 use Rattle.krieg_fen.specs.FenText.{side_text, rights_text, mark_text, state_text}
 use Rattle.krieg_fen.proofs.Fronts.{writes_err, writes_more, fails_more, front_piece, front_none}
 use Rattle.krieg_fen.proofs.fen_text.write_state.Goals as goal

@@ -1,8 +1,8 @@
 use Rattle.std.proofs.Common.{◌≡◌, ◌∷◌, [], ◌++◌, ◌+◌, arith, rules, Ok, length}
 use Rattle.std.specs.Prelude.{slice_get}
 use Rattle.krieg_fen.specs.Reading.{place, taken, Fails}
-use Rattle.krieg_fen.specs.Forms.{listed_form, positions_at}
-use Rattle.krieg_fen.proofs.Listing.{with_front, listed_ok, listed_fails}
+use Rattle.krieg_fen.specs.Forms.{listed_form}
+use Rattle.krieg_fen.proofs.Listing.{listed_ok, listed_fails}
 use Rattle.krieg_fen.proofs.ReadingLemmas.{rest_more}
 use Rattle.krieg_fen.proofs.list.list_at.Goals as goal
 
@@ -18,5 +18,5 @@ loop-i-preserved c =
     record {
       read = rw pushed (listed_ok c.args.who c.loop-i.list.items c.args.n c.loop-i.i c.args.line c.loop-i.from c.next_listed.new.from c.in-Ok.position _ (omega arith) read c.loop-i.invariant.read);
       rest = rest_more c.args.from.now c.loop-i.from c.next_listed.new.from c.loop-i.invariant.rest (search rules);
-      taken = let one : length c.next_listed.new.from + 1 ≡ length c.loop-i.from = search rules in omega (arith, one, c.loop-i.invariant.taken)
+      taken = let one : length c.next_listed.new.from + 1 ≡ length c.loop-i.from = search rules in omega (arith, one, c.loop-i.invariant.taken);
     }

@@ -10,5 +10,5 @@ abbrev pub invariant-loop-i : goal.invariant-loop-i
 invariant-loop-i l = record {
   read : with_front l.list.items (positions_at l.who (slice_get l.list.items 0) (l.n - l.i) (place (l.line + l.i) l.from)) ≡ positions_at l.who None l.n (place l.line l.initial.from);
   rest : IsRest l.initial.from l.from;
-  taken : length l.from + l.i ≡ length l.initial.from
+  taken : length l.from + l.i ≡ length l.initial.from;
 }

@@ -1,4 +1,4 @@
-use Rattle.std.proofs.Common.{◌≡◌, ◌∷◌, ◌<◌, ◌*◌, ◌-◌, arith, rules, Some, None, false, drop}
+use Rattle.std.proofs.Common.{◌≡◌, ◌∷◌, ◌*◌, ◌-◌, arith, rules, Some, false, drop}
 use Rattle.std.specs.Option.{option_copied, is_none}
 use Rattle.krieg_fen.specs.Ranks.{eight, row_of}
 use Rattle.krieg_fen.specs.Pieces.{pieces_left}
@@ -7,9 +7,9 @@ use Rattle.krieg_fen.proofs.ranks.board_of.Goals as goal
 
 pub loop-rank-preserved : goal.loop-rank-preserved
 loop-rank-preserved c =
-    let all : pieces_left 47 (option_copied c.loop-rank.rest) ≡ c.cut_at.result.0.now ∷ pieces_left 47 (option_copied c.cut_at.result.1) = search rules in
-    let row : Some c.in_ok-row.row ≡ eight (row_of c.cut_at.result.0.now) = search rules in
-    rank_step c.loop-rank.rank c.cut_at.result.0.now _ _ c.in_ok-row.row c.loop-rank.board c.place.new.board _ (omega arith) all row c.place.ensures c.loop-rank.invariant
+    let all : pieces_left 47 (option_copied c.loop-rank.rest) ≡ c.cut.result.0.now ∷ pieces_left 47 (option_copied c.cut.result.1) = search rules in
+    let row : Some c.in_ok-row.row ≡ eight (row_of c.cut.result.0.now) = search rules in
+    rank_step c.loop-rank.rank c.cut.result.0.now _ _ c.in_ok-row.row c.loop-rank.board c.place.new.board _ (omega arith) all row c.place.ensures c.loop-rank.invariant
 
 pub returns-else-is_none : goal.returns-else-is_none
 returns-else-is_none c =

@@ -1,4 +1,4 @@
-use Rattle.std.proofs.Common.{◌≡◌, ◌≤◌, ◌-◌, ◌*◌, take, drop, replicate, None, Some}
+use Rattle.std.proofs.Common.{◌≡◌, ◌-◌, ◌*◌, drop, Some}
 use Rattle.std.specs.Option.{option_copied}
 use Rattle.krieg_fen.specs.Ranks.{ranks_of, onto_row}
 use Rattle.krieg_fen.specs.Pieces.{pieces, pieces_left}

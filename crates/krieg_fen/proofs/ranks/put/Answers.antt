@@ -1,4 +1,4 @@
-use Rattle.std.proofs.Common.{◌≡◌, ◌<◌, ◌≤◌, arith, rules, Bool, false, ◌&&◌, leb, Some, sym}
+use Rattle.std.proofs.Common.{◌≡◌, arith, rules, false, ◌&&◌, leb, Some}
 use Rattle.krieg_fen.specs.Letters.{man_of}
 use Rattle.krieg_fen.proofs.RankReading.{man_put}
 use Rattle.krieg_fen.proofs.ranks.put.Goals as goal
