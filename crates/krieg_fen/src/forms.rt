@@ -1,4 +1,4 @@
-ghost use Rattle.std.specs.Prelude.{◌≡◌};
+ghost use Rattle.std.specs.Prelude.{◌≡◌, ◌≤◌, IfOk};
 ghost use Rattle.std.specs.Option.{option_copied};
 ghost use Rattle.krieg_fen.specs.Forms as spec;
 ghost use Rattle.krieg_fen.specs.Reading.{taken, GivesOn};
@@ -20,7 +20,8 @@ pub fn number_line(
     most: u64,
     text: &[u8],
 ) -> Result<u64, TextKind>
-    ensures { result ≡ spec.number_form outside name.now least most text.now }
+    ensures exact { result ≡ spec.number_form outside name.now least most text.now }
+    ensures range { IfOk result (λ n. (least ≤ n) × (n ≤ most)) }
 {
     match behind(name, text) {
         None => Err(TextKind::Syntax),
@@ -35,7 +36,8 @@ pub fn number_line(
 /// The version, from 1 to `newest`, that stands behind a format's name. Another plain decimal is of the
 /// kind `Version`.
 pub fn version_line(name: &[u8], newest: u64, text: &[u8]) -> Result<u64, TextKind>
-    ensures { result ≡ spec.version_form name.now newest text.now }
+    ensures exact { result ≡ spec.version_form name.now newest text.now }
+    ensures range { IfOk result (λ n. (1 ≤ n) × (n ≤ newest)) }
 {
     number_line(TextKind::Version, name, 1, newest, text)
 }
@@ -43,7 +45,8 @@ pub fn version_line(name: &[u8], newest: u64, text: &[u8]) -> Result<u64, TextKi
 /// The number from `least` to `most` that stands behind the name. Another plain decimal is of the kind
 /// `Count`.
 pub fn count_line(name: &[u8], least: u64, most: u64, text: &[u8]) -> Result<u64, TextKind>
-    ensures { result ≡ spec.count_form name.now least most text.now }
+    ensures exact { result ≡ spec.count_form name.now least most text.now }
+    ensures range { IfOk result (λ n. (least ≤ n) × (n ≤ most)) }
 {
     number_line(TextKind::Count, name, least, most, text)
 }
@@ -98,7 +101,8 @@ pub fn listed_line(who: Side, first: Option<&Position>, text: &[u8]) -> Result<P
 
 /// The next line, as a format's name and its version.
 pub fn read_version(from: &mut Cursor<'_>, name: &[u8], newest: u64) -> Result<u64, TextFault>
-    ensures { GivesOn (λ n. n) result from.new (taken (spec.version_form name.now newest) from.old) }
+    ensures value { GivesOn (λ n. n) result from.new (taken (spec.version_form name.now newest) from.old) }
+    ensures range { IfOk result (λ n. (1 ≤ n) × (n ≤ newest)) }
 {
     let line = from.number();
     version_line(name, newest, from.line()?).map_err(|kind| TextFault::At { line, kind })
@@ -111,7 +115,8 @@ pub fn read_count(
     least: u64,
     most: u64,
 ) -> Result<u64, TextFault>
-    ensures { GivesOn (λ n. n) result from.new (taken (spec.count_form name.now least most) from.old) }
+    ensures value { GivesOn (λ n. n) result from.new (taken (spec.count_form name.now least most) from.old) }
+    ensures range { IfOk result (λ n. (least ≤ n) × (n ≤ most)) }
 {
     let line = from.number();
     count_line(name, least, most, from.line()?).map_err(|kind| TextFault::At { line, kind })
