@@ -1,0 +1,11 @@
+pub mod OrderLaws
+pub mod RangeSums
+pub mod PawnCaptures
+pub mod TriesBound
+pub mod ToldLaws
+pub mod PartLaws
+pub mod NameLaws
+pub mod FormLaws
+pub mod WordsLaws
+pub mod LineLaws
+pub mod WritingLaws

@@ -1,0 +1,171 @@
+-- A side has at most 16 pawn tries, and the sum over its pawns is all of them.
+use Rattle.std.proofs.Common.{◌≡◌, ℕ, zero, suc, ◌+◌, ◌-◌, ◌*◌, ◌≤◌, Bool, true, false, ◌||◌, cond, ◌==◌, nat_le, List, [], ◌∷◌, length, refl, arith, ◌∙◌, sym, ap, subst, ◌≢◌, eqb-true, eq-eqb}
+use Rattle.std.specs.Prelude.{Option, count_by}
+use Rattle.std.specs.List.{range_with_len, sum_by}
+use Rattle.std.proofs.lemmas.List.Sums.{sum_by-cons}
+use Rattle.std.proofs.lemmas.Bool.Decides.{nat_tests}
+use Rattle.krieg_board.specs.declared.men.Side.{Side}
+use Rattle.krieg_board.specs.declared.men.Side.TheVariants.{White, Black}
+use Rattle.krieg_board.specs.declared.men.Kind.TheVariants.{Pawn}
+use Rattle.krieg_board.specs.declared.men.Man.{Man}
+use Rattle.krieg_board.specs.Pos.{Pos}
+use Rattle.krieg_board.specs.Squares.{squares, file_of, rank_of}
+use Rattle.krieg_board.specs.Board.{Board, man_at, is_man}
+use Rattle.krieg_board.specs.Attacks.{apart, is_forward}
+use Rattle.krieg_board.specs.Validity.{IsValid, is_small, count_kind, count_side}
+use Rattle.krieg_board.proofs.Facts.{Facts, facts}
+use Rattle.krieg_board.proofs.Connectives.{and-both}
+use Rattle.krieg_words.specs.Tries.{is_try, tries_from, tries}
+use Rattle.krieg_words.proofs.PawnCaptures.{is_aimed, is_own_pawn, try_tells, try-aimed}
+use Rattle.krieg_words.proofs.RangeSums.{sum-range_le, sum-range_same, sum-range_add, sum-range_one, sum-range_more}
+
+-- the two squares that a pawn attacks
+abbrev left_of : Side → ℕ → ℕ
+left_of White f = f + 7
+left_of Black f = f - 9
+
+abbrev right_of : Side → ℕ → ℕ
+right_of White f = f + 9
+right_of Black f = f - 7
+
+either : (t a b : ℕ) → (t ≢ a → t ≡ b) → (t == a || t == b) ≡ true
+either t a b h = by_test (t == a) refl
+  where
+    by_test : (x : Bool) → (t == a) ≡ x → (x || t == b) ≡ true
+    by_test true k = refl
+    by_test false k = eq-eqb t b (h (λ e. absurd (let yes = eq-eqb t a e in cc)))
+
+one_of_two : (side : Side) (f t : ℕ) → is_aimed side f t ≡ true → (t == left_of side f || t == right_of side f) ≡ true
+one_of_two side f t h =
+    let a = and-both (apart (file_of f) (file_of t) == 1) (is_forward side f t) h in
+    of_side side a.0 a.1
+  where
+    of_side : (side : Side) → (apart (file_of f) (file_of t) == 1) ≡ true → is_forward side f t ≡ true → (t == left_of side f || t == right_of side f) ≡ true
+    of_side White p q =
+        let a : apart (file_of f) (file_of t) ≡ 1 = eqb-true (apart (file_of f) (file_of t)) 1 p in
+        let r : rank_of t ≡ rank_of f + 1 = eqb-true (rank_of t) (rank_of f + 1) q in
+        either t (left_of White f) (right_of White f) (λ e. omega arith)
+    of_side Black p q =
+        let a : apart (file_of f) (file_of t) ≡ 1 = eqb-true (apart (file_of f) (file_of t)) 1 p in
+        let r : rank_of f ≡ rank_of t + 1 = eqb-true (rank_of f) (rank_of t + 1) q in
+        either t (left_of Black f) (right_of Black f) (λ e. omega arith)
+
+-- the sum over the squares of a test of what they hold counts the men
+board_sum : (h : Option Man → ℕ) (xs : Board) (lo : ℕ) → sum_by (λ k. h (man_at xs (k - lo))) (range_with_len lo (length xs)) ≡ sum_by h xs
+board_sum h [] lo = refl
+board_sum h (x ∷ xs) lo =
+    let f : ℕ → ℕ = λ k. h (man_at (x ∷ xs) (k - lo)) in
+    let g : ℕ → ℕ = λ k. h (man_at xs (k - (lo + 1))) in
+    let e1 = sum_by-cons f lo (range_with_len (lo + 1) (length xs)) in
+    let e2 = sum-range_same f g (lo + 1) (length xs) (λ k a b. (let up : k - lo ≡ suc (k - (lo + 1)) = omega arith in ap (λ j. h (man_at (x ∷ xs) j)) up)) in
+    let e3 = board_sum h xs (lo + 1) in
+    let e4 = sum_by-cons h x xs in
+    let e5 : f lo ≡ h x = ap (λ j. h (man_at (x ∷ xs) j)) (let z : lo - lo ≡ 0 = omega arith in z) in
+    e1 ∙ (omega (arith, e2, e3, e4, e5))
+
+abbrev one : Bool → ℕ
+one t = cond t 1 0
+
+-- from one square there are two tries at most, and none where no own pawn stands
+from_le : (p : Pos) (f n : ℕ) → Facts p → count_by (is_try p f) (range_with_len 0 n) ≤ 2 * one (is_own_pawn p f)
+from_le p f n fs = by_pawn (is_own_pawn p f) refl
+  where
+    by_pawn : (t : Bool) → is_own_pawn p f ≡ t → count_by (is_try p f) (range_with_len 0 n) ≤ 2 * one t
+    by_pawn true own =
+        let a = sum-range_le (λ t. one (is_try p f t)) (λ t. one (t == left_of p.side f) + one (t == right_of p.side f)) 0 n
+        (λ t l u. below (is_try p f t) (t == left_of p.side f) (t == right_of p.side f) (λ h. one_of_two p.side f t (try_tells p f t h).1)) in
+        let b = sum-range_add (λ t. one (t == left_of p.side f)) (λ t. one (t == right_of p.side f)) 0 n in
+        let c = sum-range_one (left_of p.side f) 0 n in
+        let d = sum-range_one (right_of p.side f) 0 n in
+        let e1 = one_le_one (nat_le 0 (left_of p.side f)) in
+        let e2 = one_le_one (nat_le 0 (right_of p.side f)) in
+        omega (arith, a, b, c, d, e1, e2)
+      where
+        below : (t a b : Bool) → (t ≡ true → (a || b) ≡ true) → one t ≤ one a + one b
+        below false a b h = omega arith
+        below true true b h = omega arith
+        below true false true h = omega arith
+        below true false false h = absurd (let e = h refl in cc)
+
+        one_le_one : (t : Bool) → one t ≤ 1
+        one_le_one true = omega arith
+        one_le_one false = omega arith
+    by_pawn false other' =
+        let a = sum-range_le (λ t. one (is_try p f t)) (λ t. 0) 0 n (λ t l u. none (is_try p f t) (λ h. clash (is_own_pawn p f) (try_tells p f t h).0 other')) in
+        let b = zero_sum 0 n in
+        omega (arith, a, b)
+      where
+        clash : (t : Bool) → t ≡ true → t ≡ false → ⊥
+        clash t h k = cc
+
+        none : (t : Bool) → (t ≡ true → ⊥) → one t ≤ 0
+        none true h = absurd (h refl)
+        none false h = omega arith
+
+        zero_sum : (lo n : ℕ) → sum_by (λ t. 0) (range_with_len lo n) ≡ 0
+        zero_sum lo zero = refl
+        zero_sum lo (suc n) = omega (arith, sum_by-cons (λ t. 0) lo (range_with_len (lo + 1) n), zero_sum (lo + 1) n)
+
+pub tries_sum_le : (p : Pos) → Facts p → sum_by (λ f. count_by (is_try p f) (range_with_len 0 (length p.board))) (range_with_len 0 (length p.board)) ≤ 16
+tries_sum_le p fs =
+    let n = length p.board in
+    let h : ℕ → ℕ = λ f. one (is_own_pawn p f) in
+    let a = sum-range_le (λ f. count_by (is_try p f) (range_with_len 0 n)) (λ f. h f + h f) 0 n (λ f l u. omega (arith, from_le p f n fs)) in
+    let b = sum-range_add h h 0 n in
+    let c = board_sum (λ x. one (is_man p.side Pawn x)) p.board 0 in
+    let d = sum-range_same h (λ k. one (is_man p.side Pawn (man_at p.board (k - 0)))) 0 n (λ k l u. (let z : k ≡ k - 0 = omega arith in ap h z)) in
+    let e : count_kind p.board p.side Pawn ≤ 8 = few p.side in
+    omega (arith, a, b, c, d, e)
+  where
+    le_from : (a b : ℕ) → nat_le a b ≡ true → a ≤ b
+    le_from a b h = grind (arith, nat_tests)
+
+    few : (side : Side) → count_kind p.board side Pawn ≤ 8
+    few White = le_from (count_kind p.board White Pawn) 8 (and-both (nat_le (count_side p.board White) 16) (nat_le (count_kind p.board White Pawn) 8) (and-both (is_small p.board White) (is_small p.board Black) fs.small).0).1
+    few Black = le_from (count_kind p.board Black Pawn) 8 (and-both (nat_le (count_side p.board Black) 16) (nat_le (count_kind p.board Black Pawn) 8) (and-both (is_small p.board White) (is_small p.board Black) fs.small).1).1
+
+squares_are : (n : ℕ) → n ≡ 64 → squares ≡ range_with_len 0 n
+unfolding squares
+squares_are n e = ap (range_with_len 0) (sym e)
+
+pub tries_le : (p : Pos) → IsValid p → tries p ≤ 16
+unfolding tries tries_from
+tries_le p v =
+    subst (λ (xs : List ℕ). sum_by (λ f. count_by (is_try p f) xs) xs ≤ 16) (sym (squares_are (length p.board) v.squares)) (tries_sum_le p (facts p v))
+
+pub tries-sum : (p : Pos) (n : ℕ) → n ≡ 64 → sum_by (tries_from p) (range_with_len 0 n) ≡ tries p
+unfolding tries
+tries-sum p n e = ap (sum_by (tries_from p)) (sym (squares_are n e))
+
+-- no try begins on a square without an own pawn
+pub tries_from-none : (p : Pos) (f : ℕ) → is_own_pawn p f ≡ false → tries_from p f ≡ 0
+unfolding tries_from squares
+tries_from-none p f none = zero_count 0 64 refl
+  where
+    clash : (t : Bool) → t ≡ true → t ≡ false → ⊥
+    clash t h k = cc
+
+    not_try : (k : ℕ) (t : Bool) → is_try p f k ≡ t → t ≡ false
+    not_try k false e = refl
+    not_try k true e = absurd (clash (is_own_pawn p f) (try_tells p f k e).0 none)
+
+    zero_count : (lo n : ℕ) → n ≡ n → count_by (is_try p f) (range_with_len lo n) ≡ 0
+    zero_count lo zero e = refl
+    zero_count lo (suc n) e =
+        let rest = zero_count (lo + 1) n refl in
+        let here = not_try lo (is_try p f lo) refl in
+        let first : one (is_try p f lo) ≡ 0 = ap one here in
+        omega (arith, sum_by-cons (λ k. cond (is_try p f k) 1 0) lo (range_with_len (lo + 1) n), rest, first)
+
+-- the loop over the squares, with and without an own pawn on the next one
+pub tries-more : (p : Pos) (n from : ℕ) → n ≡ sum_by (tries_from p) (range_with_len 0 from) → n + tries_from p from ≡ sum_by (tries_from p) (range_with_len 0 (from + 1))
+tries-more p n from e = omega (arith, e, sum-range_more (tries_from p) from)
+
+pub tries-same : (p : Pos) (n from : ℕ) → is_own_pawn p from ≡ false → n ≡ sum_by (tries_from p) (range_with_len 0 from) → n ≡ sum_by (tries_from p) (range_with_len 0 (from + 1))
+tries-same p n from none e = omega (arith, e, tries_from-none p from none, sum-range_more (tries_from p) from)
+
+pub ruleset tries_bound = (tries_le, tries-sum)
+
+pub ruleset loop_tries = (tries-sum, tries-more, tries-same)
+
+pub ruleset aimed_tries = (try-aimed)

@@ -1,0 +1,9 @@
+pub mod Said
+pub mod Order
+pub mod Tries
+pub mod Words
+pub mod Told
+pub mod WordsText
+pub mod WordsReading
+pub mod LineText
+pub mod WordsWriting

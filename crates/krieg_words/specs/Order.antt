@@ -1,0 +1,34 @@
+-- The order of words.
+use Rattle.std.specs.Prelude.{ℕ, List, [], ◌∷◌}
+use Rattle.std.specs.Ordering.{nat_cmp}
+use Rattle.std.specs.Cmp.Lexicographic.{slice_cmp}
+use Rattle.std.specs.declared.cmp.Ordering.{Ordering}
+use Rattle.krieg_checks.specs.Kinds.{bits_of}
+use Rattle.krieg_words.specs.declared.words.End.{End}
+use Rattle.krieg_words.specs.declared.words.End.TheVariants.{Goes, Mate, Stalemate}
+use Rattle.krieg_words.specs.declared.words.Took.{Took}
+use Rattle.krieg_words.specs.declared.words.Took.TheVariants.{Nothing, Pawn, Piece}
+use Rattle.krieg_words.specs.Said.{Said}
+
+abbrev pub end_rank : End → ℕ
+end_rank Goes = 0
+end_rank Mate = 1
+end_rank Stalemate = 2
+
+abbrev pub took_rank : Took → ℕ
+took_rank Nothing = 0
+took_rank (Pawn s) = 1
+took_rank (Piece s) = 2
+
+abbrev pub took_square : Took → ℕ
+took_square Nothing = 0
+took_square (Pawn s) = s
+took_square (Piece s) = s
+
+-- what words are compared by, one number after another: the end, what was taken, its square, the kinds of check, the tries
+abbrev pub ranks : Said → List ℕ
+ranks w = end_rank w.end ∷ took_rank w.took ∷ took_square w.took ∷ bits_of w.checks ∷ w.tries ∷ []
+
+-- the order of words: by the first of these numbers that differs
+unfoldable pub words_cmp : Said → Said → Ordering
+words_cmp a b = slice_cmp nat_cmp (ranks a) (ranks b)

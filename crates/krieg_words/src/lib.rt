@@ -1,0 +1,23 @@
+//! What the umpire says after each legal move and at the start of a game, in three dialects, and the
+//! texts of it.
+//!
+//! The rules of this crate are the definitions of `specs/`: what words are (`Said`), their order
+//! (`Order`), pawn tries (`Tries`), the words of a move and of a position (`Words`), what a dialect
+//! tells (`Told`), and the texts (`WordsText`, `WordsReading`, `LineText`). Only the writers take
+//! memory.
+#![tactic(auto)]
+
+mod captures;
+mod dialects;
+mod parts;
+mod reading;
+mod umpire;
+mod words;
+mod writing;
+
+pub use captures::tries;
+pub use dialects::{Dialect, Line, told, told_line};
+pub use reading::{LineFault, WordsFault, read_line, read_line_in, read_words, read_words_in};
+pub use umpire::{opening, words_of};
+pub use words::{End, Took, Words, compare};
+pub use writing::{write_line, write_line_in, write_words, write_words_in};
