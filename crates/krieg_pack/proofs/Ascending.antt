@@ -1,0 +1,101 @@
+-- The set of a list ascends and has just its members, and two ascending lists with the same members are one list.
+use Rattle.std.proofs.Common.{◌≡◌, Bool, true, false, List, [], ◌∷◌, ◌⊎◌, inl, inr, refl, sym, subst, ◌∙◌}
+use Rattle.std.proofs.lemmas.Bool.{cases_Bool, cond-true, cond-false, both_ways}
+use Rattle.krieg_pack.specs.Sets.{In, Ascending, IsOrder, insert_once, as_set}
+
+module _ {X : Type 0} (lt : X → X → Bool) (O : IsOrder lt) where
+  -- x is put in
+  pub in_insert_here : (x : X) (xs : List X) → In x (insert_once lt x xs)
+  in_insert_here x [] = inl refl
+  in_insert_here x (y ∷ ys) = go (cases_Bool (lt x y)) (cases_Bool (lt y x)) (in_insert_here x ys)
+    where
+      go : (lt x y ≡ true) ⊎ (lt x y ≡ false) → (lt y x ≡ true) ⊎ (lt y x ≡ false) → In x (insert_once lt x ys) → In x (insert_once lt x (y ∷ ys))
+      go (inl a) b r = subst (In x) (sym (cond-true (lt x y) _ _ a)) (inl refl)
+      go (inr a) (inl b) r = subst (In x) (sym (cond-false (lt x y) _ _ a ∙ cond-true (lt y x) _ _ b)) (inr r)
+      go (inr a) (inr b) r = subst (In x) (sym (cond-false (lt x y) _ _ a ∙ cond-false (lt y x) _ _ b)) (inl (sym (O.total x y a b)))
+
+  -- and nothing is lost
+  pub in_insert : (x z : X) (xs : List X) → In z xs → In z (insert_once lt x xs)
+  in_insert x z [] i = absurd i
+  in_insert x z (y ∷ ys) i = go (cases_Bool (lt x y)) (cases_Bool (lt y x)) i (in_insert x z ys)
+    where
+      go : (lt x y ≡ true) ⊎ (lt x y ≡ false) → (lt y x ≡ true) ⊎ (lt y x ≡ false) → (y ≡ z) ⊎ In z ys → (In z ys → In z (insert_once lt x ys)) → In z (insert_once lt x (y ∷ ys))
+      go (inl a) b s r = subst (In z) (sym (cond-true (lt x y) _ _ a)) (inr s)
+      go (inr a) (inl b) (inl e) r = subst (In z) (sym (cond-false (lt x y) _ _ a ∙ cond-true (lt y x) _ _ b)) (inl e)
+      go (inr a) (inl b) (inr s) r = subst (In z) (sym (cond-false (lt x y) _ _ a ∙ cond-true (lt y x) _ _ b)) (inr (r s))
+      go (inr a) (inr b) s r = subst (In z) (sym (cond-false (lt x y) _ _ a ∙ cond-false (lt y x) _ _ b)) s
+
+  -- nothing else comes in
+  pub insert_in : (x z : X) (xs : List X) → In z (insert_once lt x xs) → (x ≡ z) ⊎ In z xs
+  insert_in x z [] i = i
+  insert_in x z (y ∷ ys) i = go (cases_Bool (lt x y)) (cases_Bool (lt y x)) i (insert_in x z ys)
+    where
+      later : (x ≡ z) ⊎ In z ys → (x ≡ z) ⊎ In z (y ∷ ys)
+      later (inl e) = inl e
+      later (inr s) = inr (inr s)
+
+      put : In z (y ∷ insert_once lt x ys) → (In z (insert_once lt x ys) → (x ≡ z) ⊎ In z ys) → (x ≡ z) ⊎ In z (y ∷ ys)
+      put (inl e) r = inr (inl e)
+      put (inr s) r = later (r s)
+
+      go : (lt x y ≡ true) ⊎ (lt x y ≡ false) → (lt y x ≡ true) ⊎ (lt y x ≡ false) → In z (insert_once lt x (y ∷ ys)) → (In z (insert_once lt x ys) → (x ≡ z) ⊎ In z ys) → (x ≡ z) ⊎ In z (y ∷ ys)
+      go (inl a) b s r = subst (In z) (cond-true (lt x y) _ _ a) s
+      go (inr a) (inl b) s r = put (subst (In z) (cond-false (lt x y) _ _ a ∙ cond-true (lt y x) _ _ b) s) r
+      go (inr a) (inr b) s r = inr (subst (In z) (cond-false (lt x y) _ _ a ∙ cond-false (lt y x) _ _ b) s)
+
+  pub insert_ascending : (x : X) (xs : List X) → Ascending lt xs → Ascending lt (insert_once lt x xs)
+  insert_ascending x [] a = (λ y i. absurd i, tt)
+  insert_ascending x (y ∷ ys) a = go (cases_Bool (lt x y)) (cases_Bool (lt y x)) (insert_ascending x ys a.1)
+    where
+      first : lt x y ≡ true → (z : X) → In z (y ∷ ys) → lt x z ≡ true
+      first e z (inl s) = subst (λ w. lt x w ≡ true) s e
+      first e z (inr s) = O.trans x y z e (a.0 z s)
+
+      after : lt y x ≡ true → (z : X) → (x ≡ z) ⊎ In z ys → lt y z ≡ true
+      after e z (inl s) = subst (λ w. lt y w ≡ true) s e
+      after e z (inr s) = a.0 z s
+
+      go : (lt x y ≡ true) ⊎ (lt x y ≡ false) → (lt y x ≡ true) ⊎ (lt y x ≡ false) → Ascending lt (insert_once lt x ys) → Ascending lt (insert_once lt x (y ∷ ys))
+      go (inl e) b r = subst (Ascending lt) (sym (cond-true (lt x y) _ _ e)) (first e, a)
+      go (inr e) (inl b) r = subst (Ascending lt) (sym (cond-false (lt x y) _ _ e ∙ cond-true (lt y x) _ _ b)) (λ z i. after b z (insert_in x z ys i), r)
+      go (inr e) (inr b) r = subst (Ascending lt) (sym (cond-false (lt x y) _ _ e ∙ cond-false (lt y x) _ _ b)) a
+
+  pub as_set_ascending : (xs : List X) → Ascending lt (as_set lt xs)
+  as_set_ascending [] = tt
+  as_set_ascending (x ∷ xs) = insert_ascending x (as_set lt xs) (as_set_ascending xs)
+
+  pub in_as_set : (z : X) (xs : List X) → In z xs → In z (as_set lt xs)
+  in_as_set z [] i = i
+  in_as_set z (x ∷ xs) (inl e) = subst (λ w. In w (insert_once lt x (as_set lt xs))) e (in_insert_here x (as_set lt xs))
+  in_as_set z (x ∷ xs) (inr i) = in_insert x z (as_set lt xs) (in_as_set z xs i)
+
+  pub as_set_in : (z : X) (xs : List X) → In z (as_set lt xs) → In z xs
+  as_set_in z [] i = i
+  as_set_in z (x ∷ xs) i = go (insert_in x z (as_set lt xs) i) (as_set_in z xs)
+    where
+      go : (x ≡ z) ⊎ In z (as_set lt xs) → (In z (as_set lt xs) → In z xs) → In z (x ∷ xs)
+      go (inl e) r = inl e
+      go (inr s) r = inr (r s)
+
+  -- one set is one list
+  pub same_set : (xs ys : List X) → Ascending lt xs → Ascending lt ys → ((z : X) → In z xs → In z ys) → ((z : X) → In z ys → In z xs) → xs ≡ ys
+  same_set [] [] a b f g = refl
+  same_set [] (y ∷ ys) a b f g = absurd (g y (inl refl))
+  same_set (x ∷ xs) [] a b f g = absurd (f x (inl refl))
+  same_set (x ∷ xs) (y ∷ ys) a b f g = whole (heads (f x (inl refl)) (g y (inl refl))) (same_set xs ys a.1 b.1)
+    where
+      heads : (y ≡ x) ⊎ In x ys → (x ≡ y) ⊎ In y xs → x ≡ y
+      heads (inl e) s = sym e
+      heads (inr i) (inl e) = e
+      heads (inr i) (inr k) = absurd (both_ways (lt x x) (O.never_itself x) (O.trans x y x (a.0 y k) (b.0 x i)))
+
+      inner : x ≡ y → (z : X) → In z xs → (y ≡ z) ⊎ In z ys → In z ys
+      inner e z i (inl s) = absurd (both_ways (lt x x) (O.never_itself x) (subst (λ w. lt x w ≡ true) (sym s ∙ sym e) (a.0 z i)))
+      inner e z i (inr s) = s
+
+      outer : x ≡ y → (z : X) → In z ys → (x ≡ z) ⊎ In z xs → In z xs
+      outer e z i (inl s) = absurd (both_ways (lt y y) (O.never_itself y) (subst (λ w. lt y w ≡ true) (sym s ∙ e) (b.0 z i)))
+      outer e z i (inr s) = s
+
+      whole : x ≡ y → (((z : X) → In z xs → In z ys) → ((z : X) → In z ys → In z xs) → xs ≡ ys) → x ∷ xs ≡ y ∷ ys
+      whole e r = λ i. e i ∷ r (λ z s. inner e z s (f z (inr s))) (λ z s. outer e z s (g z (inr s))) i

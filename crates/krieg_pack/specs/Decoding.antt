@@ -1,0 +1,26 @@
+-- What a number stands for: the way back from the codes.
+use Rattle.std.specs.Prelude.{ℕ, ◌-◌, ◌/◌, ◌%◌, ◌==◌, Option, Some, None, cond, nat_le}
+use Rattle.krieg_board.specs.declared.men.Side.{Side}
+use Rattle.krieg_board.specs.declared.men.Side.TheVariants.{White, Black}
+use Rattle.krieg_board.specs.declared.men.Kind.{Kind}
+use Rattle.krieg_board.specs.declared.men.Kind.TheVariants.{Pawn, Knight, Bishop, Rook, Queen, King}
+use Rattle.krieg_board.specs.declared.men.Man.{Man}
+use Rattle.krieg_board.specs.declared.men.Rights.{Rights}
+
+abbrev pub kind_of : ℕ → Kind
+kind_of n = cond (n == 1) Pawn (cond (n == 2) Knight (cond (n == 3) Bishop (cond (n == 4) Rook (cond (n == 5) Queen King))))
+
+abbrev pub man_of : ℕ → Option Man
+man_of n =
+    cond (n == 0) None
+    (cond (nat_le n 6) (Some (record { side = White; kind = kind_of n }))
+    (Some (record { side = Black; kind = kind_of (n - 6) })))
+
+abbrev pub side_of : ℕ → Side
+side_of n = cond (n == 0) White Black
+
+abbrev pub mark_of : ℕ → Option ℕ
+mark_of n = cond (n == 0) None (Some (n - 1))
+
+abbrev pub rights_of : ℕ → Rights
+rights_of n = record { white_short = n % 2 == 1; white_long = n / 2 % 2 == 1; black_short = n / 4 % 2 == 1; black_long = n / 8 == 1 }

@@ -1,0 +1,10 @@
+pub mod Codes
+pub mod Order
+pub mod Sets
+pub mod Members
+pub mod Decoding
+pub mod Packing
+pub mod CodesBack
+pub mod SameNumbers
+pub mod OrderLaws
+pub mod Hashing

@@ -1,0 +1,13 @@
+-- Sets of positions.
+use Rattle.std.specs.Prelude.{List}
+use Rattle.krieg_board.specs.Pos.{Pos}
+use Rattle.krieg_pack.specs.Order.{position_lt}
+use Rattle.krieg_pack.specs.Sets.{Ascending, as_set}
+
+-- each position stands before all that are behind it, so none stands twice
+abbrev pub IsAscending : List Pos → Type 0
+IsAscending ps = Ascending position_lt ps
+
+-- the positions of a list, each once, in order
+unfoldable pub set_of : List Pos → List Pos
+set_of ps = as_set position_lt ps
