@@ -1,5 +1,5 @@
 -- The laws of the order of positions and of sets of positions, for the crates that cite them.
-use Rattle.std.proofs.Common.{◌≡◌, ℕ, ◌≤◌, Bool, true, false, length, List, ◌++◌, sym, ap, ◌∙◌}
+use Rattle.std.proofs.Common.{◌≡◌, ℕ, ◌≤◌, Bool, true, false, length, List, [], ◌++◌, refl, sym, ap, ◌∙◌}
 use Rattle.std.specs.List.{dedup}
 use Rattle.std.specs.List.Sorted.{IsSorted, IsPermutation, IsBinarySearchResult, IsSearchInRange}
 use Rattle.std.specs.Cmp.Lexicographic.{pointwise}
@@ -39,6 +39,13 @@ set_in p ps i = as_set_in position_lt position_order p ps i
 -- an ascending list is its own set
 pub set_of-ascending : (ps : List Pos) → IsAscending ps → set_of ps ≡ ps
 set_of-ascending ps up = same_members (set_of ps) ps (set_ascending ps) up (λ p i. set_in p ps i) (λ p i. in_set p ps i)
+
+pub set_of-set : (ps : List Pos) → set_of (set_of ps) ≡ set_of ps
+set_of-set ps = set_of-ascending (set_of ps) (set_ascending ps)
+
+pub set_of-nil : set_of [] ≡ []
+unfolding set_of
+set_of-nil = refl
 
 -- lists with the same members have one set
 pub same_sets : (ps qs : List Pos) → ((p : Pos) → In p ps → In p qs) → ((p : Pos) → In p qs → In p ps) → set_of ps ≡ set_of qs

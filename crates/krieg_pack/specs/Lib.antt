@@ -2,6 +2,7 @@ pub mod Codes
 pub mod Order
 pub mod Sets
 pub mod Members
+pub mod Building
 pub mod Decoding
 pub mod Packing
 pub mod CodesBack

@@ -35,6 +35,14 @@ impl Model for Belief {
     ghost invariant = { λ b. IsAscending b.members.items };
 }
 
+/// Sorts in place and drops repeats, so that the set of what was there stays.
+pub(crate) fn make_ascending(packed: &mut Vec<Packed>)
+    ensures { packed.new.items ≡ set_of packed.old.items }
+{
+    packed.sort_unstable();
+    packed.dedup();
+}
+
 impl PartialEq for Belief {
     ghost eq = { pointwise position_eq };
 
@@ -66,8 +74,7 @@ impl Belief {
         ensures { result ≡ set_of packed.items }
     {
         let mut members = packed;
-        members.sort_unstable();
-        members.dedup();
+        make_ascending(&mut members);
         Belief { members }
     }
 

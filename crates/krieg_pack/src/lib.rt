@@ -12,8 +12,10 @@
 #![tactic(auto)]
 
 mod belief;
+mod builder;
 mod codes;
 mod packed;
 
 pub use belief::Belief;
+pub use builder::{BeliefBuilder, BuildStop};
 pub use packed::{Packed, order, pack, unpack};
