@@ -11,6 +11,7 @@ ghost use Rattle.krieg_cli.specs.Solution as spec;
 use krieg_board::{Move, NoMemory, Position, Side};
 use krieg_fen::{write_move, write_position};
 use krieg_moves::{after, is_mate, legal_moves};
+use krieg_words::{Words, opening, write_words};
 use std::alloc::Global;
 
 fn mates(p: &Position, mv: &Move) -> bool
@@ -67,6 +68,15 @@ fn write_position_line(p: &Position, text: &mut Vec<u8>) -> Result<(), NoMemory>
     Ok(())
 }
 
+fn write_on_line(words: Words, text: &mut Vec<u8>) -> Result<(), NoMemory>
+    ensures { OnOk result (text.new.items ≡ text.old.items ++ ended_line (spec.on_line words)) }
+{
+    text.extend_from_slice(b"on ")?;
+    write_words(words, text)?;
+    text.push(b'\n')?;
+    Ok(())
+}
+
 fn write_play_line(mv: Move, text: &mut Vec<u8>) -> Result<(), NoMemory>
     ensures { OnOk result (text.new.items ≡ text.old.items ++ ended_line (spec.play_line mv)) }
 {
@@ -76,9 +86,9 @@ fn write_play_line(mv: Move, text: &mut Vec<u8>) -> Result<(), NoMemory>
     Ok(())
 }
 
-/// Appends the plan file whose one node is the move.
-fn write_plan(p: &Position, mv: Move, text: &mut Vec<u8>) -> Result<(), NoMemory>
-    ensures { OnOk result (text.new.items ≡ text.old.items ++ with_ends (spec.plan_lines p.now mv)) }
+#[tactic(auto, unfolding(crate::specs::Solution::head_lines))]
+fn write_head(p: &Position, text: &mut Vec<u8>) -> Result<(), NoMemory>
+    ensures { OnOk result (text.new.items ≡ text.old.items ++ with_ends (spec.head_lines p.now)) }
 {
     write_line(b"krieg plan 1", text)?;
     write_line(side_line(p.side()), text)?;
@@ -86,9 +96,26 @@ fn write_plan(p: &Position, mv: Move, text: &mut Vec<u8>) -> Result<(), NoMemory
     write_position_line(p, text)?;
     write_line(b"worst 1", text)?;
     write_line(b"roots 1", text)?;
-    write_line(b"on silent", text)?;
+    Ok(())
+}
+
+#[tactic(auto, unfolding(crate::specs::Solution::root_lines))]
+fn write_root(p: &Position, mv: Move, text: &mut Vec<u8>) -> Result<(), NoMemory>
+    ensures { OnOk result (text.new.items ≡ text.old.items ++ with_ends (spec.root_lines p.now mv)) }
+{
+    write_on_line(opening(p), text)?;
     write_play_line(mv, text)?;
     write_line(b"end", text)?;
+    Ok(())
+}
+
+/// Appends the plan file whose one node is the move.
+#[tactic(auto, using(crate::proofs::Solutions::lines))]
+fn write_plan(p: &Position, mv: Move, text: &mut Vec<u8>) -> Result<(), NoMemory>
+    ensures { OnOk result (text.new.items ≡ text.old.items ++ with_ends (spec.plan_lines p.now mv)) }
+{
+    write_head(p, text)?;
+    write_root(p, mv, text)?;
     Ok(())
 }
 
