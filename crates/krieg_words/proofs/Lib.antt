@@ -2,6 +2,7 @@ pub mod OrderLaws
 pub mod RangeSums
 pub mod PawnCaptures
 pub mod TriesBound
+pub mod SaidLaws
 pub mod ToldLaws
 pub mod PartLaws
 pub mod NameLaws

@@ -1,7 +1,8 @@
 -- The derived order of words is the order of their ranks, and it is total.
 use Rattle.std.proofs.Common.{◌≡◌, ℕ, ◌+◌, ◌<◌, Bool, true, false, cond, [], ◌∷◌, refl, sym, ap, ◌∙◌, arith}
-use Rattle.std.specs.Ordering.{nat_cmp, ordering_then, bool_cmp, is_eq}
+use Rattle.std.specs.Ordering.{nat_cmp, ordering_then, bool_cmp, is_eq, is_lt}
 use Rattle.std.specs.Cmp.{IsTotalOrder}
+use Rattle.std.specs.Ordering.{ordering_reverse}
 use Rattle.std.specs.Cmp.Lexicographic.{on_texts}
 use Rattle.std.specs.declared.cmp.Ordering.{Ordering}
 use Rattle.std.specs.declared.cmp.Ordering.TheVariants.{Less, Equal, Greater}
@@ -20,7 +21,7 @@ use Rattle.krieg_words.specs.declared.words.End.TheVariants.{Goes, Mate, Stalema
 use Rattle.krieg_words.specs.declared.words.Took.{Took}
 use Rattle.krieg_words.specs.declared.words.Took.TheVariants.{Nothing, Pawn, Piece}
 use Rattle.krieg_words.specs.Said.{Said}
-use Rattle.krieg_words.specs.Order.{end_rank, took_rank, took_square, ranks, words_cmp}
+use Rattle.krieg_words.specs.Order.{end_rank, took_rank, took_square, ranks, words_cmp, is_before}
 
 end_cmp-is : (a b : End) → end_cmp.it a b ≡ nat_cmp (end_rank a) (end_rank b)
 end_cmp-is Goes Goes = refl
@@ -173,3 +174,24 @@ words_cmp-equal a b h = ranks-same a b ((bytes_eq-Decides (ranks a) (ranks b)).0
 
 pub words_cmp-self : (a : Said) → words_cmp a a ≡ Equal
 words_cmp-self a = tied_itself words_cmp_total a
+
+less_is : (o : Ordering) → is_lt o ≡ true → o ≡ Less
+less_is Less h = refl
+less_is Equal h = absurd cc
+less_is Greater h = absurd cc
+
+equal_is : (o : Ordering) → is_lt o ≡ false → is_lt (ordering_reverse o) ≡ false → o ≡ Equal
+equal_is Less h k = absurd cc
+equal_is Equal h k = refl
+equal_is Greater h k = absurd cc
+
+-- no words stand before themselves
+pub is_before-self : (a : Said) → is_before a a ≡ false
+is_before-self a = ap is_lt (words_cmp-self a)
+
+pub is_before-trans : (a b c : Said) → is_before a b ≡ true → is_before b c ≡ true → is_before a c ≡ true
+is_before-trans a b c h k = ap is_lt (words_cmp_total.trans a b c (less_is (words_cmp a b) h) (less_is (words_cmp b c) k))
+
+-- two words of which none stands before the other are the same
+pub is_before-same : (a b : Said) → is_before a b ≡ false → is_before b a ≡ false → a ≡ b
+is_before-same a b h k = words_cmp-equal a b (equal_is (words_cmp a b) h (ap is_lt (sym (words_cmp_total.antisymm b a)) ∙ k))

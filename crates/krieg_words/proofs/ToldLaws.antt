@@ -1,5 +1,5 @@
 -- What a dialect tells of words, it can tell again unchanged.
-use Rattle.std.proofs.Common.{◌≡◌, ℕ, Bool, true, false, cond, ◌==◌, refl, ap}
+use Rattle.std.proofs.Common.{◌≡◌, ℕ, Bool, true, false, cond, ◌==◌, refl, ap, ◌≤◌, lit≤}
 use Rattle.krieg_checks.specs.declared.kinds.Kinds.{Kinds}
 use Rattle.krieg_checks.specs.Kinds.{bits_of}
 use Rattle.krieg_words.specs.declared.words.Took.{Took}
@@ -8,7 +8,7 @@ use Rattle.krieg_words.specs.declared.dialects.Dialect.{Dialect}
 use Rattle.krieg_words.specs.declared.dialects.Dialect.TheVariants.{Wild16, Anytry, Plain}
 use Rattle.krieg_words.specs.declared.dialects.Line.{Line}
 use Rattle.krieg_words.specs.declared.dialects.Line.TheVariants.{Opens, Illegal, Done, Heard, Early, Over}
-use Rattle.krieg_words.specs.Said.{Said}
+use Rattle.krieg_words.specs.Said.{Said, IsSaid, IsTaken}
 use Rattle.krieg_words.specs.Told.{told, told_line, as_piece, as_check, no_kinds, some_kind, Fits, LineFits}
 
 as_piece_twice : (t : Took) → as_piece (as_piece t) ≡ as_piece t
@@ -47,3 +47,24 @@ told_line_fits d (Done m w) = ap (Done m) (told_fits d w)
 told_line_fits d (Heard w) = ap Heard (told_fits d w)
 told_line_fits d (Early m) = refl
 told_line_fits d (Over m) = refl
+
+pub ruleset fitting = (told_fits, told_line_fits)
+
+taken_piece : (t : Took) → IsTaken t → IsTaken (as_piece t)
+taken_piece Nothing h = tt
+taken_piece (Pawn s) h = h
+taken_piece (Piece s) h = h
+
+few_tries : (t : Bool) → some_tries t ≤ 16
+few_tries true = lit≤ tt
+few_tries false = lit≤ tt
+
+-- words that can be said are told as words that can be said
+pub told_said : (d : Dialect) (w : Said) → IsSaid w → IsSaid (told d w)
+told_said Wild16 w h = h
+told_said Anytry w h = (few_tries (w.tries == 0), h.1)
+told_said Plain w h = (lit≤ tt, taken_piece w.took h.1)
+
+-- all words fit wild16
+pub fits_wild16 : (w : Said) → Fits Wild16 w
+fits_wild16 w = refl

@@ -58,7 +58,15 @@ fn as_check(kinds: Kinds) -> Kinds
 }
 
 /// The words as the dialect tells them. Words fit a dialect where this leaves them as they are.
+#[tactic(auto, using(crate::proofs::ToldLaws::fitting))]
 pub fn told(d: Dialect, w: Words) -> Words
+    ensures value { result ≡ spec.told d w }
+    ensures fits { spec.Fits d result }
+{
+    words_in(d, w)
+}
+
+fn words_in(d: Dialect, w: Words) -> Words
     ensures { result ≡ spec.told d w }
 {
     match d {
@@ -76,8 +84,7 @@ pub fn told(d: Dialect, w: Words) -> Words
     }
 }
 
-/// The line with its words as the dialect tells them.
-pub fn told_line(d: Dialect, l: Line) -> Line
+fn line_in(d: Dialect, l: Line) -> Line
     ensures { result ≡ spec.told_line d l }
 {
     match l {
@@ -88,4 +95,13 @@ pub fn told_line(d: Dialect, l: Line) -> Line
         Line::Early(mv) => Line::Early(mv),
         Line::Over(mv) => Line::Over(mv),
     }
+}
+
+/// The line with its words as the dialect tells them.
+#[tactic(auto, using(crate::proofs::ToldLaws::fitting))]
+pub fn told_line(d: Dialect, l: Line) -> Line
+    ensures value { result ≡ spec.told_line d l }
+    ensures fits { spec.LineFits d result }
+{
+    line_in(d, l)
 }

@@ -11,6 +11,8 @@ mod captures;
 mod dialects;
 mod parts;
 mod reading;
+#[cfg(test)]
+mod tests;
 mod umpire;
 mod words;
 mod writing;

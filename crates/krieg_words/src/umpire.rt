@@ -1,6 +1,7 @@
 ghost use Rattle.std.specs.Prelude.{◌≡◌, true, ℕ, Some, IsTrue};
 ghost use Rattle.krieg_board.specs.Board.{man_at};
 ghost use Rattle.krieg_moves.specs.Legal.{is_legal};
+ghost use Rattle.krieg_words.specs.Said.{IsSaid};
 ghost use Rattle.krieg_words.specs.Words as spec;
 
 use crate::captures::tries;
@@ -61,8 +62,17 @@ fn said(took: &Took, p: &Position) -> Words
 
 /// What is said at the start of a game, and of each listed position: nothing was captured, and the
 /// checks, tries and end are those of the position.
-#[tactic(auto, unfolding(crate::specs::Words::opening))]
+#[tactic(auto, using(crate::proofs::SaidLaws::said))]
 pub fn opening(p: &Position) -> Words
+    ensures value { result ≡ spec.opening p.now }
+    ensures said { IsSaid result }
+{
+    let _ = p.side();
+    opening_of(p)
+}
+
+#[tactic(auto, unfolding(crate::specs::Words::opening))]
+fn opening_of(p: &Position) -> Words
     ensures { result ≡ spec.opening p.now }
 {
     said(&Took::Nothing, p)
@@ -70,12 +80,21 @@ pub fn opening(p: &Position) -> Words
 
 /// What both players hear after a legal move: what it captured, and the checks, tries and end of the
 /// position after it.
-#[tactic(auto, unfolding(crate::specs::Words::words))]
+#[tactic(auto, using(crate::proofs::SaidLaws::said))]
 pub fn words_of(p: &Position, mv: Move) -> Words
     requires { IsTrue (is_legal p.now mv) }
-    ensures { result ≡ spec.words p.now mv }
+    ensures value { result ≡ spec.words p.now mv }
+    ensures said { IsSaid result }
 {
-    let mv = &mv;
+    let _ = p.side();
+    words_after(p, &mv)
+}
+
+#[tactic(auto, unfolding(crate::specs::Words::words))]
+fn words_after(p: &Position, mv: &Move) -> Words
+    requires { IsTrue (is_legal p.now mv.now) }
+    ensures { result ≡ spec.words p.now mv.now }
+{
     let took = took_by(p, p.man_at(mv.from), mv);
     said(&took, &after(p, *mv))
 }

@@ -1,0 +1,247 @@
+//! Words of positions and moves that a player can look at, and the texts that each dialect must take
+//! or refuse.
+
+use crate::*;
+use krieg_board::NoMemory;
+use krieg_fen::{is_name, read_move, read_position};
+use krieg_moves::is_legal;
+use std::alloc::Global;
+
+/// The text of the opening words of a position.
+fn opens(alloc: Global, d: Dialect, fen: &[u8]) -> Result<Vec<u8>, NoMemory> {
+    let mut text = Vec::new(alloc);
+    match read_position(fen) {
+        Ok(p) => write_words_in(d, told(d, opening(&p)), &mut text)?,
+        Err(_) => {}
+    }
+    Ok(text)
+}
+
+/// The text of the words of a legal move.
+fn says(alloc: Global, d: Dialect, fen: &[u8], mv: &[u8]) -> Result<Vec<u8>, NoMemory> {
+    let mut text = Vec::new(alloc);
+    let mv = match read_move(mv) {
+        Ok(mv) => mv,
+        Err(_) => return Ok(text),
+    };
+    match read_position(fen) {
+        Ok(p) => {
+            if is_legal(&p, mv) {
+                write_words_in(d, told(d, words_of(&p, mv)), &mut text)?;
+            }
+        }
+        Err(_) => {}
+    }
+    Ok(text)
+}
+
+/// Through e1 the diagonal to a5 is longer than that to h4. En passant counts as a try, four
+/// promotions on one pair of squares count once, and a pinned pawn has no try. A side has up to 16.
+#[test]
+fn opening_words(rt: HostRuntime) -> Result<(), NoMemory> {
+    for (fen, text) in [
+        (&b"4k3/8/8/8/7b/8/8/4K3 w - -"[..], &b"check short"[..]),
+        (b"4k3/8/8/b7/8/8/8/4K3 w - -", b"check long"),
+        (b"4k3/8/8/3pP3/8/8/8/4K3 w - d6", b"tries 1"),
+        (b"4k3/8/8/3pP3/8/8/8/4K3 w - -", b"silent"),
+        (b"r6k/1P6/8/8/8/8/8/4K3 w - -", b"tries 1"),
+        (b"8/8/8/K2pP2r/8/8/8/7k w - d6", b"silent"),
+        (
+            b"7k/n1n1n3/1P1P4/p1p1p1p1/1P1P1P2/p1p1p1p1/1P1P1P2/7K w - -",
+            b"tries 16",
+        ),
+        (b"7k/5P2/6K1/8/8/8/8/8 w - -", b"silent"),
+    ] {
+        assert!(rt; is_name(text, &opens(rt.alloc(), Dialect::Wild16, fen)?));
+    }
+    Ok(())
+}
+
+/// In passing the captured pawn's square is told, and a pawn that became a queen is told as a piece.
+#[test]
+fn words_of_moves(rt: HostRuntime) -> Result<(), NoMemory> {
+    for (fen, mv, text) in [
+        (
+            &b"1k6/8/1K6/8/8/8/8/7R w - -"[..],
+            &b"h1h8"[..],
+            &b"check rank, mate"[..],
+        ),
+        (
+            b"4k3/8/8/8/4N3/8/8/4R1K1 w - -",
+            b"e4f6",
+            b"check file+knight",
+        ),
+        (b"4k3/8/8/3pP3/8/8/8/4K3 w - d6", b"e5d6", b"pawn d5"),
+        (b"k7/8/1K6/8/3N4/8/8/8 w - -", b"d4c6", b"stalemate"),
+        (b"7k/5P2/6K1/8/8/8/8/8 w - -", b"f7f8q", b"check rank, mate"),
+        (b"4k3/8/8/3p4/4P3/8/8/4K3 w - -", b"e4d5", b"pawn d5"),
+        (b"4k3/8/8/3q4/4P3/8/8/4K3 w - -", b"e4d5", b"piece d5"),
+        (
+            b"4k3/8/8/8/8/2p5/3P4/4K3 b - -",
+            b"c3d2",
+            b"pawn d2, check long",
+        ),
+    ] {
+        assert!(rt; is_name(text, &says(rt.alloc(), Dialect::Wild16, fen, mv)?));
+    }
+    Ok(())
+}
+
+#[test]
+fn dialects_tell_less(rt: HostRuntime) -> Result<(), NoMemory> {
+    let sixteen = b"7k/n1n1n3/1P1P4/p1p1p1p1/1P1P1P2/p1p1p1p1/1P1P1P2/7K w - -";
+    let pawn = b"4k3/8/8/3pP3/8/8/8/4K3 w - d6";
+    let fork = b"4k3/8/8/8/4N3/8/8/4R1K1 w - -";
+    assert!(rt; is_name(b"tries some", &opens(rt.alloc(), Dialect::Anytry, sixteen)?));
+    assert!(rt; is_name(b"silent", &opens(rt.alloc(), Dialect::Plain, sixteen)?));
+    assert!(rt;
+        is_name(
+            b"pawn d5",
+            &says(rt.alloc(), Dialect::Anytry, pawn, b"e5d6")?
+        )
+    );
+    assert!(rt;
+        is_name(
+            b"took d5",
+            &says(rt.alloc(), Dialect::Plain, pawn, b"e5d6")?
+        )
+    );
+    assert!(rt; is_name(b"check", &says(rt.alloc(), Dialect::Plain, fork, b"e4f6")?));
+    Ok(())
+}
+
+/// What is read is written back.
+#[test]
+fn texts_are_read_and_written(rt: HostRuntime) -> Result<(), NoMemory> {
+    for (d, text) in [
+        (Dialect::Wild16, &b"silent"[..]),
+        (Dialect::Wild16, b"pawn d5"),
+        (Dialect::Wild16, b"piece h8, check file+knight, tries 2"),
+        (Dialect::Wild16, b"check rank, mate"),
+        (Dialect::Wild16, b"check file+rank+long+short+knight"),
+        (Dialect::Wild16, b"stalemate"),
+        (Dialect::Wild16, b"pawn a1, tries 16, stalemate"),
+        (Dialect::Anytry, b"pawn d5, check long, tries some, mate"),
+        (Dialect::Plain, b"took d5, check, mate"),
+    ] {
+        let mut written = Vec::new(rt.alloc());
+        match read_words_in(d, text) {
+            Ok(w) => write_words_in(d, w, &mut written)?,
+            Err(_) => {}
+        }
+        assert!(rt; is_name(text, &written));
+        let mut plain = Vec::new(rt.alloc());
+        match read_words(text) {
+            Ok(w) => write_words(w, &mut plain)?,
+            Err(_) => {}
+        }
+        assert_eq!(rt; is_name(text, &plain), d == Dialect::Wild16);
+    }
+    Ok(())
+}
+
+#[test]
+fn other_texts_are_refused(rt: HostRuntime) {
+    use Dialect::{Anytry, Plain, Wild16};
+    for (d, text) in [
+        (Wild16, &b""[..]),
+        (Wild16, b"tries 0"),
+        (Wild16, b"tries 17"),
+        (Wild16, b"tries 01"),
+        (Wild16, b"tries 18446744073709551617"),
+        (Wild16, b"tries some"),
+        (Wild16, b"check"),
+        (Wild16, b"check "),
+        (Wild16, b"check rank+file"),
+        (Wild16, b"check file+file"),
+        (Wild16, b"check file+"),
+        (Wild16, b"mate, tries 1"),
+        (Wild16, b"silent, mate"),
+        (Wild16, b"mate,"),
+        (Wild16, b"mate, "),
+        (Wild16, b"check rank,mate"),
+        (Wild16, b", mate"),
+        (Wild16, b"pawn d9"),
+        (Wild16, b"took d5"),
+        (Wild16, b"mate\r"),
+        (Anytry, b"tries 1"),
+        (Plain, b"tries some"),
+        (Plain, b"pawn d5"),
+        (Plain, b"check file"),
+    ] {
+        assert!(rt; read_words_in(d, text).is_err());
+    }
+}
+
+/// What is read is written back.
+#[test]
+fn lines_are_read_and_written(rt: HostRuntime) -> Result<(), NoMemory> {
+    for text in [
+        &b"opens silent"[..],
+        b"try e1g1 illegal",
+        b"try h1h8 ok check rank, mate",
+        b"try e7e8q ok silent",
+        b"heard check file+knight",
+        b"try a1a1 early",
+        b"try b8a8 over",
+    ] {
+        let mut written = Vec::new(rt.alloc());
+        match read_line(text) {
+            Ok(l) => write_line(l, &mut written)?,
+            Err(_) => {}
+        }
+        assert!(rt; is_name(text, &written));
+    }
+    let mut written = Vec::new(rt.alloc());
+    match read_line_in(Dialect::Plain, b"try e5d6 ok took d5, check") {
+        Ok(l) => write_line_in(Dialect::Plain, l, &mut written)?,
+        Err(_) => {}
+    }
+    assert!(rt; is_name(b"try e5d6 ok took d5, check", &written));
+    for text in [
+        &b""[..],
+        b"opens",
+        b"opens ",
+        b"heard",
+        b"try e1g1",
+        b"try e1g1 ok",
+        b"try e1g1 ok illegal",
+        b"try e1g1  illegal",
+        b"try e1g9 illegal",
+        b"try illegal",
+        b" opens silent",
+        b"Opens silent",
+        b"heard silent ",
+    ] {
+        assert!(rt; read_line(text).is_err());
+    }
+    Ok(())
+}
+
+/// By the end, then what was taken, then the kinds of check as a number, then tries.
+#[test]
+fn words_are_in_order(rt: HostRuntime) {
+    let ascending = [
+        &b"silent"[..],
+        b"tries 1",
+        b"tries 16",
+        b"check file",
+        b"check rank",
+        b"check file+rank, tries 3",
+        b"check knight",
+        b"pawn a1",
+        b"pawn h8, check file",
+        b"piece a1",
+        b"mate",
+        b"piece h8, mate",
+        b"stalemate",
+    ];
+    for (i, text) in ascending.iter().enumerate() {
+        for (j, other) in ascending.iter().enumerate() {
+            match (read_words(text), read_words(other)) {
+                (Ok(a), Ok(b)) => assert_eq!(rt; compare(&a, &b), i.cmp(&j)),
+                _ => assert!(rt; false),
+            }
+        }
+    }
+}
