@@ -1,5 +1,5 @@
 -- The words of a move and of a start can be said: at most 16 tries, and a capture on a square of the board.
-use Rattle.std.proofs.Common.{◌≡◌, ℕ, ◌<◌, ◌*◌, ◌+◌, ◌/◌, ◌%◌, Bool, true, false, cond, Option, Some, None, refl, arith}
+use Rattle.std.proofs.Common.{◌≡◌, ℕ, ◌<◌, Bool, true, false, cond, Option, Some, None, arith}
 use Rattle.krieg_board.specs.Pos.{Pos}
 use Rattle.krieg_board.specs.Board.{man_at}
 use Rattle.krieg_board.specs.Validity.{IsValid, is_pawn}
@@ -11,7 +11,7 @@ use Rattle.krieg_moves.proofs.LegalMoves.{legal}
 use Rattle.krieg_moves.proofs.Movers.{below_from}
 use Rattle.krieg_moves.proofs.KeepsValid.{valid-after}
 use Rattle.krieg_words.specs.declared.words.Took.{Took}
-use Rattle.krieg_words.specs.declared.words.Took.TheVariants.{Nothing, Pawn, Piece}
+use Rattle.krieg_words.specs.declared.words.Took.TheVariants.{Pawn, Piece}
 use Rattle.krieg_words.specs.Said.{IsSaid, IsTaken}
 use Rattle.krieg_words.specs.Words.{taken, took_by, opening, words}
 use Rattle.krieg_words.proofs.TriesBound.{tries_le}

@@ -2,7 +2,7 @@
 //! or refuse.
 
 use crate::*;
-use krieg_board::NoMemory;
+use krieg_board::{Move, NoMemory, Position};
 use krieg_fen::{is_name, read_move, read_position};
 use krieg_moves::is_legal;
 use std::alloc::Global;
@@ -17,20 +17,20 @@ fn opens(alloc: Global, d: Dialect, fen: &[u8]) -> Result<Vec<u8>, NoMemory> {
     Ok(text)
 }
 
+/// Appends the text of the words of the move, where it is legal.
+fn say(d: Dialect, p: &Position, mv: &Move, text: &mut Vec<u8>) -> Result<(), NoMemory> {
+    if is_legal(p, *mv) {
+        write_words_in(d, told(d, words_of(p, *mv)), text)?;
+    }
+    Ok(())
+}
+
 /// The text of the words of a legal move.
 fn says(alloc: Global, d: Dialect, fen: &[u8], mv: &[u8]) -> Result<Vec<u8>, NoMemory> {
     let mut text = Vec::new(alloc);
-    let mv = match read_move(mv) {
-        Ok(mv) => mv,
-        Err(_) => return Ok(text),
-    };
-    match read_position(fen) {
-        Ok(p) => {
-            if is_legal(&p, mv) {
-                write_words_in(d, told(d, words_of(&p, mv)), &mut text)?;
-            }
-        }
-        Err(_) => {}
+    match (read_position(fen), read_move(mv)) {
+        (Ok(p), Ok(mv)) => say(d, &p, &mv, &mut text)?,
+        _ => {}
     }
     Ok(text)
 }
