@@ -10,3 +10,5 @@ pub mod FormLaws
 pub mod WordsLaws
 pub mod LineLaws
 pub mod WritingLaws
+pub mod CleanWords
+pub mod DialectNames

@@ -7,3 +7,4 @@ pub mod WordsText
 pub mod WordsReading
 pub mod LineText
 pub mod WordsWriting
+pub mod DialectText

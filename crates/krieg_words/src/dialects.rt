@@ -63,10 +63,10 @@ pub fn told(d: Dialect, w: Words) -> Words
     ensures value { result ≡ spec.told d w }
     ensures fits { spec.Fits d result }
 {
-    words_in(d, w)
+    words_told(d, w)
 }
 
-fn words_in(d: Dialect, w: Words) -> Words
+fn words_told(d: Dialect, w: Words) -> Words
     ensures { result ≡ spec.told d w }
 {
     match d {
@@ -84,7 +84,7 @@ fn words_in(d: Dialect, w: Words) -> Words
     }
 }
 
-fn line_in(d: Dialect, l: Line) -> Line
+fn line_told(d: Dialect, l: Line) -> Line
     ensures { result ≡ spec.told_line d l }
 {
     match l {
@@ -103,5 +103,5 @@ pub fn told_line(d: Dialect, l: Line) -> Line
     ensures value { result ≡ spec.told_line d l }
     ensures fits { spec.LineFits d result }
 {
-    line_in(d, l)
+    line_told(d, l)
 }

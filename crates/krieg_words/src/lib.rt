@@ -3,12 +3,13 @@
 //!
 //! The rules of this crate are the definitions of `specs/`: what words are (`Said`), their order
 //! (`Order`), pawn tries (`Tries`), the words of a move and of a position (`Words`), what a dialect
-//! tells (`Told`), and the texts (`WordsText`, `WordsReading`, `LineText`). Only the writers take
-//! memory.
+//! tells (`Told`), and the texts (`WordsText`, `LineText`, `DialectText`; `WordsReading` reads words
+//! part by part). Only the writers take memory.
 #![tactic(auto)]
 
 mod captures;
 mod dialects;
+mod names;
 mod parts;
 mod reading;
 #[cfg(test)]
@@ -19,6 +20,7 @@ mod writing;
 
 pub use captures::tries;
 pub use dialects::{Dialect, Line, told, told_line};
+pub use names::{dialect_name, read_dialect};
 pub use reading::{LineFault, WordsFault, read_line, read_line_in, read_words, read_words_in};
 pub use umpire::{opening, words_of};
 pub use words::{End, Took, Words, compare};

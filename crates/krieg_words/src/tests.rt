@@ -245,3 +245,12 @@ fn words_are_in_order(rt: HostRuntime) {
         }
     }
 }
+
+#[test]
+fn dialects_have_names(rt: HostRuntime) {
+    assert_eq!(rt; read_dialect(b"wild16"), Some(Dialect::Wild16));
+    assert_eq!(rt; read_dialect(b"anytry"), Some(Dialect::Anytry));
+    assert_eq!(rt; read_dialect(b"plain"), Some(Dialect::Plain));
+    assert_eq!(rt; read_dialect(b"icc"), None);
+    assert!(rt; is_name(b"plain", dialect_name(Dialect::Plain)));
+}
