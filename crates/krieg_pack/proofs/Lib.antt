@@ -1,6 +1,7 @@
 pub mod Digits
 pub mod Unpacking
 pub mod PackedOrder
+pub mod ByteLemmas
 pub mod Membership
 pub mod Ascending
 pub mod Sorting

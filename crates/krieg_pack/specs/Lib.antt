@@ -2,6 +2,7 @@ pub mod Codes
 pub mod Order
 pub mod Sets
 pub mod Members
+pub mod Bytes
 pub mod Building
 pub mod Decoding
 pub mod Packing

@@ -1,8 +1,11 @@
-ghost use Rattle.std.specs.Prelude.{◌≡◌, ◌+◌, ◌≤◌, length, drop, ◌++◌};
+ghost use Rattle.std.specs.Prelude.{◌≡◌, ◌+◌, ◌≤◌, ◌↔◌, length, drop, ◌++◌};
+ghost use Rattle.std.specs.declared.cmp.Ordering.TheVariants.{Equal};
+ghost use Rattle.std.specs.Cmp.Lexicographic.{slice_cmp};
 ghost use Rattle.std.specs.Cmp.Rules.{comparing};
 ghost use Rattle.std.proofs.Common.{rules};
-ghost use Rattle.std.specs.Ordering.{as_partial_cmp};
+ghost use Rattle.std.specs.Ordering.{as_partial_cmp, nat_cmp};
 ghost use Rattle.krieg_board.specs.Validity.{IsValid};
+ghost use Rattle.krieg_pack.specs.Bytes.{bytes_of};
 ghost use Rattle.krieg_pack.specs.Order.{position_cmp, position_eq};
 ghost use Rattle.krieg_pack.specs.OrderLaws.{position_total, position_equiv, position_partial_equiv, position_partial_order};
 ghost use Rattle.krieg_pack.specs.Packing as spec;
@@ -77,7 +80,8 @@ fn spread(w: u64, board: &mut [Option<Man>; 64], from: usize)
 
 /// The position, packed.
 pub fn pack(p: &Position) -> Packed
-    ensures { result ≡ p.now }
+    ensures value { result ≡ p.now }
+    ensures valid { IsValid p.now }
 {
     let board = p.board();
     Packed {
@@ -105,6 +109,23 @@ pub fn unpack(k: &Packed) -> Position
 }
 
 impl Packed {
+    /// The 35 bytes: for each two squares from a1 to h8 16 times the code of the first plus the code of
+    /// the second, then the rights, the mark and the side to move.
+    pub fn bytes(&self) -> [u8; 35]
+        ensures { result ≡ bytes_of self.now }
+    {
+        let p = unpack(self);
+        let board = p.board();
+        let mut bytes = [0; 35];
+        bytes[32] = p.rights().bits();
+        bytes[33] = mark_code(&p.mark());
+        bytes[34] = side_code(p.side());
+        for i in 0..32usize {
+            bytes[i] = 16 * man_code(board[2 * i]) + man_code(board[2 * i + 1]);
+        }
+        bytes
+    }
+
     /// The fields one after another: the words hold the codes in the order of the squares.
     fn compare(&self, other: &Packed) -> Ordering
         ensures { result ≡ position_cmp self.now other.now }
@@ -171,9 +192,11 @@ impl Hash for Packed {
 }
 
 /// The order of positions: by the code of each square from a1 to h8, then by rights, mark and side to
-/// move. Equal just where the positions are.
+/// move. It is the order of the 35 bytes of each, and `Equal` just where the positions are equal.
 pub fn order(a: &Position, c: &Position) -> Ordering
-    ensures { result ≡ position_cmp a.now c.now }
+    ensures numbers { result ≡ position_cmp a.now c.now }
+    ensures bytes { result ≡ slice_cmp nat_cmp (bytes_of a.now) (bytes_of c.now) }
+    ensures equal { (result ≡ Equal) ↔ (a.now ≡ c.now) }
 {
     pack(a).cmp(&pack(c))
 }

@@ -13,5 +13,5 @@ whole c = fields-packed c.args.p.now c.board-board.result.now _ c.board-board.en
 pub invariant_of-result : goal.invariant_of-result
 invariant_of-result c = packed_is c.args.p.now _ c.board-board.ensures.valid (whole c) c.mark_code.ensures.below
 
-pub returns : goal.returns
-returns c = packed_view c.args.p.now _ c.board-board.ensures.valid (whole c)
+pub returns-clause-value : goal.returns-clause-value
+returns-clause-value c = packed_view c.args.p.now _ c.board-board.ensures.valid (whole c)

@@ -11,5 +11,5 @@ returns c =
     let here = c.deref.ensures.value ∙ c.self.view_is in
     let f = found_position c.deref.result.now c.pack-key.result c.binary_search.result (subst IsAscending (sym c.deref.ensures.value) c.self.invariant) c.binary_search.ensures.bound c.binary_search.ensures.position in
     let P : Pos → List Pos → Type 0 = λ p xs. (is_ok c.binary_search.result ≡ true → In p xs) × (In p xs → is_ok c.binary_search.result ≡ true) in
-    let g : P c.args.p.now c.args.self.now = subst (λ xs. P c.args.p.now xs) here (subst (λ p. P p c.deref.result.now) c.pack-key.ensures f) in
+    let g : P c.args.p.now c.args.self.now = subst (λ xs. P c.args.p.now xs) here (subst (λ p. P p c.deref.result.now) c.pack-key.ensures.value f) in
     (λ e. g.0 (sym c.is_ok.ensures.value ∙ e), λ i. c.is_ok.ensures.value ∙ g.1 i)
