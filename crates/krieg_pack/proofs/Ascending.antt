@@ -1,7 +1,8 @@
 -- The set of a list ascends and has just its members, and two ascending lists with the same members are one list.
-use Rattle.std.proofs.Common.{◌≡◌, Bool, true, false, List, [], ◌∷◌, ◌⊎◌, inl, inr, refl, sym, subst, ◌∙◌}
+use Rattle.std.proofs.Common.{◌≡◌, Bool, true, false, cond, filter, List, [], ◌∷◌, ◌⊎◌, inl, inr, refl, sym, subst, ◌∙◌}
 use Rattle.std.proofs.lemmas.Bool.{cases_Bool, cond-true, cond-false, both_ways}
 use Rattle.krieg_pack.specs.Sets.{In, Ascending, IsOrder, insert_once, as_set}
+use Rattle.krieg_pack.proofs.Lists.{filter_in}
 
 module _ {X : Type 0} (lt : X → X → Bool) (O : IsOrder lt) where
   -- x is put in
@@ -99,3 +100,12 @@ module _ {X : Type 0} (lt : X → X → Bool) (O : IsOrder lt) where
 
       whole : x ≡ y → (((z : X) → In z xs → In z ys) → ((z : X) → In z ys → In z xs) → xs ≡ ys) → x ∷ xs ≡ y ∷ ys
       whole e r = λ i. e i ∷ r (λ z s. inner e z s (f z (inr s))) (λ z s. outer e z s (g z (inr s))) i
+
+-- some members of an ascending list, in their order, ascend
+pub ascending_filter : {X : Type 0} (lt : X → X → Bool) (f : X → Bool) (xs : List X) → Ascending lt xs → Ascending lt (filter f xs)
+ascending_filter lt f [] up = tt
+ascending_filter {X = X} lt f (x ∷ xs) up = go (f x) (ascending_filter lt f xs up.1)
+  where
+    go : (b : Bool) → Ascending lt (filter f xs) → Ascending lt (cond b (x ∷ filter f xs) (filter f xs))
+    go true r = (λ y i. up.0 y (filter_in f xs y i).0, r)
+    go false r = r

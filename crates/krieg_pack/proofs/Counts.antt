@@ -2,7 +2,7 @@
 use Rattle.std.proofs.Common.{◌≡◌, ℕ, suc, ◌≤◌, Bool, true, false, cond, List, [], ◌∷◌, ◌++◌, ◌⊎◌, inl, inr, length, sym, subst, ◌∙◌, refl, arith}
 use Rattle.std.proofs.lemmas.Bool.{both_ways}
 use Rattle.krieg_pack.specs.Sets.{In, Ascending, IsOrder, as_set, insert_once}
-use Rattle.krieg_pack.proofs.Membership.{in_append_left, in_append_right, append_in}
+use Rattle.krieg_pack.proofs.Lists.{in_append_left, in_append_right, append_in}
 use Rattle.krieg_pack.proofs.Ascending.{same_set, as_set_ascending, in_as_set, as_set_in}
 
 module _ {X : Type 0} (lt : X → X → Bool) where
@@ -50,12 +50,12 @@ module _ {X : Type 0} (lt : X → X → Bool) where
     -- repeats may be dropped of a first part before the rest comes
     pub as_set_early : (xs ys : List X) → as_set lt (as_set lt xs ++ ys) ≡ as_set lt (xs ++ ys)
     as_set_early xs ys = same_set lt O _ _ (as_set_ascending lt O (as_set lt xs ++ ys)) (as_set_ascending lt O (xs ++ ys))
-        (λ z i. in_as_set lt O z (xs ++ ys) (less z (append_in z (as_set lt xs) ys (as_set_in lt O z (as_set lt xs ++ ys) i))))
-        (λ z i. in_as_set lt O z (as_set lt xs ++ ys) (more z (append_in z xs ys (as_set_in lt O z (xs ++ ys) i))))
+        (λ z i. in_as_set lt O z (xs ++ ys) (less z (append_in (as_set lt xs) ys z (as_set_in lt O z (as_set lt xs ++ ys) i))))
+        (λ z i. in_as_set lt O z (as_set lt xs ++ ys) (more z (append_in xs ys z (as_set_in lt O z (xs ++ ys) i))))
       where
         less : (z : X) → In z (as_set lt xs) ⊎ In z ys → In z (xs ++ ys)
-        less z (inl i) = in_append_left z xs ys (as_set_in lt O z xs i)
-        less z (inr j) = in_append_right z xs ys j
+        less z (inl i) = in_append_left xs ys z (as_set_in lt O z xs i)
+        less z (inr j) = in_append_right xs ys z j
         more : (z : X) → In z xs ⊎ In z ys → In z (as_set lt xs ++ ys)
-        more z (inl i) = in_append_left z (as_set lt xs) ys (in_as_set lt O z xs i)
-        more z (inr j) = in_append_right z (as_set lt xs) ys j
+        more z (inl i) = in_append_left (as_set lt xs) ys z (in_as_set lt O z xs i)
+        more z (inr j) = in_append_right (as_set lt xs) ys z j

@@ -1,5 +1,5 @@
--- What stands in a list: the two words for it, and lists put one behind the other.
-use Rattle.std.proofs.Common.{◌≡◌, ℕ, zero, suc, ◌<◌, List, [], ◌∷◌, ◌++◌, ◌⊎◌, inl, inr, length, arith}
+-- What stands in a list, by either word for it.
+use Rattle.std.proofs.Common.{◌≡◌, ℕ, zero, suc, ◌<◌, List, [], ◌∷◌, inl, inr, length, arith}
 use Rattle.std.specs.Prelude.{slice_index_or}
 use Rattle.std.specs.List.{Contains}
 use Rattle.krieg_pack.specs.Sets.{In}
@@ -18,17 +18,3 @@ module _ {X : Type 0} where
   in_contains x [] h = absurd h
   in_contains x (y ∷ ys) (inl e) = (0, omega arith, e)
   in_contains x (y ∷ ys) (inr i) = let r = in_contains x ys i in (suc r.0, omega (arith, r.1), r.2)
-
-  pub in_append_left : (x : X) (xs ys : List X) → In x xs → In x (xs ++ ys)
-  in_append_left x [] ys i = absurd i
-  in_append_left x (z ∷ zs) ys (inl e) = inl e
-  in_append_left x (z ∷ zs) ys (inr i) = inr (in_append_left x zs ys i)
-
-  pub in_append_right : (x : X) (xs ys : List X) → In x ys → In x (xs ++ ys)
-  in_append_right x [] ys i = i
-  in_append_right x (z ∷ zs) ys i = inr (in_append_right x zs ys i)
-
-  pub append_in : (x : X) (xs ys : List X) → In x (xs ++ ys) → In x xs ⊎ In x ys
-  append_in x [] ys i = inr i
-  append_in x (z ∷ zs) ys (inl e) = inl (inl e)
-  append_in x (z ∷ zs) ys (inr i) = elim (append_in x zs ys i) [ inl j ↦ inl (inr j) | inr k ↦ inr k ]

@@ -1,5 +1,5 @@
 -- The laws of the order of positions and of sets of positions, for the crates that cite them.
-use Rattle.std.proofs.Common.{◌≡◌, ℕ, ◌≤◌, Bool, true, false, length, List, [], ◌++◌, refl, sym, ap, ◌∙◌}
+use Rattle.std.proofs.Common.{◌≡◌, ℕ, ◌≤◌, Bool, true, false, length, filter, List, [], ◌++◌, refl, sym, ap, ◌∙◌}
 use Rattle.std.specs.List.{dedup}
 use Rattle.std.specs.List.Sorted.{IsSorted, IsPermutation, IsBinarySearchResult, IsSearchInRange}
 use Rattle.std.specs.Cmp.Lexicographic.{pointwise}
@@ -10,7 +10,7 @@ use Rattle.krieg_pack.specs.Sets.{In, IsOrder}
 use Rattle.krieg_pack.specs.Members.{IsAscending, set_of}
 use Rattle.krieg_pack.specs.OrderLaws.{position_total}
 use Rattle.krieg_pack.specs.SameNumbers.{same_position}
-use Rattle.krieg_pack.proofs.Ascending.{same_set, as_set_ascending, in_as_set, as_set_in}
+use Rattle.krieg_pack.proofs.Ascending.{same_set, as_set_ascending, in_as_set, as_set_in, ascending_filter}
 use Rattle.krieg_pack.proofs.Sorting.{is_order, sorted_set, found, pointwise_same, pointwise_self}
 use Rattle.krieg_pack.proofs.Counts.{as_set_le, part_le, as_set_early}
 
@@ -65,6 +65,14 @@ set_part_le ps qs f = part_le position_lt position_order (set_of ps) (set_of qs)
 pub set_of-early : (ps qs : List Pos) → set_of (set_of ps ++ qs) ≡ set_of (ps ++ qs)
 unfolding set_of
 set_of-early ps qs = as_set_early position_lt position_order ps qs
+
+-- and what has one set may stand for each other in front of more
+pub set_of-front : (ps qs rs : List Pos) → set_of ps ≡ set_of qs → set_of (ps ++ rs) ≡ set_of (qs ++ rs)
+set_of-front ps qs rs e = sym (set_of-early ps rs) ∙ ap (λ s. set_of (s ++ rs)) e ∙ set_of-early qs rs
+
+-- some members of an ascending list, in their order, ascend
+pub filter_ascending : (f : Pos → Bool) (ps : List Pos) → IsAscending ps → IsAscending (filter f ps)
+filter_ascending f ps up = ascending_filter position_lt f ps up
 
 -- what sort_unstable and then dedup leave of a list
 pub sorted_positions : (ps qs : List Pos) → IsPermutation ps qs → IsSorted position_cmp qs → dedup position_eq qs ≡ set_of ps

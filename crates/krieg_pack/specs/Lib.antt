@@ -3,7 +3,6 @@ pub mod Order
 pub mod Sets
 pub mod Members
 pub mod Bytes
-pub mod Building
 pub mod Decoding
 pub mod Packing
 pub mod CodesBack

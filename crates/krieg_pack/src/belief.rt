@@ -8,6 +8,7 @@ ghost use Rattle.krieg_pack.specs.Hashing.{fed_by, sets_fed};
 ghost use Rattle.krieg_pack.specs.Sets.{In};
 ghost use Rattle.krieg_pack.specs.Members.{IsAscending, set_of};
 
+use crate::buffer::make_ascending;
 use crate::packed::{Packed, pack, unpack};
 use krieg_board::{NoMemory, Position};
 use std::alloc::Global;
@@ -33,14 +34,6 @@ impl Model for Belief {
     ghost view = { λ b. b.members.items };
 
     ghost invariant = { λ b. IsAscending b.members.items };
-}
-
-/// Sorts in place and drops repeats, so that the set of what was there stays.
-pub(crate) fn make_ascending(packed: &mut Vec<Packed>)
-    ensures { packed.new.items ≡ set_of packed.old.items }
-{
-    packed.sort_unstable();
-    packed.dedup();
 }
 
 impl PartialEq for Belief {
