@@ -13,7 +13,7 @@ use Rattle.krieg_pack.specs.Bytes.{paired, bytes_of}
 use Rattle.krieg_pack.specs.Order.{position_cmp}
 use Rattle.krieg_pack.proofs.Digits.{AreDigits}
 use Rattle.krieg_pack.proofs.Unpacking.{codes_below}
-use Rattle.krieg_pack.proofs.PackedOrder.{word_cmp}
+use Rattle.krieg_pack.proofs.PackedOrder.{value_cmp}
 
 -- one byte more is written, and two codes fewer are left
 pub pair_step : (bytes : List ℕ) (men : List (Option Man)) (i : ℕ) → i < length bytes → 2 * i + 1 < length men →
@@ -58,7 +58,7 @@ paired_cmp (suc n) (a ∷ b ∷ xs) (c ∷ f ∷ ys) us vs l m d e =
     let right : byte c f ≡ 16 * (16 * 0 + c) + f = omega arith in
     ap (λ r. ordering_then (nat_cmp (16 * a + b) (16 * c + f)) r) (paired_cmp n xs ys us vs (omega arith) (omega arith) d.1.1 e.1.1)
     ∙ (λ k. ordering_then (nat_cmp (left k) (right k)) (slice_cmp nat_cmp (xs ++ us) (ys ++ vs)))
-    ∙ word_cmp 0 0 (a ∷ b ∷ []) (c ∷ f ∷ []) (xs ++ us) (ys ++ vs) refl refl (d.0, (d.1.0, tt)) (e.0, (e.1.0, tt))
+    ∙ value_cmp 0 0 (a ∷ b ∷ []) (c ∷ f ∷ []) (xs ++ us) (ys ++ vs) refl refl (d.0, (d.1.0, tt)) (e.0, (e.1.0, tt))
 
 -- the order of positions is the order of their bytes
 pub bytes_cmp : (p q : Pos) → length p.board ≡ 64 → length q.board ≡ 64 → slice_cmp nat_cmp (bytes_of p) (bytes_of q) ≡ position_cmp p q

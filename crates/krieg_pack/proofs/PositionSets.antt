@@ -7,7 +7,7 @@ use Rattle.std.specs.Prelude.{Result, is_ok}
 use Rattle.krieg_board.specs.Pos.{Pos}
 use Rattle.krieg_pack.specs.Order.{position_cmp, position_eq, position_lt}
 use Rattle.krieg_pack.specs.Sets.{In, IsOrder}
-use Rattle.krieg_pack.specs.Members.{IsAscending, set_of}
+use Rattle.krieg_pack.specs.Members.{IsAscending, IsSetOf, set_of}
 use Rattle.krieg_pack.specs.OrderLaws.{position_total}
 use Rattle.krieg_pack.specs.SameNumbers.{same_position}
 use Rattle.krieg_pack.proofs.Ascending.{same_set, as_set_ascending, in_as_set, as_set_in, ascending_filter}
@@ -35,6 +35,13 @@ in_set p ps i = in_as_set position_lt position_order p ps i
 pub set_in : (p : Pos) (ps : List Pos) → In p (set_of ps) → In p ps
 unfolding set_of
 set_in p ps i = as_set_in position_lt position_order p ps i
+
+pub set_is : (ps : List Pos) → IsSetOf (set_of ps) ps
+set_is ps = record { ascending = set_ascending ps; exact = λ p. (λ i. set_in p ps i, λ i. in_set p ps i) }
+
+-- the members that ascend are the set, so a list has one
+pub is_set_of : (members ps : List Pos) → IsSetOf members ps → members ≡ set_of ps
+is_set_of members ps s = same_members members (set_of ps) s.ascending (set_ascending ps) (λ p i. in_set p ps ((s.exact p).0 i)) (λ p i. (s.exact p).1 (set_in p ps i))
 
 -- an ascending list is its own set
 pub set_of-ascending : (ps : List Pos) → IsAscending ps → set_of ps ≡ ps

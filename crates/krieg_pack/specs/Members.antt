@@ -1,8 +1,8 @@
 -- Sets of positions.
-use Rattle.std.specs.Prelude.{List}
+use Rattle.std.specs.Prelude.{◌↔◌, List}
 use Rattle.krieg_board.specs.Pos.{Pos}
 use Rattle.krieg_pack.specs.Order.{position_lt}
-use Rattle.krieg_pack.specs.Sets.{Ascending, as_set}
+use Rattle.krieg_pack.specs.Sets.{In, Ascending, as_set}
 
 -- each position stands before all that are behind it, so none stands twice
 abbrev pub IsAscending : List Pos → Type 0
@@ -11,3 +11,8 @@ IsAscending ps = Ascending position_lt ps
 -- the positions of a list, each once, in order
 unfoldable pub set_of : List Pos → List Pos
 set_of ps = as_set position_lt ps
+
+-- the members ascend, and are just the positions that stand in the list
+pub record IsSetOf (members ps : List Pos) : Type 0 where
+  pub ascending : IsAscending members
+  pub exact : (p : Pos) → In p members ↔ In p ps

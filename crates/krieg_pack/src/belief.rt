@@ -6,7 +6,7 @@ ghost use Rattle.krieg_pack.specs.Order.{position_eq};
 ghost use Rattle.krieg_pack.specs.OrderLaws.{sets_equiv, sets_partial_equiv};
 ghost use Rattle.krieg_pack.specs.Hashing.{fed_by, sets_fed};
 ghost use Rattle.krieg_pack.specs.Sets.{In};
-ghost use Rattle.krieg_pack.specs.Members.{IsAscending, set_of};
+ghost use Rattle.krieg_pack.specs.Members.{IsAscending, IsSetOf, set_of};
 
 use crate::buffer::make_ascending;
 use crate::packed::{Packed, pack, unpack};
@@ -64,7 +64,8 @@ impl Belief {
     /// The set of the packed positions, which may come in any order and more than once. It takes no
     /// memory: they are sorted in their place.
     pub fn from_packed(packed: Vec<Packed>) -> Belief
-        ensures { result ≡ set_of packed.items }
+        ensures value { result ≡ set_of packed.items }
+        ensures set { IsSetOf result packed.items }
     {
         let mut members = packed;
         make_ascending(&mut members);
@@ -73,7 +74,8 @@ impl Belief {
 
     /// The set of the listed positions, which may come in any order and more than once.
     pub fn from_positions(alloc: Global, list: &[Position]) -> Result<Belief, NoMemory>
-        ensures { IfOk result (λ b. b ≡ set_of list.now) }
+        ensures value { IfOk result (λ b. b ≡ set_of list.now) }
+        ensures set { IfOk result (λ b. IsSetOf b list.now) }
     {
         let mut packed = Vec::new(alloc);
         for p in list {
@@ -127,13 +129,13 @@ impl Belief {
         ensures { IsTrue result ↔ In p.now self.now }
     {
         let key = pack(p);
-        self.members.binary_search(&key).is_ok()
+        self.members.as_slice().binary_search(&key).is_ok()
     }
 
     /// Whether both sets hold the same positions.
     pub fn same(&self, other: &Belief) -> bool
         ensures { IsTrue result ↔ (self.now ≡ other.now) }
     {
-        self.members.as_slice() == other.members.as_slice()
+        self == other
     }
 }

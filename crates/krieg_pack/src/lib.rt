@@ -14,6 +14,8 @@ mod belief;
 mod buffer;
 mod codes;
 mod packed;
+#[cfg(test)]
+mod tests;
 
 pub use belief::Belief;
 pub use buffer::{TooMany, trim};
