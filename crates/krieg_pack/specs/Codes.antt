@@ -8,6 +8,7 @@ use Rattle.krieg_board.specs.declared.men.Kind.{Kind}
 use Rattle.krieg_board.specs.declared.men.Kind.TheVariants.{Pawn, Knight, Bishop, Rook, Queen, King}
 use Rattle.krieg_board.specs.declared.men.Man.{Man}
 
+-- 1 to 6
 abbrev pub kind_code : Kind → ℕ
 kind_code Pawn = 1
 kind_code Knight = 2

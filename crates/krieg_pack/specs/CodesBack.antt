@@ -13,6 +13,7 @@ use Rattle.krieg_board.specs.declared.men.Rights.{Rights}
 use Rattle.krieg_pack.specs.Codes.{man_code, mark_code, side_code}
 use Rattle.krieg_pack.specs.Decoding.{man_of, mark_of, side_of, rights_of}
 
+-- each man
 by_kind : (side : Side) (kind : Kind) → man_of (man_code (Some (record { side = side; kind = kind }))) ≡ Some (record { side = side; kind = kind })
 by_kind White Pawn = refl
 by_kind White Knight = refl
@@ -27,10 +28,12 @@ by_kind Black Rook = refl
 by_kind Black Queen = refl
 by_kind Black King = refl
 
+-- a man, or none, from its code
 pub man_back : (m : Option Man) → man_of (man_code m) ≡ m
 man_back None = refl
 man_back (Some m) = by_kind m.side m.kind
 
+-- a row of squares from its codes
 pub men_back : (ms : List (Option Man)) → map man_of (map man_code ms) ≡ ms
 men_back [] = refl
 men_back (m ∷ ms) = λ i. man_back m i ∷ men_back ms i
@@ -45,6 +48,7 @@ mark_back (Some s) =
     let some : (s + 1 == 0) ≡ false = grind (arith, nat_tests) in
     cond-false (s + 1 == 0) None (Some (s + 1 - 1)) some ∙ ap Some (omega arith)
 
+-- each of the sixteen sets of rights
 by_bits : (a b c d : Bool) → rights_of (bits_of (record { white_short = a; white_long = b; black_short = c; black_long = d })) ≡ record { white_short = a; white_long = b; black_short = c; black_long = d }
 by_bits true true true true = refl
 by_bits true true true false = refl

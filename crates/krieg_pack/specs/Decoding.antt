@@ -7,20 +7,25 @@ use Rattle.krieg_board.specs.declared.men.Kind.TheVariants.{Pawn, Knight, Bishop
 use Rattle.krieg_board.specs.declared.men.Man.{Man}
 use Rattle.krieg_board.specs.declared.men.Rights.{Rights}
 
+-- the kinds by 1 to 5, and a king by any other number
 abbrev pub kind_of : ℕ → Kind
 kind_of n = cond (n == 1) Pawn (cond (n == 2) Knight (cond (n == 3) Bishop (cond (n == 4) Rook (cond (n == 5) Queen King))))
 
+-- nothing by 0, a white man by 1 to 6, a black one by a greater number
 abbrev pub man_of : ℕ → Option Man
 man_of n =
     cond (n == 0) None
     (cond (nat_le n 6) (Some (record { side = White; kind = kind_of n }))
     (Some (record { side = Black; kind = kind_of (n - 6) })))
 
+-- White by 0, Black by any other number
 abbrev pub side_of : ℕ → Side
 side_of n = cond (n == 0) White Black
 
+-- no mark by 0, else the square before the number
 abbrev pub mark_of : ℕ → Option ℕ
 mark_of n = cond (n == 0) None (Some (n - 1))
 
+-- the rights by their bits
 abbrev pub rights_of : ℕ → Rights
 rights_of n = record { white_short = n % 2 == 1; white_long = n / 2 % 2 == 1; black_short = n / 4 % 2 == 1; black_long = n / 8 == 1 }

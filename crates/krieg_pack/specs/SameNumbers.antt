@@ -39,6 +39,7 @@ split_same xs ys us vs l e =
     (sym (take_at xs us (length xs) refl) ∙ ap (take (length xs)) e ∙ take_at ys vs (length xs) n,
      sym (drop_at xs us (length xs) refl) ∙ ap (drop (length xs)) e ∙ drop_at ys vs (length xs) n)
 
+-- the order tells positions apart
 pub same_position : (p q : Pos) → position_cmp p q ≡ Equal → p ≡ q
 unfolding numbers
 same_position p q h =
@@ -53,10 +54,12 @@ same_position p q h =
     let side = sym (side_back p.side) ∙ ap side_of es ∙ side_back q.side in
     λ i. record { board = board i; side = side i; rights = rights i; mark = mark i }
 
+-- what the test of equality tells
 equal_from : (o : Ordering) → is_eq o ≡ true → o ≡ Equal
 equal_from Less h = cc
 equal_from Equal h = refl
 equal_from Greater h = cc
 
+-- and so does the test of equality
 pub equal_position : (p q : Pos) → position_eq p q ≡ true → p ≡ q
 equal_position p q h = same_position p q (equal_from (position_cmp p q) h)

@@ -77,7 +77,7 @@ impl Belief {
         ensures value { IfOk result (λ b. b ≡ set_of list.now) }
         ensures set { IfOk result (λ b. IsSetOf b list.now) }
     {
-        let mut packed = Vec::new(alloc);
+        let mut packed = Vec::with_capacity(alloc, list.len())?;
         for p in list {
             packed.push(pack(p))?;
         }
