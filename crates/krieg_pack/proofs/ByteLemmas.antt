@@ -1,9 +1,8 @@
 -- The bytes of a packed position, two codes at a time, and their order.
-use Rattle.std.proofs.Common.{◌≡◌, ℕ, zero, suc, ◌+◌, ◌*◌, ◌<◌, ◌≤◌, List, [], ◌∷◌, ◌++◌, length, refl, sym, ap, ◌∙◌, arith, map, take, drop, get_or, append_assoc}
+use Rattle.std.proofs.Common.{◌≡◌, ℕ, zero, suc, ◌+◌, ◌*◌, ◌<◌, List, [], ◌∷◌, ◌++◌, length, refl, sym, ap, ◌∙◌, arith, map, take, drop, get_or, append_assoc}
 use Rattle.std.specs.Prelude.{Option, None, slice_set}
 use Rattle.std.specs.Cmp.Lexicographic.{slice_cmp}
 use Rattle.std.specs.Ordering.{nat_cmp, ordering_then}
-use Rattle.std.specs.declared.cmp.Ordering.{Ordering}
 use Rattle.std.proofs.lemmas.List.{take_more_set, drop_more, get_or-map, length-map, take-append-drop, append-nil, drop_all}
 use Rattle.krieg_board.specs.Men.{bits_of}
 use Rattle.krieg_board.specs.Pos.{Pos}
@@ -18,7 +17,7 @@ use Rattle.krieg_pack.proofs.PackedOrder.{value_cmp}
 -- one byte more is written, and two codes fewer are left
 pub pair_step : (bytes : List ℕ) (men : List (Option Man)) (i : ℕ) → i < length bytes → 2 * i + 1 < length men →
     take (i + 1) (slice_set bytes i (16 * man_code (get_or men (2 * i) None) + man_code (get_or men (2 * i + 1) None))) ++ paired (drop (2 * (i + 1)) (map man_code men))
-        ≡ take i bytes ++ paired (drop (2 * i) (map man_code men))
+    ≡ take i bytes ++ paired (drop (2 * i) (map man_code men))
 pair_step bytes men i i_in two_in =
     let codes = map man_code men in
     let size : length codes ≡ length men = length-map men man_code in

@@ -1,5 +1,5 @@
 -- How many members sets have, and repeats that are dropped early.
-use Rattle.std.proofs.Common.{◌≡◌, ℕ, suc, ◌≤◌, Bool, true, false, cond, List, [], ◌∷◌, ◌++◌, ◌⊎◌, inl, inr, length, sym, subst, ◌∙◌, refl, arith}
+use Rattle.std.proofs.Common.{◌≡◌, suc, ◌≤◌, Bool, true, false, cond, List, [], ◌∷◌, ◌++◌, ◌⊎◌, inl, inr, length, sym, subst, ◌∙◌, refl, arith}
 use Rattle.std.proofs.lemmas.Bool.{both_ways}
 use Rattle.krieg_pack.specs.Sets.{In, Ascending, IsOrder, as_set, insert_once}
 use Rattle.krieg_pack.proofs.Lists.{in_append_left, in_append_right, append_in}
@@ -56,6 +56,7 @@ module _ {X : Type 0} (lt : X → X → Bool) where
         less : (z : X) → In z (as_set lt xs) ⊎ In z ys → In z (xs ++ ys)
         less z (inl i) = in_append_left xs ys z (as_set_in lt O z xs i)
         less z (inr j) = in_append_right xs ys z j
+
         more : (z : X) → In z xs ⊎ In z ys → In z (as_set lt xs ++ ys)
         more z (inl i) = in_append_left (as_set lt xs) ys z (in_as_set lt O z xs i)
         more z (inr j) = in_append_right (as_set lt xs) ys z j

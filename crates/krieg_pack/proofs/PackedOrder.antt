@@ -38,9 +38,9 @@ value_cmp a b (x ∷ xs) (y ∷ ys) us vs e l d f =
     let right = λ (o : Ordering). ordering_then o (slice_cmp nat_cmp (xs ++ us) (ys ++ vs)) in
     let same : length xs ≡ length ys = omega arith in
     by_ranked (x < y) (x ≡ y) (y < x) (nat_cmp x y) (ranked x y (nat_cmp x y) refl)
-      (λ is h. ap left (cmp_less _ _ (value-less (16 * a + x) (16 * b + y) xs ys same d.1 f.1 (omega arith))) ∙ sym (ap right is))
-      (λ is h. value_cmp (16 * a + x) (16 * b + y) xs ys us vs (omega arith) same d.1 f.1 ∙ sym (ap right is))
-      (λ is h. ap left (cmp_greater _ _ (value-less (16 * b + y) (16 * a + x) ys xs (sym same) f.1 d.1 (omega arith))) ∙ sym (ap right is))
+    (λ is h. ap left (cmp_less _ _ (value-less (16 * a + x) (16 * b + y) xs ys same d.1 f.1 (omega arith))) ∙ sym (ap right is))
+    (λ is h. value_cmp (16 * a + x) (16 * b + y) xs ys us vs (omega arith) same d.1 f.1 ∙ sym (ap right is))
+    (λ is h. ap left (cmp_greater _ _ (value-less (16 * b + y) (16 * a + x) ys xs (sym same) f.1 d.1 (omega arith))) ∙ sym (ap right is))
 
 -- two words compare as their codes do, one by one
 word_cmp : (xs ys : List (Option Man)) (us vs : List ℕ) → length xs ≡ 16 → length ys ≡ 16 →
@@ -53,7 +53,7 @@ word_cmp xs ys us vs l m =
 -- the numbers by the words that hold them
 numbers-words : (p : Pos) → length p.board ≡ 64 →
     numbers p ≡ map man_code (take 16 p.board) ++ (map man_code (take 16 (drop 16 p.board)) ++ (map man_code (take 16 (drop 32 p.board)) ++ (map man_code (take 16 (drop 48 p.board))
-        ++ (bits_of p.rights ∷ mark_code p.mark ∷ side_code p.side ∷ []))))
+    ++ (bits_of p.rights ∷ mark_code p.mark ∷ side_code p.side ∷ []))))
 unfolding numbers
 numbers-words p l =
     let state = bits_of p.rights ∷ mark_code p.mark ∷ side_code p.side ∷ [] in

@@ -1,5 +1,5 @@
 -- The laws of the order of positions and of sets of positions, for the crates that cite them.
-use Rattle.std.proofs.Common.{◌≡◌, ℕ, ◌≤◌, Bool, true, false, length, filter, List, [], ◌++◌, refl, sym, ap, ◌∙◌}
+use Rattle.std.proofs.Common.{◌≡◌, ℕ, ◌≤◌, Bool, true, length, filter, List, [], ◌++◌, refl, sym, ap, ◌∙◌}
 use Rattle.std.specs.List.{dedup}
 use Rattle.std.specs.List.Sorted.{IsSorted, IsPermutation, IsBinarySearchResult, IsSearchInRange}
 use Rattle.std.specs.Cmp.Lexicographic.{pointwise}
@@ -93,6 +93,7 @@ found_position = found position_cmp position_total same_position
 
 -- the test of two sets tells whether they are one list
 pub same_list : (ps qs : List Pos) (b : Bool) → b ≡ pointwise position_eq ps qs → (b ≡ true → ps ≡ qs) × (ps ≡ qs → b ≡ true)
-same_list ps qs b is =
-    (λ e. pointwise_same position_cmp position_total same_position ps qs (sym is ∙ e),
-     λ e. is ∙ ap (pointwise position_eq ps) (sym e) ∙ pointwise_self position_cmp position_total same_position ps)
+same_list ps qs b is = (
+  λ e. pointwise_same position_cmp position_total same_position ps qs (sym is ∙ e),
+  λ e. is ∙ ap (pointwise position_eq ps) (sym e) ∙ pointwise_self position_cmp position_total same_position ps,
+)

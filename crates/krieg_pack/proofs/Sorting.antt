@@ -63,10 +63,10 @@ module _ {X : Type 0} (R : X → X → Ordering) (o : IsTotalOrder R) (same : (x
   pub sorted_set : (xs ys : List X) → IsPermutation xs ys → IsSorted R ys → dedup (eq_by_cmp R) ys ≡ as_set lt xs
   sorted_set xs ys moved sorted =
       same_set lt is_order (dedup (eq_by_cmp R) ys) (as_set lt xs)
-        (ascending_from _ (IsStrictlySortedBy-dedup o (λ x y. refl) ys sorted))
-        (as_set_ascending lt is_order xs)
-        (λ z i. in_as_set lt is_order z xs (contains_in z xs (Contains-permutation _ _ z (IsPermutation-sym _ _ moved) (Contains-from_dedup _ ys z (in_contains z _ i)))))
-        (λ z i. contains_in z _ (Contains-dedup (eq_by_cmp_equiv o) (λ x y e. same x y (equal_from (R x y) e)) ys z (Contains-permutation _ _ z moved (in_contains z xs (as_set_in lt is_order z xs i)))))
+      (ascending_from _ (IsStrictlySortedBy-dedup o (λ x y. refl) ys sorted))
+      (as_set_ascending lt is_order xs)
+      (λ z i. in_as_set lt is_order z xs (contains_in z xs (Contains-permutation _ _ z (IsPermutation-sym _ _ moved) (Contains-from_dedup _ ys z (in_contains z _ i)))))
+      (λ z i. contains_in z _ (Contains-dedup (eq_by_cmp_equiv o) (λ x y e. same x y (equal_from (R x y) e)) ys z (Contains-permutation _ _ z moved (in_contains z xs (as_set_in lt is_order z xs i)))))
 
   asym : (y z : X) → lt y z ≡ true → lt z y ≡ false
   asym y z h = ap is_lt (o.antisymm z y ∙ ap ordering_reverse (less_from (R y z) h))
@@ -93,7 +93,7 @@ module _ {X : Type 0} (R : X → X → Ordering) (o : IsTotalOrder R) (same : (x
           let p = h (rises xs x up) in
           let high = λ (b : i ≤ c.0). greater_not (sym (p.1 c.0 x b c.1) ∙ level) in
           by_ranked (c.0 < i) (c.0 ≡ i) (i < c.0) (nat_cmp c.0 i) (ranked c.0 i (nat_cmp c.0 i) refl)
-            (λ e a. less_not (sym (p.0 c.0 x (omega arith) a) ∙ level)) (λ e b. high (omega arith)) (λ e b. high (omega arith))
+          (λ e a. less_not (sym (p.0 c.0 x (omega arith) a) ∙ level)) (λ e b. high (omega arith)) (λ e b. high (omega arith))
 
   -- lists that are equal member by member are one list
   pub pointwise_same : (xs ys : List X) → pointwise (eq_by_cmp R) xs ys ≡ true → xs ≡ ys

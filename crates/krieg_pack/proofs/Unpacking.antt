@@ -1,9 +1,7 @@
 -- Unpacking gives back what was packed, and what was unpacked packs to the same fields.
-use Rattle.std.proofs.Common.{◌≡◌, ℕ, zero, suc, ◌+◌, ◌*◌, ◌-◌, ◌/◌, ◌%◌, ◌<◌, ◌≤◌, Bool, true, false, cond, List, [], ◌∷◌, ◌++◌, length, refl, sym, ap, subst, ◌∙◌, arith, map, take, drop, append_assoc}
-use Rattle.std.proofs.lemmas.List.{length-map, length-take-le, length-drop, take-append-drop, take_all, append-nil, drop-drop, drop_all}
-use Rattle.std.specs.Prelude.{Option, Some, None, ⊤, ◌==◌}
-use Rattle.std.proofs.lemmas.Bool.{cond-false}
-use Rattle.std.proofs.lemmas.Bool.Decides.{nat_tests}
+use Rattle.std.proofs.Common.{◌≡◌, ℕ, ◌+◌, ◌<◌, ◌≤◌, List, [], ◌∷◌, ◌++◌, length, sym, ap, subst, ◌∙◌, arith, map, take, drop}
+use Rattle.std.proofs.lemmas.List.{length-map, length-take-le, length-drop, take-append-drop, take_all, append-nil, drop-drop}
+use Rattle.std.specs.Prelude.{Option, Some, None}
 use Rattle.krieg_board.specs.Men.{bits_of}
 use Rattle.krieg_board.specs.Pos.{Pos}
 use Rattle.krieg_board.specs.Validity.{IsValid}
@@ -12,8 +10,7 @@ use Rattle.krieg_board.specs.declared.men.Side.TheVariants.{White, Black}
 use Rattle.krieg_board.specs.declared.men.Kind.{Kind}
 use Rattle.krieg_board.specs.declared.men.Kind.TheVariants.{Pawn, Knight, Bishop, Rook, Queen, King}
 use Rattle.krieg_board.specs.declared.men.Man.{Man}
-use Rattle.krieg_board.specs.declared.men.Rights.{Rights}
-use Rattle.krieg_pack.specs.Codes.{man_code, mark_code, side_code, numbers}
+use Rattle.krieg_pack.specs.Codes.{man_code, mark_code, side_code}
 use Rattle.krieg_pack.specs.Decoding.{man_of, mark_of, side_of, rights_of}
 use Rattle.krieg_pack.specs.Packing.{value, digits, word, men_of, packed, unpacked, IsPacked}
 use Rattle.krieg_pack.specs.declared.packed.Packed.TheInside.{Inside}

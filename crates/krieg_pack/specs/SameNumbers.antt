@@ -1,5 +1,5 @@
 -- Positions with the same numbers are the same, valid or not.
-use Rattle.std.proofs.Common.{◌≡◌, ℕ, ◌+◌, ◌<◌, Bool, true, List, [], ◌∷◌, ◌++◌, length, refl, sym, ap, ◌∙◌, arith, map, take, drop}
+use Rattle.std.proofs.Common.{◌≡◌, ℕ, ◌+◌, ◌<◌, true, List, [], ◌∷◌, ◌++◌, length, refl, sym, ap, ◌∙◌, arith, map, take, drop}
 use Rattle.std.specs.Cmp.Lexicographic.{slice_cmp}
 use Rattle.std.specs.declared.cmp.Ordering.{Ordering}
 use Rattle.std.specs.declared.cmp.Ordering.TheVariants.{Less, Equal, Greater}
@@ -22,12 +22,13 @@ same_lists (x ∷ xs) (y ∷ ys) h =
     let then = λ (r : Ordering). ordering_then r (slice_cmp nat_cmp xs ys) in
     let rest = same_lists xs ys in
     by_ranked (x < y) (x ≡ y) (y < x) (nat_cmp x y) (ranked x y (nat_cmp x y) refl)
-      (λ is k. absurd (less_not (sym (ap then is) ∙ h)))
-      (λ is k. let r = rest (sym (ap then is) ∙ h) in λ i. k i ∷ r i)
-      (λ is k. absurd (greater_not (sym (ap then is) ∙ h)))
+    (λ is k. absurd (less_not (sym (ap then is) ∙ h)))
+    (λ is k. let r = rest (sym (ap then is) ∙ h) in λ i. k i ∷ r i)
+    (λ is k. absurd (greater_not (sym (ap then is) ∙ h)))
   where
     less_not : Less ≡ Equal → ⊥
     less_not e = cc
+
     greater_not : Greater ≡ Equal → ⊥
     greater_not e = cc
 
@@ -35,9 +36,10 @@ same_lists (x ∷ xs) (y ∷ ys) h =
 split_same : (xs ys us vs : List ℕ) → length us ≡ length vs → xs ++ us ≡ ys ++ vs → (xs ≡ ys) × (us ≡ vs)
 split_same xs ys us vs l e =
     let total : length xs + length us ≡ length ys + length vs = sym (length-append xs us) ∙ ap length e ∙ length-append ys vs in
-    let n : length ys ≡ length xs = omega arith in
-    (sym (take_at xs us (length xs) refl) ∙ ap (take (length xs)) e ∙ take_at ys vs (length xs) n,
-     sym (drop_at xs us (length xs) refl) ∙ ap (drop (length xs)) e ∙ drop_at ys vs (length xs) n)
+    let n : length ys ≡ length xs = omega arith in (
+      sym (take_at xs us (length xs) refl) ∙ ap (take (length xs)) e ∙ take_at ys vs (length xs) n,
+      sym (drop_at xs us (length xs) refl) ∙ ap (drop (length xs)) e ∙ drop_at ys vs (length xs) n,
+    )
 
 -- the order tells positions apart
 pub same_position : (p q : Pos) → position_cmp p q ≡ Equal → p ≡ q

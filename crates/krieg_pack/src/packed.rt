@@ -130,9 +130,12 @@ impl Packed {
     fn compare(&self, other: &Packed) -> Ordering
         ensures { result ≡ position_cmp self.now other.now }
     {
-        let state = self.rights.cmp(&other.rights).then(self.mark.cmp(&other.mark).then(self.side.cmp(&other.side)));
-        let low = self.third.cmp(&other.third).then(self.fourth.cmp(&other.fourth).then(state));
-        self.first.cmp(&other.first).then(self.second.cmp(&other.second).then(low))
+        let rest = self.mark.cmp(&other.mark).then(self.side.cmp(&other.side));
+        let rest = self.rights.cmp(&other.rights).then(rest);
+        let rest = self.fourth.cmp(&other.fourth).then(rest);
+        let rest = self.third.cmp(&other.third).then(rest);
+        let rest = self.second.cmp(&other.second).then(rest);
+        self.first.cmp(&other.first).then(rest)
     }
 }
 

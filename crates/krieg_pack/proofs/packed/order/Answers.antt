@@ -13,6 +13,7 @@ pub returns-clause-bytes : goal.returns-clause-bytes
 returns-clause-bytes c = whole c ∙ sym (bytes_cmp c.args.a.now c.args.c.now c.pack.ensures.valid.squares c.pack-2.ensures.valid.squares)
 
 pub returns-clause-equal : goal.returns-clause-equal
-returns-clause-equal c =
-    (λ e. same_position c.args.a.now c.args.c.now (sym (whole c) ∙ e),
-     λ e. whole c ∙ ap (position_cmp c.args.a.now) (sym e) ∙ tied_itself position_total c.args.a.now)
+returns-clause-equal c = (
+  λ e. same_position c.args.a.now c.args.c.now (sym (whole c) ∙ e),
+  λ e. whole c ∙ ap (position_cmp c.args.a.now) (sym e) ∙ tied_itself position_total c.args.a.now,
+)

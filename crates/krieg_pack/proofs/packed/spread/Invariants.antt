@@ -5,6 +5,6 @@ use Rattle.krieg_pack.proofs.packed.spread.Given as goal
 
 abbrev pub invariant-loop-i : goal.invariant-loop-i
 invariant-loop-i l = record {
-    size : length l.board ≡ 64;
-    left : map man_of (digits (16 - l.i) l.rest []) ++ drop (l.from + (16 - l.i)) l.board ≡ men_of l.w ++ drop (l.from + 16) l.initial.board;
-  }
+  size : length l.board ≡ 64;
+  left : map man_of (digits (16 - l.i) l.rest []) ++ drop (l.from + (16 - l.i)) l.board ≡ men_of l.w ++ drop (l.from + 16) l.initial.board;
+}

@@ -1,5 +1,5 @@
-use Rattle.std.proofs.Common.{◌≡◌, sym, ap, subst, ◌∙◌, arith}
-use Rattle.krieg_board.specs.Validity.{IsValid, first_fault}
+use Rattle.std.proofs.Common.{◌≡◌, ap, ◌∙◌}
+use Rattle.krieg_board.specs.Validity.{first_fault}
 use Rattle.krieg_board.specs.Pos.{Pos}
 use Rattle.krieg_pack.specs.Packing.{unpacked}
 use Rattle.krieg_pack.proofs.Unpacking.{unpacked_is, joined}

@@ -1,4 +1,4 @@
-use Rattle.std.proofs.Common.{◌≡◌, ◌<◌, ◌*◌, ◌+◌, ◌^◌, ℕ, map, take, arith, ap, sym, ◌∙◌, length, rules, None, get_or}
+use Rattle.std.proofs.Common.{◌<◌, ◌*◌, ◌+◌, ◌^◌, map, take, arith, ap, ◌∙◌, None, get_or}
 use Rattle.std.proofs.lemmas.List.{map_more, take_all}
 use Rattle.krieg_pack.specs.Codes.{man_code}
 use Rattle.krieg_pack.specs.Packing.{value, word}

@@ -29,8 +29,8 @@ returns c =
     let last : c.loop-i.i ≡ 32 = omega arith in
     let board = c.board-board.ensures.value in
     bytes_end c.loop-i.bytes p c.loop-i.i _ _ _ last c.board-board.ensures.valid.squares c.loop-i.invariant.state
-      ((λ k. take c.loop-i.i c.loop-i.bytes ++ paired (drop (2 * c.loop-i.i) (map man_code (sym board k)))) ∙ c.loop-i.invariant.done ∙ ap (λ b. paired (map man_code b)) board)
-      (c.bits.ensures ∙ ap bits_of c.rights.ensures.value)
-      (c.mark_code.ensures.value ∙ ap mark_code c.mark.ensures.value)
-      (c.side_code.ensures.value ∙ ap side_code c.side.ensures.value)
+    ((λ k. take c.loop-i.i c.loop-i.bytes ++ paired (drop (2 * c.loop-i.i) (map man_code (sym board k)))) ∙ c.loop-i.invariant.done ∙ ap (λ b. paired (map man_code b)) board)
+    (c.bits.ensures ∙ ap bits_of c.rights.ensures.value)
+    (c.mark_code.ensures.value ∙ ap mark_code c.mark.ensures.value)
+    (c.side_code.ensures.value ∙ ap side_code c.side.ensures.value)
     ∙ ap bytes_of c.unpack-p.ensures.value
