@@ -3,6 +3,7 @@
 
 use crate::*;
 use krieg_board::{BadPosition, Board, Kind, Man, NoMemory, Position, Rights, Side, Square};
+use std::alloc::Global;
 use std::cmp::Ordering;
 
 const NO_RIGHTS: Rights = Rights {
@@ -34,6 +35,16 @@ fn rook_ending(black_king: u8) -> Result<Position, BadPosition> {
         (black_king, Side::Black, Kind::King),
     ];
     Position::make(board_of(&men), Side::White, NO_RIGHTS, None)
+}
+
+/// The same with the black king on a8, b8, c8 and d8.
+fn rook_endings() -> Result<[Position; 4], BadPosition> {
+    Ok([
+        rook_ending(56)?,
+        rook_ending(57)?,
+        rook_ending(58)?,
+        rook_ending(59)?,
+    ])
 }
 
 /// h1 is the second square of byte 3, b6 that of byte 20, and b8 that of byte 28.
@@ -94,42 +105,50 @@ fn writes_every_code(rt: HostRuntime) -> Result<(), BadPosition> {
 /// The black king stands on a later square, so the earlier one is empty and the position comes first.
 #[test]
 fn orders_by_the_first_square_that_differs(rt: HostRuntime) -> Result<(), BadPosition> {
-    let a8 = rook_ending(56)?;
-    let c8 = rook_ending(58)?;
-    let d8 = rook_ending(59)?;
-    assert_eq!(rt; order(&d8, &c8), Ordering::Less);
-    assert_eq!(rt; order(&c8, &a8), Ordering::Less);
-    assert_eq!(rt; order(&a8, &d8), Ordering::Greater);
-    assert_eq!(rt; order(&a8, &unpack(&pack(&a8))), Ordering::Equal);
+    let endings = rook_endings()?;
+    let p = &endings[..];
+    for i in 0..3 {
+        assert_eq!(rt; order(&p[i + 1], &p[i]), Ordering::Less, "at {i}");
+        assert_eq!(rt; order(&p[i], &p[i + 1]), Ordering::Greater, "at {i}");
+    }
+    assert_eq!(rt; order(&p[0], &unpack(&pack(&p[0]))), Ordering::Equal);
     Ok(())
 }
 
-/// Two kings with a black pawn on d5: with and without its mark.
-fn pawn_ending(mark: Option<Square>) -> Result<Position, BadPosition> {
+/// Two kings and a black pawn on d5, without its mark and with it.
+fn with_and_without_mark() -> Result<[Position; 2], BadPosition> {
     let men = [
         (4, Side::White, Kind::King),
         (35, Side::Black, Kind::Pawn),
         (60, Side::Black, Kind::King),
     ];
-    Position::make(board_of(&men), Side::White, NO_RIGHTS, mark)
+    let board = board_of(&men);
+    Ok([
+        Position::make(board, Side::White, NO_RIGHTS, None)?,
+        Position::make(board, Side::White, NO_RIGHTS, Square::new(43))?,
+    ])
 }
 
-/// A white king on e1 and rook on h1, with or without the right to castle.
-fn castle_ending(white_short: bool) -> Result<Position, BadPosition> {
+/// A white king on e1 and rook on h1, without the right to castle and with it.
+fn with_and_without_right() -> Result<[Position; 2], BadPosition> {
     let men = [
         (4, Side::White, Kind::King),
         (7, Side::White, Kind::Rook),
         (60, Side::Black, Kind::King),
     ];
-    let rights = Rights {
-        white_short,
+    let board = board_of(&men);
+    let short = Rights {
+        white_short: true,
         ..NO_RIGHTS
     };
-    Position::make(board_of(&men), Side::White, rights, None)
+    Ok([
+        Position::make(board, Side::White, NO_RIGHTS, None)?,
+        Position::make(board, Side::White, short, None)?,
+    ])
 }
 
 /// Why a test stops early.
-#[derive(Debug, Drop)]
+#[derive(Clone, Copy, Debug)]
 enum Stop {
     Bad(BadPosition),
     Memory(NoMemory),
@@ -152,55 +171,67 @@ impl From<NoMemory> for Stop {
 #[test]
 fn drops_repeats_alone(rt: HostRuntime) -> Result<(), Stop> {
     let p = rook_ending(57)?;
-    let once = Belief::from_positions(rt.alloc(), &[p, p])?;
-    assert_eq!(rt; once.len(), 1);
-    assert_eq!(rt; order(&once.get(0), &p), Ordering::Equal);
-    let marks = [pawn_ending(None)?, pawn_ending(Square::new(43))?];
+    let marks = with_and_without_mark()?;
+    let rights = with_and_without_right()?;
+    assert_eq!(rt; Belief::from_positions(rt.alloc(), &[p, p])?.len(), 1);
     assert_eq!(rt; Belief::from_positions(rt.alloc(), &marks)?.len(), 2);
-    let rights = [castle_ending(true)?, castle_ending(false)?];
     assert_eq!(rt; Belief::from_positions(rt.alloc(), &rights)?.len(), 2);
     Ok(())
 }
 
-/// A set lists its members in order, and a copy of it is the same set.
+/// A set lists its members in order, d8 first, and a copy of it is the same set.
 #[test]
 fn lists_members_in_order(rt: HostRuntime) -> Result<(), Stop> {
-    let a8 = rook_ending(56)?;
-    let c8 = rook_ending(58)?;
-    let d8 = rook_ending(59)?;
-    let set = Belief::from_positions(rt.alloc(), &[a8, d8, c8, d8])?;
+    let endings = rook_endings()?;
+    let p = &endings[..];
+    let set = Belief::from_positions(rt.alloc(), &[p[0], p[3], p[2], p[3]])?;
     assert_eq!(rt; set.len(), 3);
-    assert_eq!(rt; order(&set.get(0), &d8), Ordering::Equal);
-    assert_eq!(rt; order(&set.get(1), &c8), Ordering::Equal);
-    assert_eq!(rt; order(&set.get(2), &a8), Ordering::Equal);
-    assert!(rt; set.holds(&a8) && set.holds(&c8) && set.holds(&d8));
-    assert!(rt; !set.holds(&rook_ending(57)?));
+    for (place, i) in [(0, 3), (1, 2), (2, 0)] {
+        if place < set.len() && i < 4 {
+            assert_eq!(rt;
+                order(&set.get(place), &p[i]),
+                Ordering::Equal,
+                "at {place}"
+            );
+            assert!(rt; set.holds(&p[i]), "at {place}");
+        }
+    }
+    assert!(rt; !set.holds(&p[1]));
     let copy = set.copy()?;
-    assert!(rt; copy.same(&set) && copy.holds(&a8));
-    assert!(rt; !set.same(&Belief::from_positions(rt.alloc(), &[a8, c8])?));
+    assert!(rt; copy.same(&set));
     Ok(())
+}
+
+/// Sets of one length are the same only where their members are.
+#[test]
+fn tells_sets_apart(rt: HostRuntime) -> Result<(), Stop> {
+    let endings = rook_endings()?;
+    let p = &endings[..];
+    let a = Belief::from_positions(rt.alloc(), &[p[0], p[1]])?;
+    let b = Belief::from_positions(rt.alloc(), &[p[0], p[2]])?;
+    assert!(rt; !a.same(&b));
+    Ok(())
+}
+
+/// The two positions by turns, forty times each.
+fn by_turns(alloc: Global, a: &Position, b: &Position) -> Result<Vec<Packed>, NoMemory> {
+    let mut buffer = Vec::new(alloc);
+    for _ in 0..40 {
+        buffer.push(pack(a))?;
+        buffer.push(pack(b))?;
+    }
+    Ok(buffer)
 }
 
 /// A full buffer keeps what is different in it, unless that is too much.
 #[test]
 fn trims_a_full_buffer(rt: HostRuntime) -> Result<(), Stop> {
-    let a8 = pack(&rook_ending(56)?);
-    let c8 = pack(&rook_ending(58)?);
-    let mut buffer = Vec::new(rt.alloc());
-    for _ in 0..40 {
-        if buffer.push(a8).is_err() || buffer.push(c8).is_err() {
-            return Err(Stop::Memory(NoMemory));
-        }
-    }
-    assert_eq!(rt; trim(&mut buffer, 10), Ok(()));
-    assert_eq!(rt; buffer.len(), 80);
+    let endings = rook_endings()?;
+    let p = &endings[..];
+    let mut buffer = by_turns(rt.alloc(), &p[0], &p[1])?;
     assert_eq!(rt; trim(&mut buffer, 2), Ok(()));
     assert_eq!(rt; buffer.len(), 2);
-    for _ in 0..40 {
-        if buffer.push(a8).is_err() || buffer.push(c8).is_err() {
-            return Err(Stop::Memory(NoMemory));
-        }
-    }
-    assert_eq!(rt; trim(&mut buffer, 1), Err(TooMany));
+    let mut too_much = by_turns(rt.alloc(), &p[0], &p[1])?;
+    assert_eq!(rt; trim(&mut too_much, 1), Err(TooMany));
     Ok(())
 }
