@@ -1,0 +1,5 @@
+pub mod Hands
+pub mod Entering
+pub mod Entries
+pub mod ListedPositions
+pub mod SheetLocality

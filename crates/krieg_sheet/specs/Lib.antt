@@ -1,0 +1,7 @@
+pub mod Sheets
+pub mod Turns
+pub mod Lists
+pub mod Places
+pub mod Dialects
+pub mod SheetReading
+pub mod Games

@@ -1,0 +1,70 @@
+-- The sheet that a text spells, line by line.
+use Rattle.std.specs.Prelude.{ℕ, ◌==◌, Bool, ◌&&◌, List, codes, Option, Some, None, is_none, length, Result, Ok, Err, if◌then◌else◌}
+use Rattle.std.specs.Str.{bytes_eq}
+use Rattle.krieg_fen.specs.declared.fault.TextKind.{TextKind}
+use Rattle.krieg_fen.specs.declared.fault.TextKind.TheVariants.{Syntax, OutOfPlace}
+use Rattle.krieg_fen.specs.Outcomes.{◌>>=◌}
+use Rattle.krieg_fen.specs.Reading.{LineReader, taken, Step, goes_on, stops, up_to_last}
+use Rattle.krieg_fen.specs.Forms.{version_form, count_form, side_form, positions_at}
+use Rattle.krieg_words.specs.Said.{Said}
+use Rattle.krieg_words.specs.LineText.{line_in}
+use Rattle.krieg_words.specs.declared.dialects.Line.{Line}
+use Rattle.krieg_words.specs.declared.dialects.Line.TheVariants.{Opens}
+use Rattle.krieg_sheet.specs.Sheets.{SheetState, fresh, entered}
+use Rattle.krieg_sheet.specs.Turns.{is_in_place}
+use Rattle.krieg_sheet.specs.Dialects.{dialect_at}
+
+-- the format's name and one of its two versions
+unfoldable pub sheet_form : List ℕ → Result ℕ TextKind
+sheet_form text = version_form (codes "krieg sheet ") 2 text
+
+-- how many positions are listed
+unfoldable pub list_form : List ℕ → Result ℕ TextKind
+list_form text = count_form (codes "list ") 1 200000 text
+
+-- opening words stand right behind the list, once
+abbrev pub may_open : SheetState → Bool
+may_open s = is_none s.opens && length s.entries == 0
+
+-- which line of a text may stand behind those that were read
+abbrev pub may_follow : SheetState → Line → Bool
+may_follow s (Opens w) = may_open s
+may_follow s l = is_in_place s l
+
+abbrev pub opened : SheetState → Said → SheetState
+opened s w = record { dialect = s.dialect; side = s.side; list = s.list; opens = Some w; entries = s.entries }
+
+abbrev pub followed_by : SheetState → Line → SheetState
+followed_by s (Opens w) = opened s w
+followed_by s l = entered s l
+
+-- a line that the dialect does not have is syntax
+abbrev pub placed : SheetState → Option Line → Result (Option Line) TextKind
+placed s None = Err Syntax
+placed s (Some l) = if may_follow s l then Ok (Some l) else Err OutOfPlace
+
+-- `end`, or a line that may follow
+unfoldable pub next_form : SheetState → List ℕ → Result (Option Line) TextKind
+next_form s text = if bytes_eq text (codes "end") then Ok None else placed s (line_in s.dialect text)
+
+-- the sheet is whole, or goes on with the line
+abbrev pub led : SheetState → Option Line → Step SheetState SheetState
+led s None = stops s
+led s (Some l) = goes_on (followed_by s l)
+
+abbrev pub entry_form : SheetState → List ℕ → Result (Step SheetState SheetState) TextKind
+entry_form s text = next_form s text >>= λ l. Ok (led s l)
+
+-- opening words and entries, up to `end`
+abbrev pub entries_at : SheetState → LineReader SheetState
+entries_at s p = up_to_last entry_form s p.number p.left
+
+-- the places of a sheet in their order: version and dialect, side, number of positions, positions, lines, `end`
+unfoldable pub sheet_at : LineReader SheetState
+sheet_at p = do
+  version ← taken sheet_form p
+  dialect ← dialect_at version.0 version.1
+  side ← taken side_form dialect.1
+  count ← taken list_form side.1
+  list ← positions_at side.0 None count.0 count.1
+  entries_at (fresh dialect.0 side.0 list.0 None) list.1

@@ -1,0 +1,18 @@
+//! One player's sheet: the positions in which the game may have begun, and what the player heard since.
+//!
+//! The rules of this crate are the definitions of `specs/`: which entries are in place (`Turns`), what a
+//! list of positions must be (`Lists`), what holds of every sheet (`Places`), the text of a sheet
+//! (`SheetText`) and the sheet that a text spells (`SheetReading`), and the hidden games that a sheet
+//! leaves open (`Games`). Only the constructors, `push`, the reader and the writers take memory.
+#![tactic(auto)]
+
+mod dialects;
+mod lines;
+mod list;
+mod reading;
+mod sheet;
+mod turns;
+
+pub use dialects::read_dialect;
+pub use reading::read_sheet;
+pub use sheet::{Sheet, SheetFault};

@@ -1,0 +1,113 @@
+ghost use Rattle.std.specs.Prelude.{◌≡◌, ◌≢◌, ◌<◌, ◌^◌, true, IfSome, IfOk, IfErr, OnOk, Err, Ok, None};
+ghost use Rattle.std.specs.List.{All};
+ghost use Rattle.krieg_board.specs.Validity.{IsValid};
+ghost use Rattle.krieg_fen.specs.Lines.{lines};
+ghost use Rattle.krieg_fen.specs.Reading.{taken, whole, Gives, GivesOn};
+ghost use Rattle.krieg_fen.specs.FirstBad.{FirstBad};
+ghost use Rattle.krieg_fen.specs.declared.fault.TextFault.TheVariants.{NoMemory as OutOfMemory};
+ghost use Rattle.krieg_words.specs.Told.{LineFits};
+ghost use Rattle.krieg_sheet.specs.Places.{IsSheet};
+ghost use Rattle.krieg_sheet.specs.SheetReading as spec;
+
+use crate::dialects::read_dialect;
+use crate::sheet::Sheet;
+use krieg_fen::{Cursor, TextFault, TextKind, count_line, is_name, read_side, version_line};
+use krieg_words::{Line, read_line_in};
+use std::alloc::Global;
+
+#[tactic(auto, unfolding(crate::specs::SheetReading::sheet_form))]
+fn sheet_line(text: &[u8]) -> Result<u64, TextKind>
+    ensures { result ≡ spec.sheet_form text.now }
+{
+    version_line(b"krieg sheet ", 2, text)
+}
+
+fn read_sheet_version(from: &mut Cursor<'_>) -> Result<u64, TextFault>
+    ensures { GivesOn (λ n. n) result from.new (taken spec.sheet_form from.old) }
+{
+    let line = from.number();
+    sheet_line(from.line()?).map_err(|kind| TextFault::At { line, kind })
+}
+
+#[tactic(auto, unfolding(crate::specs::SheetReading::list_form))]
+fn list_line(text: &[u8]) -> Result<u64, TextKind>
+    ensures { result ≡ spec.list_form text.now }
+{
+    count_line(b"list ", 1, 200_000, text)
+}
+
+fn read_list_count(from: &mut Cursor<'_>) -> Result<u64, TextFault>
+    ensures { GivesOn (λ n. n) result from.new (taken spec.list_form from.old) }
+{
+    let line = from.number();
+    list_line(from.line()?).map_err(|kind| TextFault::At { line, kind })
+}
+
+/// `end`, or a line that may follow what was read.
+#[tactic(auto, unfolding(crate::specs::SheetReading::next_form))]
+fn next_line(sheet: &Sheet, text: &[u8]) -> Result<Option<Line>, TextKind>
+    ensures value { result ≡ spec.next_form sheet.now text.now }
+    ensures fits { IfOk result (λ o. IfSome o (λ l. LineFits sheet.now.dialect l)) }
+    ensures may { IfOk result (λ o. IfSome o (λ l. spec.may_follow sheet.now l ≡ true)) }
+{
+    if is_name(b"end", text) {
+        return Ok(None);
+    }
+    match read_line_in(sheet.dialect(), text) {
+        Err(_) => Err(TextKind::Syntax),
+        Ok(line) => {
+            if sheet.may_follow(&line) {
+                Ok(Some(line))
+            } else {
+                Err(TextKind::OutOfPlace)
+            }
+        }
+    }
+}
+
+/// Reads lines into the sheet, up to `end`.
+#[tactic(auto, using(crate::proofs::Entries::entries))]
+fn read_entries(from: &mut Cursor<'_>, sheet: &mut Sheet) -> Result<(), TextFault>
+    ensures { GivesOn (λ _. sheet.new) result from.new (spec.entries_at sheet.old from.old) }
+{
+    'entries: loop {
+        let number = from.number();
+        let line = from.line()?;
+        match next_line(sheet, line) {
+            Err(kind) => return Err(TextFault::At { line: number, kind }),
+            Ok(None) => return Ok(()),
+            Ok(Some(entry)) => sheet.follow(entry)?,
+        }
+    }
+}
+
+#[tactic(auto, unfolding(crate::specs::SheetReading::sheet_at))]
+fn read_lines(alloc: Global, text: &[u8]) -> Result<Sheet, TextFault>
+    ensures { Gives (λ s. s) result (whole spec.sheet_at (lines text.now)) }
+{
+    let mut from = Cursor::new(text);
+    let version = read_sheet_version(&mut from)?;
+    let dialect = read_dialect(&mut from, version)?;
+    let side = read_side(&mut from)?;
+    let count = read_list_count(&mut from)?;
+    let list = from.list(alloc, count as usize, side)?;
+    let mut sheet = Sheet::listed(alloc, dialect, side, list, None);
+    read_entries(&mut from, &mut sheet)?;
+    from.end()?;
+    Ok(sheet)
+}
+
+/// The sheet that the text spells, in version 1 or 2.
+///
+/// The fault is the first line that is not accepted, or, where all lines are and the text is not
+/// complete, the number of lines plus 1 with `Syntax`. Its kinds are `Version`, `Syntax`, `Count`,
+/// `Position`, `Differs` and `OutOfPlace`.
+#[tactic(auto, using(crate::proofs::SheetLocality::local))]
+pub fn read_sheet(alloc: Global, text: &[u8]) -> Result<Sheet, TextFault>
+    ensures exact { Gives (λ s. s) result (whole spec.sheet_at (lines text.now)) }
+    // A fault stands behind the last line or at the first bad one, and rests on the lines up to it alone.
+    ensures first_bad { IfErr result (λ e. e ≢ OutOfMemory → FirstBad (whole spec.sheet_at) (lines text.now) e) }
+    ensures sheet { IfOk result (λ s. IsSheet s) }
+{
+    read_lines(alloc, text)
+}
