@@ -29,3 +29,12 @@ abbrev pub version_lines : List ℕ → Dialect → List (List ℕ)
 version_lines name Wild16 = (name ++ codes "1") ∷ []
 version_lines name Anytry = (name ++ codes "2") ∷ dialect_text Anytry ∷ []
 version_lines name Plain = (name ++ codes "2") ∷ dialect_text Plain ∷ []
+
+-- the same behind the name, with its line feeds
+abbrev pub version_tail : Dialect → List ℕ
+version_tail Wild16 = codes "1" ++ (10 ∷ [])
+version_tail Anytry = codes "2" ++ (10 ∷ (dialect_text Anytry ++ (10 ∷ [])))
+version_tail Plain = codes "2" ++ (10 ∷ (dialect_text Plain ++ (10 ∷ [])))
+
+unfoldable pub version_text : List ℕ → Dialect → List ℕ
+version_text name d = name ++ version_tail d

@@ -4,4 +4,5 @@ pub mod Lists
 pub mod Places
 pub mod Dialects
 pub mod SheetReading
+pub mod SheetText
 pub mod Games

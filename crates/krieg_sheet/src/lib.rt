@@ -12,7 +12,9 @@ mod list;
 mod reading;
 mod sheet;
 mod turns;
+mod writing;
 
-pub use dialects::read_dialect;
+pub use dialects::{read_dialect, write_version};
 pub use reading::read_sheet;
 pub use sheet::{Sheet, SheetFault};
+pub use writing::{write_end, write_head, write_listed};

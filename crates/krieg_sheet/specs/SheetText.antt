@@ -1,0 +1,76 @@
+-- The one written form of a sheet.
+use Rattle.std.specs.Prelude.{ℕ, List, [], ◌∷◌, ◌++◌, codes, Option, Some, None, map, length}
+use Rattle.std.specs.List.{flat_map}
+use Rattle.krieg_board.specs.Pos.{Pos}
+use Rattle.krieg_board.specs.declared.men.Side.{Side}
+use Rattle.krieg_board.specs.declared.men.Side.TheVariants.{White, Black}
+use Rattle.krieg_fen.specs.Lines.{ended_line, with_ends}
+use Rattle.krieg_fen.specs.Decimals.{number_text}
+use Rattle.krieg_fen.specs.FenText.{position_text}
+use Rattle.krieg_words.specs.Said.{Said}
+use Rattle.krieg_words.specs.LineText.{line_text}
+use Rattle.krieg_words.specs.declared.dialects.Dialect.{Dialect}
+use Rattle.krieg_words.specs.declared.dialects.Line.{Line}
+use Rattle.krieg_words.specs.declared.dialects.Line.TheVariants.{Opens}
+use Rattle.krieg_sheet.specs.Sheets.{SheetState, fresh}
+use Rattle.krieg_sheet.specs.Dialects.{version_lines, version_text}
+
+abbrev pub side_line : Side → List ℕ
+side_line White = codes "side w"
+side_line Black = codes "side b"
+
+-- the lines before the positions: version and dialect, side, number of positions
+abbrev pub head_lines : Dialect → Side → ℕ → List (List ℕ)
+head_lines d who n = version_lines (codes "krieg sheet ") d ++ (side_line who ∷ (codes "list " ++ number_text n) ∷ [])
+
+abbrev pub opens_lines : Dialect → Option Said → List (List ℕ)
+opens_lines d None = []
+opens_lines d (Some w) = line_text d (Opens w) ∷ []
+
+-- each position and each entry has a line of its own, and the last line is `end`
+abbrev pub sheet_lines : SheetState → List (List ℕ)
+sheet_lines s =
+    head_lines s.dialect s.side (length s.list)
+    ++ (map position_text s.list
+    ++ (opens_lines s.dialect s.opens
+    ++ (map (line_text s.dialect) s.entries ++ (codes "end" ∷ []))))
+
+-- a line feed stands behind every line
+unfoldable pub sheet_text : SheetState → List ℕ
+sheet_text s = with_ends (sheet_lines s)
+
+-- a list alone, of any length: the text of a sheet that lists it and says no more
+abbrev pub list_text : Dialect → Side → List Pos → List ℕ
+list_text d who list = sheet_text (fresh d who list None)
+
+-- The same texts piece by piece.
+abbrev pub listed_text : Pos → List ℕ
+listed_text p = ended_line (position_text p)
+
+abbrev pub entry_text : Dialect → Line → List ℕ
+entry_text d l = ended_line (line_text d l)
+
+abbrev pub opens_text : Dialect → Option Said → List ℕ
+opens_text d None = []
+opens_text d (Some w) = entry_text d (Opens w)
+
+unfoldable pub count_text : ℕ → List ℕ
+count_text n = codes "list " ++ ended_line (number_text n)
+
+unfoldable pub side_text : Side → ℕ → List ℕ
+side_text who n = ended_line (side_line who) ++ count_text n
+
+unfoldable pub head_text : Dialect → Side → ℕ → List ℕ
+head_text d who n = version_text (codes "krieg sheet ") d ++ side_text who n
+
+unfoldable pub end_text : List ℕ
+end_text = ended_line (codes "end")
+
+unfoldable pub listed_part : Dialect → Side → List Pos → List ℕ
+listed_part d who list = head_text d who (length list) ++ flat_map listed_text list
+
+unfoldable pub entries_part : Dialect → List Line → List ℕ
+entries_part d ls = flat_map (entry_text d) ls ++ end_text
+
+unfoldable pub heard_part : Dialect → Option Said → List Line → List ℕ
+heard_part d opens ls = opens_text d opens ++ entries_part d ls

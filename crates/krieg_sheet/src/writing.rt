@@ -1,0 +1,169 @@
+ghost use Rattle.std.specs.Prelude.{◌≡◌, ◌++◌, ◌∷◌, [], codes, length, map};
+ghost use Rattle.std.specs.List.{All, flat_map};
+ghost use Rattle.krieg_fen.specs.Lines.{ended_line};
+ghost use Rattle.krieg_fen.specs.Decimals.{number_text};
+ghost use Rattle.krieg_fen.specs.Outcomes.{Writes};
+ghost use Rattle.krieg_words.specs.Told.{LineFits};
+ghost use Rattle.krieg_sheet.specs.Places.{OpeningFits, IsTold};
+ghost use Rattle.krieg_sheet.specs.SheetText as spec;
+
+use crate::dialects::write_version;
+use crate::sheet::Sheet;
+use krieg_board::{NoMemory, Position, Side};
+use krieg_fen::{write_number, write_position};
+use krieg_words::{Dialect, Line, Words, write_line_in};
+
+fn side_line(side: Side) -> &'static [u8]
+    ensures { result.now ≡ ended_line (spec.side_line side) }
+{
+    match side {
+        Side::White => b"side w\n",
+        Side::Black => b"side b\n",
+    }
+}
+
+/// Appends the number and a line feed.
+#[tactic(auto, using(krieg_fen::proofs::Fronts::fronts))]
+fn write_number_line(n: usize, text: &mut Vec<u8>) -> Result<(), NoMemory>
+    ensures { Writes result text.old.items text.new.items (ended_line (number_text n)) }
+{
+    write_number(n as u64, text)?;
+    text.push(b'\n')?;
+    Ok(())
+}
+
+/// Appends the line of the number of positions.
+#[tactic(auto, using(krieg_fen::proofs::Fronts::fronts), unfolding(crate::specs::SheetText::count_text))]
+fn write_count(n: usize, text: &mut Vec<u8>) -> Result<(), NoMemory>
+    ensures { Writes result text.old.items text.new.items (spec.count_text n) }
+{
+    text.extend_from_slice(b"list ")?;
+    write_number_line(n, text)
+}
+
+/// Appends the lines of the side and of the number of positions.
+#[tactic(auto, using(krieg_fen::proofs::Fronts::fronts), unfolding(crate::specs::SheetText::side_text))]
+fn write_side(side: Side, n: usize, text: &mut Vec<u8>) -> Result<(), NoMemory>
+    ensures { Writes result text.old.items text.new.items (spec.side_text side n) }
+{
+    text.extend_from_slice(side_line(side))?;
+    write_count(n, text)
+}
+
+/// Appends the lines of a sheet that stand before `n` positions: the version and the dialect, the side,
+/// and the number of positions. Behind them `write_listed` appends each position, and `write_end` the
+/// last line.
+#[tactic(auto, using(krieg_fen::proofs::Fronts::fronts), unfolding(crate::specs::SheetText::head_text))]
+pub fn write_head(
+    d: Dialect,
+    side: Side,
+    n: usize,
+    text: &mut Vec<u8>,
+) -> Result<(), NoMemory>
+    ensures { Writes result text.old.items text.new.items (spec.head_text d side n) }
+{
+    write_version(b"krieg sheet ", d, text)?;
+    write_side(side, n, text)
+}
+
+/// Appends the line of a position.
+#[tactic(auto, using(krieg_fen::proofs::Fronts::fronts))]
+pub fn write_listed(p: &Position, text: &mut Vec<u8>) -> Result<(), NoMemory>
+    ensures { Writes result text.old.items text.new.items (spec.listed_text p.now) }
+{
+    write_position(p, text)?;
+    text.push(b'\n')?;
+    Ok(())
+}
+
+/// Appends the last line.
+#[tactic(auto, using(krieg_fen::proofs::Fronts::fronts), unfolding(crate::specs::SheetText::end_text))]
+pub fn write_end(text: &mut Vec<u8>) -> Result<(), NoMemory>
+    ensures { Writes result text.old.items text.new.items spec.end_text }
+{
+    text.extend_from_slice(b"end\n")?;
+    Ok(())
+}
+
+/// Appends the line of an entry.
+#[tactic(auto, using(krieg_fen::proofs::Fronts::fronts))]
+fn write_entry(d: Dialect, line: Line, text: &mut Vec<u8>) -> Result<(), NoMemory>
+    requires { LineFits d line }
+    ensures { Writes result text.old.items text.new.items (spec.entry_text d line) }
+{
+    write_line_in(d, line, text)?;
+    text.push(b'\n')?;
+    Ok(())
+}
+
+#[tactic(auto, using(krieg_fen::proofs::Fronts::loops))]
+fn write_positions(list: &[Position], text: &mut Vec<u8>) -> Result<(), NoMemory>
+    ensures { Writes result text.old.items text.new.items (flat_map spec.listed_text list.now) }
+{
+    for p in list {
+        write_listed(p, text)?;
+    }
+    Ok(())
+}
+
+#[tactic(auto, using(krieg_fen::proofs::Fronts::loops))]
+fn write_entries(d: Dialect, entries: &[Line], text: &mut Vec<u8>) -> Result<(), NoMemory>
+    requires { All (IsTold d) entries.now }
+    ensures { Writes result text.old.items text.new.items (flat_map (spec.entry_text d) entries.now) }
+{
+    for line in entries {
+        write_entry(d, *line, text)?;
+    }
+    Ok(())
+}
+
+fn write_opens(d: Dialect, opens: &Option<Words>, text: &mut Vec<u8>) -> Result<(), NoMemory>
+    requires { OpeningFits d opens.now }
+    ensures { Writes result text.old.items text.new.items (spec.opens_text d opens.now) }
+{
+    match opens {
+        None => Ok(()),
+        Some(w) => write_entry(d, Line::Opens(*w), text),
+    }
+}
+
+/// Appends everything up to the last position.
+#[tactic(auto, using(krieg_fen::proofs::Fronts::fronts), unfolding(crate::specs::SheetText::listed_part))]
+fn write_listed_part(
+    d: Dialect,
+    side: Side,
+    list: &[Position],
+    text: &mut Vec<u8>,
+) -> Result<(), NoMemory>
+    ensures { Writes result text.old.items text.new.items (spec.listed_part d side list.now) }
+{
+    write_head(d, side, list.len(), text)?;
+    write_positions(list, text)
+}
+
+/// Appends the entries and the last line.
+#[tactic(auto, using(krieg_fen::proofs::Fronts::fronts), unfolding(crate::specs::SheetText::entries_part))]
+fn write_entries_part(d: Dialect, entries: &[Line], text: &mut Vec<u8>) -> Result<(), NoMemory>
+    requires { All (IsTold d) entries.now }
+    ensures { Writes result text.old.items text.new.items (spec.entries_part d entries.now) }
+{
+    write_entries(d, entries, text)?;
+    write_end(text)
+}
+
+/// Appends everything behind the last position.
+#[tactic(auto, using(krieg_fen::proofs::Fronts::fronts), unfolding(crate::specs::SheetText::heard_part))]
+fn write_heard_part(
+    d: Dialect,
+    opens: &Option<Words>,
+    entries: &[Line],
+    text: &mut Vec<u8>,
+) -> Result<(), NoMemory>
+    requires opening { OpeningFits d opens.now }
+    requires told { All (IsTold d) entries.now }
+    ensures { Writes result text.old.items text.new.items (spec.heard_part d opens.now entries.now) }
+{
+    write_opens(d, opens, text)?;
+    write_entries_part(d, entries, text)
+}
+
