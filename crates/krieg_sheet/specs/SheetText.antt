@@ -40,8 +40,8 @@ unfoldable pub sheet_text : SheetState → List ℕ
 sheet_text s = with_ends (sheet_lines s)
 
 -- a list alone, of any length: the text of a sheet that lists it and says no more
-abbrev pub list_text : Dialect → Side → List Pos → List ℕ
-list_text d who list = sheet_text (fresh d who list None)
+abbrev pub answer_text : Dialect → Side → List Pos → List ℕ
+answer_text d who list = sheet_text (fresh d who list None)
 
 -- The same texts piece by piece.
 abbrev pub listed_text : Pos → List ℕ
@@ -74,3 +74,9 @@ entries_part d ls = flat_map (entry_text d) ls ++ end_text
 
 unfoldable pub heard_part : Dialect → Option Said → List Line → List ℕ
 heard_part d opens ls = opens_text d opens ++ entries_part d ls
+
+unfoldable pub sheet_pieces : SheetState → List ℕ
+sheet_pieces s = listed_part s.dialect s.side s.list ++ heard_part s.dialect s.opens s.entries
+
+unfoldable pub answer_pieces : Dialect → Side → List Pos → List ℕ
+answer_pieces d who list = listed_part d who list ++ end_text

@@ -17,4 +17,4 @@ mod writing;
 pub use dialects::{read_dialect, write_version};
 pub use reading::read_sheet;
 pub use sheet::{Sheet, SheetFault};
-pub use writing::{write_end, write_head, write_listed};
+pub use writing::{write_answer, write_end, write_head, write_listed, write_sheet};

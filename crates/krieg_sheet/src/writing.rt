@@ -167,3 +167,46 @@ fn write_heard_part(
     write_entries_part(d, entries, text)
 }
 
+#[tactic(auto, using(krieg_fen::proofs::Fronts::fronts), unfolding(crate::specs::SheetText::sheet_pieces))]
+fn write_pieces(s: &Sheet, text: &mut Vec<u8>) -> Result<(), NoMemory>
+    ensures { Writes result text.old.items text.new.items (spec.sheet_pieces s.now) }
+{
+    let d = s.dialect();
+    write_listed_part(d, s.side(), s.list(), text)?;
+    write_heard_part(d, &s.opens(), s.entries(), text)
+}
+
+/// Appends the text of the sheet in its one written form: version 1 where the dialect is wild16, and
+/// otherwise version 2.
+#[tactic(auto, using(crate::proofs::SheetTexts::texts))]
+pub fn write_sheet(s: &Sheet, text: &mut Vec<u8>) -> Result<(), NoMemory>
+    ensures value { Writes result text.old.items text.new.items (spec.sheet_text s.now) }
+{
+    write_pieces(s, text)
+}
+
+#[tactic(auto, using(krieg_fen::proofs::Fronts::fronts), unfolding(crate::specs::SheetText::answer_pieces))]
+fn write_answer_pieces(
+    d: Dialect,
+    side: Side,
+    list: &[Position],
+    text: &mut Vec<u8>,
+) -> Result<(), NoMemory>
+    ensures { Writes result text.old.items text.new.items (spec.answer_pieces d side list.now) }
+{
+    write_listed_part(d, side, list, text)?;
+    write_end(text)
+}
+
+/// Appends the text of a sheet that lists these positions, of any number, and says no more.
+#[tactic(auto, using(crate::proofs::SheetTexts::texts))]
+pub fn write_answer(
+    d: Dialect,
+    side: Side,
+    list: &[Position],
+    text: &mut Vec<u8>,
+) -> Result<(), NoMemory>
+    ensures { Writes result text.old.items text.new.items (spec.answer_text d side list.now) }
+{
+    write_answer_pieces(d, side, list, text)
+}
