@@ -22,7 +22,7 @@ use Rattle.krieg_fen.specs.Decimals.{number_text}
 use Rattle.krieg_fen.specs.Fen.{position_of}
 use Rattle.krieg_fen.specs.FenText.{position_text}
 use Rattle.krieg_fen.specs.Lines.{lines, with_ends}
-use Rattle.krieg_fen.specs.Reading.{Place, place, LineReader, on, line_at, taken, ended, whole}
+use Rattle.krieg_fen.specs.Reading.{Place, place, LineReader, on, line_at, taken, ended, whole, Gives}
 use Rattle.krieg_fen.specs.Forms.{number_form, number_behind, ranged, side_form, position_kind, position_form, matching, listed_form, positions_at}
 use Rattle.krieg_fen.proofs.NameLemmas.{behind_again}
 use Rattle.krieg_fen.proofs.Numbers.{between_again}
@@ -249,7 +249,8 @@ pub sheet_again : (s : SheetState) → IsSheet s → whole sheet_at (lines (shee
 unfolding sheet_text
 sheet_again s h = ap (whole sheet_at) (lines_again (sheet_lines s) (sheet_are s h (list_size s.side s.list h.listed).1)) ∙ lines_spell s h
 
-pub sheet_read : (text : List ℕ) (s : SheetState) → IsSheet s → text ≡ sheet_text s → whole sheet_at (lines text) ≡ Ok s
-sheet_read text s h is = ap (λ (t : List ℕ). whole sheet_at (lines t)) is ∙ sheet_again s h
+-- so the reader gives the sheet of which the text is written
+pub read_again : (r : Result SheetState TextFault) (text : List ℕ) (s : SheetState) → Gives (λ t. t) r (whole sheet_at (lines text)) → IsSheet s → text ≡ sheet_text s → Gives (λ t. t) r (Ok s)
+read_again r text s given h is = subst (Gives (λ t. t) r) (ap (λ (t : List ℕ). whole sheet_at (lines t)) is ∙ sheet_again s h) given
 
-pub ruleset again = (sheet_again)
+pub ruleset again = (sheet_again, read_again)

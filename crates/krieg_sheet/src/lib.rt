@@ -11,6 +11,8 @@ mod lines;
 mod list;
 mod reading;
 mod sheet;
+#[cfg(test)]
+mod tests;
 mod turns;
 mod writing;
 

@@ -71,6 +71,7 @@ impl Sheet {
     ) -> Result<Sheet, SheetFault>
         requires { OpeningFits dialect opens }
         ensures value { result ≡ spec.begun dialect side list.items opens }
+        ensures fresh { IfOk result (λ s. s ≡ fresh dialect side list.items opens) }
         ensures sheet { IfOk result (λ s. IsSheet s) }
     {
         match list_fault(&list, side) {

@@ -1,10 +1,12 @@
-ghost use Rattle.std.specs.Prelude.{◌≡◌, ◌++◌, ◌∷◌, [], codes, length, map};
+ghost use Rattle.std.specs.Prelude.{◌≡◌, ◌++◌, ◌∷◌, [], Ok, codes, length, map};
 ghost use Rattle.std.specs.List.{All, flat_map};
-ghost use Rattle.krieg_fen.specs.Lines.{ended_line};
+ghost use Rattle.krieg_fen.specs.Lines.{lines, ended_line};
 ghost use Rattle.krieg_fen.specs.Decimals.{number_text};
 ghost use Rattle.krieg_fen.specs.Outcomes.{Writes};
+ghost use Rattle.krieg_fen.specs.Reading.{whole};
 ghost use Rattle.krieg_words.specs.Told.{LineFits};
-ghost use Rattle.krieg_sheet.specs.Places.{OpeningFits, IsTold};
+ghost use Rattle.krieg_sheet.specs.Places.{OpeningFits, IsTold, IsSheet};
+ghost use Rattle.krieg_sheet.specs.SheetReading.{sheet_at};
 ghost use Rattle.krieg_sheet.specs.SheetText as spec;
 
 use crate::dialects::write_version;
@@ -169,7 +171,8 @@ fn write_heard_part(
 
 #[tactic(auto, using(krieg_fen::proofs::Fronts::fronts), unfolding(crate::specs::SheetText::sheet_pieces))]
 fn write_pieces(s: &Sheet, text: &mut Vec<u8>) -> Result<(), NoMemory>
-    ensures { Writes result text.old.items text.new.items (spec.sheet_pieces s.now) }
+    ensures sheet { IsSheet s.now }
+    ensures value { Writes result text.old.items text.new.items (spec.sheet_pieces s.now) }
 {
     let d = s.dialect();
     write_listed_part(d, s.side(), s.list(), text)?;
@@ -178,9 +181,12 @@ fn write_pieces(s: &Sheet, text: &mut Vec<u8>) -> Result<(), NoMemory>
 
 /// Appends the text of the sheet in its one written form: version 1 where the dialect is wild16, and
 /// otherwise version 2.
-#[tactic(auto, using(crate::proofs::SheetTexts::texts))]
+#[tactic(auto, using(crate::proofs::SheetTexts::texts, crate::proofs::SheetsAgain::again))]
 pub fn write_sheet(s: &Sheet, text: &mut Vec<u8>) -> Result<(), NoMemory>
     ensures value { Writes result text.old.items text.new.items (spec.sheet_text s.now) }
+    // The text spells the sheet.
+    ensures again { whole sheet_at (lines (spec.sheet_text s.now)) ≡ Ok s.now }
+    ensures sheet { IsSheet s.now }
 {
     write_pieces(s, text)
 }
