@@ -1,0 +1,2 @@
+pub mod DoneTries
+pub mod Stripping

@@ -1,0 +1,4 @@
+pub mod Verdicts
+pub mod Games
+pub mod Hearing
+pub mod Laws
