@@ -1,1 +1,3 @@
+mod OtherWords
+mod Pieces
 mod Solutions

@@ -1,5 +1,5 @@
 pub mod Command
-pub mod LoneSheet
 pub mod Solution
 pub mod Refusals
+pub mod Outcome
 pub mod Ending

@@ -12,7 +12,12 @@ use Rattle.krieg_words.specs.Said.{Said}
 use Rattle.krieg_words.specs.Words.{opening}
 use Rattle.krieg_words.specs.WordsText.{words_text}
 use Rattle.krieg_words.specs.declared.dialects.Dialect.TheVariants.{Wild16}
-use Rattle.krieg_cli.specs.LoneSheet.{side_line}
+use Rattle.krieg_board.specs.declared.men.Side.{Side}
+use Rattle.krieg_board.specs.declared.men.Side.TheVariants.{White, Black}
+
+abbrev pub side_line : Side → List ℕ
+side_line White = codes "side w"
+side_line Black = codes "side b"
 
 -- the first of the legal moves, in their order, that mates
 unfoldable pub mating_move : Pos → Option Move

@@ -4,7 +4,9 @@
 #![tactic(auto)]
 
 mod command;
+mod outcome;
 mod refusal;
+mod report;
 mod sheet;
 mod solution;
 #[cfg(test)]

@@ -1,18 +1,25 @@
 ghost use Rattle.std.specs.Prelude.{◌≡◌, codes};
-ghost use Rattle.krieg_cli.specs.Refusals.{status_of, line_of};
+ghost use Rattle.krieg_cli.specs.Refusals as spec;
 
-use krieg_board::NoMemory;
+use krieg_board::{BadPosition, NoMemory};
+use krieg_fen::{TextFault, TextKind};
 
 /// Why a run ends without its answer.
 #[derive(Clone, Copy, Debug, PartialEq, Eq)]
 pub(crate) enum Refusal {
+    /// The words are no command.
+    Usage,
+    /// The input is too long.
+    TooLong,
+    /// That line of the input is the first bad one.
+    BadText(usize, TextKind),
     /// A read of the input failed.
     ReadFault,
     /// A write of the answer failed.
     WriteFault,
     /// Memory was not found.
     NoMemory,
-    /// The words or the input are not built yet.
+    /// The command or the input is not built yet.
     NotBuilt,
 }
 
@@ -26,12 +33,70 @@ impl From<NoMemory> for Refusal {
     }
 }
 
+impl From<TextFault> for Refusal {
+    ghost use Rattle.krieg_cli.specs.Refusals.{refused_text};
+
+    ghost from_gives = { λ fault e. e ≡ refused_text fault };
+
+    fn from(fault: TextFault) -> Refusal {
+        match fault {
+            TextFault::At { line, kind } => Refusal::BadText(line, kind),
+            TextFault::NoMemory => Refusal::NoMemory,
+        }
+    }
+}
+
+fn text_status(kind: &TextKind) -> u8
+    ensures { result ≡ spec.text_status kind.now }
+{
+    match kind {
+        TextKind::Position(_) | TextKind::Differs => 4,
+        TextKind::Version
+        | TextKind::Syntax
+        | TextKind::Count
+        | TextKind::OutOfPlace
+        | TextKind::Deep
+        | TextKind::Large => 3,
+    }
+}
+
+fn position_reason(fault: BadPosition) -> &'static [u8]
+    ensures { result.now ≡ spec.position_reason fault }
+{
+    match fault {
+        BadPosition::Kings => b"kings",
+        BadPosition::PawnRank => b"pawn rank",
+        BadPosition::TooManyMen => b"too many men",
+        BadPosition::IdleInCheck => b"idle side in check",
+        BadPosition::Rights => b"rights",
+        BadPosition::Mark => b"mark",
+    }
+}
+
+fn text_reason(kind: &TextKind) -> &'static [u8]
+    ensures { result.now ≡ spec.text_reason kind.now }
+{
+    match kind {
+        TextKind::Position(fault) => position_reason(*fault),
+        TextKind::Differs => b"differs",
+        TextKind::Version => b"version",
+        TextKind::Syntax => b"syntax",
+        TextKind::Count => b"count",
+        TextKind::OutOfPlace => b"out of place",
+        TextKind::Deep => b"deep",
+        TextKind::Large => b"large",
+    }
+}
+
 impl Refusal {
     /// The status with which the program ends.
-    pub(crate) fn status(self) -> u8
-        ensures { result ≡ status_of self }
+    pub(crate) fn status(&self) -> u8
+        ensures { result ≡ spec.status_of self.now }
     {
         match self {
+            Refusal::Usage => 1,
+            Refusal::TooLong => 2,
+            Refusal::BadText(_, kind) => text_status(kind),
             Refusal::ReadFault => 9,
             Refusal::WriteFault => 10,
             Refusal::NoMemory => 11,
@@ -39,16 +104,18 @@ impl Refusal {
         }
     }
 
-    /// The line that err gets, with its line feed.
-    #[tactic(auto, unfolding(crate::specs::Refusals::line_of))]
-    pub(crate) fn line(self) -> &'static [u8]
-        ensures { result.now ≡ line_of self }
+    /// What it is, in words.
+    pub(crate) fn reason(&self) -> &'static [u8]
+        ensures { result.now ≡ spec.reason_of self.now }
     {
         match self {
-            Refusal::ReadFault => b"krieg: read fault\n",
-            Refusal::WriteFault => b"krieg: write fault\n",
-            Refusal::NoMemory => b"krieg: want of memory\n",
-            Refusal::NotBuilt => b"krieg: not built\n",
+            Refusal::Usage => b"usage",
+            Refusal::TooLong => b"input too long",
+            Refusal::BadText(_, kind) => text_reason(kind),
+            Refusal::ReadFault => b"read fault",
+            Refusal::WriteFault => b"write fault",
+            Refusal::NoMemory => b"want of memory",
+            Refusal::NotBuilt => b"not built",
         }
     }
 }

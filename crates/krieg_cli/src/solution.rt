@@ -5,7 +5,6 @@ ghost use Rattle.krieg_fen.specs.FenText.{position_text};
 ghost use Rattle.krieg_moves.specs.After.{after};
 ghost use Rattle.krieg_moves.specs.Legal.{is_legal};
 ghost use Rattle.krieg_moves.specs.Moves.{is_mate};
-ghost use Rattle.krieg_cli.specs.LoneSheet.{side_line};
 ghost use Rattle.krieg_cli.specs.Solution as spec;
 
 use krieg_board::{Move, NoMemory, Position, Side};
@@ -44,7 +43,7 @@ fn mating_move(alloc: Global, p: &Position) -> Result<Option<Move>, NoMemory>
 }
 
 fn side_line(side: Side) -> &'static [u8]
-    ensures { result.now ≡ side_line side }
+    ensures { result.now ≡ spec.side_line side }
 {
     match side {
         Side::White => b"side w",

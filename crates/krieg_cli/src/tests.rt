@@ -94,46 +94,144 @@ fn tells_the_opening_words(rt: HostRuntime) -> Result<(), AllocError> {
     Ok(())
 }
 
-/// Words of other forms and numbers out of range are not built, and nothing is written for them.
+/// Whether a run ends with this status and line, and writes nothing else.
+fn refuses(ran: &Ran, status: u8, line: &str) -> bool {
+    ran.status == status && ran.out.is_empty() && ran.err.as_slice() == line.as_bytes()
+}
+
+/// Words that are no command, and numbers out of their ranges.
 #[test]
-fn refuses_other_words(rt: HostRuntime) -> Result<(), AllocError> {
-    let refused: [&[&str]; 8] = [
+fn tells_the_usage(rt: HostRuntime) -> Result<(), AllocError> {
+    let refused: [&[&str]; 14] = [
         &[],
+        &["solve"],
+        &["solve", "0", "64", "1"],
+        &["solve", "7", "64", "1"],
         &["solve", "1", "64"],
-        &["solve", "2", "64", "1"],
-        &["solve", "1", "0", "1"],
         &["solve", "1", "50000001", "1"],
-        &["solve", "1", "64", "200001"],
-        &["solve", "1", "064", "1"],
-        &["check", "64"],
+        &["check", "0"],
+        &["check", "01"],
+        &["believe", "200001"],
+        &["umpire", "x"],
+        &["play", "10", "a", "b", "c", ""],
+        &["make", "game", "0"],
+        &["job", "4294967296"],
+        &["solve", "1", "64", "1", "1"],
     ];
     for words in refused {
         let ran = run_on(rt.alloc(), words, ROOK)?;
-        assert_eq!(rt; ran.status, 15);
-        assert!(rt; ran.out.is_empty());
-        assert!(rt; ran.err.as_slice() == b"krieg: not built\n".as_slice());
+        assert!(rt; refuses(&ran, 1, "krieg: usage\n"));
     }
     Ok(())
 }
 
-/// Sheets of other forms are not built.
+/// Commands that are not built yet.
+#[test]
+fn tells_what_is_not_built(rt: HostRuntime) -> Result<(), AllocError> {
+    let refused: [&[&str]; 6] = [
+        &["solve", "2", "64", "1"],
+        &["check", "64"],
+        &["believe", "200000"],
+        &["play", "4096", "a", "b", "c", "d"],
+        &["make", "session", "4294967295"],
+        &["job", "0"],
+    ];
+    for words in refused {
+        let ran = run_on(rt.alloc(), words, ROOK)?;
+        assert!(rt; refuses(&ran, 15, "krieg: not built\n"));
+    }
+    Ok(())
+}
+
+/// Sheets with a bad line, and sheets for which `solve` is not built yet.
 #[test]
 fn refuses_other_sheets(rt: HostRuntime) -> Result<(), AllocError> {
     let refused = [
-        "",
-        "krieg sheet 2\nside w\nlist 1\n1k6/8/1K6/8/8/8/8/7R w - -\nend\n",
-        "krieg sheet 1\nside b\nlist 1\n1k6/8/1K6/8/8/8/8/7R w - -\nend\n",
-        "krieg sheet 1\nside w\nlist 2\n1k6/8/1K6/8/8/8/8/7R w - -\n1k6/8/1K6/8/8/8/8/7R w - -\nend\n",
-        "krieg sheet 1\nside w\nlist 1\n1k5R/8/1K6/8/8/8/8/8 w - -\nend\n",
-        "krieg sheet 1\nside w\nlist 1\n1k6/8/1K6/8/8/8/8/7R w - -\n",
-        "krieg sheet 1\nside w\nlist 1\n1k6/8/1K6/8/8/8/8/7R w - -\nopens silent\nend\n",
-        "krieg sheet 1\nside w\nlist 1\n1k6/8/1K6/8/8/8/8/7R w - -\nend\n\n",
+        ("", "", 3, "krieg: line 1: syntax\n"),
+        ("krieg sheet 9\n", "", 3, "krieg: line 1: version\n"),
+        ("krieg sheet 1\nside x\n", "", 3, "krieg: line 2: syntax\n"),
+        (
+            "krieg sheet 1\nside w\nlist 0\n",
+            "end\n",
+            3,
+            "krieg: line 3: count\n",
+        ),
+        (
+            "krieg sheet 1\nside w\nlist 1\n",
+            "1k5R/8/1K6/8/8/8/8/8 w - -\nend\n",
+            4,
+            "krieg: line 4: idle side in check\n",
+        ),
+        (
+            "krieg sheet 1\nside w\nlist 2\n",
+            "1k6/8/1K6/8/8/8/8/7R w - -\n1k6/8/1K6/8/8/8/8/6R1 w - -\nend\n",
+            4,
+            "krieg: line 5: differs\n",
+        ),
+        (
+            "krieg sheet 1\nside w\nlist 1\n",
+            "1k6/8/1K6/8/8/8/8/7R w - -\nheard silent\n",
+            3,
+            "krieg: line 5: out of place\n",
+        ),
+        (
+            "krieg sheet 1\nside w\nlist 1\n",
+            "1k6/8/1K6/8/8/8/8/7R w - -\n",
+            3,
+            "krieg: line 5: syntax\n",
+        ),
+        (
+            "krieg sheet 1\nside w\nlist 1\n",
+            "1k6/8/1K6/8/8/8/8/7R w - -\nend\n\n",
+            3,
+            "krieg: line 6: syntax\n",
+        ),
+        (
+            "krieg sheet 1\nside b\nlist 1\n",
+            "1k6/8/1K6/8/8/8/8/7R w - -\nend\n",
+            15,
+            "krieg: not built\n",
+        ),
+        (
+            "krieg sheet 1\nside w\nlist 1\n",
+            "1k6/8/1K6/8/8/8/8/7R w - -\nopens silent\nend\n",
+            15,
+            "krieg: not built\n",
+        ),
+        (
+            "krieg sheet 1\nside w\nlist 2\n",
+            "1k6/8/1K6/8/8/8/8/7R w - -\n1k6/8/1K6/8/8/8/8/7R w - -\nend\n",
+            15,
+            "krieg: not built\n",
+        ),
+        (
+            "krieg sheet 2\ndialect plain\nside w\nlist 1\n",
+            "1k6/8/1K6/8/8/8/8/7R w - -\nend\n",
+            15,
+            "krieg: not built\n",
+        ),
     ];
-    for text in refused {
-        let ran = run_on(rt.alloc(), &SOLVE, text)?;
-        assert_eq!(rt; ran.status, 15, "{text}");
-        assert!(rt; ran.out.is_empty());
+    for (head, tail, status, line) in refused {
+        let mut text = String::from_str(rt.alloc(), head)?;
+        text.push_str(tail)?;
+        let ran = run_on(rt.alloc(), &SOLVE, text.as_str())?;
+        assert!(rt; refuses(&ran, status, line), "{text}");
     }
+    Ok(())
+}
+
+/// One byte more than an input may have.
+#[test]
+fn refuses_what_is_too_long(rt: HostRuntime) -> Result<(), AllocError> {
+    let bytes = vec![in rt.alloc(); b'x'; 67_108_865]?;
+    let mut input = MemSource::new(bytes, 1_000_000, Vec::new(rt.alloc()));
+    let mut out = sink(rt.alloc(), 100, 100, &[])?;
+    let mut err = sink(rt.alloc(), 100, 100, &[])?;
+    let words = strings(rt.alloc(), &SOLVE)?;
+    let status = run(rt.alloc(), &words, &mut input, &mut out, &mut err);
+    assert_eq!(rt; status, 2);
+    assert!(rt; out.bytes().is_empty());
+    assert!(rt; err.bytes() == b"krieg: input too long\n".as_slice());
     Ok(())
 }
 

@@ -1,0 +1,67 @@
+-- What a command makes of its input: an answer, or a refusal.
+use Rattle.std.specs.Prelude.{ℕ, Bool, true, false, ◌==◌, ◌&&◌, List, [], ◌∷◌, Option, Some, None, is_none, Result, Ok, Err, if◌then◌else◌}
+use Rattle.krieg_board.specs.Men.{is_same_side}
+use Rattle.krieg_board.specs.Pos.{Pos}
+use Rattle.krieg_board.specs.declared.men.Side.{Side}
+use Rattle.krieg_fen.specs.Lines.{lines}
+use Rattle.krieg_fen.specs.Reading.{whole}
+use Rattle.krieg_fen.specs.declared.fault.TextFault.{TextFault}
+use Rattle.krieg_words.specs.Said.{Said}
+use Rattle.krieg_words.specs.declared.dialects.Dialect.{Dialect}
+use Rattle.krieg_words.specs.declared.dialects.Dialect.TheVariants.{Wild16, Anytry, Plain}
+use Rattle.krieg_words.specs.declared.dialects.Line.{Line}
+use Rattle.krieg_sheet.specs.Sheets.{SheetState}
+use Rattle.krieg_sheet.specs.SheetReading.{sheet_at}
+use Rattle.krieg_cli.specs.Solution.{solution_text}
+use Rattle.krieg_cli.specs.Refusals.{refused_text}
+use Rattle.krieg_cli.specs.declared.command.Command.{Command}
+use Rattle.krieg_cli.specs.declared.command.Command.TheVariants.{Solve, Check, Believe, Umpire, Play, Make, Job}
+use Rattle.krieg_cli.specs.declared.refusal.Refusal.{Refusal}
+use Rattle.krieg_cli.specs.declared.refusal.Refusal.TheVariants.{NotBuilt}
+
+-- the commands that are built: `solve` in one move
+abbrev pub is_built : Command → Bool
+is_built (Solve moves budget limit) = moves == 1
+is_built (Check budget) = false
+is_built (Believe limit) = false
+is_built (Umpire who) = false
+is_built (Play asks) = false
+is_built (Make made number) = false
+is_built (Job number) = false
+
+abbrev pub is_wild16 : Dialect → Bool
+is_wild16 Wild16 = true
+is_wild16 Anytry = false
+is_wild16 Plain = false
+
+abbrev pub with_turn : Side → Pos → Option Pos
+with_turn who p = if is_same_side p.side who then Some p else None
+
+abbrev pub lone_in : Side → List Pos → List Line → Option Pos
+lone_in who (p ∷ []) [] = with_turn who p
+lone_in who (p ∷ []) (l ∷ ls) = None
+lone_in who [] entries = None
+lone_in who (p ∷ q ∷ ps) entries = None
+
+-- the position of a sheet in wild16 that lists one, in which the sheet's side is to move, and says no more
+unfoldable pub lone_position : SheetState → Option Pos
+lone_position s = if is_wild16 s.dialect && is_none s.opens then lone_in s.side s.list s.entries else None
+
+abbrev pub solved : Option Pos → Result (List ℕ) Refusal
+solved None = Err NotBuilt
+solved (Some p) = Ok (solution_text p)
+
+-- the answer to a sheet, or the refusal of its text; other sheets are not built
+abbrev pub solved_sheet : Result SheetState TextFault → Result (List ℕ) Refusal
+solved_sheet (Ok sheet) = solved (lone_position sheet)
+solved_sheet (Err fault) = Err (refused_text fault)
+
+-- what a command that is built makes of the text that it reads
+abbrev pub outcome_of : Command → List ℕ → Result (List ℕ) Refusal
+outcome_of (Solve moves budget limit) text = solved_sheet (whole sheet_at (lines text))
+outcome_of (Check budget) text = Err NotBuilt
+outcome_of (Believe limit) text = Err NotBuilt
+outcome_of (Umpire who) text = Err NotBuilt
+outcome_of (Play asks) text = Err NotBuilt
+outcome_of (Make made number) text = Err NotBuilt
+outcome_of (Job number) text = Err NotBuilt
