@@ -1,9 +1,8 @@
 -- What a run has read and written when it ends, and by what cause it ends so.
-use Rattle.std.specs.Prelude.{ℕ, Bool, true, false, ◌≡◌, ◌<◌, ◌≤◌, ◌⊎◌, List, length, Option, Some, None, Result, Ok, Err}
+use Rattle.std.specs.Prelude.{ℕ, true, false, ◌≡◌, ◌<◌, ◌≤◌, ◌⊎◌, List, length, Option, Some, None, Result, Ok, Err}
 use Rattle.std.specs.Io.KnownBytes.{Appends, Consumes, IsAtEnd}
 use Rattle.krieg_ports.specs.Bytes.{AppendsPrefix, Gave}
 use Rattle.krieg_ports.specs.Faults.{Rose}
-use Rattle.krieg_fen.specs.declared.fault.TextKind.{TextKind}
 use Rattle.krieg_cli.specs.Outcome.{is_built, outcome_of}
 use Rattle.krieg_cli.specs.Refusals.{line_of}
 use Rattle.krieg_cli.specs.declared.command.Command.{Command}

@@ -6,7 +6,6 @@ use Rattle.krieg_board.specs.declared.men.Side.{Side}
 use Rattle.krieg_fen.specs.Lines.{lines}
 use Rattle.krieg_fen.specs.Reading.{whole}
 use Rattle.krieg_fen.specs.declared.fault.TextFault.{TextFault}
-use Rattle.krieg_words.specs.Said.{Said}
 use Rattle.krieg_words.specs.declared.dialects.Dialect.{Dialect}
 use Rattle.krieg_words.specs.declared.dialects.Dialect.TheVariants.{Wild16, Anytry, Plain}
 use Rattle.krieg_words.specs.declared.dialects.Line.{Line}
