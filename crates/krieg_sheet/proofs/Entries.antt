@@ -1,22 +1,22 @@
 -- What one line of a sheet leads to.
-use Rattle.std.proofs.Common.{◌≡◌, ℕ, ◌+◌, List, [], ◌∷◌, Option, Some, None, Result, Ok, Err, refl, sym, ap, ◌∙◌}
+use Rattle.std.proofs.Common.{◌≡◌, ℕ, ◌+◌, List, [], ◌∷◌, Option, Some, None, Result, Ok, Err, sym, ap, ◌∙◌}
 use Rattle.krieg_fen.specs.declared.fault.TextFault.{TextFault}
-use Rattle.krieg_fen.specs.declared.fault.TextFault.TheVariants.{At, NoMemory}
+use Rattle.krieg_fen.specs.declared.fault.TextFault.TheVariants.{At}
 use Rattle.krieg_fen.specs.declared.fault.TextKind.{TextKind}
 use Rattle.krieg_fen.specs.Outcomes.{◌>>=◌}
-use Rattle.krieg_fen.specs.Reading.{Place, place, on, Step, goes_on, stops, up_to_last, line_at}
+use Rattle.krieg_fen.specs.Reading.{Place, place, on, goes_on, stops, line_at}
 use Rattle.krieg_fen.proofs.Locality.{ok_is}
 use Rattle.krieg_words.specs.declared.dialects.Line.{Line}
 use Rattle.krieg_sheet.specs.Sheets.{SheetState}
-use Rattle.krieg_sheet.specs.SheetReading.{next_form, led, entry_form, followed_by, entries_at}
+use Rattle.krieg_sheet.specs.SheetReading.{next_form, led, followed_by, entries_at}
 
 -- where no line is left
 pub entries_end : (s : SheetState) (from : Place) (e : TextFault) → line_at from ≡ Err e → entries_at s from ≡ Err e
 entries_end s from e h = go from.left h
   where
-  go : (ls : List (List ℕ)) → line_at (place from.number ls) ≡ Err e → entries_at s (place from.number ls) ≡ Err e
-  go [] h = cc
-  go (l ∷ ls) h = absurd cc
+    go : (ls : List (List ℕ)) → line_at (place from.number ls) ≡ Err e → entries_at s (place from.number ls) ≡ Err e
+    go [] h = cc
+    go (l ∷ ls) h = absurd cc
 
 -- by the line that stands there and what it is
 abbrev behind : SheetState → ℕ → Place → Result (Option Line) TextKind → Result (SheetState × Place) TextFault
@@ -25,11 +25,11 @@ behind s n new r = on n (r >>= λ l. Ok (led s l)) >>= λ step. elim step [ stop
 entries_line : (s : SheetState) (from new : Place) (l : List ℕ) → line_at from ≡ Ok (l, new) → entries_at s from ≡ behind s from.number new (next_form s l)
 entries_line s from new l h = go from.left h
   where
-  go : (ls : List (List ℕ)) → line_at (place from.number ls) ≡ Ok (l, new) → entries_at s (place from.number ls) ≡ behind s from.number new (next_form s l)
-  go [] h = absurd cc
-  go (k ∷ ls) h =
-    let same = ok_is {A = List ℕ × Place} (k, place (from.number + 1) ls) (l, new) h in
-    ap (λ (t : List ℕ × Place). behind s from.number t.1 (next_form s t.0)) same
+    go : (ls : List (List ℕ)) → line_at (place from.number ls) ≡ Ok (l, new) → entries_at s (place from.number ls) ≡ behind s from.number new (next_form s l)
+    go [] h = absurd cc
+    go (k ∷ ls) h =
+        let same = ok_is {A = List ℕ × Place} (k, place (from.number + 1) ls) (l, new) h in
+        ap (λ (t : List ℕ × Place). behind s from.number t.1 (next_form s t.0)) same
 
 pub entries_bad : (s : SheetState) (from new : Place) (l : List ℕ) (n : ℕ) (kind : TextKind) → line_at from ≡ Ok (l, new) → n ≡ from.number → Err kind ≡ next_form s l → entries_at s from ≡ Err (At n kind)
 entries_bad s from new l n kind h number is =

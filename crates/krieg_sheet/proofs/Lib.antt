@@ -6,3 +6,4 @@ pub mod SheetLocality
 pub mod SheetTexts
 pub mod CleanLines
 pub mod SheetsAgain
+pub mod GameEnds

@@ -1,19 +1,15 @@
 -- Reading a sheet rests on the lines that it takes alone, so its fault is the first bad line.
-use Rattle.std.proofs.Common.{◌≡◌, ◌≢◌, ℕ, Bool, true, false, cond, eqb, List, Option, None, Result, Ok, Err}
+use Rattle.std.proofs.Common.{◌≢◌, ℕ, Bool, true, false, cond, eqb, List, None, Result, Ok}
 use Rattle.std.specs.Prelude.{IfErr}
-use Rattle.krieg_board.specs.Pos.{Pos}
-use Rattle.krieg_board.specs.declared.men.Side.{Side}
 use Rattle.krieg_fen.specs.declared.fault.TextFault.{TextFault}
 use Rattle.krieg_fen.specs.declared.fault.TextFault.TheVariants.{NoMemory}
-use Rattle.krieg_fen.specs.Outcomes.{◌>>=◌}
-use Rattle.krieg_fen.specs.Reading.{Place, place, LineReader, taken, whole, Gives, up_to_last}
+use Rattle.krieg_fen.specs.Reading.{LineReader, taken, whole, Gives}
 use Rattle.krieg_fen.specs.FirstBad.{IsLocal, FirstBad}
 use Rattle.krieg_fen.specs.Forms.{side_form, positions_at}
 use Rattle.krieg_fen.proofs.Locality.{local_pure, local_taken, local_bind}
 use Rattle.krieg_fen.proofs.Loops.{local_loop}
 use Rattle.krieg_fen.proofs.Listing.{local_positions}
 use Rattle.krieg_fen.proofs.FirstBadLine.{code_first_bad}
-use Rattle.krieg_words.specs.declared.dialects.Dialect.{Dialect}
 use Rattle.krieg_words.specs.declared.dialects.Dialect.TheVariants.{Wild16}
 use Rattle.krieg_sheet.specs.Sheets.{SheetState, fresh}
 use Rattle.krieg_sheet.specs.Dialects.{dialect_form, dialect_at}

@@ -1,5 +1,5 @@
 -- The text of a sheet is that of its pieces, one behind the other.
-use Rattle.std.proofs.Common.{◌≡◌, ℕ, List, [], ◌∷◌, ◌++◌, length, map, Option, Some, None, Result, Ok, Err, refl, sym, ap, subst, ◌∙◌, append_assoc}
+use Rattle.std.proofs.Common.{◌≡◌, ℕ, List, [], ◌∷◌, ◌++◌, length, map, Option, Some, None, Result, refl, sym, ap, subst, ◌∙◌, append_assoc}
 use Rattle.std.specs.Prelude.{codes}
 use Rattle.std.specs.List.{flat_map}
 use Rattle.std.proofs.lemmas.List.{append-nil}
@@ -15,11 +15,10 @@ use Rattle.krieg_words.specs.Said.{Said}
 use Rattle.krieg_words.specs.LineText.{line_text}
 use Rattle.krieg_words.specs.declared.dialects.Dialect.{Dialect}
 use Rattle.krieg_words.specs.declared.dialects.Dialect.TheVariants.{Wild16, Anytry, Plain}
-use Rattle.krieg_words.specs.declared.dialects.Line.{Line}
 use Rattle.krieg_words.specs.declared.dialects.Line.TheVariants.{Opens}
 use Rattle.krieg_sheet.specs.Sheets.{SheetState, fresh}
-use Rattle.krieg_sheet.specs.Dialects.{dialect_text, version_lines, version_tail, version_text}
-use Rattle.krieg_sheet.specs.SheetText.{side_line, head_lines, opens_lines, sheet_lines, sheet_text, answer_text, listed_text, entry_text, opens_text, count_text, side_text, head_text, end_text, listed_part, entries_part, heard_part, sheet_pieces, answer_pieces}
+use Rattle.krieg_sheet.specs.Dialects.{dialect_text, version_lines, version_text}
+use Rattle.krieg_sheet.specs.SheetText.{side_line, head_lines, opens_lines, sheet_text, answer_text, listed_text, entry_text, opens_text, count_text, side_text, head_text, end_text, listed_part, entries_part, heard_part, sheet_pieces, answer_pieces}
 
 pub version_is : (name : List ℕ) (d : Dialect) → with_ends (version_lines name d) ≡ version_text name d
 unfolding version_text
@@ -50,8 +49,8 @@ five : (a b c e f : List (List ℕ)) → with_ends (a ++ (b ++ (c ++ (e ++ f))))
 five a b c e f =
     flat_map-append ended_line a (b ++ (c ++ (e ++ f)))
     ∙ ap (λ (t : List ℕ). with_ends a ++ t) (flat_map-append ended_line b (c ++ (e ++ f))
-      ∙ ap (λ (t : List ℕ). with_ends b ++ t) (flat_map-append ended_line c (e ++ f)
-        ∙ ap (λ (t : List ℕ). with_ends c ++ t) (flat_map-append ended_line e f)))
+    ∙ ap (λ (t : List ℕ). with_ends b ++ t) (flat_map-append ended_line c (e ++ f)
+    ∙ ap (λ (t : List ℕ). with_ends c ++ t) (flat_map-append ended_line e f)))
     ∙ sym (append_assoc (with_ends a) (with_ends b) (with_ends c ++ (with_ends e ++ with_ends f)))
 
 five_are : (a b c e f : List (List ℕ)) (ta tb tc te tf : List ℕ) → with_ends a ≡ ta → with_ends b ≡ tb → with_ends c ≡ tc → with_ends e ≡ te → with_ends f ≡ tf →

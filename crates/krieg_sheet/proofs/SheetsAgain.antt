@@ -1,5 +1,5 @@
 -- A written sheet is read again.
-use Rattle.std.proofs.Common.{◌≡◌, ℕ, zero, suc, ◌+◌, ◌<◌, ◌≤◌, ◌^◌, Bool, true, false, cond, leb, List, [], ◌∷◌, ◌++◌, map, length, Option, Some, None, Result, Ok, Err, refl, sym, ap, subst, ◌∙◌, append_assoc, arith}
+use Rattle.std.proofs.Common.{◌≡◌, ℕ, ◌+◌, ◌≤◌, Bool, true, false, cond, leb, List, [], ◌∷◌, ◌++◌, map, length, Option, Some, None, Result, Ok, Err, refl, sym, ap, subst, ◌∙◌, append_assoc, arith}
 use Rattle.std.specs.Prelude.{codes, unwrap_or}
 use Rattle.std.specs.Str.{bytes_eq}
 use Rattle.std.specs.List.{All}
@@ -13,38 +13,33 @@ use Rattle.krieg_board.specs.declared.men.Side.{Side}
 use Rattle.krieg_board.specs.declared.men.Side.TheVariants.{White, Black}
 use Rattle.krieg_fen.specs.declared.fault.TextFault.{TextFault}
 use Rattle.krieg_fen.specs.declared.fault.TextKind.{TextKind}
-use Rattle.krieg_fen.specs.declared.fault.TextKind.TheVariants.{Syntax, Count, Differs, OutOfPlace}
-use Rattle.krieg_fen.specs.declared.fen.FenFault.{FenFault}
-use Rattle.krieg_fen.specs.declared.number.NumberFault.{NumberFault}
+use Rattle.krieg_fen.specs.declared.fault.TextKind.TheVariants.{Count, Differs, OutOfPlace}
 use Rattle.krieg_fen.specs.Outcomes.{◌>>=◌}
 use Rattle.krieg_fen.specs.Names.{behind}
 use Rattle.krieg_fen.specs.Decimals.{number_text}
-use Rattle.krieg_fen.specs.Fen.{position_of}
 use Rattle.krieg_fen.specs.FenText.{position_text}
-use Rattle.krieg_fen.specs.Lines.{lines, with_ends}
-use Rattle.krieg_fen.specs.Reading.{Place, place, LineReader, on, line_at, taken, ended, whole, Gives}
+use Rattle.krieg_fen.specs.Lines.{lines}
+use Rattle.krieg_fen.specs.Reading.{Place, place, on, taken, ended, whole, Gives}
 use Rattle.krieg_fen.specs.Forms.{number_form, number_behind, ranged, side_form, position_kind, position_form, matching, listed_form, positions_at}
 use Rattle.krieg_fen.proofs.NameLemmas.{behind_again}
 use Rattle.krieg_fen.proofs.Numbers.{between_again}
 use Rattle.krieg_fen.proofs.FenTexts.{position_again}
 use Rattle.krieg_fen.proofs.LineTexts.{lines_again}
-use Rattle.krieg_words.specs.Said.{Said, IsSaid}
-use Rattle.krieg_words.specs.Told.{Fits, LineFits}
-use Rattle.krieg_words.specs.LineText.{line_text, line_in, IsLine}
+use Rattle.krieg_words.specs.Said.{Said}
+use Rattle.krieg_words.specs.LineText.{line_text, line_in}
 use Rattle.krieg_words.specs.declared.dialects.Dialect.{Dialect}
 use Rattle.krieg_words.specs.declared.dialects.Dialect.TheVariants.{Wild16, Anytry, Plain}
 use Rattle.krieg_words.specs.declared.dialects.Line.{Line}
 use Rattle.krieg_words.specs.declared.dialects.Line.TheVariants.{Opens, Illegal, Done, Heard, Early, Over}
 use Rattle.krieg_words.proofs.LineLaws.{line_again}
-use Rattle.krieg_sheet.specs.declared.sheet.SheetFault.{SheetFault}
 use Rattle.krieg_sheet.specs.declared.sheet.SheetFault.TheVariants as sheet
 use Rattle.krieg_sheet.specs.Sheets.{SheetState, fresh, entered}
-use Rattle.krieg_sheet.specs.Turns.{first_turn, over_at_first, turn_after, over_after, turn_behind, over_behind, may_stand, are_in_place, turn_of, is_over, is_in_place}
+use Rattle.krieg_sheet.specs.Turns.{first_turn, over_at_first, turn_after, over_after, may_stand, are_in_place, turn_of, is_over, is_in_place}
 use Rattle.krieg_sheet.specs.Lists.{other_hand, differs, list_fault}
 use Rattle.krieg_sheet.specs.Places.{OpeningFits, IsOpening, IsTold, IsSheet}
-use Rattle.krieg_sheet.specs.Dialects.{version_lines, dialect_at, dialect_form}
-use Rattle.krieg_sheet.specs.SheetReading.{sheet_form, list_form, may_follow, opened, followed_by, placed, next_form, entries_at, sheet_at}
-use Rattle.krieg_sheet.specs.SheetText.{side_line, head_lines, opens_lines, sheet_lines, sheet_text}
+use Rattle.krieg_sheet.specs.Dialects.{version_lines, dialect_form}
+use Rattle.krieg_sheet.specs.SheetReading.{sheet_form, list_form, may_follow, followed_by, placed, next_form, entries_at, sheet_at}
+use Rattle.krieg_sheet.specs.SheetText.{side_line, opens_lines, sheet_lines, sheet_text}
 use Rattle.krieg_sheet.proofs.Entering.{turn_behind-push, over_behind-push}
 use Rattle.krieg_sheet.proofs.Entries.{entries_last, entries_more}
 use Rattle.krieg_sheet.proofs.CleanLines.{all_rest, sheet_are}
@@ -75,9 +70,9 @@ other_reads who f p valid same =
 one_hand : (who : Side) (f : Pos) (k : ℕ) (p : Pos) (ps : List Pos) → other_hand who f k (p ∷ ps) ≡ None → (same_hand f p who ≡ true) × (other_hand who f (k + 1) ps ≡ None)
 one_hand who f k p ps e = go (same_hand f p who) refl e
   where
-  go : (t : Bool) → same_hand f p who ≡ t → cond t (other_hand who f (k + 1) ps) (Some k) ≡ None → (same_hand f p who ≡ true) × (other_hand who f (k + 1) ps ≡ None)
-  go true is h = (is, h)
-  go false is h = absurd cc
+    go : (t : Bool) → same_hand f p who ≡ t → cond t (other_hand who f (k + 1) ps) (Some k) ≡ None → (same_hand f p who ≡ true) × (other_hand who f (k + 1) ps ≡ None)
+    go true is h = (is, h)
+    go false is h = absurd cc
 
 positions_behind : (who : Side) (f : Pos) (ps : List Pos) (k n : ℕ) (rest : List (List ℕ)) → All IsValid ps → other_hand who f k ps ≡ None →
     Read (positions_at who (Some f) (length ps) (place n (map position_text ps ++ rest))) ps rest
@@ -88,8 +83,8 @@ positions_behind who f (p ∷ ps) k n rest valid same =
     record {
       number = more.number;
       is = ap (λ (r : Result (Pos × Place) TextFault). r >>= λ one. positions_at who (Some (unwrap_or (Some f) one.0)) (length ps) one.1 >>= λ o. Ok (one.0 ∷ o.0, o.1))
-        (taken_again (listed_form who (Some f)) n (position_text p) (map position_text ps ++ rest) p (other_reads who f p (valid 0 p (omega arith)) h.0))
-        ∙ ap (λ (r : Result (List Pos × Place) TextFault). r >>= λ o. Ok (p ∷ o.0, o.1)) more.is;
+          (taken_again (listed_form who (Some f)) n (position_text p) (map position_text ps ++ rest) p (other_reads who f p (valid 0 p (omega arith)) h.0))
+          ∙ ap (λ (r : Result (List Pos × Place) TextFault). r >>= λ o. Ok (p ∷ o.0, o.1)) more.is;
     }
 
 record IsListable (who : Side) (f : Pos) (ps : List Pos) : Type 0 where
@@ -99,12 +94,13 @@ record IsListable (who : Side) (f : Pos) (ps : List Pos) : Type 0 where
 listable : (who : Side) (f : Pos) (ps : List Pos) → list_fault who (f ∷ ps) ≡ None → IsListable who f ps
 listable who f ps e = go (leb (length (f ∷ ps)) 200000) refl e
   where
-  by_other : (o : Option ℕ) → differs o ≡ None → o ≡ None
-  by_other None h = refl
-  by_other (Some i) h = absurd cc
-  go : (t : Bool) → leb (length (f ∷ ps)) 200000 ≡ t → cond t (differs (other_hand who f 1 ps)) (Some sheet.Count) ≡ None → IsListable who f ps
-  go true is h = record { few = leb-true (length (f ∷ ps)) 200000 is; same = by_other (other_hand who f 1 ps) h }
-  go false is h = absurd cc
+    by_other : (o : Option ℕ) → differs o ≡ None → o ≡ None
+    by_other None h = refl
+    by_other (Some i) h = absurd cc
+
+    go : (t : Bool) → leb (length (f ∷ ps)) 200000 ≡ t → cond t (differs (other_hand who f 1 ps)) (Some sheet.Count) ≡ None → IsListable who f ps
+    go true is h = record { few = leb-true (length (f ∷ ps)) 200000 is; same = by_other (other_hand who f 1 ps) h }
+    go false is h = absurd cc
 
 pub list_size : (who : Side) (list : List Pos) → list_fault who list ≡ None → (1 ≤ length list) × (length list ≤ 200000)
 list_size who [] e = absurd cc
@@ -118,8 +114,8 @@ list_again who (f ∷ ps) n rest valid e =
     record {
       number = more.number;
       is = ap (λ (r : Result (Pos × Place) TextFault). r >>= λ one. positions_at who (Some (unwrap_or None one.0)) (length ps) one.1 >>= λ o. Ok (one.0 ∷ o.0, o.1))
-        (taken_again (listed_form who None) n (position_text f) (map position_text ps ++ rest) f (first_reads who f (valid 0 f (omega arith))))
-        ∙ ap (λ (r : Result (List Pos × Place) TextFault). r >>= λ o. Ok (f ∷ o.0, o.1)) more.is;
+          (taken_again (listed_form who None) n (position_text f) (map position_text ps ++ rest) f (first_reads who f (valid 0 f (omega arith))))
+          ∙ ap (λ (r : Result (List Pos × Place) TextFault). r >>= λ o. Ok (f ∷ o.0, o.1)) more.is;
     }
 
 -- the lines behind the list
@@ -174,14 +170,14 @@ entries_again (l ∷ ls) s n told stand =
     let turn = turn_behind-push (first_turn s.list) s.entries l in
     let over = over_behind-push (over_at_first s.opens) s.entries l in
     let later : are_in_place s.side (turn_of (entered s l)) (is_over (entered s l)) ls ≡ true =
-      ap (λ (t : Side). are_in_place s.side t (is_over (entered s l)) ls) turn ∙ ap (λ (o : Bool). are_in_place s.side (turn_after (turn_of s) l) o ls) over ∙ p.1 in
+    ap (λ (t : Side). are_in_place s.side t (is_over (entered s l)) ls) turn ∙ ap (λ (o : Bool). are_in_place s.side (turn_after (turn_of s) l) o ls) over ∙ p.1 in
     let more = entries_again ls (entered s l) (n + 1) (all_rest (IsTold s.dialect) l ls told) later in
     let rest = map (line_text s.dialect) ls ++ (codes "end" ∷ []) in
     record {
       number = more.number;
       is = entries_more s (place n (line_text s.dialect l ∷ rest)) (place (n + 1) rest) (line_text s.dialect l) l refl (next_again s l (told 0 l (omega arith)) (may_by s l p.0))
-        ∙ ap (λ (t : SheetState). entries_at t (place (n + 1) rest)) (followed_is s l p.0)
-        ∙ more.is ∙ ap (λ (es : List Line). Ok (with_more s es, place more.number [])) (append_assoc s.entries (l ∷ []) ls);
+          ∙ ap (λ (t : SheetState). entries_at t (place (n + 1) rest)) (followed_is s l p.0)
+          ∙ more.is ∙ ap (λ (es : List Line). Ok (with_more s es, place more.number [])) (append_assoc s.entries (l ∷ []) ls);
     }
 
 body_again : (d : Dialect) (who : Side) (list : List Pos) (opens : Option Said) (ls : List Line) (n : ℕ) → OpeningFits d opens → IsOpening opens → All (IsTold d) ls →
@@ -231,13 +227,13 @@ all_again s h =
     record {
       number = body.number;
       is = ap (λ (ls : List (List ℕ)). sheet_at (place 1 ls)) (append_assoc (version_lines (codes "krieg sheet ") s.dialect) (side_line s.side ∷ count ∷ []) behind_count)
-        ∙ v.1
-        ∙ ap (λ (r : Result (Side × Place) TextFault). r >>= λ side. taken list_form side.1 >>= λ count. positions_at side.0 None count.0 count.1 >>= λ list. entries_at (fresh s.dialect side.0 list.0 None) list.1)
+          ∙ v.1
+          ∙ ap (λ (r : Result (Side × Place) TextFault). r >>= λ side. taken list_form side.1 >>= λ count. positions_at side.0 None count.0 count.1 >>= λ list. entries_at (fresh s.dialect side.0 list.0 None) list.1)
           (taken_again side_form v.0 (side_line s.side) (count ∷ behind_count) s.side (side_again s.side))
-        ∙ ap (λ (r : Result (ℕ × Place) TextFault). r >>= λ count. positions_at s.side None count.0 count.1 >>= λ list. entries_at (fresh s.dialect s.side list.0 None) list.1)
+          ∙ ap (λ (r : Result (ℕ × Place) TextFault). r >>= λ count. positions_at s.side None count.0 count.1 >>= λ list. entries_at (fresh s.dialect s.side list.0 None) list.1)
           (taken_again list_form (v.0 + 1) count behind_count (length s.list) (count_again (length s.list) size.0 size.1))
-        ∙ ap (λ (r : Result (List Pos × Place) TextFault). r >>= λ list. entries_at (fresh s.dialect s.side list.0 None) list.1) listed.is
-        ∙ body.is;
+          ∙ ap (λ (r : Result (List Pos × Place) TextFault). r >>= λ list. entries_at (fresh s.dialect s.side list.0 None) list.1) listed.is
+          ∙ body.is;
     }
 
 -- the lines of a sheet spell it

@@ -6,3 +6,4 @@ pub mod Dialects
 pub mod SheetReading
 pub mod SheetText
 pub mod Games
+pub mod Replays

@@ -1,5 +1,5 @@
 -- The listed positions: how many they are, and that they have one hand.
-use Rattle.std.specs.Prelude.{◌≡◌, ℕ, ◌+◌, List, [], ◌∷◌, Option, Some, None, Result, Ok, Err, length, nat_le, if◌then◌else◌}
+use Rattle.std.specs.Prelude.{ℕ, ◌+◌, List, [], ◌∷◌, Option, Some, None, length, nat_le, if◌then◌else◌}
 use Rattle.krieg_board.specs.Pos.{Pos}
 use Rattle.krieg_board.specs.Hand.{same_hand}
 use Rattle.krieg_board.specs.declared.men.Side.{Side}

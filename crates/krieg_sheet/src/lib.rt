@@ -7,6 +7,8 @@
 #![tactic(auto)]
 
 mod dialects;
+#[cfg(test)]
+mod games;
 mod lines;
 mod list;
 mod reading;

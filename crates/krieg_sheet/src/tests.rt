@@ -6,16 +6,30 @@ use krieg_fen::{TextFault, TextKind, is_name, read_move, read_position};
 use krieg_words::{Dialect, Line, read_words};
 use std::alloc::Global;
 
-const KNIGHT: &[u8] = b"krieg sheet 1\nside b\nlist 1\n4k3/8/8/8/4N3/8/8/4R1K1 w - -\nopens silent\nheard check file+knight\nend\n";
-const PAWN: &[u8] = b"krieg sheet 1\nside w\nlist 1\nrnbqkbnr/pppppppp/8/8/8/8/PPPPPPPP/RNBQKBNR w KQkq -\nopens silent\ntry e2e4 ok silent\nheard tries 1\nend\n";
-const ROOK: &[u8] = b"krieg sheet 1\nside w\nlist 2\nk7/8/1K6/8/8/8/8/7R w - -\n2k5/8/1K6/8/8/8/8/7R w - -\nopens silent\ntry h1d1 ok silent\nheard silent\nend\n";
-const MATE: &[u8] = b"krieg sheet 1\nside w\nlist 1\n1k6/8/1K6/8/8/8/8/7R w - -\nopens silent\ntry a1a1 illegal\ntry h1h8 ok check rank, mate\ntry a1a1 over\nend\n";
-const PLAIN: &[u8] = b"krieg sheet 2\ndialect plain\nside b\nlist 1\n4k3/8/8/8/4N3/8/8/4R1K1 w - -\nopens silent\ntry a1a1 early\nheard check\nend\n";
-const ANYTRY: &[u8] = b"krieg sheet 2\ndialect anytry\nside w\nlist 1\nrnbqkbnr/pppppppp/8/8/8/8/PPPPPPPP/RNBQKBNR w KQkq -\ntry e2e4 ok silent\nheard tries some\nend\n";
+const KNIGHT: &[u8] =
+    b"krieg sheet 1\nside b\nlist 1\n4k3/8/8/8/4N3/8/8/4R1K1 w - -\nopens silent\nheard check file+knight\nend\n";
+
+const PAWN: &[u8] =
+    b"krieg sheet 1\nside w\nlist 1\nrnbqkbnr/pppppppp/8/8/8/8/PPPPPPPP/RNBQKBNR w KQkq -\nopens silent\ntry e2e4 ok silent\nheard tries 1\nend\n";
+
+const ROOK: &[u8] =
+    b"krieg sheet 1\nside w\nlist 2\nk7/8/1K6/8/8/8/8/7R w - -\n2k5/8/1K6/8/8/8/8/7R w - -\nopens silent\ntry h1d1 ok silent\nheard silent\nend\n";
+
+const MATE: &[u8] =
+    b"krieg sheet 1\nside w\nlist 1\n1k6/8/1K6/8/8/8/8/7R w - -\nopens silent\ntry a1a1 illegal\ntry h1h8 ok check rank, mate\ntry a1a1 over\nend\n";
+
+const PLAIN: &[u8] =
+    b"krieg sheet 2\ndialect plain\nside b\nlist 1\n4k3/8/8/8/4N3/8/8/4R1K1 w - -\nopens silent\ntry a1a1 early\nheard check\nend\n";
+
+const ANYTRY: &[u8] =
+    b"krieg sheet 2\ndialect anytry\nside w\nlist 1\nrnbqkbnr/pppppppp/8/8/8/8/PPPPPPPP/RNBQKBNR w KQkq -\ntry e2e4 ok silent\nheard tries some\nend\n";
 
 /// Version 2 in wild16, a position with clocks and two digits for one run, and no last line feed.
-const LOOSE: &[u8] = b"krieg sheet 2\ndialect wild16\nside b\nlist 1\n4k3/8/8/8/4N3/8/17/4R1K1 w - - 0 1\nopens silent\nheard check file+knight\nend";
-const LOOSE_WRITTEN: &[u8] = b"krieg sheet 1\nside b\nlist 1\n4k3/8/8/8/4N3/8/8/4R1K1 w - -\nopens silent\nheard check file+knight\nend\n";
+const LOOSE: &[u8] =
+    b"krieg sheet 2\ndialect wild16\nside b\nlist 1\n4k3/8/8/8/4N3/8/17/4R1K1 w - - 0 1\nopens silent\nheard check file+knight\nend";
+
+const LOOSE_WRITTEN: &[u8] =
+    b"krieg sheet 1\nside b\nlist 1\n4k3/8/8/8/4N3/8/8/4R1K1 w - -\nopens silent\nheard check file+knight\nend\n";
 
 fn is_written_as(alloc: Global, text: &[u8], want: &[u8]) -> bool {
     let Ok(sheet) = read_sheet(alloc, text) else {
@@ -54,27 +68,98 @@ fn other_texts_are_refused_at_their_line(rt: HostRuntime) {
         (b"krieg sheet 1\nside white\n", 2, Syntax),
         (b"krieg sheet 1\nside w\nlist 0\nend\n", 3, Count),
         (b"krieg sheet 1\nside w\nlist 200001\n", 3, Count),
-        (b"krieg sheet 1\nside w\nlist 99999999999999999999\n", 3, Count),
+        (
+            b"krieg sheet 1\nside w\nlist 99999999999999999999\n",
+            3,
+            Count,
+        ),
         (b"krieg sheet 1\nside w\nlist 01\n", 3, Syntax),
-        (b"krieg sheet 1\nside w\nlist 1\n1k5R/8/1K6/8/8/8/8/8 w - -\nend\n", 4, TextKind::Position(BadPosition::IdleInCheck)),
-        (b"krieg sheet 1\nside w\nlist 1\n8/8/1K6/8/8/8/8/7R w - -\nend\n", 4, TextKind::Position(BadPosition::Kings)),
+        (
+            b"krieg sheet 1\nside w\nlist 1\n1k5R/8/1K6/8/8/8/8/8 w - -\nend\n",
+            4,
+            TextKind::Position(BadPosition::IdleInCheck),
+        ),
+        (
+            b"krieg sheet 1\nside w\nlist 1\n8/8/1K6/8/8/8/8/7R w - -\nend\n",
+            4,
+            TextKind::Position(BadPosition::Kings),
+        ),
         (b"krieg sheet 1\nside w\nlist 1\nend\n", 4, Syntax),
-        (b"krieg sheet 1\nside w\nlist 2\n1k6/8/1K6/8/8/8/8/7R w - -\n1k6/8/1K6/8/8/8/8/6R1 w - -\nend\n", 5, Differs),
-        (b"krieg sheet 1\nside w\nlist 2\n1k6/8/1K6/8/8/8/8/7R w - -\n2k5/8/1K6/8/8/8/8/7R b - -\nend\n", 5, Differs),
-        (b"krieg sheet 1\nside w\nlist 1\n1k6/8/1K6/8/8/8/8/7R w - -\nheard silent\nend\n", 5, OutOfPlace),
-        (b"krieg sheet 1\nside w\nlist 1\n1k6/8/1K6/8/8/8/8/7R w - -\ntry a1a1 over\nend\n", 5, OutOfPlace),
-        (b"krieg sheet 1\nside w\nlist 1\n1k6/8/1K6/8/8/8/8/7R w - -\ntry a1a1 early\nend\n", 5, OutOfPlace),
-        (b"krieg sheet 1\nside w\nlist 1\n1k6/8/1K6/8/8/8/8/7R w - -\nopens silent\nopens silent\nend\n", 6, OutOfPlace),
-        (b"krieg sheet 1\nside w\nlist 1\n1k6/8/1K6/8/8/8/8/7R w - -\ntry a1a1 illegal\nopens silent\nend\n", 6, OutOfPlace),
-        (b"krieg sheet 1\nside w\nlist 1\n1k6/8/1K6/8/8/8/8/7R w - -\nopens stalemate\ntry a1a1 illegal\nend\n", 6, OutOfPlace),
-        (b"krieg sheet 1\nside w\nlist 1\n1k6/8/1K6/8/8/8/8/7R w - -\nopens stalemate\nopens silent\nend\n", 6, OutOfPlace),
-        (b"krieg sheet 1\nside w\nlist 1\n1k6/8/1K6/8/8/8/8/7R w - -\nopens tries 17\nend\n", 5, Syntax),
-        (b"krieg sheet 2\ndialect plain\nside w\nlist 1\n1k6/8/1K6/8/8/8/8/7R w - -\nopens check rank\nend\n", 6, Syntax),
-        (b"krieg sheet 1\nside w\nlist 1\n1k6/8/1K6/8/8/8/8/7R w - -\nopens silent\n", 6, Syntax),
-        (b"krieg sheet 1\nside w\nlist 1\n1k6/8/1K6/8/8/8/8/7R w - -\nend\nend\n", 6, Syntax),
-        (b"krieg sheet 1\nside w\nlist 1\n1k6/8/1K6/8/8/8/8/7R w - -\nend\n\n", 6, Syntax),
+        (
+            b"krieg sheet 1\nside w\nlist 2\n1k6/8/1K6/8/8/8/8/7R w - -\n1k6/8/1K6/8/8/8/8/6R1 w - -\nend\n",
+            5,
+            Differs,
+        ),
+        (
+            b"krieg sheet 1\nside w\nlist 2\n1k6/8/1K6/8/8/8/8/7R w - -\n2k5/8/1K6/8/8/8/8/7R b - -\nend\n",
+            5,
+            Differs,
+        ),
+        (
+            b"krieg sheet 1\nside w\nlist 1\n1k6/8/1K6/8/8/8/8/7R w - -\nheard silent\nend\n",
+            5,
+            OutOfPlace,
+        ),
+        (
+            b"krieg sheet 1\nside w\nlist 1\n1k6/8/1K6/8/8/8/8/7R w - -\ntry a1a1 over\nend\n",
+            5,
+            OutOfPlace,
+        ),
+        (
+            b"krieg sheet 1\nside w\nlist 1\n1k6/8/1K6/8/8/8/8/7R w - -\ntry a1a1 early\nend\n",
+            5,
+            OutOfPlace,
+        ),
+        (
+            b"krieg sheet 1\nside w\nlist 1\n1k6/8/1K6/8/8/8/8/7R w - -\nopens silent\nopens silent\nend\n",
+            6,
+            OutOfPlace,
+        ),
+        (
+            b"krieg sheet 1\nside w\nlist 1\n1k6/8/1K6/8/8/8/8/7R w - -\ntry a1a1 illegal\nopens silent\nend\n",
+            6,
+            OutOfPlace,
+        ),
+        (
+            b"krieg sheet 1\nside w\nlist 1\n1k6/8/1K6/8/8/8/8/7R w - -\nopens stalemate\ntry a1a1 illegal\nend\n",
+            6,
+            OutOfPlace,
+        ),
+        (
+            b"krieg sheet 1\nside w\nlist 1\n1k6/8/1K6/8/8/8/8/7R w - -\nopens stalemate\nopens silent\nend\n",
+            6,
+            OutOfPlace,
+        ),
+        (
+            b"krieg sheet 1\nside w\nlist 1\n1k6/8/1K6/8/8/8/8/7R w - -\nopens tries 17\nend\n",
+            5,
+            Syntax,
+        ),
+        (
+            b"krieg sheet 2\ndialect plain\nside w\nlist 1\n1k6/8/1K6/8/8/8/8/7R w - -\nopens check rank\nend\n",
+            6,
+            Syntax,
+        ),
+        (
+            b"krieg sheet 1\nside w\nlist 1\n1k6/8/1K6/8/8/8/8/7R w - -\nopens silent\n",
+            6,
+            Syntax,
+        ),
+        (
+            b"krieg sheet 1\nside w\nlist 1\n1k6/8/1K6/8/8/8/8/7R w - -\nend\nend\n",
+            6,
+            Syntax,
+        ),
+        (
+            b"krieg sheet 1\nside w\nlist 1\n1k6/8/1K6/8/8/8/8/7R w - -\nend\n\n",
+            6,
+            Syntax,
+        ),
     ] {
-        assert!(rt; fault_of(rt.alloc(), text) == Some(TextFault::At { line, kind }), "line {line}");
+        assert!(rt;
+            fault_of(rt.alloc(), text) == Some(TextFault::At { line, kind }),
+            "line {line}"
+        );
     }
 }
 
@@ -90,19 +175,37 @@ fn listed(alloc: Global, texts: &[&[u8]]) -> Option<Vec<Position>> {
 }
 
 fn began(alloc: Global, texts: &[&[u8]]) -> Option<Result<Sheet, SheetFault>> {
-    Some(Sheet::begin(alloc, Dialect::Wild16, Side::White, listed(alloc, texts)?, None))
+    Some(Sheet::begin(
+        alloc,
+        Dialect::Wild16,
+        Side::White,
+        listed(alloc, texts)?,
+        None,
+    ))
 }
 
 const H1: &[u8] = b"1k6/8/1K6/8/8/8/8/7R w - -";
+
 const G1: &[u8] = b"1k6/8/1K6/8/8/8/8/6R1 w - -";
+
 const OTHER_KING: &[u8] = b"2k5/8/1K6/8/8/8/8/7R w - -";
 
 #[test]
 fn lists_have_one_hand(rt: HostRuntime) {
     let alloc = rt.alloc();
     assert!(rt; matches!(began(alloc, &[]), Some(Err(SheetFault::Count))));
-    assert!(rt; matches!(began(alloc, &[H1, OTHER_KING, G1, H1, G1]), Some(Err(SheetFault::Differs(2)))));
-    assert!(rt; matches!(began(alloc, &[H1, G1, G1]), Some(Err(SheetFault::Differs(1)))));
+    assert!(rt;
+        matches!(
+            began(alloc, &[H1, OTHER_KING, G1, H1, G1]),
+            Some(Err(SheetFault::Differs(2)))
+        )
+    );
+    assert!(rt;
+        matches!(
+            began(alloc, &[H1, G1, G1]),
+            Some(Err(SheetFault::Differs(1)))
+        )
+    );
     assert!(rt; matches!(began(alloc, &[H1, OTHER_KING, H1]), Some(Ok(_))));
 }
 
@@ -116,8 +219,20 @@ fn is_answer(alloc: Global, texts: &[&[u8]], want: &[u8]) -> bool {
 
 #[test]
 fn lists_are_written(rt: HostRuntime) {
-    assert!(rt; is_answer(rt.alloc(), &[], b"krieg sheet 2\ndialect plain\nside b\nlist 0\nend\n"));
-    assert!(rt; is_answer(rt.alloc(), &[H1, G1], b"krieg sheet 2\ndialect plain\nside b\nlist 2\n1k6/8/1K6/8/8/8/8/7R w - -\n1k6/8/1K6/8/8/8/8/6R1 w - -\nend\n"));
+    assert!(rt;
+        is_answer(
+            rt.alloc(),
+            &[],
+            b"krieg sheet 2\ndialect plain\nside b\nlist 0\nend\n"
+        )
+    );
+    assert!(rt;
+        is_answer(
+            rt.alloc(),
+            &[H1, G1],
+            b"krieg sheet 2\ndialect plain\nside b\nlist 2\n1k6/8/1K6/8/8/8/8/7R w - -\n1k6/8/1K6/8/8/8/8/6R1 w - -\nend\n"
+        )
+    );
 }
 
 fn named(text: &[u8]) -> Option<Move> {

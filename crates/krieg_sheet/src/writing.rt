@@ -56,12 +56,7 @@ fn write_side(side: Side, n: usize, text: &mut Vec<u8>) -> Result<(), NoMemory>
 /// and the number of positions. Behind them `write_listed` appends each position, and `write_end` the
 /// last line.
 #[tactic(auto, using(krieg_fen::proofs::Fronts::fronts), unfolding(crate::specs::SheetText::head_text))]
-pub fn write_head(
-    d: Dialect,
-    side: Side,
-    n: usize,
-    text: &mut Vec<u8>,
-) -> Result<(), NoMemory>
+pub fn write_head(d: Dialect, side: Side, n: usize, text: &mut Vec<u8>) -> Result<(), NoMemory>
     ensures { Writes result text.old.items text.new.items (spec.head_text d side n) }
 {
     write_version(b"krieg sheet ", d, text)?;

@@ -8,5 +8,5 @@ use Rattle.krieg_sheet.proofs.list.other_hand.Given as goal
 abbrev pub invariant-loop-i : goal.invariant-loop-i
 invariant-loop-i l = record {
   value : other_hand l.who l.first (l.i + 1) (drop l.i l.behind) ≡ other_hand l.who l.first 1 l.behind;
-  valid : All IsValid (take l.i l.behind)
+  valid : All IsValid (take l.i l.behind);
 }

@@ -1,5 +1,4 @@
-use Rattle.std.proofs.Common.{◌++◌, ◌∷◌, [], rules}
-use Rattle.krieg_sheet.specs.SheetText.{end_text, listed_part, heard_part, sheet_pieces, answer_pieces}
+use Rattle.krieg_sheet.specs.SheetText.{end_text, listed_part, answer_pieces}
 use Rattle.krieg_fen.proofs.Fronts.{writes_err, writes_more, front_piece}
 use Rattle.krieg_sheet.proofs.writing.write_answer_pieces.Goals as goal
 

@@ -1,4 +1,4 @@
-use Rattle.std.proofs.Common.{◌≡◌, ◌++◌, rules}
+use Rattle.std.proofs.Common.{◌≡◌, ◌++◌}
 use Rattle.krieg_fen.specs.Outcomes.{AppendsFront, Writes}
 use Rattle.krieg_fen.proofs.Fronts.{writes_err, writes_more, front_piece}
 use Rattle.krieg_sheet.specs.SheetText.{listed_part, heard_part, sheet_pieces}
@@ -14,7 +14,7 @@ pub returns-clause-value : goal.returns-clause-value
 unfolding sheet_pieces
 returns-clause-value c =
     let put : c.write_listed_part.new.text.items ≡ c.args.text.now.items ++ listed_part c.args.s.now.dialect c.args.s.now.side c.args.s.now.list =
-      rw (← c.dialect-d.ensures.value, ← c.side.ensures.value, ← c.list.ensures.value) c.in_ok-write_listed_part.ensures in
+    rw (← c.dialect-d.ensures.value, ← c.side.ensures.value, ← c.list.ensures.value) c.in_ok-write_listed_part.ensures in
     let rest : Writes c.write_heard_part.result c.write_listed_part.new.text.items c.write_heard_part.new.text.items (heard_part c.args.s.now.dialect c.args.s.now.opens c.args.s.now.entries) =
-      rw (← c.dialect-d.ensures.value, ← c.opens.ensures.value, ← c.entries.ensures.value) c.write_heard_part.ensures in
+    rw (← c.dialect-d.ensures.value, ← c.opens.ensures.value, ← c.entries.ensures.value) c.write_heard_part.ensures in
     writes_more _ _ _ _ (listed_part c.args.s.now.dialect c.args.s.now.side c.args.s.now.list) _ put rest

@@ -1,7 +1,7 @@
-use Rattle.std.proofs.Common.{◌≡◌, ◌++◌, ◌∷◌, [], true, sym, subst}
+use Rattle.std.proofs.Common.{◌≡◌, true, sym, subst}
 use Rattle.krieg_words.specs.Told.{LineFits}
 use Rattle.krieg_sheet.specs.Sheets.{SheetState}
-use Rattle.krieg_sheet.specs.Turns.{turn_after, over_after, is_in_place}
+use Rattle.krieg_sheet.specs.Turns.{is_in_place}
 use Rattle.krieg_sheet.specs.Places.{IsTold}
 use Rattle.krieg_sheet.proofs.Entering.{kept_more}
 use Rattle.krieg_sheet.proofs.sheet.Sheet.enter.Goals as goal
