@@ -11,6 +11,9 @@ use Rattle.krieg_words.specs.declared.dialects.Dialect.TheVariants.{Wild16, Anyt
 use Rattle.krieg_words.specs.declared.dialects.Line.{Line}
 use Rattle.krieg_sheet.specs.Sheets.{SheetState}
 use Rattle.krieg_sheet.specs.SheetReading.{sheet_at}
+use Rattle.krieg_session.specs.Sessions.{SessionState}
+use Rattle.krieg_session.specs.SessionReading.{session_at}
+use Rattle.krieg_session.specs.Telling.{umpire_text}
 use Rattle.krieg_cli.specs.Solution.{solution_text}
 use Rattle.krieg_cli.specs.Refusals.{refused_text}
 use Rattle.krieg_cli.specs.declared.command.Command.{Command}
@@ -18,12 +21,12 @@ use Rattle.krieg_cli.specs.declared.command.Command.TheVariants.{Solve, Check, B
 use Rattle.krieg_cli.specs.declared.refusal.Refusal.{Refusal}
 use Rattle.krieg_cli.specs.declared.refusal.Refusal.TheVariants.{NotBuilt}
 
--- the commands that are built: `solve` in one move
+-- the commands that are built: `solve` in one move, and `umpire`
 abbrev pub is_built : Command → Bool
 is_built (Solve moves budget limit) = moves == 1
 is_built (Check budget) = false
 is_built (Believe limit) = false
-is_built (Umpire who) = false
+is_built (Umpire who) = true
 is_built (Play asks) = false
 is_built (Make made number) = false
 is_built (Job number) = false
@@ -55,12 +58,17 @@ abbrev pub solved_sheet : Result SheetState TextFault → Result (List ℕ) Refu
 solved_sheet (Ok sheet) = solved (lone_position sheet)
 solved_sheet (Err fault) = Err (refused_text fault)
 
+-- what the umpire tells of a session, or the refusal of its text
+abbrev pub umpired : Option Side → Result SessionState TextFault → Result (List ℕ) Refusal
+umpired who (Ok session) = Ok (umpire_text session.dialect session.start session.events who)
+umpired who (Err fault) = Err (refused_text fault)
+
 -- what a command that is built makes of the text that it reads
 abbrev pub outcome_of : Command → List ℕ → Result (List ℕ) Refusal
 outcome_of (Solve moves budget limit) text = solved_sheet (whole sheet_at (lines text))
 outcome_of (Check budget) text = Err NotBuilt
 outcome_of (Believe limit) text = Err NotBuilt
-outcome_of (Umpire who) text = Err NotBuilt
+outcome_of (Umpire who) text = umpired who (whole session_at (lines text))
 outcome_of (Play asks) text = Err NotBuilt
 outcome_of (Make made number) text = Err NotBuilt
 outcome_of (Job number) text = Err NotBuilt

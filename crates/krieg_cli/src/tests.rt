@@ -220,6 +220,87 @@ fn refuses_other_sheets(rt: HostRuntime) -> Result<(), AllocError> {
     Ok(())
 }
 
+/// The lines of both players: castling over an attacked square, tries out of turn and after a mate, and
+/// the shortest of all games.
+#[test]
+fn umpires_for_both(rt: HostRuntime) -> Result<(), AllocError> {
+    let games = [
+        (
+            "krieg session 1\nstart k4r2/8/8/8/8/8/8/4K2R w K -\nw e1g1\nw e1d1\nend\n",
+            "w opens silent\nb opens silent\nw try e1g1 illegal\nw try e1d1 ok silent\nb heard silent\n",
+        ),
+        (
+            "krieg session 1\nstart 1k6/8/1K6/8/8/8/8/7R w - -\nb b8a8\nw h1h8\nb b8a8\nw h8h7\nend\n",
+            "w opens silent\nb opens silent\nb try b8a8 early\nw try h1h8 ok check rank, mate\n\
+                b heard check rank, mate\nb try b8a8 over\nw try h8h7 over\n",
+        ),
+        (
+            "krieg session 1\nstart rnbqkbnr/pppppppp/8/8/8/8/PPPPPPPP/RNBQKBNR w KQkq -\n\
+                w f2f3\nb e7e5\nw g2g4\nb d8h4\nend\n",
+            "w opens silent\nb opens silent\nw try f2f3 ok silent\nb heard silent\nw heard silent\n\
+                b try e7e5 ok silent\nw try g2g4 ok silent\nb heard silent\n\
+                w heard check short, mate\nb try d8h4 ok check short, mate\n",
+        ),
+    ];
+    for (session, told) in games {
+        let ran = run_on(rt.alloc(), &["umpire", "all"], session)?;
+        assert_eq!(rt; ran.status, 0);
+        assert!(rt; ran.out.as_slice() == told.as_bytes(), "{session}");
+        assert!(rt; ran.err.is_empty());
+    }
+    Ok(())
+}
+
+/// One player's sheet: what the other tried in vain is not on it, and a dialect tells less.
+#[test]
+fn umpires_for_one(rt: HostRuntime) -> Result<(), AllocError> {
+    let session = "krieg session 1\nstart 4k3/8/8/8/4N3/8/8/4R1K1 w - -\nw e4e5\nw e4f6\nend\n";
+    let sheet = "krieg sheet 1\nside b\nlist 1\n4k3/8/8/8/4N3/8/8/4R1K1 w - -\nopens silent\n\
+        heard check file+knight\nend\n";
+    let ran = run_on(rt.alloc(), &["umpire", "b"], session)?;
+    assert!(rt; ran.out.as_slice() == sheet.as_bytes());
+    let plain =
+        "krieg session 2\ndialect plain\nstart 4k3/8/8/8/4N3/8/8/4R1K1 w - -\nw e4f6\nend\n";
+    let sheet = "krieg sheet 2\ndialect plain\nside b\nlist 1\n4k3/8/8/8/4N3/8/8/4R1K1 w - -\n\
+        opens silent\nheard check\nend\n";
+    let ran = run_on(rt.alloc(), &["umpire", "b"], plain)?;
+    assert!(rt; ran.out.as_slice() == sheet.as_bytes());
+    let start = "krieg session 1\nstart 4k3/8/8/8/7b/8/8/4K3 w - -\nend\n";
+    let sheet =
+        "krieg sheet 1\nside w\nlist 1\n4k3/8/8/8/7b/8/8/4K3 w - -\nopens check short\nend\n";
+    let ran = run_on(rt.alloc(), &["umpire", "w"], start)?;
+    assert!(rt; ran.out.as_slice() == sheet.as_bytes());
+    Ok(())
+}
+
+/// Sessions with a bad line.
+#[test]
+fn refuses_other_sessions(rt: HostRuntime) -> Result<(), AllocError> {
+    let refused = [
+        (
+            "krieg session 1\nstart 1k6/8/1K6/8/8/8/8/7R w - -\nw e2\n",
+            3,
+            "krieg: line 3: syntax\n",
+        ),
+        ("krieg session 3\n", 3, "krieg: line 1: version\n"),
+        (
+            "krieg session 1\nstart 8/8/8/8/8/8/8/8 w - -\n",
+            4,
+            "krieg: line 2: kings\n",
+        ),
+        (
+            "krieg session 1\nstart 1k6/8/1K6/8/8/8/8/7R w - -\n",
+            3,
+            "krieg: line 3: syntax\n",
+        ),
+    ];
+    for (session, status, line) in refused {
+        let ran = run_on(rt.alloc(), &["umpire", "all"], session)?;
+        assert!(rt; refuses(&ran, status, line), "{session}");
+    }
+    Ok(())
+}
+
 /// One byte more than an input may have.
 #[test]
 fn refuses_what_is_too_long(rt: HostRuntime) -> Result<(), AllocError> {

@@ -68,9 +68,10 @@ fn obey<S: Source, O: Sink>(
 
 /// Does all that the program does, over streams, and gives the status with which it ends.
 ///
-/// Built so far is `solve 1 BUDGET LIMIT` on a sheet that lists one position and says no more. `out`
-/// gets the plan file of the first legal move that mates, or the line `none 1` exactly where no move
-/// mates.
+/// Built so far are `umpire w`, `umpire b` and `umpire all` on any session, for which `out` gets the
+/// player's sheet or the lines of both, and `solve 1 BUDGET LIMIT` on a sheet that lists one position and
+/// says no more, for which it gets the plan file of the first legal move that mates, or the line `none 1`
+/// exactly where no move mates.
 ///
 /// The status is 0 with the answer; 1 exactly where the words are no command, and 15 where the command
 /// is not built (nothing is read then); 2 exactly where the input has more than 67,108,864 bytes; 3 or 4

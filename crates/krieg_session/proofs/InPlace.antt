@@ -1,0 +1,136 @@
+-- The entries of a player's sheet of a game are in place.
+use Rattle.std.proofs.Common.{◌≡◌, Bool, true, false, not, ◌&&◌, cond, List, [], ◌∷◌, map, Option, Some, None, refl, sym, ap, subst, ◌∙◌}
+use Rattle.std.specs.List.{cons_option}
+use Rattle.krieg_board.specs.Men.{other, is_same_side}
+use Rattle.krieg_board.specs.Pos.{Pos}
+use Rattle.krieg_board.specs.Board.{man_at, is_of}
+use Rattle.krieg_board.specs.declared.men.Side.{Side}
+use Rattle.krieg_board.specs.declared.men.Side.TheVariants.{White, Black}
+use Rattle.krieg_board.specs.declared.men.Man.{Man}
+use Rattle.krieg_board.specs.declared.men.Move.{Move}
+use Rattle.krieg_moves.specs.Legal.{is_legal}
+use Rattle.krieg_moves.specs.After.{after, after_by}
+use Rattle.krieg_moves.specs.Moves.{in_check, is_ended, is_mate, is_stalemate}
+use Rattle.krieg_moves.proofs.LegalMoves.{legal-own}
+use Rattle.krieg_words.specs.Said.{Said}
+use Rattle.krieg_words.specs.Words.{words, opening, end_of}
+use Rattle.krieg_words.specs.WordsText.{has_ended}
+use Rattle.krieg_words.specs.Told.{told, told_line}
+use Rattle.krieg_words.specs.declared.words.End.TheVariants.{Goes, Mate, Stalemate}
+use Rattle.krieg_words.specs.declared.dialects.Dialect.{Dialect}
+use Rattle.krieg_words.specs.declared.dialects.Dialect.TheVariants.{Wild16, Anytry, Plain}
+use Rattle.krieg_words.specs.declared.dialects.Line.{Line}
+use Rattle.krieg_words.specs.declared.dialects.Line.TheVariants as line
+use Rattle.krieg_referee.specs.declared.verdict.Event.{Event}
+use Rattle.krieg_referee.specs.declared.verdict.Verdict.{Verdict}
+use Rattle.krieg_referee.specs.declared.verdict.Verdict.TheVariants.{Over, Early, Illegal, Done}
+use Rattle.krieg_referee.specs.Verdicts.{verdict, next, position_after}
+use Rattle.krieg_referee.specs.Games.{judge, judged}
+use Rattle.krieg_referee.specs.Hearing.{line_for, lines_for, own_line, others_line}
+use Rattle.krieg_sheet.specs.Turns.{ends, are_in_place}
+
+-- a legal move passes the turn to the other side
+side_after : (p : Pos) (m : Move) → is_legal p m ≡ true → (after p m).side ≡ other p.side
+unfolding after
+side_after p m h = by_man (man_at p.board m.from) (legal-own p m h)
+  where
+    by_man : (x : Option Man) → is_of p.side x ≡ true → (after_by p x m).side ≡ other p.side
+    by_man None h = absurd cc
+    by_man (Some man) h = refl
+
+-- words end the game exactly where the position has no legal move
+end_by : (check ended : Bool) → has_ended (cond (check && ended) Mate (cond (not check && ended) Stalemate Goes)) ≡ ended
+end_by true true = refl
+end_by true false = refl
+end_by false true = refl
+end_by false false = refl
+
+end_is : (p : Pos) → has_ended (end_of p) ≡ is_ended p
+unfolding is_mate is_stalemate
+end_is p = end_by (in_check p) (is_ended p)
+
+told_end : (d : Dialect) (w : Said) → ends (told d w) ≡ ends w
+told_end Wild16 w = refl
+told_end Anytry w = refl
+told_end Plain w = refl
+
+pub opening_ends : (d : Dialect) (p : Pos) → ends (told d (opening p)) ≡ is_ended p
+unfolding opening
+opening_ends d p = told_end d (opening p) ∙ end_is p
+
+words_end : (d : Dialect) (p : Pos) (m : Move) → ends (told d (words p m)) ≡ is_ended (after p m)
+unfolding words
+words_end d p m = told_end d (words p m) ∙ end_is (after p m)
+
+-- One try by its verdict: its line is in place where those behind it are.
+over_line : (d : Dialect) (own : Bool) (who turn : Side) (m : Move) (ls : List Line) → are_in_place who turn true (map (told_line d) ls) ≡ true →
+    are_in_place who turn true (map (told_line d) (cons_option (cond own (Some (line.Over m)) None) ls)) ≡ true
+over_line d true who turn m ls rest = rest
+over_line d false who turn m ls rest = rest
+
+early_line : (d : Dialect) (mover who turn : Side) (m : Move) (ls : List Line) → is_same_side mover turn ≡ false → are_in_place who turn false (map (told_line d) ls) ≡ true →
+    are_in_place who turn false (map (told_line d) (cons_option (cond (is_same_side mover who) (Some (line.Early m)) None) ls)) ≡ true
+early_line d White White White m ls h rest = absurd cc
+early_line d White White Black m ls h rest = rest
+early_line d White Black White m ls h rest = absurd cc
+early_line d White Black Black m ls h rest = rest
+early_line d Black White White m ls h rest = rest
+early_line d Black White Black m ls h rest = absurd cc
+early_line d Black Black White m ls h rest = rest
+early_line d Black Black Black m ls h rest = absurd cc
+
+illegal_line : (d : Dialect) (mover who turn : Side) (m : Move) (ls : List Line) → is_same_side mover turn ≡ true → are_in_place who turn false (map (told_line d) ls) ≡ true →
+    are_in_place who turn false (map (told_line d) (cons_option (cond (is_same_side mover who) (Some (line.Illegal m)) None) ls)) ≡ true
+illegal_line d White White White m ls h rest = rest
+illegal_line d White White Black m ls h rest = absurd cc
+illegal_line d White Black White m ls h rest = rest
+illegal_line d White Black Black m ls h rest = absurd cc
+illegal_line d Black White White m ls h rest = absurd cc
+illegal_line d Black White Black m ls h rest = rest
+illegal_line d Black Black White m ls h rest = absurd cc
+illegal_line d Black Black Black m ls h rest = rest
+
+done_line : (d : Dialect) (mover who turn : Side) (m : Move) (w : Said) (ls : List Line) → is_same_side mover turn ≡ true → are_in_place who (other turn) (ends (told d w)) (map (told_line d) ls) ≡ true →
+    are_in_place who turn false (map (told_line d) (cons_option (cond (is_same_side mover who) (Some (line.Done m w)) (Some (line.Heard w))) ls)) ≡ true
+done_line d White White White m w ls h rest = rest
+done_line d White White Black m w ls h rest = absurd cc
+done_line d White Black White m w ls h rest = rest
+done_line d White Black Black m w ls h rest = absurd cc
+done_line d Black White White m w ls h rest = absurd cc
+done_line d Black White Black m w ls h rest = rest
+done_line d Black Black White m w ls h rest = absurd cc
+done_line d Black Black Black m w ls h rest = rest
+
+step : (d : Dialect) (who : Side) (p : Pos) (e : Event) (ls : List Line) →
+    are_in_place who (next p e.who e.mv).side (is_ended (next p e.who e.mv)) (map (told_line d) ls) ≡ true →
+    are_in_place who p.side (is_ended p) (map (told_line d) (cons_option (line_for who (judged p e)) ls)) ≡ true
+unfolding verdict
+step d who p e ls rest = by_tests (is_ended p) (is_same_side e.who p.side) (is_legal p e.mv) refl refl refl rest
+  where
+    v : Bool → Bool → Bool → Verdict
+    v ended turn legal = cond ended Over (cond (not turn) Early (cond (not legal) Illegal (Done (words p e.mv))))
+
+    heard_of : Verdict → Option Line
+    heard_of x = cond (is_same_side e.who who) (Some (own_line e.mv x)) (others_line x)
+
+    -- the lines are in place behind p, where the game is over or not
+    behind : Bool → List Line → Type 0
+    behind ended ks = are_in_place who p.side ended (map (told_line d) ks) ≡ true
+
+    by_tests : (ended turn legal : Bool) → is_ended p ≡ ended → is_same_side e.who p.side ≡ turn → is_legal p e.mv ≡ legal →
+        are_in_place who (position_after (v ended turn legal) p e.mv).side (is_ended (position_after (v ended turn legal) p e.mv)) (map (told_line d) ls) ≡ true →
+        behind (is_ended p) (cons_option (heard_of (v ended turn legal)) ls)
+    by_tests true turn legal he ht hl rest =
+        subst (λ t. behind t (cons_option (heard_of Over) ls)) (sym he) (over_line d (is_same_side e.who who) who p.side e.mv ls (subst (λ t. behind t ls) he rest))
+    by_tests false false legal he ht hl rest =
+        subst (λ t. behind t (cons_option (heard_of Early) ls)) (sym he) (early_line d e.who who p.side e.mv ls ht (subst (λ t. behind t ls) he rest))
+    by_tests false true false he ht hl rest =
+        subst (λ t. behind t (cons_option (heard_of Illegal) ls)) (sym he) (illegal_line d e.who who p.side e.mv ls ht (subst (λ t. behind t ls) he rest))
+    by_tests false true true he ht hl rest =
+        let here = subst (λ (s : Side). are_in_place who s (is_ended (after p e.mv)) (map (told_line d) ls) ≡ true) (side_after p e.mv hl) rest in
+        let so = subst (λ (t : Bool). are_in_place who (other p.side) t (map (told_line d) ls) ≡ true) (sym (words_end d p e.mv)) here in
+        subst (λ t. behind t (cons_option (heard_of (Done (words p e.mv))) ls)) (sym he) (done_line d e.who who p.side e.mv (words p e.mv) ls ht so)
+
+pub entries_in_place : (d : Dialect) (who : Side) (p : Pos) (events : List Event) → are_in_place who p.side (is_ended p) (map (told_line d) (lines_for who (judge p events))) ≡ true
+entries_in_place d who p [] = refl
+entries_in_place d who p (e ∷ es) = step d who p e (lines_for who (judge (next p e.who e.mv) es)) (entries_in_place d who (next p e.who e.mv) es)

@@ -1,0 +1,19 @@
+use Rattle.std.proofs.Common.{rules}
+use Rattle.std.specs.Prelude.{codes}
+use Rattle.std.specs.List.{flat_map}
+use Rattle.krieg_fen.specs.Lines.{ended_line}
+use Rattle.krieg_fen.proofs.Fronts.{writes_err, writes_more, front_piece, flat_fails}
+use Rattle.krieg_sheet.specs.Dialects.{version_text}
+use Rattle.krieg_sheet.specs.SheetText.{listed_text}
+use Rattle.krieg_session.specs.SessionText.{last_text}
+use Rattle.krieg_session.specs.Telling.{side_mark}
+use Rattle.krieg_session.specs.SessionPieces.{moved_text, try_text, events_part, start_line_part, start_word_part, session_pieces}
+use Rattle.krieg_session.proofs.writing.write_pieces.Goals as goal
+
+pub returns-in_err-write_version : goal.returns-in_err-write_version
+unfolding session_pieces
+returns-in_err-write_version c = writes_err _ _ _ _ _ c.from_residual.ensures.1 (front_piece _ _ (version_text (codes "krieg session ") c.args.d) (start_word_part c.args.start.now c.args.events.now c.args.stop.now) c.in_err-write_version.ensures)
+
+pub returns : goal.returns
+unfolding session_pieces
+returns c = writes_more _ _ c.write_version.new.text.items _ (version_text (codes "krieg session ") c.args.d) (start_word_part c.args.start.now c.args.events.now c.args.stop.now) c.in_ok-write_version.ensures c.write_start_word.ensures

@@ -1,0 +1,25 @@
+-- What holds of every game: a player's lines among those of both, and his sheet.
+use Rattle.std.specs.Prelude.{◌≡◌, List}
+use Rattle.std.specs.List.{All}
+use Rattle.krieg_board.specs.Pos.{Pos}
+use Rattle.krieg_board.specs.Validity.{IsValid}
+use Rattle.krieg_board.specs.declared.men.Side.{Side}
+use Rattle.krieg_fen.specs.MoveText.{IsOnBoard}
+use Rattle.krieg_words.specs.declared.dialects.Dialect.{Dialect}
+use Rattle.krieg_referee.specs.declared.verdict.Event.{Event}
+use Rattle.krieg_referee.specs.Hearing.{heard}
+use Rattle.krieg_sheet.specs.Places.{IsSheet}
+use Rattle.krieg_session.specs.Telling.{sheet_of, lines_of, all_lines}
+
+-- of the lines of both players, those of one are what he hears, in their order
+abbrev pub LinesAreHeard : Type 0
+LinesAreHeard = (d : Dialect) (p : Pos) (events : List Event) (who : Side) → lines_of who (all_lines d p events) ≡ heard d p events who
+
+-- a try is a move between two squares of the board
+abbrev pub AreTries : List Event → Type 0
+AreTries events = All (λ e. IsOnBoard e.mv) events
+
+-- A player's sheet of a game from a valid position is a sheet: its words can be said and fit the dialect,
+-- and its entries are in place.
+abbrev pub SheetsAreInPlace : Type 0
+SheetsAreInPlace = (d : Dialect) (p : Pos) (events : List Event) (who : Side) → IsValid p → AreTries events → IsSheet (sheet_of d p events who)

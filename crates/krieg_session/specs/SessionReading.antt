@@ -1,0 +1,92 @@
+-- The session that a text spells, line by line.
+use Rattle.std.specs.Prelude.{ℕ, List, [], ◌∷◌, ◌++◌, codes, Option, Some, None, Result, Ok, Err, if◌then◌else◌}
+use Rattle.std.specs.Str.{bytes_eq}
+use Rattle.krieg_board.specs.Pos.{Pos}
+use Rattle.krieg_board.specs.declared.men.Side.{Side}
+use Rattle.krieg_board.specs.declared.men.Side.TheVariants.{White, Black}
+use Rattle.krieg_board.specs.declared.men.Move.{Move}
+use Rattle.krieg_fen.specs.declared.fault.TextKind.{TextKind}
+use Rattle.krieg_fen.specs.declared.fault.TextKind.TheVariants.{Syntax}
+use Rattle.krieg_fen.specs.Names.{behind}
+use Rattle.krieg_fen.specs.MoveText.{move_of}
+use Rattle.krieg_fen.specs.Outcomes.{◌>>=◌}
+use Rattle.krieg_fen.specs.Reading.{LineReader, taken, Step, goes_on, stops, up_to_last}
+use Rattle.krieg_fen.specs.Forms.{version_form, position_form}
+use Rattle.krieg_referee.specs.declared.verdict.Event.{Event}
+use Rattle.krieg_referee.specs.declared.verdict.Stop.{Stop}
+use Rattle.krieg_referee.specs.declared.verdict.Stop.TheVariants.{Ended, Left, AsksUsed}
+use Rattle.krieg_sheet.specs.Dialects.{dialect_at}
+use Rattle.krieg_session.specs.Sessions.{SessionState}
+use Rattle.krieg_session.specs.declared.reading.SessionLine.{SessionLine}
+use Rattle.krieg_session.specs.declared.reading.SessionLine.TheVariants.{Try, Last}
+
+-- the format's name and one of its two versions
+unfoldable pub session_form : List ℕ → Result ℕ TextKind
+session_form line = version_form (codes "krieg session ") 2 line
+
+abbrev pub position_behind : Option (List ℕ) → Result Pos TextKind
+position_behind None = Err Syntax
+position_behind (Some text) = position_form text
+
+-- the position in which the game began
+unfoldable pub start_form : List ℕ → Result Pos TextKind
+start_form line = position_behind (behind (codes "start ") line)
+
+abbrev pub tried : Side → Option Move → Result Event TextKind
+tried who None = Err Syntax
+tried who (Some m) = Ok (record { who = who; mv = m })
+
+abbrev pub black_try : Option (List ℕ) → Result Event TextKind
+black_try None = Err Syntax
+black_try (Some text) = tried Black (move_of text)
+
+abbrev pub white_try : Option (List ℕ) → List ℕ → Result Event TextKind
+white_try (Some text) line = tried White (move_of text)
+white_try None line = black_try (behind (codes "b ") line)
+
+-- a player and a move
+unfoldable pub try_form : List ℕ → Result Event TextKind
+try_form line = white_try (behind (codes "w ") line) line
+
+-- why the game stopped, where it is the last line
+unfoldable pub last_form : List ℕ → Option (Option Stop)
+last_form line =
+    if bytes_eq line (codes "end") then Some None
+    else (if bytes_eq line (codes "end over") then Some (Some Ended)
+    else (if bytes_eq line (codes "end left w") then Some (Some (Left White))
+    else (if bytes_eq line (codes "end left b") then Some (Some (Left Black))
+    else (if bytes_eq line (codes "end asks") then Some (Some AsksUsed)
+    else None))))
+
+abbrev pub unless_last : Option (Option Stop) → List ℕ → Result SessionLine TextKind
+unless_last (Some stop) line = Ok (Last stop)
+unless_last None line = try_form line >>= λ e. Ok (Try e)
+
+-- the last line, or a try
+unfoldable pub line_form : List ℕ → Result SessionLine TextKind
+line_form line = unless_last (last_form line) line
+
+-- the tries are all, or go on with one more
+abbrev pub led : List Event → SessionLine → Step (List Event) (List Event × Option Stop)
+led es (Last stop) = stops (es, stop)
+led es (Try e) = goes_on (es ++ e ∷ [])
+
+abbrev pub event_form : List Event → List ℕ → Result (Step (List Event) (List Event × Option Stop)) TextKind
+event_form es line = line_form line >>= λ l. Ok (led es l)
+
+-- the tries up to the last line
+abbrev pub events_at : LineReader (List Event × Option Stop)
+events_at p = up_to_last event_form [] p.number p.left
+
+-- the places of a session in their order: version and dialect, start, tries, last line
+unfoldable pub session_at : LineReader SessionState
+session_at p = do
+  version ← taken session_form p
+  dialect ← dialect_at version.0 version.1
+  start ← taken start_form dialect.1
+  events ← events_at start.1
+  Ok (record { dialect = dialect.0; start = start.0; events = events.0.0; stop = events.0.1 }, events.1)
+
+-- a text of one line that is a position
+abbrev pub start_at : LineReader Pos
+start_at p = taken position_form p

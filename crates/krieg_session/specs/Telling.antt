@@ -1,0 +1,72 @@
+-- What the umpire tells of a session: one player's sheet, and all lines of both players.
+use Rattle.std.specs.Prelude.{ℕ, List, [], ◌∷◌, ◌++◌, codes, Option, Some, None, map, cond}
+use Rattle.std.specs.List.{flat_map, filter_map}
+use Rattle.krieg_board.specs.Men.{is_same_side}
+use Rattle.krieg_board.specs.Pos.{Pos}
+use Rattle.krieg_board.specs.declared.men.Side.{Side}
+use Rattle.krieg_board.specs.declared.men.Side.TheVariants.{White, Black}
+use Rattle.krieg_fen.specs.Lines.{ended_line}
+use Rattle.krieg_words.specs.Words.{opening}
+use Rattle.krieg_words.specs.Told.{told, told_line}
+use Rattle.krieg_words.specs.LineText.{line_text}
+use Rattle.krieg_words.specs.declared.dialects.Dialect.{Dialect}
+use Rattle.krieg_words.specs.declared.dialects.Line.{Line}
+use Rattle.krieg_words.specs.declared.dialects.Line.TheVariants.{Opens}
+use Rattle.krieg_referee.specs.declared.verdict.Event.{Event}
+use Rattle.krieg_referee.specs.declared.verdict.Judged.{Judged}
+use Rattle.krieg_referee.specs.Games.{judge}
+use Rattle.krieg_referee.specs.Hearing.{line_for, lines_for}
+use Rattle.krieg_sheet.specs.Sheets.{SheetState}
+use Rattle.krieg_sheet.specs.SheetText.{sheet_text}
+
+-- A player's sheet of a game: it lists the position in which the game began, and has the opening words and
+-- the lines that he hears, as the dialect tells them.
+abbrev pub sheet_of : Dialect → Pos → List Event → Side → SheetState
+sheet_of d p events who = record {
+  dialect = d;
+  side = who;
+  list = p ∷ [];
+  opens = Some (told d (opening p));
+  entries = map (told_line d) (lines_for who (judge p events));
+}
+
+-- a player's line, where he has one, as the dialect tells it
+abbrev pub players_line : Dialect → Side → Option Line → List (Side × Line)
+players_line d who None = []
+players_line d who (Some l) = (who, told_line d l) ∷ []
+
+-- White's line of a judged try, and after it Black's
+abbrev pub both_lines : Dialect → Judged → List (Side × Line)
+both_lines d j = players_line d White (line_for White j) ++ players_line d Black (line_for Black j)
+
+-- the opening words, told to White and to Black, and then for each try White's line and Black's
+abbrev pub all_lines : Dialect → Pos → List Event → List (Side × Line)
+all_lines d p events =
+    players_line d White (Some (Opens (opening p)))
+    ++ (players_line d Black (Some (Opens (opening p)))
+    ++ flat_map (both_lines d) (judge p events))
+
+-- the lines of one player, in their order
+abbrev pub if_of : Side → Side × Line → Option Line
+if_of who l = cond (is_same_side l.0 who) (Some l.1) None
+
+abbrev pub lines_of : Side → List (Side × Line) → List Line
+lines_of who ls = filter_map (if_of who) ls
+
+-- whose line or try it is
+abbrev pub side_mark : Side → List ℕ
+side_mark White = codes "w "
+side_mark Black = codes "b "
+
+-- a player's line with its mark and a line feed
+abbrev pub marked_line : Dialect → Side × Line → List ℕ
+marked_line d l = side_mark l.0 ++ ended_line (line_text d l.1)
+
+-- all lines of both players
+unfoldable pub all_text : Dialect → Pos → List Event → List ℕ
+all_text d p events = flat_map (marked_line d) (all_lines d p events)
+
+-- what the umpire writes: the sheet of one player, or all lines of both
+abbrev pub umpire_text : Dialect → Pos → List Event → Option Side → List ℕ
+umpire_text d p events (Some who) = sheet_text (sheet_of d p events who)
+umpire_text d p events None = all_text d p events
