@@ -1,5 +1,5 @@
 -- What a position and a set of positions feed a hasher: the same for equal ones.
-use Rattle.std.specs.Prelude.{◌++◌}
+use Rattle.std.specs.Prelude.{[], ◌∷◌, ◌++◌}
 use Rattle.std.specs.Hash as fed
 use Rattle.std.specs.Hash.{HashWrites}
 use Rattle.std.specs.Cmp.Lexicographic.{pointwise}
@@ -9,11 +9,11 @@ use Rattle.krieg_pack.specs.Order.{position_eq}
 use Rattle.krieg_pack.specs.Packing.{packed}
 use Rattle.krieg_pack.specs.SameNumbers.{equal_position}
 
--- the words and then the bytes
+-- the words one by one, and then the three bytes at once
 unfoldable pub fed_by : Pos → HashWrites
 fed_by p =
     let k = packed p in
-    fed.u64 k.first ++ (fed.u64 k.second ++ (fed.u64 k.third ++ (fed.u64 k.fourth ++ (fed.u8 k.rights ++ (fed.u8 k.mark ++ fed.u8 k.side)))))
+    fed.u64 k.first ++ (fed.u64 k.second ++ (fed.u64 k.third ++ (fed.u64 k.fourth ++ (k.rights ∷ k.mark ∷ k.side ∷ []) ∷ [])))
 
 pub positions_fed : fed.Alike position_eq fed_by
 positions_fed = record { fed = λ p q h. ap fed_by (equal_position p q h) }

@@ -16,8 +16,8 @@ pub(crate) fn make_ascending(packed: &mut Vec<Packed>)
 }
 
 /// Keeps a buffer small in which a set of at most `limit` positions is gathered: where it holds more
-/// than twice as many and 64, repeats are dropped. It takes no memory, and sorts only once for as many
-/// positions as the limit.
+/// than twice as many and 64, repeats are dropped. It takes no memory, and between two sorts at least
+/// as many positions come as the limit says.
 ///
 /// The set of what is in the buffer stays, also with an error. `TooMany` comes only where this set is
 /// greater than the limit. It need not come as soon as it is, so a caller looks at the set's length

@@ -188,9 +188,7 @@ impl Hash for Packed {
         state.write_u64(self.second);
         state.write_u64(self.third);
         state.write_u64(self.fourth);
-        state.write_u8(self.rights);
-        state.write_u8(self.mark);
-        state.write_u8(self.side);
+        state.write(&[self.rights, self.mark, self.side]);
     }
 }
 
