@@ -1,5 +1,6 @@
--- What stands in lists that were filtered, mapped and put together.
-use Rattle.std.proofs.Common.{◌≡◌, Bool, true, false, cond, ◌⊎◌, List, [], ◌∷◌, ◌++◌, filter, map, flat_map, refl, sym, ap, subst, inl, inr}
+-- What stands in lists that were cut, filtered, mapped and put together.
+use Rattle.std.proofs.Common.{◌≡◌, ℕ, Bool, true, false, cond, ◌⊎◌, List, [], ◌∷◌, ◌++◌, filter, map, flat_map, take, drop, refl, sym, ap, subst, inl, inr}
+use Rattle.std.proofs.lemmas.List.{take-append-drop}
 use Rattle.krieg_pack.specs.Sets.{In}
 
 module _ {X : Type 0} where
@@ -20,6 +21,9 @@ module _ {X : Type 0} where
       ⊎_more : In x xs ⊎ In x ys → In x (y ∷ xs) ⊎ In x ys
       ⊎_more (inl a) = inl (inr a)
       ⊎_more (inr b) = inr b
+
+  pub take_in : (n : ℕ) (xs : List X) (x : X) → In x (take n xs) → In x xs
+  take_in n xs x i = subst (In x) (take-append-drop n xs) (in_append_left (take n xs) (drop n xs) x i)
 
   pub in_filter : (f : X → Bool) (xs : List X) (x : X) → In x xs → f x ≡ true → In x (filter f xs)
   in_filter f [] x i h = absurd i

@@ -77,6 +77,10 @@ set_of-early ps qs = as_set_early position_lt position_order ps qs
 pub set_of-front : (ps qs rs : List Pos) → set_of ps ≡ set_of qs → set_of (ps ++ rs) ≡ set_of (qs ++ rs)
 set_of-front ps qs rs e = sym (set_of-early ps rs) ∙ ap (λ s. set_of (s ++ rs)) e ∙ set_of-early qs rs
 
+-- a buffer that has the set of what came before, after more came and repeats were dropped
+pub set_of-grown : (now pushed before came more : List Pos) → set_of now ≡ set_of pushed → pushed ≡ before ++ more → set_of before ≡ set_of came → set_of now ≡ set_of (came ++ more)
+set_of-grown now pushed before came more same is e = same ∙ ap set_of is ∙ set_of-front before came more e
+
 -- some members of an ascending list, in their order, ascend
 pub filter_ascending : (f : Pos → Bool) (ps : List Pos) → IsAscending ps → IsAscending (filter f ps)
 filter_ascending f ps up = ascending_filter position_lt f ps up
