@@ -62,13 +62,14 @@ impl Hash for Belief {
 
 impl Belief {
     /// The set of the packed positions, which may come in any order and more than once. It takes no
-    /// memory: they are sorted in their place.
+    /// memory: they are sorted in their place, and spare room is given back.
     pub fn from_packed(packed: Vec<Packed>) -> Belief
         ensures value { result ≡ set_of packed.items }
         ensures set { IsSetOf result packed.items }
     {
         let mut members = packed;
         make_ascending(&mut members);
+        members.shrink_to_fit();
         Belief { members }
     }
 
