@@ -6,4 +6,5 @@ pub mod SheetLocality
 pub mod SheetTexts
 pub mod CleanLines
 pub mod SheetsAgain
+pub mod SheetsSpell
 pub mod GameEnds

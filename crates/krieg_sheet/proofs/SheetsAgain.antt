@@ -1,5 +1,5 @@
--- A written sheet is read again.
-use Rattle.std.proofs.Common.{◌≡◌, ℕ, ◌+◌, ◌≤◌, Bool, true, false, cond, leb, List, [], ◌∷◌, ◌++◌, map, length, Option, Some, None, Result, Ok, Err, refl, sym, ap, subst, ◌∙◌, append_assoc, arith}
+-- What spells a sheet is read as that sheet, and a written sheet spells itself.
+use Rattle.std.proofs.Common.{◌≡◌, inl, inr, ℕ, ◌+◌, ◌≤◌, Bool, true, false, cond, leb, List, [], ◌∷◌, ◌++◌, map, length, Option, Some, None, Result, Ok, Err, refl, sym, ap, subst, ◌∙◌, append_assoc, arith}
 use Rattle.std.specs.Prelude.{codes, unwrap_or}
 use Rattle.std.specs.Str.{bytes_eq}
 use Rattle.std.specs.List.{All}
@@ -23,7 +23,9 @@ use Rattle.krieg_fen.specs.Reading.{Place, place, on, taken, ended, whole, Gives
 use Rattle.krieg_fen.specs.Forms.{number_form, number_behind, ranged, side_form, position_kind, position_form, matching, listed_form, positions_at}
 use Rattle.krieg_fen.proofs.NameLemmas.{behind_again}
 use Rattle.krieg_fen.proofs.Numbers.{between_again}
+use Rattle.krieg_fen.specs.Spelling.{Spells}
 use Rattle.krieg_fen.proofs.FenTexts.{position_again}
+use Rattle.krieg_fen.proofs.PositionSpellings.{position_spells, position_reads}
 use Rattle.krieg_fen.proofs.LineTexts.{lines_again}
 use Rattle.krieg_words.specs.Said.{Said}
 use Rattle.krieg_words.specs.LineText.{line_text, line_in}
@@ -37,9 +39,10 @@ use Rattle.krieg_sheet.specs.Sheets.{SheetState, fresh, entered}
 use Rattle.krieg_sheet.specs.Turns.{first_turn, over_at_first, turn_after, over_after, may_stand, are_in_place, turn_of, is_over, is_in_place}
 use Rattle.krieg_sheet.specs.Lists.{other_hand, differs, list_fault}
 use Rattle.krieg_sheet.specs.Places.{OpeningFits, IsOpening, IsTold, IsSheet}
-use Rattle.krieg_sheet.specs.Dialects.{version_lines, dialect_form}
+use Rattle.krieg_sheet.specs.Dialects.{dialect_text, version_lines, dialect_form}
 use Rattle.krieg_sheet.specs.SheetReading.{sheet_form, list_form, may_follow, followed_by, placed, next_form, entries_at, sheet_at}
 use Rattle.krieg_sheet.specs.SheetText.{side_line, opens_lines, sheet_lines, sheet_text}
+use Rattle.krieg_sheet.specs.SheetSpelling.{SpellVersion, SpellList, told_lines, SpellsSheet}
 use Rattle.krieg_sheet.proofs.Entering.{turn_behind-push, over_behind-push}
 use Rattle.krieg_sheet.proofs.Entries.{entries_last, entries_more}
 use Rattle.krieg_sheet.proofs.CleanLines.{all_rest, sheet_are}
@@ -54,18 +57,18 @@ taken_again {A = A} form n l ls x is = ap (λ (f : Result A TextKind). ◌>>=◌
 
 -- the list
 
-position_reads : (p : Pos) → IsValid p → position_form (position_text p) ≡ Ok p
+form_reads : (text : List ℕ) (p : Pos) → Spells text p → position_form text ≡ Ok p
 unfolding position_form
-position_reads p valid = ap position_kind (position_again p valid)
+form_reads text p is = ap position_kind (position_reads text p is)
 
-first_reads : (who : Side) (p : Pos) → IsValid p → listed_form who None (position_text p) ≡ Ok p
+first_reads : (who : Side) (text : List ℕ) (p : Pos) → Spells text p → listed_form who None text ≡ Ok p
 unfolding listed_form
-first_reads who p valid = ap (λ (r : Result Pos TextKind). r >>= matching who None) (position_reads p valid)
+first_reads who text p is = ap (λ (r : Result Pos TextKind). r >>= matching who None) (form_reads text p is)
 
-other_reads : (who : Side) (f p : Pos) → IsValid p → same_hand f p who ≡ true → listed_form who (Some f) (position_text p) ≡ Ok p
+other_reads : (who : Side) (f : Pos) (text : List ℕ) (p : Pos) → Spells text p → same_hand f p who ≡ true → listed_form who (Some f) text ≡ Ok p
 unfolding listed_form
-other_reads who f p valid same =
-    ap (λ (r : Result Pos TextKind). r >>= matching who (Some f)) (position_reads p valid) ∙ ap (λ (t : Bool). cond t (Ok p) (Err Differs)) same
+other_reads who f text p is same =
+    ap (λ (r : Result Pos TextKind). r >>= matching who (Some f)) (form_reads text p is) ∙ ap (λ (t : Bool). cond t (Ok p) (Err Differs)) same
 
 one_hand : (who : Side) (f : Pos) (k : ℕ) (p : Pos) (ps : List Pos) → other_hand who f k (p ∷ ps) ≡ None → (same_hand f p who ≡ true) × (other_hand who f (k + 1) ps ≡ None)
 one_hand who f k p ps e = go (same_hand f p who) refl e
@@ -74,16 +77,18 @@ one_hand who f k p ps e = go (same_hand f p who) refl e
     go true is h = (is, h)
     go false is h = absurd cc
 
-positions_behind : (who : Side) (f : Pos) (ps : List Pos) (k n : ℕ) (rest : List (List ℕ)) → All IsValid ps → other_hand who f k ps ≡ None →
-    Read (positions_at who (Some f) (length ps) (place n (map position_text ps ++ rest))) ps rest
-positions_behind who f [] k n rest valid same = record { number = n; is = refl }
-positions_behind who f (p ∷ ps) k n rest valid same =
+positions_behind : (who : Side) (f : Pos) (ts : List (List ℕ)) (ps : List Pos) (k n : ℕ) (rest : List (List ℕ)) → SpellList ts ps → other_hand who f k ps ≡ None →
+    Read (positions_at who (Some f) (length ps) (place n (ts ++ rest))) ps rest
+positions_behind who f [] [] k n rest spelled same = record { number = n; is = refl }
+positions_behind who f [] (p ∷ ps) k n rest spelled same = absurd spelled
+positions_behind who f (t ∷ ts) [] k n rest spelled same = absurd spelled
+positions_behind who f (t ∷ ts) (p ∷ ps) k n rest spelled same =
     let h = one_hand who f k p ps same in
-    let more = positions_behind who f ps (k + 1) (n + 1) rest (all_rest IsValid p ps valid) h.1 in
+    let more = positions_behind who f ts ps (k + 1) (n + 1) rest spelled.1 h.1 in
     record {
       number = more.number;
       is = ap (λ (r : Result (Pos × Place) TextFault). r >>= λ one. positions_at who (Some (unwrap_or (Some f) one.0)) (length ps) one.1 >>= λ o. Ok (one.0 ∷ o.0, o.1))
-          (taken_again (listed_form who (Some f)) n (position_text p) (map position_text ps ++ rest) p (other_reads who f p (valid 0 p (omega arith)) h.0))
+          (taken_again (listed_form who (Some f)) n t (ts ++ rest) p (other_reads who f t p spelled.0 h.0))
           ∙ ap (λ (r : Result (List Pos × Place) TextFault). r >>= λ o. Ok (p ∷ o.0, o.1)) more.is;
     }
 
@@ -106,15 +111,16 @@ pub list_size : (who : Side) (list : List Pos) → list_fault who list ≡ None 
 list_size who [] e = absurd cc
 list_size who (f ∷ ps) e = (omega arith, (listable who f ps e).few)
 
-list_again : (who : Side) (list : List Pos) (n : ℕ) (rest : List (List ℕ)) → All IsValid list → list_fault who list ≡ None →
-    Read (positions_at who None (length list) (place n (map position_text list ++ rest))) list rest
-list_again who [] n rest valid e = absurd cc
-list_again who (f ∷ ps) n rest valid e =
-    let more = positions_behind who f ps 1 (n + 1) rest (all_rest IsValid f ps valid) (listable who f ps e).same in
+list_again : (who : Side) (ts : List (List ℕ)) (list : List Pos) (n : ℕ) (rest : List (List ℕ)) → SpellList ts list → list_fault who list ≡ None →
+    Read (positions_at who None (length list) (place n (ts ++ rest))) list rest
+list_again who ts [] n rest spelled e = absurd cc
+list_again who [] (f ∷ ps) n rest spelled e = absurd spelled
+list_again who (t ∷ ts) (f ∷ ps) n rest spelled e =
+    let more = positions_behind who f ts ps 1 (n + 1) rest spelled.1 (listable who f ps e).same in
     record {
       number = more.number;
       is = ap (λ (r : Result (Pos × Place) TextFault). r >>= λ one. positions_at who (Some (unwrap_or None one.0)) (length ps) one.1 >>= λ o. Ok (one.0 ∷ o.0, o.1))
-          (taken_again (listed_form who None) n (position_text f) (map position_text ps ++ rest) f (first_reads who f (valid 0 f (omega arith))))
+          (taken_again (listed_form who None) n t (ts ++ rest) f (first_reads who t f spelled.0))
           ∙ ap (λ (r : Result (List Pos × Place) TextFault). r >>= λ o. Ok (f ∷ o.0, o.1)) more.is;
     }
 
@@ -197,11 +203,25 @@ body_again d who list (Some w) ls n fits is told stand =
 abbrev behind_dialect : Dialect → Place → Result (SheetState × Place) TextFault
 behind_dialect d p = taken side_form p >>= λ side. taken list_form side.1 >>= λ count. positions_at side.0 None count.0 count.1 >>= λ list. entries_at (fresh d side.0 list.0 None) list.1
 
-version_again : (d : Dialect) (rest : List (List ℕ)) → (n : ℕ) × (sheet_at (place 1 (version_lines (codes "krieg sheet ") d ++ rest)) ≡ behind_dialect d (place n rest))
+written_version : (d : Dialect) (rest : List (List ℕ)) → (n : ℕ) × (sheet_at (place 1 (version_lines (codes "krieg sheet ") d ++ rest)) ≡ behind_dialect d (place n rest))
 unfolding sheet_at sheet_form number_form behind dialect_form
-version_again Wild16 rest = (2, refl)
-version_again Anytry rest = (3, refl)
-version_again Plain rest = (3, refl)
+written_version Wild16 rest = (2, refl)
+written_version Anytry rest = (3, refl)
+written_version Plain rest = (3, refl)
+
+second_version : (d : Dialect) (rest : List (List ℕ)) → (n : ℕ) × (sheet_at (place 1 (codes "krieg sheet 2" ∷ dialect_text d ∷ rest)) ≡ behind_dialect d (place n rest))
+unfolding sheet_at sheet_form number_form behind dialect_form
+second_version Wild16 rest = (3, refl)
+second_version Anytry rest = (3, refl)
+second_version Plain rest = (3, refl)
+
+version_again : (d : Dialect) (header rest : List (List ℕ)) → SpellVersion header d → (n : ℕ) × (sheet_at (place 1 (header ++ rest)) ≡ behind_dialect d (place n rest))
+version_again d header rest (inl is) =
+    let v = written_version d rest in
+    (v.0, ap (λ (h : List (List ℕ)). sheet_at (place 1 (h ++ rest))) is ∙ v.1)
+version_again d header rest (inr is) =
+    let v = second_version d rest in
+    (v.0, ap (λ (h : List (List ℕ)). sheet_at (place 1 (h ++ rest))) is ∙ v.1)
 
 side_again : (who : Side) → side_form (side_line who) ≡ Ok who
 unfolding side_form
@@ -213,20 +233,17 @@ unfolding list_form number_form
 count_again n low high =
     ap (number_behind Count 1 200000) (behind_again (codes "list ") (number_text n)) ∙ ap (ranged Count) (between_again 1 200000 n low high (omega arith))
 
-abbrev rest_of : SheetState → List (List ℕ)
-rest_of s = opens_lines s.dialect s.opens ++ (map (line_text s.dialect) s.entries ++ (codes "end" ∷ []))
-
-all_again : (s : SheetState) → IsSheet s → Read (sheet_at (place 1 (sheet_lines s))) s []
-all_again s h =
+all_again : (ls : List (List ℕ)) (s : SheetState) → IsSheet s → SpellsSheet ls s → Read (sheet_at (place 1 ls)) s []
+all_again ls s h spelled =
     let size = list_size s.side s.list h.listed in
     let count = codes "list " ++ number_text (length s.list) in
-    let behind_count = map position_text s.list ++ rest_of s in
-    let v = version_again s.dialect (side_line s.side ∷ count ∷ behind_count) in
-    let listed = list_again s.side s.list (v.0 + 1 + 1) (rest_of s) h.valid h.listed in
+    let behind_count = spelled.positions ++ told_lines s in
+    let v = version_again s.dialect spelled.header (side_line s.side ∷ count ∷ behind_count) spelled.version in
+    let listed = list_again s.side spelled.positions s.list (v.0 + 1 + 1) (told_lines s) spelled.listed h.listed in
     let body = body_again s.dialect s.side s.list s.opens s.entries listed.number h.fits h.opening h.told h.in_place in
     record {
       number = body.number;
-      is = ap (λ (ls : List (List ℕ)). sheet_at (place 1 ls)) (append_assoc (version_lines (codes "krieg sheet ") s.dialect) (side_line s.side ∷ count ∷ []) behind_count)
+      is = ap (λ (ls : List (List ℕ)). sheet_at (place 1 ls)) spelled.is
           ∙ v.1
           ∙ ap (λ (r : Result (Side × Place) TextFault). r >>= λ side. taken list_form side.1 >>= λ count. positions_at side.0 None count.0 count.1 >>= λ list. entries_at (fresh s.dialect side.0 list.0 None) list.1)
           (taken_again side_form v.0 (side_line s.side) (count ∷ behind_count) s.side (side_again s.side))
@@ -236,17 +253,34 @@ all_again s h =
           ∙ body.is;
     }
 
--- the lines of a sheet spell it
-pub lines_spell : (s : SheetState) → IsSheet s → whole sheet_at (sheet_lines s) ≡ Ok s
-lines_spell s h = ap (λ (r : Result (SheetState × Place) TextFault). r >>= λ x. ended x.0 x.1.number x.1.left) (all_again s h).is
+-- what spells a sheet is read as that sheet
+pub spelled_again : (ls : List (List ℕ)) (s : SheetState) → IsSheet s → SpellsSheet ls s → whole sheet_at ls ≡ Ok s
+spelled_again ls s h spelled = ap (λ (r : Result (SheetState × Place) TextFault). r >>= λ x. ended x.0 x.1.number x.1.left) (all_again ls s h spelled).is
 
--- the text of a sheet spells it
-pub sheet_again : (s : SheetState) → IsSheet s → whole sheet_at (lines (sheet_text s)) ≡ Ok s
+written_list : (ps : List Pos) → All IsValid ps → SpellList (map position_text ps) ps
+written_list [] valid = tt
+written_list (p ∷ ps) valid = (position_spells (position_text p) p (position_again p (valid 0 p (omega arith))), written_list ps (all_rest IsValid p ps valid))
+
+-- the written lines of a sheet spell it
+pub lines_spell : (s : SheetState) → IsSheet s → SpellsSheet (sheet_lines s) s
+lines_spell s h = record {
+  header = version_lines (codes "krieg sheet ") s.dialect;
+  positions = map position_text s.list;
+  is = append_assoc (version_lines (codes "krieg sheet ") s.dialect) (side_line s.side ∷ (codes "list " ++ number_text (length s.list)) ∷ []) (map position_text s.list ++ told_lines s);
+  version = inl refl;
+  listed = written_list s.list h.valid;
+}
+
+-- the written text of a sheet spells it
+pub text_spells : (s : SheetState) → IsSheet s → SpellsSheet (lines (sheet_text s)) s
 unfolding sheet_text
-sheet_again s h = ap (whole sheet_at) (lines_again (sheet_lines s) (sheet_are s h (list_size s.side s.list h.listed).1)) ∙ lines_spell s h
+text_spells s h = subst (λ (ls : List (List ℕ)). SpellsSheet ls s) (sym (lines_again (sheet_lines s) (sheet_are s h (list_size s.side s.list h.listed).1))) (lines_spell s h)
 
--- so the reader gives the sheet of which the text is written
-pub read_again : (r : Result SheetState TextFault) (text : List ℕ) (s : SheetState) → Gives (λ t. t) r (whole sheet_at (lines text)) → IsSheet s → text ≡ sheet_text s → Gives (λ t. t) r (Ok s)
-read_again r text s given h is = subst (Gives (λ t. t) r) (ap (λ (t : List ℕ). whole sheet_at (lines t)) is ∙ sheet_again s h) given
+pub sheet_again : (s : SheetState) → IsSheet s → whole sheet_at (lines (sheet_text s)) ≡ Ok s
+sheet_again s h = spelled_again (lines (sheet_text s)) s h (text_spells s h)
 
-pub ruleset again = (sheet_again, read_again)
+-- so the reader gives the sheet that the text spells
+pub read_again : (r : Result SheetState TextFault) (ls : List (List ℕ)) (s : SheetState) → Gives (λ t. t) r (whole sheet_at ls) → IsSheet s → SpellsSheet ls s → Gives (λ t. t) r (Ok s)
+read_again r ls s given h spelled = subst (Gives (λ t. t) r) (spelled_again ls s h spelled) given
+
+pub ruleset again = (text_spells, sheet_again, read_again)

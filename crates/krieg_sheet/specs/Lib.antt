@@ -5,5 +5,6 @@ pub mod Places
 pub mod Dialects
 pub mod SheetReading
 pub mod SheetText
+pub mod SheetSpelling
 pub mod Games
 pub mod Replays

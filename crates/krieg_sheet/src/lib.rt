@@ -1,9 +1,10 @@
 //! One player's sheet: the positions in which the game may have begun, and what the player heard since.
 //!
-//! The rules of this crate are the definitions of `specs/`: which entries are in place (`Turns`), what a
-//! list of positions must be (`Lists`), what holds of every sheet (`Places`), the text of a sheet
-//! (`SheetText`) and the sheet that a text spells (`SheetReading`), and the hidden games that a sheet
-//! leaves open (`Games`). Only the constructors, `push`, the reader and the writers take memory.
+//! The rules of this crate are the definitions of `specs/`: what a sheet is (`Sheets`), which entries are
+//! in place (`Turns`), what a list of positions must be (`Lists`), what holds of every sheet (`Places`), the
+//! versions of a text and their dialects (`Dialects`), the text of a sheet (`SheetText`), which lines spell
+//! one (`SheetSpelling`), how it is read line by line (`SheetReading`), and the hidden games that a sheet
+//! leaves open (`Games`; `Replays` finds where one ends). `push`, the reader and the writers take memory.
 #![tactic(auto)]
 
 mod dialects;

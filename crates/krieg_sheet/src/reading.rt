@@ -9,7 +9,7 @@ ghost use Rattle.krieg_words.specs.Told.{LineFits};
 ghost use Rattle.krieg_sheet.specs.Places.{IsSheet};
 ghost use Rattle.krieg_sheet.specs.Sheets.{SheetState};
 ghost use Rattle.krieg_sheet.specs.SheetReading as spec;
-ghost use Rattle.krieg_sheet.specs.SheetText.{sheet_text};
+ghost use Rattle.krieg_sheet.specs.SheetSpelling.{SpellsSheet};
 
 use crate::dialects::read_dialect;
 use crate::sheet::Sheet;
@@ -104,14 +104,15 @@ fn read_lines(alloc: Global, text: &[u8]) -> Result<Sheet, TextFault>
 /// The fault is the first line that is not accepted, or, where all lines are and the text is not
 /// complete, the number of lines plus 1 with `Syntax`. Its kinds are `Version`, `Syntax`, `Count`,
 /// `Position`, `Differs` and `OutOfPlace`.
-#[tactic(auto, using(crate::proofs::SheetLocality::local, crate::proofs::SheetsAgain::again))]
+#[tactic(auto, using(crate::proofs::SheetLocality::local, crate::proofs::SheetsAgain::again, crate::proofs::SheetsSpell::spelled))]
 pub fn read_sheet(alloc: Global, text: &[u8]) -> Result<Sheet, TextFault>
     ensures exact { Gives (λ s. s) result (whole spec.sheet_at (lines text.now)) }
     // A fault stands behind the last line or at the first bad one, and rests on the lines up to it alone.
     ensures first_bad { IfErr result (λ e. e ≢ OutOfMemory → FirstBad (whole spec.sheet_at) (lines text.now) e) }
-    // What is read is a sheet, and the text that is written of a sheet is read as that sheet.
+    // What is read is a sheet that is spelled so, and what spells a sheet is read as that sheet.
     ensures sheet { IfOk result (λ s. IsSheet s) }
-    ensures only { (s : SheetState) → IsSheet s → text.now ≡ sheet_text s → Gives (λ t. t) result (Ok s) }
+    ensures found { IfOk result (λ s. SpellsSheet (lines text.now) s) }
+    ensures only { (s : SheetState) → IsSheet s → SpellsSheet (lines text.now) s → Gives (λ t. t) result (Ok s) }
 {
     read_lines(alloc, text)
 }

@@ -7,6 +7,7 @@ ghost use Rattle.krieg_fen.specs.Reading.{whole};
 ghost use Rattle.krieg_words.specs.Told.{LineFits};
 ghost use Rattle.krieg_sheet.specs.Places.{OpeningFits, IsTold, IsSheet};
 ghost use Rattle.krieg_sheet.specs.SheetReading.{sheet_at};
+ghost use Rattle.krieg_sheet.specs.SheetSpelling.{SpellsSheet};
 ghost use Rattle.krieg_sheet.specs.SheetText as spec;
 
 use crate::dialects::write_version;
@@ -179,7 +180,8 @@ fn write_pieces(s: &Sheet, text: &mut Vec<u8>) -> Result<(), NoMemory>
 #[tactic(auto, using(crate::proofs::SheetTexts::texts, crate::proofs::SheetsAgain::again))]
 pub fn write_sheet(s: &Sheet, text: &mut Vec<u8>) -> Result<(), NoMemory>
     ensures value { Writes result text.old.items text.new.items (spec.sheet_text s.now) }
-    // The text spells the sheet.
+    // The text spells the sheet, and is read as it again.
+    ensures spelled { SpellsSheet (lines (spec.sheet_text s.now)) s.now }
     ensures again { whole sheet_at (lines (spec.sheet_text s.now)) ≡ Ok s.now }
     ensures sheet { IsSheet s.now }
 {
