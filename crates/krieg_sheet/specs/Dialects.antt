@@ -7,6 +7,7 @@ use Rattle.krieg_fen.specs.Reading.{LineReader, taken}
 use Rattle.krieg_words.specs.declared.dialects.Dialect.{Dialect}
 use Rattle.krieg_words.specs.declared.dialects.Dialect.TheVariants.{Wild16, Anytry, Plain}
 
+-- the line that names a dialect
 abbrev pub dialect_text : Dialect → List ℕ
 dialect_text Wild16 = codes "dialect wild16"
 dialect_text Anytry = codes "dialect anytry"
@@ -36,5 +37,6 @@ version_tail Wild16 = codes "1" ++ (10 ∷ [])
 version_tail Anytry = codes "2" ++ (10 ∷ (dialect_text Anytry ++ (10 ∷ [])))
 version_tail Plain = codes "2" ++ (10 ∷ (dialect_text Plain ++ (10 ∷ [])))
 
+-- the name and that
 unfoldable pub version_text : List ℕ → Dialect → List ℕ
 version_text name d = name ++ version_tail d

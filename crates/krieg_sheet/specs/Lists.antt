@@ -11,6 +11,7 @@ abbrev pub other_hand : Side → Pos → ℕ → List Pos → Option ℕ
 other_hand who first n [] = None
 other_hand who first n (p ∷ ps) = if same_hand first p who then other_hand who first (n + 1) ps else Some n
 
+-- the fault that the position with that number is, where there is one
 abbrev pub differs : Option ℕ → Option SheetFault
 differs None = None
 differs (Some i) = Some (Differs i)

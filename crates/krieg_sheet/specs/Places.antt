@@ -19,6 +19,7 @@ abbrev pub OpeningFits : Dialect → Option Said → Type 0
 OpeningFits d None = Unit {0}
 OpeningFits d (Some w) = Fits d w
 
+-- opening words, where there are any, that can be said at all
 abbrev pub IsOpening : Option Said → Type 0
 IsOpening None = Unit {0}
 IsOpening (Some w) = IsSaid w
@@ -27,6 +28,7 @@ IsOpening (Some w) = IsSaid w
 abbrev pub IsTold : Dialect → Line → Type 0
 IsTold d l = IsLine l × LineFits d l
 
+-- the list has no fault, its positions are valid, the words can be told, and each entry is in place
 pub record IsSheet (s : SheetState) : Type 0 where
   pub listed : list_fault s.side s.list ≡ None
   pub valid : All IsValid s.list
@@ -41,10 +43,11 @@ pub record IsKept (s : SheetState) (turn : Side) (over : Bool) : Type 0 where
   pub turn_is : turn ≡ turn_of s
   pub over_is : over ≡ is_over s
 
--- a sheet without entries, or the fault of its list
+-- the sheet, where nothing is wrong
 abbrev pub unless : SheetState → Option SheetFault → Result SheetState SheetFault
 unless s None = Ok s
 unless s (Some fault) = Err fault
 
+-- a sheet without entries, or the fault of its list
 abbrev pub begun : Dialect → Side → List Pos → Option Said → Result SheetState SheetFault
 begun d who list opens = unless (fresh d who list opens) (list_fault who list)

@@ -31,14 +31,16 @@ abbrev pub may_follow : SheetState → Line → Bool
 may_follow s (Opens w) = may_open s
 may_follow s l = is_in_place s l
 
+-- the sheet with its opening words
 abbrev pub opened : SheetState → Said → SheetState
 opened s w = record { dialect = s.dialect; side = s.side; list = s.list; opens = Some w; entries = s.entries }
 
+-- the sheet with one line more
 abbrev pub followed_by : SheetState → Line → SheetState
 followed_by s (Opens w) = opened s w
 followed_by s l = entered s l
 
--- a line that the dialect does not have is syntax
+-- a line that the dialect does not have is syntax, and one that may not stand there is out of place
 abbrev pub placed : SheetState → Option Line → Result (Option Line) TextKind
 placed s None = Err Syntax
 placed s (Some l) = if may_follow s l then Ok (Some l) else Err OutOfPlace
@@ -52,6 +54,7 @@ abbrev pub led : SheetState → Option Line → Step SheetState SheetState
 led s None = stops s
 led s (Some l) = goes_on (followed_by s l)
 
+-- the form of a line behind the list
 abbrev pub entry_form : SheetState → List ℕ → Result (Step SheetState SheetState) TextKind
 entry_form s text = next_form s text >>= λ l. Ok (led s l)
 

@@ -15,6 +15,7 @@ use Rattle.krieg_words.specs.declared.dialects.Line.TheVariants.{Opens}
 use Rattle.krieg_sheet.specs.Sheets.{SheetState, fresh}
 use Rattle.krieg_sheet.specs.Dialects.{version_lines, version_text}
 
+-- whose sheet it is
 abbrev pub side_line : Side → List ℕ
 side_line White = codes "side w"
 side_line Black = codes "side b"
@@ -23,6 +24,7 @@ side_line Black = codes "side b"
 abbrev pub head_lines : Dialect → Side → ℕ → List (List ℕ)
 head_lines d who n = version_lines (codes "krieg sheet ") d ++ (side_line who ∷ (codes "list " ++ number_text n) ∷ [])
 
+-- the line of the opening words, where there are any
 abbrev pub opens_lines : Dialect → Option Said → List (List ℕ)
 opens_lines d None = []
 opens_lines d (Some w) = line_text d (Opens w) ∷ []
@@ -43,40 +45,53 @@ sheet_text s = with_ends (sheet_lines s)
 abbrev pub answer_text : Dialect → Side → List Pos → List ℕ
 answer_text d who list = sheet_text (fresh d who list None)
 
--- The same texts piece by piece.
+-- The same texts, piece by piece, as they are written.
+
+-- the line of a position, with its line feed
 abbrev pub listed_text : Pos → List ℕ
 listed_text p = ended_line (position_text p)
 
+-- the line of what was heard
 abbrev pub entry_text : Dialect → Line → List ℕ
 entry_text d l = ended_line (line_text d l)
 
+-- the line of the opening words, where there are any
 abbrev pub opens_text : Dialect → Option Said → List ℕ
 opens_text d None = []
 opens_text d (Some w) = entry_text d (Opens w)
 
+-- how many positions there are
 unfoldable pub count_text : ℕ → List ℕ
 count_text n = codes "list " ++ ended_line (number_text n)
 
+-- whose sheet it is, and that
 unfoldable pub side_text : Side → ℕ → List ℕ
 side_text who n = ended_line (side_line who) ++ count_text n
 
+-- everything before the positions
 unfoldable pub head_text : Dialect → Side → ℕ → List ℕ
 head_text d who n = version_text (codes "krieg sheet ") d ++ side_text who n
 
+-- the last line
 unfoldable pub end_text : List ℕ
 end_text = ended_line (codes "end")
 
+-- everything up to the last position
 unfoldable pub listed_part : Dialect → Side → List Pos → List ℕ
 listed_part d who list = head_text d who (length list) ++ flat_map listed_text list
 
+-- the entries and the last line
 unfoldable pub entries_part : Dialect → List Line → List ℕ
 entries_part d ls = flat_map (entry_text d) ls ++ end_text
 
+-- everything behind the last position
 unfoldable pub heard_part : Dialect → Option Said → List Line → List ℕ
 heard_part d opens ls = opens_text d opens ++ entries_part d ls
 
+-- the whole sheet
 unfoldable pub sheet_pieces : SheetState → List ℕ
 sheet_pieces s = listed_part s.dialect s.side s.list ++ heard_part s.dialect s.opens s.entries
 
+-- a list alone
 unfoldable pub answer_pieces : Dialect → Side → List Pos → List ℕ
 answer_pieces d who list = listed_part d who list ++ end_text

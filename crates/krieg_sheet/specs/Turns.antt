@@ -42,11 +42,12 @@ over_after over (Heard w) = over || ends w
 over_after over (Early m) = over
 over_after over (Over m) = over
 
--- the same behind all of the lines
+-- whose turn it is behind all of the lines
 abbrev pub turn_behind : Side → List Line → Side
 turn_behind turn [] = turn
 turn_behind turn (l ∷ ls) = turn_behind (turn_after turn l) ls
 
+-- whether the game is over behind all of the lines
 abbrev pub over_behind : Bool → List Line → Bool
 over_behind over [] = over
 over_behind over (l ∷ ls) = over_behind (over_after over l) ls
@@ -65,15 +66,18 @@ abbrev pub are_in_place : Side → Side → Bool → List Line → Bool
 are_in_place who turn over [] = true
 are_in_place who turn over (l ∷ ls) = may_stand (is_same_side turn who) over l && are_in_place who (turn_after turn l) (over_after over l) ls
 
--- behind the last entry of a sheet: it is the player's turn, the game is over, the line may be the next entry
+-- whose turn it is behind the last entry of a sheet
 abbrev pub turn_of : SheetState → Side
 turn_of s = turn_behind (first_turn s.list) s.entries
 
+-- it is the player's turn there
 abbrev pub is_my_turn : SheetState → Bool
 is_my_turn s = is_same_side (turn_of s) s.side
 
+-- the game is over there
 abbrev pub is_over : SheetState → Bool
 is_over s = over_behind (over_at_first s.opens) s.entries
 
+-- the line may be the next entry
 abbrev pub is_in_place : SheetState → Line → Bool
 is_in_place s l = may_stand (is_my_turn s) (is_over s) l
