@@ -1,8 +1,7 @@
 -- Of the lines of both players, those of one are what he hears.
 use Rattle.std.proofs.Common.{◌≡◌, List, [], ◌∷◌, ◌++◌, map, Option, Some, None, refl, ap, ◌∙◌}
-use Rattle.std.specs.List.{flat_map, filter_map, cons_option}
+use Rattle.std.specs.List.{flat_map, cons_option}
 use Rattle.std.proofs.lemmas.List.Elements.{filter_map-append}
-use Rattle.krieg_board.specs.Pos.{Pos}
 use Rattle.krieg_board.specs.declared.men.Side.{Side}
 use Rattle.krieg_board.specs.declared.men.Side.TheVariants.{White, Black}
 use Rattle.krieg_words.specs.Words.{opening}
@@ -10,11 +9,10 @@ use Rattle.krieg_words.specs.Told.{told_line}
 use Rattle.krieg_words.specs.declared.dialects.Dialect.{Dialect}
 use Rattle.krieg_words.specs.declared.dialects.Line.{Line}
 use Rattle.krieg_words.specs.declared.dialects.Line.TheVariants.{Opens}
-use Rattle.krieg_referee.specs.declared.verdict.Event.{Event}
 use Rattle.krieg_referee.specs.declared.verdict.Judged.{Judged}
 use Rattle.krieg_referee.specs.Games.{judge}
-use Rattle.krieg_referee.specs.Hearing.{line_for, lines_for, heard}
-use Rattle.krieg_session.specs.Telling.{players_line, both_lines, all_lines, if_of, lines_of}
+use Rattle.krieg_referee.specs.Hearing.{line_for, lines_for}
+use Rattle.krieg_session.specs.Telling.{players_line, both_lines, if_of, lines_of}
 use Rattle.krieg_session.specs.Laws.{LinesAreHeard}
 
 -- a player's line of one try

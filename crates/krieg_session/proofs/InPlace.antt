@@ -1,5 +1,5 @@
 -- The entries of a player's sheet of a game are in place.
-use Rattle.std.proofs.Common.{◌≡◌, Bool, true, false, not, ◌&&◌, cond, List, [], ◌∷◌, map, Option, Some, None, refl, sym, ap, subst, ◌∙◌}
+use Rattle.std.proofs.Common.{◌≡◌, Bool, true, false, not, ◌&&◌, cond, List, [], ◌∷◌, map, Option, Some, None, refl, sym, subst, ◌∙◌}
 use Rattle.std.specs.List.{cons_option}
 use Rattle.krieg_board.specs.Men.{other, is_same_side}
 use Rattle.krieg_board.specs.Pos.{Pos}

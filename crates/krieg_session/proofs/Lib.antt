@@ -4,3 +4,4 @@ pub mod HeardLines
 pub mod InPlace
 pub mod SheetsOfGames
 pub mod SessionTexts
+pub mod SessionsAgain

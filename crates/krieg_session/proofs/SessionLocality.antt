@@ -1,11 +1,10 @@
 -- Reading a session rests on the lines that it takes alone, so its fault is the first bad line.
-use Rattle.std.proofs.Common.{◌≡◌, ◌≢◌, ℕ, List, [], Option, Result, Ok, Err, sym}
+use Rattle.std.proofs.Common.{◌≡◌, ◌≢◌, ℕ, List, [], Result, Ok, Err, sym}
 use Rattle.std.specs.Prelude.{IfErr}
 use Rattle.krieg_board.specs.Pos.{Pos}
 use Rattle.krieg_fen.specs.declared.fault.TextFault.{TextFault}
-use Rattle.krieg_fen.specs.declared.fault.TextFault.TheVariants.{At, NoMemory}
-use Rattle.krieg_fen.specs.Outcomes.{◌>>=◌}
-use Rattle.krieg_fen.specs.Reading.{LineReader, taken, whole, Gives}
+use Rattle.krieg_fen.specs.declared.fault.TextFault.TheVariants.{NoMemory}
+use Rattle.krieg_fen.specs.Reading.{taken, whole, Gives}
 use Rattle.krieg_fen.specs.FirstBad.{IsLocal, FirstBad}
 use Rattle.krieg_fen.specs.Forms.{position_form}
 use Rattle.krieg_fen.proofs.Locality.{local_pure, local_taken, local_bind}

@@ -15,7 +15,7 @@ use Rattle.krieg_sheet.specs.Dialects.{version_lines, version_text}
 use Rattle.krieg_sheet.specs.SheetText.{listed_text}
 use Rattle.krieg_sheet.proofs.SheetTexts.{version_is}
 use Rattle.krieg_session.specs.Sessions.{SessionState}
-use Rattle.krieg_session.specs.SessionText.{event_text, last_text, session_lines, session_text}
+use Rattle.krieg_session.specs.SessionText.{event_text, last_text, session_text}
 use Rattle.krieg_session.specs.SessionPieces.{try_text, events_part, start_line_part, start_word_part, session_pieces}
 use Rattle.krieg_session.specs.Telling.{side_mark}
 

@@ -1,5 +1,5 @@
 -- A player's sheet of a game is a sheet.
-use Rattle.std.proofs.Common.{◌≡◌, ℕ, ◌<◌, ◌≤◌, Bool, true, false, not, cond, ◌==◌, List, [], ◌∷◌, map, Option, Some, None, refl, sym, ap, subst, ◌∙◌, arith}
+use Rattle.std.proofs.Common.{◌≡◌, ℕ, ◌<◌, ◌≤◌, Bool, true, false, not, cond, ◌==◌, List, [], ◌∷◌, map, Option, Some, None, refl, ap, subst, ◌∙◌, arith}
 use Rattle.std.specs.Prelude.{IfSome}
 use Rattle.std.specs.List.{All, cons_option}
 use Rattle.std.proofs.lemmas.List.Elements.{All-nil, All-cons, All-head, All-tail}
@@ -38,8 +38,7 @@ use Rattle.krieg_referee.specs.Verdicts.{verdict, next, position_after}
 use Rattle.krieg_referee.specs.Games.{judge, judged}
 use Rattle.krieg_referee.specs.Hearing.{line_for, lines_for, own_line, others_line}
 use Rattle.krieg_sheet.specs.Turns.{are_in_place}
-use Rattle.krieg_sheet.specs.Places.{IsTold, IsSheet}
-use Rattle.krieg_session.specs.Telling.{sheet_of}
+use Rattle.krieg_sheet.specs.Places.{IsTold}
 use Rattle.krieg_session.specs.Laws.{AreTries, SheetsAreInPlace}
 use Rattle.krieg_session.proofs.InPlace.{opening_ends, entries_in_place}
 

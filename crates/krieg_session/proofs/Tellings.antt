@@ -1,6 +1,6 @@
 -- What the umpire writes piece by piece is the text of a player's sheet, and of all lines.
-use Rattle.std.proofs.Common.{◌≡◌, ℕ, List, [], ◌∷◌, ◌++◌, length, map, Option, Some, None, Result, Ok, Err, refl, sym, ap, subst, ◌∙◌, append_assoc}
-use Rattle.std.specs.Prelude.{IfSome, codes}
+use Rattle.std.proofs.Common.{◌≡◌, ℕ, List, [], ◌∷◌, ◌++◌, map, Option, Some, None, Result, refl, sym, ap, subst, ◌∙◌, append_assoc}
+use Rattle.std.specs.Prelude.{IfSome}
 use Rattle.std.specs.List.{flat_map, cons_option}
 use Rattle.std.proofs.lemmas.List.{append-nil}
 use Rattle.std.proofs.lemmas.Grind.{flat_map-append}
@@ -19,9 +19,9 @@ use Rattle.krieg_referee.specs.declared.verdict.Judged.{Judged}
 use Rattle.krieg_referee.specs.Games.{judge}
 use Rattle.krieg_referee.specs.Hearing.{line_for, lines_for, strip}
 use Rattle.krieg_referee.proofs.Stripping.{lines-strip}
-use Rattle.krieg_sheet.specs.SheetText.{sheet_text, entry_text, listed_text, opens_text, head_text, end_text, listed_part, entries_part, heard_part, sheet_pieces}
+use Rattle.krieg_sheet.specs.SheetText.{sheet_text, entry_text, listed_text, head_text, end_text, listed_part, entries_part, heard_part, sheet_pieces}
 use Rattle.krieg_sheet.proofs.SheetTexts.{sheet_is}
-use Rattle.krieg_session.specs.Telling.{sheet_of, players_line, both_lines, all_lines, marked_line, all_text, umpire_text}
+use Rattle.krieg_session.specs.Telling.{sheet_of, players_line, both_lines, marked_line, all_text, umpire_text}
 use Rattle.krieg_session.specs.TellingPieces.{told_if, heard_text, log_part, opens_part, start_part, player_text, marked_text, marked_if, players_text, both_text, black_part, white_part}
 
 pub ruleset fitting = (told_line_fits)

@@ -1,14 +1,21 @@
 -- What holds of every game: a player's lines among those of both, and his sheet.
-use Rattle.std.specs.Prelude.{◌≡◌, List}
+use Rattle.std.specs.Prelude.{◌≡◌, List, Ok}
 use Rattle.std.specs.List.{All}
 use Rattle.krieg_board.specs.Pos.{Pos}
 use Rattle.krieg_board.specs.Validity.{IsValid}
 use Rattle.krieg_board.specs.declared.men.Side.{Side}
+use Rattle.krieg_fen.specs.Lines.{lines}
 use Rattle.krieg_fen.specs.MoveText.{IsOnBoard}
+use Rattle.krieg_fen.specs.Reading.{whole}
 use Rattle.krieg_words.specs.declared.dialects.Dialect.{Dialect}
 use Rattle.krieg_referee.specs.declared.verdict.Event.{Event}
 use Rattle.krieg_referee.specs.Hearing.{heard}
 use Rattle.krieg_sheet.specs.Places.{IsSheet}
+use Rattle.krieg_sheet.specs.SheetReading.{sheet_at}
+use Rattle.krieg_sheet.specs.SheetText.{sheet_text}
+use Rattle.krieg_session.specs.Sessions.{SessionState}
+use Rattle.krieg_session.specs.SessionReading.{session_at}
+use Rattle.krieg_session.specs.SessionText.{session_text}
 use Rattle.krieg_session.specs.Telling.{sheet_of, lines_of, all_lines}
 
 -- of the lines of both players, those of one are what he hears, in their order
@@ -23,3 +30,12 @@ AreTries events = All (λ e. IsOnBoard e.mv) events
 -- and its entries are in place.
 abbrev pub SheetsAreInPlace : Type 0
 SheetsAreInPlace = (d : Dialect) (p : Pos) (events : List Event) (who : Side) → IsValid p → AreTries events → IsSheet (sheet_of d p events who)
+
+-- a written session spells that session
+abbrev pub SessionsAreReadBack : Type 0
+SessionsAreReadBack = (s : SessionState) → IsValid s.start → AreTries s.events → whole session_at (lines (session_text s)) ≡ Ok s
+
+-- a written sheet of a game spells that sheet
+abbrev pub SheetsAreReadBack : Type 0
+SheetsAreReadBack = (d : Dialect) (p : Pos) (events : List Event) (who : Side) → IsValid p → AreTries events →
+    whole sheet_at (lines (sheet_text (sheet_of d p events who))) ≡ Ok (sheet_of d p events who)

@@ -1,4 +1,4 @@
-ghost use Rattle.krieg_session.specs.Laws.{LinesAreHeard, SheetsAreInPlace};
+ghost use Rattle.krieg_session.specs.Laws.{LinesAreHeard, SessionsAreReadBack, SheetsAreInPlace, SheetsAreReadBack};
 
 /// The law that of the lines of both players those of one are what he hears, in their order.
 #[tactic(auto, using(crate::proofs::HeardLines::heard_lines))]
@@ -11,4 +11,12 @@ pub fn lines_law()
 #[tactic(auto, using(crate::proofs::SheetsOfGames::sheets))]
 pub fn sheet_law()
     ensures { SheetsAreInPlace }
+{}
+
+/// The law that what is written is read again: a session as the same session, and a player's sheet of a
+/// game as the same sheet.
+#[tactic(auto, using(crate::proofs::SessionsAgain::again))]
+pub fn reading_law()
+    ensures sessions { SessionsAreReadBack }
+    ensures sheets { SheetsAreReadBack }
 {}

@@ -13,7 +13,7 @@ mod telling;
 mod tests;
 mod writing;
 
-pub use laws::{lines_law, sheet_law};
+pub use laws::{lines_law, reading_law, sheet_law};
 pub use reading::{read_session, read_start};
 pub use session::Session;
 pub use telling::umpire;

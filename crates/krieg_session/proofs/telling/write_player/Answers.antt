@@ -1,12 +1,6 @@
-use Rattle.std.proofs.Common.{rules}
-use Rattle.std.specs.List.{flat_map}
-use Rattle.krieg_board.specs.declared.men.Side.TheVariants.{White, Black}
-use Rattle.krieg_fen.proofs.Fronts.{writes_err, writes_more, front_piece, flat_fails}
-use Rattle.krieg_words.specs.Words.{opening}
-use Rattle.krieg_words.specs.declared.dialects.Line.TheVariants.{Opens}
-use Rattle.krieg_sheet.specs.SheetText.{listed_text, head_text, end_text}
-use Rattle.krieg_session.specs.Telling.{side_mark}
-use Rattle.krieg_session.specs.TellingPieces.{told_text, heard_text, log_part, opens_part, start_part, player_text, marked_text, players_text, both_text, black_part, white_part}
+use Rattle.krieg_fen.proofs.Fronts.{writes_err, writes_more, front_piece}
+use Rattle.krieg_sheet.specs.SheetText.{head_text}
+use Rattle.krieg_session.specs.TellingPieces.{start_part, player_text}
 use Rattle.krieg_session.proofs.telling.write_player.Goals as goal
 
 pub returns-in_err-write_head : goal.returns-in_err-write_head
