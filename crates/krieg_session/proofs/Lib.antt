@@ -5,3 +5,4 @@ pub mod InPlace
 pub mod SheetsOfGames
 pub mod SessionTexts
 pub mod SessionsAgain
+pub mod SessionsRead

@@ -168,9 +168,9 @@ all_again s valid tries =
 
 pub sessions_again : SessionsAreReadBack
 unfolding session_text
-sessions_again s valid tries =
+sessions_again s game =
     ap (whole session_at) (lines_again (session_lines s) (session_are s))
-    ∙ ap (λ (r : Result (SessionState × Place) TextFault). r >>= λ x. ended x.0 x.1.number x.1.left) (all_again s valid tries).is
+    ∙ ap (λ (r : Result (SessionState × Place) TextFault). r >>= λ x. ended x.0 x.1.number x.1.left) (all_again s game.valid game.tries).is
 
 pub sheets_again : SheetsAreReadBack
 sheets_again d p events who valid tries = sheet_again (sheet_of d p events who) (sheets_in_place d p events who valid tries)

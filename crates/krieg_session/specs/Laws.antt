@@ -26,6 +26,11 @@ LinesAreHeard = (d : Dialect) (p : Pos) (events : List Event) (who : Side) → l
 abbrev pub AreTries : List Event → Type 0
 AreTries events = All (λ e. IsOnBoard e.mv) events
 
+-- a session begins in a valid position, and each of its tries is a move between two squares of the board
+pub record IsGame (s : SessionState) : Type 0 where
+  pub valid : IsValid s.start
+  pub tries : AreTries s.events
+
 -- A player's sheet of a game from a valid position is a sheet: its words can be said and fit the dialect,
 -- and its entries are in place.
 abbrev pub SheetsAreInPlace : Type 0
@@ -33,7 +38,7 @@ SheetsAreInPlace = (d : Dialect) (p : Pos) (events : List Event) (who : Side) �
 
 -- a written session spells that session
 abbrev pub SessionsAreReadBack : Type 0
-SessionsAreReadBack = (s : SessionState) → IsValid s.start → AreTries s.events → whole session_at (lines (session_text s)) ≡ Ok s
+SessionsAreReadBack = (s : SessionState) → IsGame s → whole session_at (lines (session_text s)) ≡ Ok s
 
 -- a written sheet of a game spells that sheet
 abbrev pub SheetsAreReadBack : Type 0

@@ -5,6 +5,7 @@ ghost use Rattle.krieg_fen.specs.MoveText.{move_of};
 ghost use Rattle.krieg_fen.specs.Reading.{taken, whole, Gives, GivesOn};
 ghost use Rattle.krieg_fen.specs.FirstBad.{FirstBad};
 ghost use Rattle.krieg_fen.specs.declared.fault.TextFault.TheVariants.{NoMemory as OutOfMemory};
+ghost use Rattle.krieg_session.specs.Laws.{IsGame};
 ghost use Rattle.krieg_session.specs.SessionReading as spec;
 
 use crate::session::Session;
@@ -154,11 +155,12 @@ fn read_lines(alloc: Global, text: &[u8]) -> Result<Session, TextFault>
 ///
 /// The fault is the first line that is not accepted, or, where all lines are and the text is not
 /// complete, the number of lines plus 1 with `Syntax`. Its kinds are `Version`, `Syntax` and `Position`.
-#[tactic(auto, using(crate::proofs::SessionLocality::sessions))]
+#[tactic(auto, using(crate::proofs::SessionLocality::sessions, crate::proofs::SessionsRead::games))]
 pub fn read_session(alloc: Global, text: &[u8]) -> Result<Session, TextFault>
     ensures exact { Gives (λ s. record { dialect = s.dialect; start = s.start; events = s.events.items; stop = s.stop }) result (whole spec.session_at (lines text.now)) }
     // A fault stands behind the last line or at the first bad one, and rests on the lines up to it alone.
     ensures first_bad { IfErr result (λ e. e ≢ OutOfMemory → FirstBad (whole spec.session_at) (lines text.now) e) }
+    ensures game { IfOk result (λ s. IsGame (record { dialect = s.dialect; start = s.start; events = s.events.items; stop = s.stop })) }
 {
     read_lines(alloc, text)
 }
