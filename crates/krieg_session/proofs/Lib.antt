@@ -6,3 +6,4 @@ pub mod SheetsOfGames
 pub mod SessionTexts
 pub mod SessionsAgain
 pub mod SessionsRead
+pub mod LastPositions

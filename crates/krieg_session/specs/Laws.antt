@@ -9,7 +9,9 @@ use Rattle.krieg_fen.specs.MoveText.{IsOnBoard}
 use Rattle.krieg_fen.specs.Reading.{whole}
 use Rattle.krieg_words.specs.declared.dialects.Dialect.{Dialect}
 use Rattle.krieg_referee.specs.declared.verdict.Event.{Event}
+use Rattle.krieg_referee.specs.Games.{last}
 use Rattle.krieg_referee.specs.Hearing.{heard}
+use Rattle.krieg_sheet.specs.Games.{Consistent}
 use Rattle.krieg_sheet.specs.Places.{IsSheet}
 use Rattle.krieg_sheet.specs.SheetReading.{sheet_at}
 use Rattle.krieg_sheet.specs.SheetText.{sheet_text}
@@ -35,6 +37,10 @@ pub record IsGame (s : SessionState) : Type 0 where
 -- and its entries are in place.
 abbrev pub SheetsAreInPlace : Type 0
 SheetsAreInPlace = (d : Dialect) (p : Pos) (events : List Event) (who : Side) → IsValid p → AreTries events → IsSheet (sheet_of d p events who)
+
+-- the position in which the game stands is one of those that the player must reckon with
+abbrev pub LastIsConsistent : Type 0
+LastIsConsistent = (d : Dialect) (p : Pos) (events : List Event) (who : Side) → Consistent (sheet_of d p events who) (last p events)
 
 -- a written session spells that session
 abbrev pub SessionsAreReadBack : Type 0

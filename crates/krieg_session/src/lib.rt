@@ -2,7 +2,8 @@
 //!
 //! The rules of this crate are the definitions of `specs/`: a session as contracts see it (`Sessions`),
 //! the session that a text spells (`SessionReading`) and its one written form (`SessionText`), and what a
-//! player and both of them are told of a session (`Telling`). `read_start` takes no memory.
+//! player and both of them are told of a session (`Telling`). What holds of every session stands in `Laws`.
+//! `read_start` takes no memory.
 #![tactic(auto)]
 
 mod laws;
