@@ -7,3 +7,4 @@ pub mod SessionTexts
 pub mod SessionsAgain
 pub mod SessionsRead
 pub mod LastPositions
+pub mod SessionsSpell

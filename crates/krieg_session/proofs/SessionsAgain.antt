@@ -77,7 +77,7 @@ session_are s =
     )
 
 -- Each line by its form.
-taken_again : {A : Type 0} (form : List ℕ → Result A TextKind) (n : ℕ) (l : List ℕ) (ls : List (List ℕ)) (x : A) → form l ≡ Ok x → taken form (place n (l ∷ ls)) ≡ Ok (x, place (n + 1) ls)
+pub taken_again : {A : Type 0} (form : List ℕ → Result A TextKind) (n : ℕ) (l : List ℕ) (ls : List (List ℕ)) (x : A) → form l ≡ Ok x → taken form (place n (l ∷ ls)) ≡ Ok (x, place (n + 1) ls)
 taken_again {A = A} form n l ls x is = ap (λ (f : Result A TextKind). ◌>>=◌ {B = A × Place} (on n f) (λ v. Ok (v, place (n + 1) ls))) is
 
 start_again : (p : Pos) → IsValid p → start_form (codes "start " ++ position_text p) ≡ Ok p
@@ -114,17 +114,17 @@ last_again (Some (Left Black)) = refl
 last_again (Some AsksUsed) = refl
 
 -- The tries up to the last line.
-abbrev Events : Type 0
+abbrev pub Events : Type 0
 Events = List Event × Option Stop
 
 abbrev leads : List Event → ℕ → List (List ℕ) → Result SessionLine TextKind → Result (Events × Place) TextFault
 leads es n ls r = on n (r >>= λ l. Ok (led es l)) >>= λ step. elim step [ stops x ↦ Ok (x, place (n + 1) ls) | goes_on more ↦ up_to_last event_form more (n + 1) ls ]
 
-record Read {A : Type 0} (r : Result (A × Place) TextFault) (x : A) : Type 0 where
-  number : ℕ
-  is : r ≡ Ok (x, place number [])
+pub record Read {A : Type 0} (r : Result (A × Place) TextFault) (x : A) : Type 0 where
+  pub number : ℕ
+  pub is : r ≡ Ok (x, place number [])
 
-events_again : (es more : List Event) (stop : Option Stop) (n : ℕ) → AreTries more → Read (up_to_last event_form es n (map event_text more ++ (last_text stop ∷ []))) (es ++ more, stop)
+pub events_again : (es more : List Event) (stop : Option Stop) (n : ℕ) → AreTries more → Read (up_to_last event_form es n (map event_text more ++ (last_text stop ∷ []))) (es ++ more, stop)
 events_again es [] stop n tries = record {
   number = n + 1;
   is = ap (leads es n []) (last_again stop) ∙ ap (λ (t : List Event). Ok ((t, stop), place (n + 1) [])) (sym (append-nil es));
@@ -140,13 +140,13 @@ events_again es (e ∷ more) stop n tries =
     }
 
 -- The whole.
-abbrev session_with : Dialect → Pos → Events → SessionState
+abbrev pub session_with : Dialect → Pos → Events → SessionState
 session_with d p x = record { dialect = d; start = p; events = x.0; stop = x.1 }
 
-abbrev behind_dialect : Dialect → Place → Result (SessionState × Place) TextFault
+abbrev pub behind_dialect : Dialect → Place → Result (SessionState × Place) TextFault
 behind_dialect d p = taken start_form p >>= λ start. events_at start.1 >>= λ events. Ok (session_with d start.0 events.0, events.1)
 
-version_again : (d : Dialect) (rest : List (List ℕ)) → (n : ℕ) × (session_at (place 1 (version_lines (codes "krieg session ") d ++ rest)) ≡ behind_dialect d (place n rest))
+pub version_again : (d : Dialect) (rest : List (List ℕ)) → (n : ℕ) × (session_at (place 1 (version_lines (codes "krieg session ") d ++ rest)) ≡ behind_dialect d (place n rest))
 unfolding session_at session_form number_form behind dialect_form
 version_again Wild16 rest = (2, refl)
 version_again Anytry rest = (3, refl)

@@ -31,12 +31,12 @@ use Rattle.krieg_session.specs.declared.reading.SessionLine.{SessionLine}
 use Rattle.krieg_session.specs.declared.reading.SessionLine.TheVariants.{Try, Last}
 
 -- the first of two steps that gave a value, and the second
-record Steps {A B E : Type 0} (r : Result A E) (f : A → Result B E) (y : B) : Type 0 where
-  mid : A
-  first : r ≡ Ok mid
-  second : f mid ≡ Ok y
+pub record Steps {A B E : Type 0} (r : Result A E) (f : A → Result B E) (y : B) : Type 0 where
+  pub mid : A
+  pub first : r ≡ Ok mid
+  pub second : f mid ≡ Ok y
 
-steps : {A B E : Type 0} (r : Result A E) (f : A → Result B E) (y : B) → (r >>= f) ≡ Ok y → Steps r f y
+pub steps : {A B E : Type 0} (r : Result A E) (f : A → Result B E) (y : B) → (r >>= f) ≡ Ok y → Steps r f y
 steps (Ok x) f y h = record { mid = x; first = refl; second = h }
 steps (Err e) f y h = absurd cc
 

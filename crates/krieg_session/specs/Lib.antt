@@ -5,3 +5,4 @@ pub mod TellingPieces
 pub mod SessionText
 pub mod SessionPieces
 pub mod Laws
+pub mod SessionSpelling

@@ -1,9 +1,9 @@
 //! Sessions: the tries of both players as one text, and what the umpire writes of them.
 //!
 //! The rules of this crate are the definitions of `specs/`: a session as contracts see it (`Sessions`),
-//! the session that a text spells (`SessionReading`) and its one written form (`SessionText`), and what a
-//! player and both of them are told of a session (`Telling`). What holds of every session stands in `Laws`.
-//! `read_start` takes no memory.
+//! the lines that spell one (`SessionSpelling`), the session that a text spells (`SessionReading`) and its
+//! one written form (`SessionText`), what a player and both of them are told of a session (`Telling`), and
+//! what holds of every session (`Laws`). `read_start` takes no memory.
 #![tactic(auto)]
 
 mod laws;

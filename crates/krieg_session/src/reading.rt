@@ -1,11 +1,14 @@
 ghost use Rattle.std.specs.Prelude.{◌≡◌, ◌≢◌, IfOk, IfErr, Ok, Err};
 ghost use Rattle.std.specs.Option.{option_copied};
+ghost use Rattle.krieg_board.specs.Pos.{Pos};
 ghost use Rattle.krieg_fen.specs.Lines.{lines};
 ghost use Rattle.krieg_fen.specs.MoveText.{move_of};
 ghost use Rattle.krieg_fen.specs.Reading.{taken, whole, Gives, GivesOn};
 ghost use Rattle.krieg_fen.specs.FirstBad.{FirstBad};
 ghost use Rattle.krieg_fen.specs.declared.fault.TextFault.TheVariants.{NoMemory as OutOfMemory};
 ghost use Rattle.krieg_session.specs.Laws.{IsGame};
+ghost use Rattle.krieg_session.specs.Sessions.{SessionState};
+ghost use Rattle.krieg_session.specs.SessionSpelling.{SpellsSession, SpellsStart};
 ghost use Rattle.krieg_session.specs.SessionReading as spec;
 
 use crate::session::Session;
@@ -155,11 +158,14 @@ fn read_lines(alloc: Global, text: &[u8]) -> Result<Session, TextFault>
 ///
 /// The fault is the first line that is not accepted, or, where all lines are and the text is not
 /// complete, the number of lines plus 1 with `Syntax`. Its kinds are `Version`, `Syntax` and `Position`.
-#[tactic(auto, using(crate::proofs::SessionLocality::sessions, crate::proofs::SessionsRead::games))]
+#[tactic(auto, using(crate::proofs::SessionLocality::sessions, crate::proofs::SessionsRead::games, crate::proofs::SessionsSpell::spelled))]
 pub fn read_session(alloc: Global, text: &[u8]) -> Result<Session, TextFault>
     ensures exact { Gives (λ s. record { dialect = s.dialect; start = s.start; events = s.events.items; stop = s.stop }) result (whole spec.session_at (lines text.now)) }
     // A fault stands behind the last line or at the first bad one, and rests on the lines up to it alone.
     ensures first_bad { IfErr result (λ e. e ≢ OutOfMemory → FirstBad (whole spec.session_at) (lines text.now) e) }
+    // What is read is spelled so, and what spells a session is read as that session.
+    ensures found { IfOk result (λ s. SpellsSession (lines text.now) (record { dialect = s.dialect; start = s.start; events = s.events.items; stop = s.stop })) }
+    ensures only { (s : SessionState) → IsGame s → SpellsSession (lines text.now) s → Gives (λ s. record { dialect = s.dialect; start = s.start; events = s.events.items; stop = s.stop }) result (Ok s) }
     ensures game { IfOk result (λ s. IsGame (record { dialect = s.dialect; start = s.start; events = s.events.items; stop = s.stop })) }
 {
     read_lines(alloc, text)
@@ -186,11 +192,14 @@ fn read_one_line(text: &[u8]) -> Result<Position, TextFault>
 ///
 /// The fault is of the kind `Position` or `Syntax` at line 1, also where there is no line, or `Syntax` at
 /// line 2, where there is a second one.
-#[tactic(auto, using(crate::proofs::SessionLocality::starts))]
+#[tactic(auto, using(crate::proofs::SessionLocality::starts, crate::proofs::SessionsSpell::spelled_starts))]
 pub fn read_start(text: &[u8]) -> Result<Position, TextFault>
     ensures exact { result ≡ whole spec.start_at (lines text.now) }
     // A fault stands behind the last line or at the first bad one, and rests on the lines up to it alone.
     ensures first_bad { IfErr result (λ e. FirstBad (whole spec.start_at) (lines text.now) e) }
+    // What is read is spelled so, and what spells a start is read as that position.
+    ensures found { IfOk result (λ p. SpellsStart (lines text.now) p) }
+    ensures only { (p : Pos) → SpellsStart (lines text.now) p → result ≡ Ok p }
 {
     read_one_line(text)
 }
