@@ -1,0 +1,3 @@
+pub mod HiddenGames
+pub mod Runs
+pub mod Prefixes

@@ -1,0 +1,64 @@
+use Rattle.std.proofs.Common.{◌≡◌, ◌≤◌, ◌<◌, ℕ, List, Err, sym, ap, subst, ◌∙◌, length, take, arith}
+use Rattle.krieg_board.specs.Pos.{Pos}
+use Rattle.krieg_pack.specs.Members.{set_of}
+use Rattle.krieg_belief.specs.Steps.{run, opened}
+use Rattle.krieg_belief.specs.Possible.{IsPossible}
+use Rattle.krieg_belief.specs.Limits.{AllWithin, IsStop, IsLateStop}
+use Rattle.krieg_belief.proofs.Prefixes.{begun, possible_all, list_exceeds, opening_exceeds, entry_exceeds, all_within, if_ok, if_err, on_ok}
+use Rattle.krieg_belief.proofs.beliefs.believe.Goals as goal
+
+pub returns-then-len-limit-clause-stop : goal.returns-then-len-limit-clause-stop
+returns-then-len-limit-clause-stop c =
+    let s = c.args.s.now in
+    let listed : c.in-Ok.listed ≡ set_of s.list = c.in-Ok.ensures.value ∙ ap set_of c.list.ensures.value in
+    let over : c.args.limit < length c.in-Ok.listed = omega (arith, c.len.ensures.value) in
+    list_exceeds s c.args.limit c.list_line.result c.in-Ok.listed listed over
+    (c.list_line.ensures.value s.side (length s.list) ∙ ap (λ d. length (Rattle.krieg_sheet.specs.SheetText.head_lines d s.side (length s.list))) c.dialect-d.ensures.value)
+
+pub returns-in-Err-opened-clause-stop : goal.returns-in-Err-opened-clause-stop
+returns-in-Err-opened-clause-stop c =
+    let s = c.args.s.now in
+    let listed : c.in-Ok.listed ≡ set_of s.list = c.in-Ok.ensures.value ∙ ap set_of c.list.ensures.value in
+    let fits : length c.in-Ok.listed ≤ c.args.limit = omega (arith, c.len.ensures.value) in
+    let set : opened c.dialect-d.result c.side-who.result c.opens.result c.in-Ok.listed ≡ begun s = λ i. opened (c.dialect-d.ensures.value i) (c.side-who.ensures.value i) (c.opens.ensures.value i) (listed i) in
+    opening_exceeds s c.args.limit c.line_behind-behind.result c.in-Err-opened.stop c.stopped.result c.opens.ensures.sheet (subst (λ (ps : List Pos). length ps ≤ c.args.limit) listed fits)
+    (λ e. subst (λ (ps : List Pos). c.args.limit < length ps) set (c.in-Err-opened.ensures.too_many (ap Err e))) c.line_behind-behind.ensures.value c.stopped.ensures
+
+starts : (c : goal.After-go_through) → c.in-Ok-opened.start ≡ begun c.args.s.now
+starts c =
+    let listed : c.in-Ok.listed ≡ set_of c.args.s.now.list = c.in-Ok.ensures.value ∙ ap set_of c.list.ensures.value in
+    c.in-Ok-opened.ensures.value ∙ (λ i. opened (c.dialect-d.ensures.value i) (c.side-who.ensures.value i) (c.opens.ensures.value i) (listed i))
+
+fitting : (c : goal.After-go_through) → length (set_of c.args.s.now.list) ≤ c.args.limit
+fitting c =
+    let listed : c.in-Ok.listed ≡ set_of c.args.s.now.list = c.in-Ok.ensures.value ∙ ap set_of c.list.ensures.value in
+    let fits : length c.in-Ok.listed ≤ c.args.limit = omega (arith, c.len.ensures.value) in
+    subst (λ (ps : List Pos). length ps ≤ c.args.limit) listed fits
+
+pub returns-clause-value : goal.returns-clause-value
+returns-clause-value c =
+    let s = c.args.s.now in
+    let behind : run c.dialect-d.result c.side-who.result c.entries.result.now c.in-Ok-opened.start ≡ run s.dialect s.side s.entries (begun s) =
+    λ i. run (c.dialect-d.ensures.value i) (c.side-who.ensures.value i) (c.entries.ensures.value i) (starts c i) in
+    if_ok _ (IsPossible s) c.go_through.result (λ b is. subst (IsPossible s) (sym (is ∙ behind)) (possible_all s c.entries.ensures.sheet)) c.go_through.ensures.value
+
+pub returns-clause-within : goal.returns-clause-within
+returns-clause-within c =
+    let s = c.args.s.now in
+    let P : List Pos → ℕ → Type 0 = λ ps n. length ps ≤ c.args.limit in
+    on_ok _ (AllWithin c.args.limit s) c.go_through.result
+    (λ within. all_within s c.args.limit c.entries.ensures.sheet (fitting c)
+    (subst (λ (T : Type 0). T)
+    (λ i. (n : ℕ) → n ≤ length (c.entries.ensures.value i) → length (run (c.dialect-d.ensures.value i) (c.side-who.ensures.value i) (take n (c.entries.ensures.value i)) (starts c i)) ≤ c.args.limit)
+    within))
+    c.go_through.ensures.within
+
+pub returns-clause-stop : goal.returns-clause-stop
+returns-clause-stop c =
+    let s = c.args.s.now in
+    if_err _ (IsStop s c.args.limit) c.go_through.result
+    (λ r late. entry_exceeds s c.args.limit c.line_behind-behind.result r c.entries.ensures.sheet (fitting c) c.line_behind-behind.ensures.value
+    (subst (λ (T : Type 0). T)
+    (λ i. IsLateStop (c.dialect-d.ensures.value i) (c.side-who.ensures.value i) (c.entries.ensures.value i) (starts c i) c.args.limit c.line_behind-behind.result r)
+    late))
+    c.go_through.ensures.stop

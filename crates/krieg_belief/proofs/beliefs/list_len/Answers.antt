@@ -1,0 +1,7 @@
+use Rattle.std.proofs.Common.{◌≤◌, List, sym, subst, length}
+use Rattle.krieg_board.specs.Pos.{Pos}
+use Rattle.krieg_belief.proofs.Prefixes.{sheet_le}
+use Rattle.krieg_belief.proofs.beliefs.list_len.Goals as goal
+
+pub returns-clause-small : goal.returns-clause-small
+returns-clause-small c = subst (λ (ps : List Pos). length ps ≤ 200000) (sym c.list.ensures.value) (sheet_le c.args.s.now c.list.ensures.sheet)

@@ -1,0 +1,147 @@
+ghost use Rattle.std.specs.Prelude.{◌≡◌, ◌≤◌, ◌<◌, ◌+◌, ◌^◌, ℕ, IfOk, IfErr, OnOk, Err, length, take};
+ghost use Rattle.krieg_board.specs.declared.men.Side.{Side};
+ghost use Rattle.krieg_words.specs.declared.dialects.Dialect.{Dialect};
+ghost use Rattle.krieg_sheet.specs.SheetText as text;
+ghost use Rattle.krieg_belief.specs.Steps as spec;
+ghost use Rattle.krieg_belief.specs.Possible as possible;
+ghost use Rattle.krieg_belief.specs.declared.steps.StepStop.TheVariants as stop;
+ghost use Rattle.krieg_belief.specs.Limits as limits;
+ghost use Rattle.krieg_belief.specs.Limits.{AllWithin, IsStop, IsLateStop};
+
+use crate::steps::{StepStop, step};
+use krieg_board::Side;
+use krieg_pack::Belief;
+use krieg_sheet::Sheet;
+use krieg_words::{Dialect, Line, Words};
+use std::alloc::Global;
+
+/// Why the possible positions of a sheet are not listed.
+#[derive(Clone, Copy, Debug, PartialEq, Eq)]
+pub enum BeliefStop {
+    /// More positions were possible than the limit allows, first behind this line of the text that
+    /// `write_sheet` writes. For the list alone it is the line that says how many positions it has.
+    TooMany { line: usize },
+    /// Memory was not found.
+    NoMemory,
+}
+
+fn stopped(stop: StepStop, line: usize) -> BeliefStop
+    ensures { result ≡ limits.stopped stop line }
+{
+    match stop {
+        StepStop::TooMany => BeliefStop::TooMany { line },
+        StepStop::NoMemory => BeliefStop::NoMemory,
+    }
+}
+
+/// The set behind all of the lines, where none on the way has more members than the limit allows.
+fn go_through(
+    alloc: Global,
+    d: Dialect,
+    who: Side,
+    start: Belief,
+    lines: &[Line],
+    limit: usize,
+    behind: usize,
+) -> Result<Belief, BeliefStop>
+    requires fits { length start ≤ limit }
+    requires room { behind + length lines.now < 2 ^ 64 }
+    ensures value { IfOk result (λ b. b ≡ spec.run d who lines.now start) }
+    ensures within { OnOk result ((n : ℕ) → n ≤ length lines.now → length (spec.run d who (take n lines.now) start) ≤ limit) }
+    ensures stop { IfErr result (IsLateStop d who lines.now start limit behind) }
+{
+    let mut b = start;
+    for i in 0..lines.len() {
+        b = match step(alloc, d, who, &lines[i], &b, limit) {
+            Ok(next) => next,
+            Err(stop) => return Err(stopped(stop, behind + i + 1)),
+        };
+    }
+    Ok(b)
+}
+
+/// The line of a sheet's text that says how many positions are listed.
+fn list_line(d: Dialect) -> usize
+    ensures value { (who : Side) → (n : ℕ) → result ≡ length (text.head_lines d who n) }
+    ensures small { result ≤ 4 }
+{
+    match d {
+        Dialect::Wild16 => 3,
+        Dialect::Anytry | Dialect::Plain => 4,
+    }
+}
+
+/// How many lines of a sheet's text tell the opening words.
+fn opening_lines(opens: &Option<Words>) -> usize
+    ensures value { (d : Dialect) → result ≡ length (text.opens_lines d opens.now) }
+    ensures small { result ≤ 1 }
+{
+    match opens {
+        None => 0,
+        Some(_) => 1,
+    }
+}
+
+/// How many positions are listed.
+fn list_len(s: &Sheet) -> usize
+    ensures value { result ≡ length s.now.list }
+    ensures small { result ≤ 200000 }
+{
+    s.list().len()
+}
+
+/// The last line of a sheet's text before the entries.
+fn line_behind(s: &Sheet) -> usize
+    ensures value { result ≡ possible.line_of s.now 1 }
+    ensures small { result ≤ 200005 }
+{
+    list_line(s.dialect()) + list_len(s) + opening_lines(&s.opens())
+}
+
+/// Only the positions with the opening words, where they were heard.
+fn opened(
+    alloc: Global,
+    d: Dialect,
+    who: Side,
+    opens: &Option<Words>,
+    listed: Belief,
+    limit: usize,
+) -> Result<Belief, StepStop>
+    requires { length listed ≤ limit }
+    ensures value { IfOk result (λ b. b ≡ spec.opened d who opens.now listed) }
+    ensures small { IfOk result (λ b. length b ≤ limit) }
+    ensures too_many { result ≡ Err stop.TooMany → limit < length (spec.opened d who opens.now listed) }
+{
+    match opens {
+        None => Ok(listed),
+        Some(w) => step(alloc, d, who, &Line::Opens(*w), &listed, limit),
+    }
+}
+
+/// All positions that are consistent with the sheet, each once, in order.
+///
+/// `TooMany` exactly where, for the list alone, for the list with the opening words where they were
+/// heard, or for these with the first entries, more than `limit` positions are possible. The line is that of
+/// the first of these that has too many.
+pub fn believe(alloc: Global, s: &Sheet, limit: usize) -> Result<Belief, BeliefStop>
+    requires { 1 ≤ limit }
+    ensures value { IfOk result (λ b. possible.IsPossible s.now b) }
+    ensures within { OnOk result (AllWithin limit s.now) }
+    ensures stop { IfErr result (IsStop s.now limit) }
+{
+    let d = s.dialect();
+    let who = s.side();
+    let listed = match Belief::from_positions(alloc, s.list()) {
+        Ok(listed) => listed,
+        Err(_) => return Err(BeliefStop::NoMemory),
+    };
+    if listed.len() > limit {
+        return Err(BeliefStop::TooMany { line: list_line(d) });
+    }
+    let behind = line_behind(s);
+    let start = match opened(alloc, d, who, &s.opens(), listed, limit) {
+        Ok(start) => start,
+        Err(stop) => return Err(stopped(stop, behind)),
+    };
+    go_through(alloc, d, who, start, s.entries(), limit, behind)
+}

@@ -1,0 +1,138 @@
+ghost use Rattle.std.specs.Prelude.{◌≡◌, ◌++◌, ◌<◌, ◌≤◌, true, IsTrue, IfOk, OnOk, Err, map, length};
+ghost use Rattle.std.specs.List.{All, filter};
+ghost use Rattle.krieg_moves.specs.Legal as rule;
+ghost use Rattle.krieg_moves.specs.After as change;
+ghost use Rattle.krieg_belief.specs.Steps as spec;
+ghost use Rattle.krieg_belief.specs.declared.steps.StepStop.TheVariants as stop;
+
+use krieg_board::{Move, NoMemory, Position, Side};
+use krieg_moves::{after, has_move, is_legal, legal_moves};
+use krieg_pack::{Belief, Packed, pack, trim, unpack};
+use krieg_words::{Dialect, Line, Words, compare, opening, told, words_of};
+use std::alloc::Global;
+
+/// Why a set was not made.
+#[derive(Clone, Copy, Debug, PartialEq, Eq)]
+pub(crate) enum StepStop {
+    /// It has more members than the limit allows.
+    TooMany,
+    /// Memory was not found.
+    NoMemory,
+}
+
+/// Whether these words are told of the legal move.
+fn has_words(d: Dialect, w: &Words, p: &Position, mv: Move) -> bool
+    requires { IsTrue (rule.is_legal p.now mv) }
+    ensures { result ≡ spec.has_words d w.now p.now mv }
+{
+    compare(w, &told(d, words_of(p, mv))).is_eq()
+}
+
+/// Whether these words are told of the position at the start.
+fn has_opening(d: Dialect, w: &Words, p: &Position) -> bool
+    ensures { result ≡ spec.has_opening d w.now p.now }
+{
+    compare(w, &told(d, opening(p))).is_eq()
+}
+
+/// Adds the positions after those of the legal moves that have the words.
+fn push_heard(
+    d: Dialect,
+    w: &Words,
+    p: &Position,
+    moves: &[Move],
+    out: &mut Vec<Packed>,
+) -> Result<(), NoMemory>
+    requires { All (λ m. rule.is_legal p.now m ≡ true) moves.now }
+    ensures { OnOk result (out.new.items ≡ out.old.items ++ map (change.after p.now) (filter (spec.has_words d w.now p.now) moves.now)) }
+{
+    for mv in moves {
+        if has_words(d, w, p, *mv) {
+            out.push(pack(&after(p, *mv)))?;
+        }
+    }
+    Ok(())
+}
+
+/// Adds the positions in which a game that stands in `p` may stand behind the line.
+#[tactic(auto, using(crate::proofs::Runs::listed))]
+fn push_next(
+    alloc: Global,
+    d: Dialect,
+    who: Side,
+    line: &Line,
+    p: &Position,
+    out: &mut Vec<Packed>,
+) -> Result<(), NoMemory>
+    ensures { OnOk result (out.new.items ≡ out.old.items ++ spec.nexts d who line.now p.now) }
+{
+    match line {
+        Line::Opens(w) => {
+            if has_opening(d, w, p) {
+                out.push(pack(p))?;
+            }
+            Ok(())
+        }
+        Line::Illegal(mv) => {
+            if has_move(p) && (p.side() == who && !is_legal(p, *mv)) {
+                out.push(pack(p))?;
+            }
+            Ok(())
+        }
+        Line::Done(mv, w) => {
+            if p.side() == who && (is_legal(p, *mv) && has_words(d, w, p, *mv)) {
+                out.push(pack(&after(p, *mv)))?;
+            }
+            Ok(())
+        }
+        Line::Heard(w) => {
+            if p.side() == who {
+                return Ok(());
+            }
+            let moves = legal_moves(alloc, p)?;
+            push_heard(d, w, p, moves.as_slice(), out)
+        }
+        Line::Early(_) => {
+            if has_move(p) && p.side() != who {
+                out.push(pack(p))?;
+            }
+            Ok(())
+        }
+        Line::Over(_) => {
+            if !has_move(p) {
+                out.push(pack(p))?;
+            }
+            Ok(())
+        }
+    }
+}
+
+/// The set behind one line more. The positions are gathered in a buffer that is never much larger than
+/// twice the limit and the replies to one position.
+pub(crate) fn step(
+    alloc: Global,
+    d: Dialect,
+    who: Side,
+    line: &Line,
+    b: &Belief,
+    limit: usize,
+) -> Result<Belief, StepStop>
+    ensures value { IfOk result (λ n. n ≡ spec.step d who line.now b.now) }
+    ensures small { IfOk result (λ n. length n ≤ limit) }
+    ensures too_many { result ≡ Err stop.TooMany → limit < length (spec.step d who line.now b.now) }
+{
+    let mut out = Vec::new(alloc);
+    for k in b.members() {
+        if push_next(alloc, d, who, line, &unpack(k), &mut out).is_err() {
+            return Err(StepStop::NoMemory);
+        }
+        if trim(&mut out, limit).is_err() {
+            return Err(StepStop::TooMany);
+        }
+    }
+    let next = Belief::from_packed(out);
+    if next.len() > limit {
+        return Err(StepStop::TooMany);
+    }
+    Ok(next)
+}
