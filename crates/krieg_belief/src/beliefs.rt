@@ -124,7 +124,6 @@ fn opened(
 /// heard, or for these with the first entries, more than `limit` positions are possible. The line is that of
 /// the first of these that has too many.
 pub fn believe(alloc: Global, s: &Sheet, limit: usize) -> Result<Belief, BeliefStop>
-    requires { 1 ≤ limit }
     ensures value { IfOk result (λ b. possible.IsPossible s.now b) }
     ensures within { OnOk result (AllWithin limit s.now) }
     ensures stop { IfErr result (IsStop s.now limit) }

@@ -10,5 +10,7 @@
 
 mod beliefs;
 mod steps;
+#[cfg(test)]
+mod tests;
 
 pub use beliefs::{BeliefStop, believe};
