@@ -1,3 +1,4 @@
+mod Listing
 mod OtherWords
 mod Pieces
 mod Solutions

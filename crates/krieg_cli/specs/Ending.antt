@@ -3,16 +3,16 @@ use Rattle.std.specs.Prelude.{ℕ, true, false, ◌≡◌, ◌<◌, ◌≤◌, �
 use Rattle.std.specs.Io.KnownBytes.{Appends, Consumes, IsAtEnd}
 use Rattle.krieg_ports.specs.Bytes.{AppendsPrefix, Gave}
 use Rattle.krieg_ports.specs.Faults.{Rose}
-use Rattle.krieg_cli.specs.Outcome.{is_built, outcome_of}
+use Rattle.krieg_cli.specs.Outcome.{is_built, HasOutcome}
 use Rattle.krieg_cli.specs.Refusals.{line_of}
 use Rattle.krieg_cli.specs.declared.command.Command.{Command}
 use Rattle.krieg_cli.specs.declared.refusal.Refusal.{Refusal}
-use Rattle.krieg_cli.specs.declared.refusal.Refusal.TheVariants.{Usage, TooLong, BadText, ReadFault, WriteFault, NoMemory, NotBuilt}
+use Rattle.krieg_cli.specs.declared.refusal.Refusal.TheVariants.{Usage, TooLong, BadText, TooMany, ReadFault, WriteFault, NoMemory, NotBuilt}
 
--- what was computed, seen by view, is the outcome, unless memory ran out
-abbrev pub Decides : {X : Type 0} → (X → List ℕ) → Result X Refusal → Result (List ℕ) Refusal → Type 0
-Decides view (Ok answer) outcome = outcome ≡ Ok (view answer)
-Decides view (Err refusal) outcome = (refusal ≡ NoMemory) ⊎ (outcome ≡ Err refusal)
+-- what was computed, seen by view, is an outcome, unless memory ran out
+abbrev pub Decides : {X : Type 0} → (X → List ℕ) → Result X Refusal → (Result (List ℕ) Refusal → Type 0) → Type 0
+Decides view (Ok answer) Outcome = Outcome (Ok (view answer))
+Decides view (Err refusal) Outcome = (refusal ≡ NoMemory) ⊎ Outcome (Err refusal)
 
 -- what a stream tells of its bytes, and its count of faults
 pub record Stream : Type 0 where
@@ -43,6 +43,7 @@ abbrev pub FailsToRead : Refusal → Stream → Stream → Type 0
 FailsToRead Usage before now = ⊥
 FailsToRead TooLong before now = WasTooLong before now
 FailsToRead (BadText line kind) before now = ⊥
+FailsToRead (TooMany line) before now = ⊥
 FailsToRead ReadFault before now = FaultsRose before now
 FailsToRead WriteFault before now = ⊥
 FailsToRead NoMemory before now = Unit {0}
@@ -50,7 +51,7 @@ FailsToRead NotBuilt before now = ⊥
 
 -- the input was read, and this is what the command makes of it
 abbrev pub ComesTo : Command → Stream → Stream → Result (List ℕ) Refusal → Type 0
-ComesTo command input input' outcome = (text : List ℕ) × WasRead input input' text × (outcome_of command text ≡ outcome)
+ComesTo command input input' outcome = (text : List ℕ) × WasRead input input' text × HasOutcome command text outcome
 
 -- the whole answer was written
 abbrev pub Answers : Command → Stream → Stream → Stream → Stream → Type 0
@@ -67,6 +68,7 @@ Ends None c input input' out out' = Answers c input input' out out'
 Ends (Some Usage) c input input' out out' = ⊥
 Ends (Some TooLong) c input input' out out' = WasTooLong input input' × (out' ≡ out)
 Ends (Some (BadText line kind)) c input input' out out' = ComesTo c input input' (Err (BadText line kind)) × (out' ≡ out)
+Ends (Some (TooMany line)) c input input' out out' = ComesTo c input input' (Err (TooMany line)) × (out' ≡ out)
 Ends (Some ReadFault) c input input' out out' = FaultsRose input input' × (out' ≡ out)
 Ends (Some WriteFault) c input input' out out' = BreaksOff c input input' out out'
 Ends (Some NoMemory) c input input' out out' = out' ≡ out

@@ -8,7 +8,7 @@ use Rattle.krieg_fen.specs.declared.fault.TextFault.TheVariants as fault
 use Rattle.krieg_fen.specs.declared.fault.TextKind.{TextKind}
 use Rattle.krieg_fen.specs.declared.fault.TextKind.TheVariants as kind
 use Rattle.krieg_cli.specs.declared.refusal.Refusal.{Refusal}
-use Rattle.krieg_cli.specs.declared.refusal.Refusal.TheVariants.{Usage, TooLong, BadText, ReadFault, WriteFault, NoMemory, NotBuilt}
+use Rattle.krieg_cli.specs.declared.refusal.Refusal.TheVariants.{Usage, TooLong, BadText, TooMany, ReadFault, WriteFault, NoMemory, NotBuilt}
 
 -- a position that is not valid, or not of the first one's hand, is told from every other bad line
 abbrev pub text_status : TextKind → ℕ
@@ -25,6 +25,7 @@ abbrev pub status_of : Refusal → ℕ
 status_of Usage = 1
 status_of TooLong = 2
 status_of (BadText line kind) = text_status kind
+status_of (TooMany line) = 7
 status_of ReadFault = 9
 status_of WriteFault = 10
 status_of NoMemory = 11
@@ -48,11 +49,15 @@ text_reason kind.OutOfPlace = codes "out of place"
 text_reason kind.Deep = codes "deep"
 text_reason kind.Large = codes "large"
 
--- where it is, for a bad line: `line N: `
+abbrev pub line_place : ℕ → List ℕ
+line_place line = codes "line " ++ (number_text line ++ codes ": ")
+
+-- where it is, for a bad line and for too many positions: `line N: `
 abbrev pub place_of : Refusal → List ℕ
 place_of Usage = []
 place_of TooLong = []
-place_of (BadText line kind) = codes "line " ++ (number_text line ++ codes ": ")
+place_of (BadText line kind) = line_place line
+place_of (TooMany line) = line_place line
 place_of ReadFault = []
 place_of WriteFault = []
 place_of NoMemory = []
@@ -63,6 +68,7 @@ abbrev pub reason_of : Refusal → List ℕ
 reason_of Usage = codes "usage"
 reason_of TooLong = codes "input too long"
 reason_of (BadText line kind) = text_reason kind
+reason_of (TooMany line) = codes "too many positions"
 reason_of ReadFault = codes "read fault"
 reason_of WriteFault = codes "write fault"
 reason_of NoMemory = codes "want of memory"

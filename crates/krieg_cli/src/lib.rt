@@ -1,7 +1,7 @@
 //! The whole program as one call over streams: `run`.
 //!
-//! Built so far are `umpire` on any session, and `solve 1 BUDGET LIMIT` on a sheet that lists one position
-//! and says no more. The definitions of `specs/` say which words are commands (`Command`), what each makes
+//! Built so far are `umpire` on any session, `believe` on any sheet, and `solve 1 BUDGET LIMIT` on a sheet
+//! that lists one position and says no more. The definitions of `specs/` say which words are commands (`Command`), what each makes
 //! of its input (`Outcome`, `Solution`), the refusals (`Refusals`), and how a run ends (`Ending`).
 #![tactic(auto)]
 

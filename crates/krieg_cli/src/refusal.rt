@@ -13,6 +13,8 @@ pub(crate) enum Refusal {
     TooLong,
     /// That line of the input is the first bad one.
     BadText(usize, TextKind),
+    /// More positions are possible than the limit allows, first at that line of the sheet as it is written.
+    TooMany(usize),
     /// A read of the input failed.
     ReadFault,
     /// A write of the answer failed.
@@ -97,6 +99,7 @@ impl Refusal {
             Refusal::Usage => 1,
             Refusal::TooLong => 2,
             Refusal::BadText(_, kind) => text_status(kind),
+            Refusal::TooMany(_) => 7,
             Refusal::ReadFault => 9,
             Refusal::WriteFault => 10,
             Refusal::NoMemory => 11,
@@ -112,6 +115,7 @@ impl Refusal {
             Refusal::Usage => b"usage",
             Refusal::TooLong => b"input too long",
             Refusal::BadText(_, kind) => text_reason(kind),
+            Refusal::TooMany(_) => b"too many positions",
             Refusal::ReadFault => b"read fault",
             Refusal::WriteFault => b"write fault",
             Refusal::NoMemory => b"want of memory",

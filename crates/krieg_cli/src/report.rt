@@ -30,7 +30,7 @@ fn write_line<E: Sink>(refusal: &Refusal, err: &mut E) -> Result<(), WriteFault>
     ensures fault { OnErr result (Rose (E.faults err.old) (E.faults err.new)) }
 {
     match refusal {
-        Refusal::BadText(line, _) => {
+        Refusal::BadText(line, _) | Refusal::TooMany(line) => {
             let mut buffer = Buffer::new();
             let number = buffer.format(*line).as_bytes();
             write_pieces(

@@ -128,10 +128,9 @@ fn tells_the_usage(rt: HostRuntime) -> Result<(), AllocError> {
 /// Commands that are not built yet.
 #[test]
 fn tells_what_is_not_built(rt: HostRuntime) -> Result<(), AllocError> {
-    let refused: [&[&str]; 6] = [
+    let refused: [&[&str]; 5] = [
         &["solve", "2", "64", "1"],
         &["check", "64"],
-        &["believe", "200000"],
         &["play", "4096", "a", "b", "c", "d"],
         &["make", "session", "4294967295"],
         &["job", "0"],
@@ -340,6 +339,34 @@ fn umpires_for_one(rt: HostRuntime) -> Result<(), AllocError> {
         "krieg sheet 1\nside w\nlist 1\n4k3/8/8/8/7b/8/8/4K3 w - -\nopens check short\nend\n";
     let ran = run_on(rt.alloc(), &["umpire", "w"], start)?;
     assert!(rt; ran.out.as_slice() == sheet.as_bytes());
+    Ok(())
+}
+
+/// After 1.e4 and a reply with pawn tries two positions are possible; with a limit of one they are too many
+/// behind the reply. A knight that would have made a legal try impossible is on the other square.
+#[test]
+fn lists_what_is_possible(rt: HostRuntime) -> Result<(), AllocError> {
+    let heard =
+        "krieg sheet 1\nside w\nlist 1\nrnbqkbnr/pppppppp/8/8/8/8/PPPPPPPP/RNBQKBNR w KQkq -\n\
+        opens silent\ntry e2e4 ok silent\nheard tries 1\nend\n";
+    let possible = "krieg sheet 1\nside w\nlist 2\n\
+        rnbqkbnr/ppppp1pp/8/5p2/4P3/8/PPPP1PPP/RNBQKBNR w KQkq f6\n\
+        rnbqkbnr/ppp1pppp/8/3p4/4P3/8/PPPP1PPP/RNBQKBNR w KQkq d6\nend\n";
+    let ran = run_on(rt.alloc(), &["believe", "2"], heard)?;
+    assert_eq!(rt; ran.status, 0);
+    assert!(rt; ran.out.as_slice() == possible.as_bytes());
+    let ran = run_on(rt.alloc(), &["believe", "1"], heard)?;
+    assert!(rt; refuses(&ran, 7, "krieg: line 7: too many positions\n"));
+    let knights = "krieg sheet 1\nside w\nlist 2\n1k6/8/1K6/6n1/8/8/8/6RR w - -\n\
+        1k6/8/1K6/7n/8/8/8/6RR w - -\nopens silent\ntry g1g8 illegal\nend\n";
+    let left = "krieg sheet 1\nside w\nlist 1\n1k6/8/1K6/6n1/8/8/8/6RR w - -\nend\n";
+    let ran = run_on(rt.alloc(), &["believe", "10"], knights)?;
+    assert!(rt; ran.out.as_slice() == left.as_bytes());
+    let none = "krieg sheet 1\nside w\nlist 1\n1k6/8/1K6/8/8/8/8/7R w - -\nopens check file\nend\n";
+    let ran = run_on(rt.alloc(), &["believe", "10"], none)?;
+    assert!(rt; ran.out.as_slice() == b"krieg sheet 1\nside w\nlist 0\nend\n".as_slice());
+    let ran = run_on(rt.alloc(), &["believe", "10"], "krieg sheet 9\n")?;
+    assert!(rt; refuses(&ran, 3, "krieg: line 1: version\n"));
     Ok(())
 }
 
