@@ -17,9 +17,10 @@ use Rattle.krieg_board.specs.Validity.{has_castles, has_castle}
 use Rattle.krieg_board.proofs.SquareTests.{every_square-at}
 use Rattle.krieg_board.proofs.Facts.{Facts}
 use Rattle.krieg_board.proofs.Connectives.{and-both, both-and, not-false, or-either}
+use Rattle.krieg_board.proofs.MenLemmas.{same_kind-eq}
 use Rattle.krieg_moves.specs.Wings.{king_square, corner, arrival, crossing}
 use Rattle.krieg_moves.specs.After.{board_after, moved, with_rook, is_en_passant, is_castling}
-use Rattle.krieg_moves.specs.Legal.{can_castle, holds, is_safe}
+use Rattle.krieg_moves.specs.Legal.{can_castle, holds, is_safe, is_plain, is_king_move, is_move_of_kind}
 use Rattle.krieg_moves.specs.declared.wing.Wing.{Wing}
 use Rattle.krieg_moves.specs.declared.wing.Wing.TheVariants.{Short, Long}
 use Rattle.krieg_moves.proofs.Effects.{Effect, Effect-castle}
@@ -27,10 +28,10 @@ use Rattle.krieg_moves.proofs.Movers.{Mover, attacked_no_king}
 use Rattle.krieg_moves.proofs.Shapes.{true-and-false, false-and, cond-at-true, cond-at-false, eq_from, eq_to, eq_not, found_man, attack_reaches, passes_not, effect-plain}
 
 -- the squares of castling differ, and they are on the board
-record Apart (wing : Wing) (side : Side) : Type 0 where
-  corner_in : corner wing side < 64
+pub record Apart (wing : Wing) (side : Side) : Type 0 where
+  pub corner_in : corner wing side < 64
   arrival_in : arrival wing side < 64
-  crossing_in : crossing wing side < 64
+  pub crossing_in : crossing wing side < 64
   corner_king : corner wing side ≢ king_square side
   corner_arrival : corner wing side ≢ arrival wing side
   crossing_king : crossing wing side ≢ king_square side
@@ -39,7 +40,7 @@ record Apart (wing : Wing) (side : Side) : Type 0 where
   crossed : is_between (king_square side) (corner wing side) (crossing wing side) ≡ true
   arrived : is_between (king_square side) (corner wing side) (arrival wing side) ≡ true
 
-squares_apart : (wing : Wing) (side : Side) → Apart wing side
+pub squares_apart : (wing : Wing) (side : Side) → Apart wing side
 unfolding is_between
 squares_apart Short White = record {
   corner_in = omega arith;
@@ -139,7 +140,7 @@ pub held_castle : (b : Board) (held : Bool) (side : Side) (rook : ℕ) → has_c
 held_castle b true side rook h k = and-both (is_man side King (man_at b (square_at 4 (home_rank side)))) (is_man side Rook (man_at b (square_at rook (home_rank side)))) h
 held_castle b false side rook h k = cc
 
-rook_stands : (b : Board) (r : Rights) (wing : Wing) (side : Side) → has_castles b r ≡ true → holds r side wing ≡ true → is_man side Rook (man_at b (corner wing side)) ≡ true
+pub rook_stands : (b : Board) (r : Rights) (wing : Wing) (side : Side) → has_castles b r ≡ true → holds r side wing ≡ true → is_man side Rook (man_at b (corner wing side)) ≡ true
 rook_stands b r Short White h k = (held_castle b r.white_short White 7 (four_castles b r h).white_short k).1
 rook_stands b r Long White h k = (held_castle b r.white_long White 0 (four_castles b r h).white_long k).1
 rook_stands b r Short Black h k = (held_castle b r.black_short Black 7 (four_castles b r h).black_short k).1
@@ -190,33 +191,47 @@ board_after-castling b mark man m wing king from_is to_is =
 man_is : (x : Man) (side : Side) (which : Kind) → x.side ≡ side → x.kind ≡ which → x ≡ record { side = side; kind = which }
 man_is x side which e f = λ i. record { side = e i; kind = f i }
 
-effect-castling : (p : Pos) (m : Move) (man : Man) (wing : Wing) → Facts p → Mover p m man → man.kind ≡ King → can_castle wing p m ≡ true →
-    Effect p.board man m (board_after p.board p.mark man m)
-effect-castling p m man wing f v king h =
+-- The king castles: it goes from its own square to an empty one, the wing's rook stands in the corner, and nobody between them.
+pub record Castling (p : Pos) (m : Move) (wing : Wing) : Type 0 where
+  pub from_is : m.from ≡ king_square p.side
+  pub to_is : m.to ≡ arrival wing p.side
+  pub empty : man_at p.board m.to ≡ None
+  pub rook : man_at p.board (corner wing p.side) ≡ Some (record { side = p.side; kind = Rook })
+  pub free : man_at p.board (crossing wing p.side) ≡ None
+
+castling_by : (p : Pos) (m : Move) (wing : Wing) → Facts p → can_castle wing p m ≡ true → Castling p m wing
+castling_by p m wing f h =
     let safe = is_safe p (king_square p.side) && (is_safe p (crossing wing p.side) && is_safe p (arrival wing p.side)) in
     let clear = is_clear p.board (king_square p.side) (corner wing p.side) in
     let h1 = and-both (m.from == king_square p.side) (m.to == arrival wing p.side && (holds p.rights p.side wing && (clear && safe))) h in
     let h2 = and-both (m.to == arrival wing p.side) (holds p.rights p.side wing && (clear && safe)) h1.1 in
     let h3 = and-both (holds p.rights p.side wing) (clear && safe) h2.1 in
     let h4 = and-both clear safe h3.1 in
-    let from_is : m.from ≡ king_square p.side = eq_from m.from (king_square p.side) h1.0 in
     let to_is : m.to ≡ arrival wing p.side = eq_from m.to (arrival wing p.side) h2.0 in
     let s = squares_apart wing p.side in
     let (rook, is, side, kind) = found_man p.side Rook (man_at p.board (corner wing p.side)) (rook_stands p.board p.rights wing p.side f.castles h3.0) in
-    let own : rook.side ≡ man.side = side ∙ sym v.own in
-    let rook_is : rook ≡ record { side = p.side; kind = Rook } = man_is rook p.side Rook side kind in
-    let empty : man_at p.board m.to ≡ None =
-    ap (man_at p.board) to_is ∙ clear_empty p.board (king_square p.side) (corner wing p.side) (arrival wing p.side) h4.0 s.arrived s.arrival_in in
-    let free = clear_empty p.board (king_square p.side) (corner wing p.side) (crossing wing p.side) h4.0 s.crossed s.crossing_in in
+    record {
+      from_is = eq_from m.from (king_square p.side) h1.0;
+      to_is = to_is;
+      empty = ap (man_at p.board) to_is ∙ clear_empty p.board (king_square p.side) (corner wing p.side) (arrival wing p.side) h4.0 s.arrived s.arrival_in;
+      rook = is ∙ ap (λ x. Some x) (man_is rook p.side Rook side kind);
+      free = clear_empty p.board (king_square p.side) (corner wing p.side) (crossing wing p.side) h4.0 s.crossed s.crossing_in;
+    }
+
+effect-castling : (p : Pos) (m : Move) (man : Man) (wing : Wing) → Facts p → Mover p m man → man.kind ≡ King → can_castle wing p m ≡ true →
+    Effect p.board man m (board_after p.board p.mark man m)
+effect-castling p m man wing f v king h =
+    let c = castling_by p m wing f h in
+    let s = squares_apart wing p.side in
+    let rook : Man = record { side = p.side; kind = Rook } in
     let board_is : board_after p.board p.mark man m ≡ set (set (moved p.board man m) (corner wing p.side) None) (crossing wing p.side) (Some rook) =
-    board_after-castling p.board p.mark man m wing king (from_is ∙ ap king_square (sym v.own)) (to_is ∙ ap (arrival wing) (sym v.own))
-    ∙ (ap (λ x. with_rook wing x (moved p.board man m)) v.own
-    ∙ ap (λ x. set (set (moved p.board man m) (corner wing p.side) None) (crossing wing p.side) (Some x)) (sym rook_is)) in
+    board_after-castling p.board p.mark man m wing king (c.from_is ∙ ap king_square (sym v.own)) (c.to_is ∙ ap (arrival wing) (sym v.own))
+    ∙ ap (λ x. with_rook wing x (moved p.board man m)) v.own in
     subst (Effect p.board man m) (sym board_is)
-    (Effect-castle p.board man m (corner wing p.side) (crossing wing p.side) rook v.departs empty king
+    (Effect-castle p.board man m (corner wing p.side) (crossing wing p.side) rook v.departs c.empty king
     (omega (arith, f.squares, s.corner_in)) (omega (arith, f.squares, s.crossing_in))
-    (λ e. s.corner_king (e ∙ from_is)) (λ e. s.corner_arrival (e ∙ to_is)) (λ e. s.crossing_king (e ∙ from_is)) (λ e. s.crossing_arrival (e ∙ to_is)) s.crossing_corner
-    is free kind own)
+    (λ e. s.corner_king (e ∙ c.from_is)) (λ e. s.corner_arrival (e ∙ c.to_is)) (λ e. s.crossing_king (e ∙ c.from_is)) (λ e. s.crossing_arrival (e ∙ c.to_is)) s.crossing_corner
+    c.rook c.free refl (sym v.own))
 
 pub effect-king : (p : Pos) (m : Move) (man : Man) → Facts p → Mover p m man → man.kind ≡ King →
     (attacks p.board m.from m.to || (can_castle Short p m || can_castle Long p m)) ≡ true → Effect p.board man m (board_after p.board p.mark man m)
@@ -229,3 +244,33 @@ effect-king p m man f v king h =
         | inr l ↦ effect-castling p m man Long f v king l
       ]
     ]
+
+arrival_tells : (a b : Wing) (side : Side) → arrival a side ≡ arrival b side → a ≡ b
+arrival_tells Short Short side e = refl
+arrival_tells Long Long side e = refl
+arrival_tells Short Long White e = absurd (omega arith)
+arrival_tells Short Long Black e = absurd (omega arith)
+arrival_tells Long Short White e = absurd (omega arith)
+arrival_tells Long Short Black e = absurd (omega arith)
+
+-- a king that goes as in castling castles
+pub castling : (p : Pos) (m : Move) (man : Man) (wing : Wing) → Facts p → Mover p m man → is_castling wing man m ≡ true → Castling p m wing
+castling p m man wing f v h =
+    let a = and-both (is_same_kind man.kind King) (m.from == king_square man.side && m.to == arrival wing man.side) h in
+    let b = and-both (m.from == king_square man.side) (m.to == arrival wing man.side) a.1 in
+    let king = same_kind-eq man.kind King a.0 in
+    let moves : is_king_move p m ≡ true = subst (λ (k : Kind). is_move_of_kind k p m ≡ true) king v.moves in
+    let r = and-both (is_plain m.promo) (attacks p.board m.from m.to || (can_castle Short p m || can_castle Long p m)) moves in
+    elim (or-either (attacks p.board m.from m.to) (can_castle Short p m || can_castle Long p m) r.1) [
+      | inl a ↦ absurd (let no = king_near p m man wing v king a in cc)
+      | inr c ↦ elim (or-either (can_castle Short p m) (can_castle Long p m) c) [
+        | inl s ↦ on_wing Short (eq_from m.to (arrival wing man.side) b.1) s
+        | inr l ↦ on_wing Long (eq_from m.to (arrival wing man.side) b.1) l
+      ]
+    ]
+  where
+    on_wing : (w : Wing) → m.to ≡ arrival wing man.side → can_castle w p m ≡ true → Castling p m wing
+    on_wing w to_is h =
+        let c = castling_by p m w f h in
+        let same = arrival_tells w wing p.side (sym c.to_is ∙ (to_is ∙ ap (arrival wing) v.own)) in
+        subst (λ (x : Wing). Castling p m x) same c

@@ -9,5 +9,7 @@ pub mod Keeps
 pub mod Marks
 pub mod KeepsValid
 pub mod LegalMoves
+pub mod OwnMen
+pub mod Hands
 pub mod MoveLists
 pub mod Listed

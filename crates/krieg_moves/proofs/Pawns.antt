@@ -3,6 +3,7 @@ use Rattle.std.proofs.Common.{◌≡◌, ℕ, Bool, true, false, not, ◌&&◌, 
 use Rattle.std.specs.Prelude.{Option, Some, None}
 use Rattle.krieg_board.specs.declared.men.Side.{Side}
 use Rattle.krieg_board.specs.declared.men.Side.TheVariants.{White, Black}
+use Rattle.krieg_board.specs.declared.men.Kind.{Kind}
 use Rattle.krieg_board.specs.declared.men.Kind.TheVariants.{Pawn, King}
 use Rattle.krieg_board.specs.declared.men.Man.{Man}
 use Rattle.krieg_board.specs.declared.men.Move.{Move}
@@ -14,8 +15,9 @@ use Rattle.krieg_board.specs.Attacks.{attacks, can_reach, apart, is_forward}
 use Rattle.krieg_board.specs.Validity.{has_mark, is_crossed}
 use Rattle.krieg_board.proofs.Facts.{Facts}
 use Rattle.krieg_board.proofs.Connectives.{and-both, both-and, or-either}
+use Rattle.krieg_board.proofs.MenLemmas.{same_kind-eq}
 use Rattle.krieg_moves.specs.After.{board_after, moved, is_en_passant, is_castling, is_marked, passed_square, crossed}
-use Rattle.krieg_moves.specs.Legal.{is_step, is_double_step, is_pawn_capture}
+use Rattle.krieg_moves.specs.Legal.{is_step, is_double_step, is_pawn_capture, is_pawn_move, is_move_of_kind, has_promotion}
 use Rattle.krieg_moves.specs.declared.wing.Wing.{Wing}
 use Rattle.krieg_moves.proofs.Effects.{Effect, Effect-passing}
 use Rattle.krieg_moves.proofs.Movers.{Mover, attacked_no_king, empty_no_king}
@@ -123,9 +125,20 @@ passed_apart Black f t l files h = let r = eq_from (rank_of f) (rank_of t + 1) h
 other_file : (a b : ℕ) → apart a b ≡ 1 → (a == b) ≡ false
 other_file a b h = eq_not a b (λ e. omega arith)
 
-effect-marked : (p : Pos) (m : Move) (man : Man) → Facts p → Mover p m man → man.kind ≡ Pawn → attacks p.board m.from m.to ≡ true → is_marked p.mark m.to ≡ true →
-    Effect p.board man m (board_after p.board p.mark man m)
-effect-marked p m man f v pawn a marked =
+-- A capture in passing: the to-square is empty, and the enemy pawn that is captured stands on the passed square.
+pub record Passing (p : Pos) (m : Move) (man : Man) : Type 0 where
+  pub passes : is_en_passant p.mark man m ≡ true
+  pub empty : man_at p.board m.to ≡ None
+  pub gone : Man
+  pub stands : man_at p.board (passed_square m) ≡ Some gone
+  pub enemy : gone.side ≡ other p.side
+  pub kind : gone.kind ≡ Pawn
+  pub inside : passed_square m < 64
+  pub not_from : passed_square m ≢ m.from
+  pub not_to : passed_square m ≢ m.to
+
+passing-marked : (p : Pos) (m : Move) (man : Man) → Facts p → Mover p m man → man.kind ≡ Pawn → attacks p.board m.from m.to ≡ true → is_marked p.mark m.to ≡ true → Passing p m man
+passing-marked p m man f v pawn a marked =
     let c = crossed_by p.board p.side m.to (marked_is p.mark p.board p.side m.to marked f.mark) in
     let files = leaves_file p m man v pawn a in
     let forward = attack_forward p m man v pawn a in
@@ -133,12 +146,24 @@ effect-marked p m man f v pawn a marked =
     ap (square_at (file_of m.to)) (passed_rank p.side m.from m.to forward c.rank) in
     let (gone, is, side, kind) = found_man (other p.side) Pawn (man_at p.board (square_at (file_of m.to) (landing_rank (other p.side)))) c.pawn in
     let away = passed_apart p.side m.from m.to v.from_in files forward in
-    let passing : is_en_passant p.mark man m ≡ true =
-    both-and (is_same_kind man.kind Pawn) (is_marked p.mark m.to && not (file_of m.from == file_of m.to)) (ap (λ k. is_same_kind k Pawn) pawn)
-    (both-and (is_marked p.mark m.to) (not (file_of m.from == file_of m.to)) marked (ap not (other_file (file_of m.from) (file_of m.to) files))) in
-    let board_is : board_after p.board p.mark man m ≡ set (moved p.board man m) (passed_square m) None = cond-at-true (is_en_passant p.mark man m) _ _ passing in
+    record {
+      passes = both-and (is_same_kind man.kind Pawn) (is_marked p.mark m.to && not (file_of m.from == file_of m.to)) (ap (λ k. is_same_kind k Pawn) pawn)
+          (both-and (is_marked p.mark m.to) (not (file_of m.from == file_of m.to)) marked (ap not (other_file (file_of m.from) (file_of m.to) files)));
+      empty = c.empty;
+      gone = gone;
+      stands = ap (man_at p.board) where_is ∙ is;
+      enemy = side;
+      kind = kind;
+      inside = away.0;
+      not_from = away.1;
+      not_to = away.2;
+    }
+
+effect-passing : (p : Pos) (m : Move) (man : Man) → Facts p → Mover p m man → Passing p m man → Effect p.board man m (board_after p.board p.mark man m)
+effect-passing p m man f v w =
+    let board_is : board_after p.board p.mark man m ≡ set (moved p.board man m) (passed_square m) None = cond-at-true (is_en_passant p.mark man m) _ _ w.passes in
     subst (Effect p.board man m) (sym board_is)
-    (Effect-passing p.board man m (passed_square m) gone v.departs c.empty (omega (arith, f.squares, away.0)) away.1 away.2 (ap (man_at p.board) where_is ∙ is) kind)
+    (Effect-passing p.board man m (passed_square m) w.gone v.departs w.empty (omega (arith, f.squares, w.inside)) w.not_from w.not_to w.stands w.kind)
 
 effect-capture : (p : Pos) (m : Move) (man : Man) → Facts p → Mover p m man → man.kind ≡ Pawn → is_pawn_capture p m ≡ true → Effect p.board man m (board_after p.board p.mark man m)
 effect-capture p m man f v pawn h =
@@ -146,7 +171,7 @@ effect-capture p m man f v pawn h =
     by_mark (is_marked p.mark m.to) refl r.0
   where
     by_mark : (t : Bool) → is_marked p.mark m.to ≡ t → attacks p.board m.from m.to ≡ true → Effect p.board man m (board_after p.board p.mark man m)
-    by_mark true marked a = effect-marked p m man f v pawn a marked
+    by_mark true marked a = effect-passing p m man f v (passing-marked p m man f v pawn a marked)
     by_mark false marked a =
         effect-plain p m man v (no_passing p man m (false-and (is_marked p.mark m.to) (not (file_of m.from == file_of m.to)) marked))
         (pawn_castles_not man m pawn) (attacked_no_king p m man f v a)
@@ -159,5 +184,26 @@ effect-pawn p m man f v pawn h =
       | inr r ↦ elim (or-either (is_double_step p.board p.side m) (is_pawn_capture p m) r) [
         | inl d ↦ effect-straight p m man v pawn (double_step p m d).straight
         | inr c ↦ effect-capture p m man f v pawn c
+      ]
+    ]
+
+not_both : (t : Bool) → t ≡ true → not t ≡ true → ⊥
+not_both true h k = cc
+not_both false h k = cc
+
+-- a pawn that goes as in a capture in passing makes one
+pub passing : (p : Pos) (m : Move) (man : Man) → Facts p → Mover p m man → is_en_passant p.mark man m ≡ true → Passing p m man
+passing p m man f v h =
+    let same_file = file_of m.from == file_of m.to in
+    let a = and-both (is_same_kind man.kind Pawn) (is_marked p.mark m.to && not same_file) h in
+    let b = and-both (is_marked p.mark m.to) (not same_file) a.1 in
+    let pawn = same_kind-eq man.kind Pawn a.0 in
+    let moves : is_pawn_move p m ≡ true = subst (λ (k : Kind). is_move_of_kind k p m ≡ true) pawn v.moves in
+    let r = and-both (has_promotion p.side m) (is_step p.board p.side m || (is_double_step p.board p.side m || is_pawn_capture p m)) moves in
+    elim (or-either (is_step p.board p.side m) (is_double_step p.board p.side m || is_pawn_capture p m) r.1) [
+      | inl s ↦ absurd (not_both same_file (step p m s).straight.same_file b.1)
+      | inr r ↦ elim (or-either (is_double_step p.board p.side m) (is_pawn_capture p m) r) [
+        | inl d ↦ absurd (not_both same_file (double_step p m d).straight.same_file b.1)
+        | inr c ↦ passing-marked p m man f v pawn (and-both (attacks p.board m.from m.to) (is_of (other p.side) (man_at p.board m.to) || is_marked p.mark m.to) c).0 b.0
       ]
     ]
