@@ -19,8 +19,8 @@ use Rattle.krieg_words.specs.declared.dialects.Line.{Line}
 use Rattle.krieg_words.specs.declared.dialects.Line.TheVariants.{Opens, Illegal, Done, Heard, Early, Over}
 use Rattle.krieg_words.proofs.OrderLaws.{words_cmp-equal, words_cmp-self}
 use Rattle.krieg_sheet.specs.Games.{Gives}
-use Rattle.krieg_pack.specs.Sets.{In}
-use Rattle.krieg_pack.proofs.Lists.{in_filter, filter_in, in_map, map_in, in_flat, flat_in}
+use Rattle.krieg_theory.specs.Sets.{In}
+use Rattle.krieg_theory.proofs.Lists.{in_filter, filter_in, in_map, map_in, in_flat, flat_in}
 use Rattle.krieg_pack.proofs.Membership.{contains_in, in_contains}
 use Rattle.krieg_pack.proofs.PositionSets.{in_set, set_in}
 use Rattle.krieg_belief.specs.Steps.{has_words, nexts, step, run}

@@ -19,9 +19,9 @@ use Rattle.krieg_sheet.specs.Lists.{list_fault, differs, other_hand}
 use Rattle.krieg_sheet.specs.declared.sheet.SheetFault.TheVariants.{Count}
 use Rattle.krieg_sheet.specs.Places.{IsSheet}
 use Rattle.krieg_sheet.specs.Games.{OpensWith}
-use Rattle.krieg_pack.specs.Sets.{In}
+use Rattle.krieg_theory.specs.Sets.{In}
+use Rattle.krieg_theory.proofs.Lists.{in_flat, flat_in}
 use Rattle.krieg_pack.specs.Members.{IsAscending, set_of}
-use Rattle.krieg_pack.proofs.Lists.{in_flat, flat_in}
 use Rattle.krieg_pack.proofs.Membership.{contains_in, in_contains}
 use Rattle.krieg_pack.proofs.PositionSets.{set_ascending, in_set, set_in}
 use Rattle.krieg_belief.specs.Steps.{has_opening, nexts, run, opened}

@@ -4,7 +4,7 @@ use Rattle.krieg_board.specs.Pos.{Pos}
 use Rattle.krieg_sheet.specs.Sheets.{SheetState, fresh}
 use Rattle.krieg_sheet.specs.SheetText.{head_lines, opens_lines}
 use Rattle.krieg_sheet.specs.Games.{Consistent}
-use Rattle.krieg_pack.specs.Sets.{In}
+use Rattle.krieg_theory.specs.Sets.{In}
 use Rattle.krieg_pack.specs.Members.{IsAscending}
 
 -- the positions that are consistent with the sheet, each once, in order: there is one such list

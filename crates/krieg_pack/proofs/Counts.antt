@@ -1,9 +1,9 @@
 -- How many members sets have, and repeats that are dropped early.
 use Rattle.std.proofs.Common.{◌≡◌, suc, ◌≤◌, Bool, true, false, cond, List, [], ◌∷◌, ◌++◌, ◌⊎◌, inl, inr, length, sym, subst, ◌∙◌, refl, arith}
 use Rattle.std.proofs.lemmas.Bool.{both_ways}
-use Rattle.krieg_pack.specs.Sets.{In, Ascending, IsOrder, as_set, insert_once}
-use Rattle.krieg_pack.proofs.Lists.{in_append_left, in_append_right, append_in}
-use Rattle.krieg_pack.proofs.Ascending.{same_set, as_set_ascending, in_as_set, as_set_in}
+use Rattle.krieg_theory.specs.Sets.{In, Ascending, IsOrder, as_set, insert_once}
+use Rattle.krieg_theory.proofs.Lists.{in_append_left, in_append_right, append_in}
+use Rattle.krieg_theory.proofs.Ascending.{same_set, as_set_ascending, in_as_set, as_set_in}
 
 module _ {X : Type 0} (lt : X → X → Bool) where
   insert_le : (x : X) (xs : List X) → length (insert_once lt x xs) ≤ suc (length xs)

@@ -2,9 +2,7 @@ pub mod Digits
 pub mod Unpacking
 pub mod PackedOrder
 pub mod ByteLemmas
-pub mod Lists
 pub mod Membership
-pub mod Ascending
 pub mod Sorting
 pub mod Counts
 pub mod PositionSets

@@ -5,12 +5,12 @@ use Rattle.std.specs.List.Sorted.{IsSorted, IsPermutation, IsBinarySearchResult,
 use Rattle.std.specs.Cmp.Lexicographic.{pointwise}
 use Rattle.std.specs.Prelude.{Result, is_ok}
 use Rattle.krieg_board.specs.Pos.{Pos}
+use Rattle.krieg_theory.specs.Sets.{In, IsOrder}
+use Rattle.krieg_theory.proofs.Ascending.{same_set, as_set_ascending, in_as_set, as_set_in, ascending_filter}
 use Rattle.krieg_pack.specs.Order.{position_cmp, position_eq, position_lt}
-use Rattle.krieg_pack.specs.Sets.{In, IsOrder}
 use Rattle.krieg_pack.specs.Members.{IsAscending, IsSetOf, set_of}
 use Rattle.krieg_pack.specs.OrderLaws.{position_total}
 use Rattle.krieg_pack.specs.SameNumbers.{same_position}
-use Rattle.krieg_pack.proofs.Ascending.{same_set, as_set_ascending, in_as_set, as_set_in, ascending_filter}
 use Rattle.krieg_pack.proofs.Sorting.{is_order, sorted_set, found, pointwise_same, pointwise_self}
 use Rattle.krieg_pack.proofs.Counts.{as_set_le, part_le, as_set_early}
 

@@ -12,9 +12,9 @@ use Rattle.std.proofs.lemmas.Cmp.{tied_itself, eq_by_cmp_equiv, ranked, by_ranke
 use Rattle.std.proofs.lemmas.List.Kept.{IsStrictlySortedBy-dedup, Contains-dedup, Contains-from_dedup}
 use Rattle.std.proofs.lemmas.List.Sorted.{Contains-permutation, IsPermutation-sym, searchable_from_sorted}
 use Rattle.std.proofs.lemmas.Bool.{both_ways, and_parts, and_from}
-use Rattle.krieg_pack.specs.Sets.{In, Ascending, IsOrder, as_set}
+use Rattle.krieg_theory.specs.Sets.{In, Ascending, IsOrder, as_set}
+use Rattle.krieg_theory.proofs.Ascending.{same_set, as_set_ascending, in_as_set, as_set_in, asym}
 use Rattle.krieg_pack.proofs.Membership.{in_at, contains_in, in_contains}
-use Rattle.krieg_pack.proofs.Ascending.{same_set, as_set_ascending, in_as_set, as_set_in}
 
 less_from : (o : Ordering) → is_lt o ≡ true → o ≡ Less
 less_from Less h = refl
@@ -68,13 +68,10 @@ module _ {X : Type 0} (R : X → X → Ordering) (o : IsTotalOrder R) (same : (x
       (λ z i. in_as_set lt is_order z xs (contains_in z xs (Contains-permutation _ _ z (IsPermutation-sym _ _ moved) (Contains-from_dedup _ ys z (in_contains z _ i)))))
       (λ z i. contains_in z _ (Contains-dedup (eq_by_cmp_equiv o) (λ x y e. same x y (equal_from (R x y) e)) ys z (Contains-permutation _ _ z moved (in_contains z xs (as_set_in lt is_order z xs i)))))
 
-  asym : (y z : X) → lt y z ≡ true → lt z y ≡ false
-  asym y z h = ap is_lt (o.antisymm z y ∙ ap ordering_reverse (less_from (R y z) h))
-
   next_not_less : (xs : List X) (k : ℕ) (d : X) → Ascending lt xs → suc k < length xs → lt (slice_index_or xs (suc k) d) (slice_index_or xs k d) ≡ false
   next_not_less [] k d up h = absurd (omega arith)
   next_not_less (y ∷ []) k d up h = absurd (omega arith)
-  next_not_less (y ∷ z ∷ zs) zero d up h = asym y z (up.0 z (inl refl))
+  next_not_less (y ∷ z ∷ zs) zero d up h = asym lt is_order y z (up.0 z (inl refl))
   next_not_less (y ∷ z ∷ zs) (suc k) d up h = next_not_less (z ∷ zs) k d up.1 (omega arith)
 
   rises : (xs : List X) (x : X) → Ascending lt xs → IsNonDecreasingBy (λ y. ordering_index (R y x)) xs

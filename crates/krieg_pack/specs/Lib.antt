@@ -1,6 +1,5 @@
 pub mod Codes
 pub mod Order
-pub mod Sets
 pub mod Members
 pub mod Bytes
 pub mod Decoding

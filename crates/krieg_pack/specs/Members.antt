@@ -1,8 +1,8 @@
 -- Sets of positions.
 use Rattle.std.specs.Prelude.{◌↔◌, List}
 use Rattle.krieg_board.specs.Pos.{Pos}
+use Rattle.krieg_theory.specs.Sets.{In, Ascending, as_set}
 use Rattle.krieg_pack.specs.Order.{position_lt}
-use Rattle.krieg_pack.specs.Sets.{In, Ascending, as_set}
 
 -- each position stands before all that are behind it, so none stands twice
 abbrev pub IsAscending : List Pos → Type 0

@@ -2,10 +2,10 @@ ghost use Rattle.std.specs.Prelude.{◌≡◌, ◌<◌, ◌↔◌, IsTrue, IfOk,
 ghost use Rattle.std.specs.Cmp.Lexicographic.{pointwise};
 ghost use Rattle.std.specs.Hash as fed;
 ghost use Rattle.krieg_board.specs.Validity.{IsValid};
+ghost use Rattle.krieg_theory.specs.Sets.{In};
 ghost use Rattle.krieg_pack.specs.Order.{position_eq};
 ghost use Rattle.krieg_pack.specs.OrderLaws.{sets_equiv, sets_partial_equiv};
 ghost use Rattle.krieg_pack.specs.Hashing.{fed_by, sets_fed};
-ghost use Rattle.krieg_pack.specs.Sets.{In};
 ghost use Rattle.krieg_pack.specs.Members.{IsAscending, IsSetOf, set_of};
 
 use crate::buffer::make_ascending;

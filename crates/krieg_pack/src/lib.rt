@@ -5,9 +5,9 @@
 //! such a set is gathered. `codes` has the numbers of men, marks and rights.
 //!
 //! The rules are the definitions of `specs/`: the numbers of a position (`Codes`), the order of
-//! positions (`Order`), the 35 bytes (`Bytes`) and sets (`Sets`, `Members`). In contracts a `Packed` is
-//! the position that it stands for, and a `Belief` the list of its members. `Belief::from_positions`
-//! and `Belief::copy` take memory, and no other call does.
+//! positions (`Order`), the 35 bytes (`Bytes`) and sets of positions (`Members`), by what `krieg_theory`
+//! calls a set. In contracts a `Packed` is the position that it stands for, and a `Belief` the list of
+//! its members. `Belief::from_positions` and `Belief::copy` take memory, and no other call does.
 #![tactic(auto)]
 
 mod belief;

@@ -1,6 +1,7 @@
 -- Lists, members and tests.
-use Rattle.std.proofs.Common.{◌≡◌, suc, ◌≤◌, ◌<◌, Bool, true, false, cond, ◌⊎◌, List, [], ◌∷◌, ◌++◌, length, filter, map, flat_map, find, Some, refl, sym, ap, subst, inl, inr, ◌∙◌, arith}
+use Rattle.std.proofs.Common.{◌≡◌, ℕ, suc, ◌≤◌, ◌<◌, Bool, true, false, cond, ◌⊎◌, List, [], ◌∷◌, ◌++◌, length, filter, map, flat_map, find, take, drop, Some, refl, sym, ap, subst, inl, inr, ◌∙◌, arith}
 use Rattle.std.specs.List.{list_all, list_any}
+use Rattle.std.proofs.lemmas.List.{take-append-drop}
 use Rattle.std.proofs.lemmas.Bool.{and_parts, and_from, or_cases, or_left, or_right, cases_Bool, cond-true, cond-false, both_ways, false_from_ne_true}
 use Rattle.krieg_theory.specs.Sets.{In, Ascending, is_nil}
 
@@ -87,6 +88,9 @@ module _ {X : Type 0} where
       ⊎_more : In x xs ⊎ In x ys → In x (y ∷ xs) ⊎ In x ys
       ⊎_more (inl a) = inl (inr a)
       ⊎_more (inr b) = inr b
+
+  pub take_in : (n : ℕ) (xs : List X) (x : X) → In x (take n xs) → In x xs
+  take_in n xs x i = subst (In x) (take-append-drop n xs) (in_append_left (take n xs) (drop n xs) x i)
 
 module _ {X Y : Type 0} where
   pub in_flat : (f : X → List Y) (xs : List X) (x : X) (y : Y) → In x xs → In y (f x) → In y (flat_map f xs)
