@@ -1,0 +1,91 @@
+-- All positions that are consistent with a sheet have one hand of its side.
+use Rattle.std.proofs.Common.{◌≡◌, ℕ, zero, suc, ◌+◌, ◌<◌, Bool, true, false, cond, List, [], ◌∷◌, length, Option, Some, None, refl, sym, subst, ◌∙◌, arith}
+use Rattle.std.specs.Prelude.{slice_index_or, nat_le}
+use Rattle.std.specs.List.{Contains}
+use Rattle.std.proofs.lemmas.List.Elements.{All-contains}
+use Rattle.krieg_board.specs.Men.{other, is_same_side}
+use Rattle.krieg_board.specs.Pos.{Pos}
+use Rattle.krieg_board.specs.Hand.{same_hand}
+use Rattle.krieg_board.specs.Validity.{IsValid}
+use Rattle.krieg_board.specs.declared.men.Side.{Side}
+use Rattle.krieg_board.specs.declared.men.Side.TheVariants.{White, Black}
+use Rattle.krieg_board.specs.declared.men.Move.{Move}
+use Rattle.krieg_board.proofs.MenLemmas.{same_side-eq}
+use Rattle.krieg_moves.specs.After.{after}
+use Rattle.krieg_moves.proofs.Hands.{Alike, same_hand-alike, alike-same_hand, alike-same, alike-back, alike-through, alike-own}
+use Rattle.krieg_moves.proofs.KeepsValid.{valid-after}
+use Rattle.krieg_words.specs.declared.dialects.Dialect.{Dialect}
+use Rattle.krieg_words.specs.declared.dialects.Line.{Line}
+use Rattle.krieg_words.specs.declared.dialects.Line.TheVariants.{Opens, Illegal, Done, Heard, Early, Over}
+use Rattle.krieg_words.proofs.HandsKept.{alike-heard}
+use Rattle.krieg_sheet.specs.Sheets.{SheetState}
+use Rattle.krieg_sheet.specs.Lists.{other_hand, differs, list_fault}
+use Rattle.krieg_sheet.specs.Games.{Gives, Consistent}
+use Rattle.krieg_sheet.specs.Places.{IsSheet}
+use Rattle.krieg_sheet.specs.declared.sheet.SheetFault.{SheetFault}
+use Rattle.krieg_sheet.specs.declared.sheet.SheetFault.TheVariants.{Count}
+
+-- each of the positions has the hand of the first one
+each_alike : (who : Side) (first : Pos) (n : ℕ) (ps : List Pos) → other_hand who first n ps ≡ None → (k : ℕ) (d : Pos) → k < length ps → Alike who first (slice_index_or ps k d)
+each_alike who first n [] h k d l = absurd (omega arith)
+each_alike who first n (p ∷ ps) h k d l = by_test (same_hand first p who) refl h (λ e k l. each_alike who first (n + 1) ps e k d l) k l
+  where
+    by_test : (t : Bool) → same_hand first p who ≡ t → cond t (other_hand who first (n + 1) ps) (Some n) ≡ None →
+        (other_hand who first (n + 1) ps ≡ None → (k : ℕ) → k < length ps → Alike who first (slice_index_or ps k d)) →
+        (k : ℕ) → k < length (p ∷ ps) → Alike who first (slice_index_or (p ∷ ps) k d)
+    by_test true e h rest zero l = same_hand-alike who first p e
+    by_test true e h rest (suc k) l = rest h k (omega arith)
+    by_test false e h rest k l = absurd cc
+
+-- listed positions have one hand
+listed_alike : (who : Side) (list : List Pos) → list_fault who list ≡ None → (p q : Pos) → Contains list p → Contains list q → Alike who p q
+listed_alike who [] h p q a b = absurd cc
+listed_alike who (first ∷ ps) h p q a b =
+    alike-through who p first q (alike-back who first p (from_first p a.0 a.1 a.2)) (from_first q b.0 b.1 b.2)
+  where
+    no_differs : (o : Option ℕ) → differs o ≡ None → o ≡ None
+    no_differs None e = refl
+    no_differs (Some i) e = absurd cc
+
+    no_fault : (t : Bool) (o : Option SheetFault) → cond t o (Some Count) ≡ None → o ≡ None
+    no_fault true o e = e
+    no_fault false o e = absurd cc
+
+    none_other : other_hand who first 1 ps ≡ None
+    none_other = no_differs (other_hand who first 1 ps) (no_fault (nat_le (length (first ∷ ps)) 200000) (differs (other_hand who first 1 ps)) h)
+
+    from_first : (x : Pos) (k : ℕ) → k < length (first ∷ ps) → slice_index_or (first ∷ ps) k x ≡ x → Alike who first x
+    from_first x zero l e = subst (Alike who first) e (alike-same who first)
+    from_first x (suc k) l e = subst (Alike who first) e (each_alike who first 1 ps none_other k x (omega arith))
+
+not_mine : (side who : Side) → is_same_side side who ≡ false → side ≡ other who
+not_mine White White h = absurd cc
+not_mine White Black h = refl
+not_mine Black White h = refl
+not_mine Black Black h = absurd cc
+
+-- hidden games that give a player the same entries keep the positions alike for him
+gives_alike : (d : Dialect) (ls : List Line) (who : Side) (p p' : Pos) (rs rs' : List Move) (q q' : Pos) → Alike who p p' → IsValid p → IsValid p' →
+    Gives d p ls who rs q → Gives d p' ls who rs' q' → Alike who q q'
+gives_alike d [] who p p' rs rs' q q' e v v' g g' = subst (λ (x : Pos). Alike who x q') (sym g.1) (subst (Alike who p) (sym g'.1) e)
+gives_alike d (Illegal m ∷ ls) who p p' rs rs' q q' e v v' g g' = gives_alike d ls who p p' rs rs' q q' e v v' g.3 g'.3
+gives_alike d (Done m w ∷ ls) who p p' rs rs' q q' e v v' g g' =
+    gives_alike d ls who (after p m) (after p' m) rs rs' q q'
+    (alike-own who p p' m e v v' (same_side-eq p.side who g.0) g.1 g'.1)
+    (valid-after p m v g.1) (valid-after p' m v' g'.1) g.3 g'.3
+gives_alike d (Early m ∷ ls) who p p' rs rs' q q' e v v' g g' = gives_alike d ls who p p' rs rs' q q' e v v' g.2 g'.2
+gives_alike d (Over m ∷ ls) who p p' rs rs' q q' e v v' g g' = gives_alike d ls who p p' rs rs' q q' e v v' g.1 g'.1
+gives_alike d (Heard w ∷ ls) who p p' [] rs' q q' e v v' g g' = absurd g
+gives_alike d (Heard w ∷ ls) who p p' (r ∷ rs) [] q q' e v v' g g' = absurd g'
+gives_alike d (Heard w ∷ ls) who p p' (r ∷ rs) (r' ∷ rs') q q' e v v' g g' =
+    gives_alike d ls who (after p r) (after p' r') rs rs' q q'
+    (alike-heard d who p p' r r' e v v' (not_mine p.side who g.0) g.1 g'.1 (sym g.2 ∙ g'.2))
+    (valid-after p r v g.1) (valid-after p' r' v' g'.1) g.3 g'.3
+gives_alike d (Opens w ∷ ls) who p p' rs rs' q q' e v v' g g' = absurd g
+
+pub one_hand : (s : SheetState) → IsSheet s → (p q : Pos) → Consistent s p → Consistent s q → same_hand p q s.side ≡ true
+one_hand s sheet p q c c' =
+    alike-same_hand s.side p q
+    (gives_alike s.dialect s.entries s.side c.start c'.start c.replies c'.replies p q
+    (listed_alike s.side s.list sheet.listed c.start c'.start c.is_listed c'.is_listed)
+    (All-contains IsValid s.list c.start sheet.valid c.is_listed) (All-contains IsValid s.list c'.start sheet.valid c'.is_listed) c.gives c'.gives)
