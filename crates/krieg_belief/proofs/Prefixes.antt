@@ -19,13 +19,14 @@ use Rattle.krieg_sheet.specs.Lists.{list_fault, differs, other_hand}
 use Rattle.krieg_sheet.specs.declared.sheet.SheetFault.TheVariants.{Count}
 use Rattle.krieg_sheet.specs.Places.{IsSheet}
 use Rattle.krieg_sheet.specs.Games.{OpensWith}
+use Rattle.krieg_sheet.proofs.OneHand.{one_hand}
 use Rattle.krieg_theory.specs.Sets.{In}
 use Rattle.krieg_theory.proofs.Lists.{in_flat, flat_in}
 use Rattle.krieg_pack.specs.Members.{IsAscending, set_of}
 use Rattle.krieg_pack.proofs.Membership.{contains_in, in_contains}
 use Rattle.krieg_pack.proofs.PositionSets.{set_ascending, in_set, set_in}
 use Rattle.krieg_belief.specs.Steps.{has_opening, nexts, run, opened}
-use Rattle.krieg_belief.specs.Possible.{IsPossible, Within, prefix, list_line, line_of}
+use Rattle.krieg_belief.specs.Possible.{IsPossible, HaveOneHand, Within, prefix, list_line, line_of}
 use Rattle.krieg_belief.specs.Limits.{IsFirstExcess, IsStop, AllWithin, stopped, IsLateStop}
 use Rattle.krieg_belief.specs.declared.steps.StepStop.{StepStop}
 use Rattle.krieg_belief.specs.declared.steps.StepStop.TheVariants as steps
@@ -108,6 +109,9 @@ pub possible_all : (s : SheetState) → IsSheet s → IsPossible s (run s.dialec
 possible_all s sheet =
     subst (λ (ls : List Line). IsPossible (record { dialect = s.dialect; side = s.side; list = s.list; opens = s.opens; entries = ls }) (run s.dialect s.side ls (begun s)))
     (take_all (length s.entries) s.entries (omega arith)) (possible_behind s sheet (length s.entries))
+
+pub possible_hand : (s : SheetState) (ps : List Pos) → IsSheet s → IsPossible s ps → HaveOneHand s.side ps
+possible_hand s ps sheet h p q i k = one_hand s sheet p q ((h.exact p).0 i) ((h.exact q).0 k)
 
 -- the list alone is too much
 pub list_exceeds : (s : SheetState) (limit line : ℕ) (ps : List Pos) → ps ≡ set_of s.list → limit < length ps → line ≡ list_line s → IsFirstExcess s limit line

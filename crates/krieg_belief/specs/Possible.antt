@@ -1,6 +1,8 @@
 -- The possible positions of a sheet, and of the sheets that it began with.
-use Rattle.std.specs.Prelude.{ℕ, zero, suc, ◌+◌, ◌<◌, ◌≤◌, ◌↔◌, List, None, length, take}
+use Rattle.std.specs.Prelude.{◌≡◌, true, ℕ, zero, suc, ◌+◌, ◌<◌, ◌≤◌, ◌↔◌, List, None, length, take}
 use Rattle.krieg_board.specs.Pos.{Pos}
+use Rattle.krieg_board.specs.Hand.{same_hand}
+use Rattle.krieg_board.specs.declared.men.Side.{Side}
 use Rattle.krieg_sheet.specs.Sheets.{SheetState, fresh}
 use Rattle.krieg_sheet.specs.SheetText.{head_lines, opens_lines}
 use Rattle.krieg_sheet.specs.Games.{Consistent}
@@ -11,6 +13,10 @@ use Rattle.krieg_pack.specs.Members.{IsAscending}
 pub record IsPossible (s : SheetState) (ps : List Pos) : Type 0 where
   pub ascending : IsAscending ps
   pub exact : (q : Pos) → In q ps ↔ Consistent s q
+
+-- any two of the positions have the same hand of that side
+abbrev pub HaveOneHand : Side → List Pos → Type 0
+HaveOneHand who ps = (p q : Pos) → In p ps → In q ps → same_hand p q who ≡ true
 
 -- at most that many positions are possible
 abbrev pub Within : ℕ → SheetState → Type 0

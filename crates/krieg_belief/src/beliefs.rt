@@ -118,13 +118,15 @@ fn opened(
     }
 }
 
-/// All positions that are consistent with the sheet, each once, in order.
+/// All positions that are consistent with the sheet, each once, in order. They all have the same hand of
+/// the sheet's side: the same men and castling rights of its own, and the same side to move.
 ///
 /// `TooMany` exactly where, for the list alone, for the list with the opening words where they were
 /// heard, or for these with the first entries, more than `limit` positions are possible. The line is that of
 /// the first of these that has too many.
 pub fn believe(alloc: Global, s: &Sheet, limit: usize) -> Result<Belief, BeliefStop>
     ensures value { IfOk result (λ b. possible.IsPossible s.now b) }
+    ensures hand { IfOk result (λ b. possible.HaveOneHand s.now.side b) }
     ensures within { OnOk result (AllWithin limit s.now) }
     ensures stop { IfErr result (IsStop s.now limit) }
 {

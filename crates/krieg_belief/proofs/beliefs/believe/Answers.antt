@@ -1,10 +1,11 @@
 use Rattle.std.proofs.Common.{◌≡◌, ◌≤◌, ◌<◌, ℕ, List, Err, sym, ap, subst, ◌∙◌, length, take, arith}
+use Rattle.std.specs.Prelude.{IfOk}
 use Rattle.krieg_board.specs.Pos.{Pos}
 use Rattle.krieg_pack.specs.Members.{set_of}
 use Rattle.krieg_belief.specs.Steps.{run, opened}
-use Rattle.krieg_belief.specs.Possible.{IsPossible}
+use Rattle.krieg_belief.specs.Possible.{IsPossible, HaveOneHand}
 use Rattle.krieg_belief.specs.Limits.{AllWithin, IsStop, IsLateStop}
-use Rattle.krieg_belief.proofs.Prefixes.{begun, possible_all, list_exceeds, opening_exceeds, entry_exceeds, all_within, if_ok, if_err, on_ok}
+use Rattle.krieg_belief.proofs.Prefixes.{begun, possible_all, possible_hand, list_exceeds, opening_exceeds, entry_exceeds, all_within, if_ok, if_err, on_ok}
 use Rattle.krieg_belief.proofs.beliefs.believe.Goals as goal
 
 pub returns-then-len-limit-clause-stop : goal.returns-then-len-limit-clause-stop
@@ -35,12 +36,20 @@ fitting c =
     let fits : length c.in-Ok.listed ≤ c.args.limit = omega (arith, c.len.ensures.value) in
     subst (λ (ps : List Pos). length ps ≤ c.args.limit) listed fits
 
-pub returns-clause-value : goal.returns-clause-value
-returns-clause-value c =
+possible : (c : goal.After-go_through) → IfOk c.go_through.result (λ b. IsPossible c.args.s.now b)
+possible c =
     let s = c.args.s.now in
     let behind : run c.dialect-d.result c.side-who.result c.entries.result.now c.in-Ok-opened.start ≡ run s.dialect s.side s.entries (begun s) =
     λ i. run (c.dialect-d.ensures.value i) (c.side-who.ensures.value i) (c.entries.ensures.value i) (starts c i) in
     if_ok _ (IsPossible s) c.go_through.result (λ b is. subst (IsPossible s) (sym (is ∙ behind)) (possible_all s c.entries.ensures.sheet)) c.go_through.ensures.value
+
+pub returns-clause-value : goal.returns-clause-value
+returns-clause-value c = possible c
+
+pub returns-clause-hand : goal.returns-clause-hand
+returns-clause-hand c =
+    let s = c.args.s.now in
+    if_ok (IsPossible s) (HaveOneHand s.side) c.go_through.result (λ b h. possible_hand s b c.entries.ensures.sheet h) (possible c)
 
 pub returns-clause-within : goal.returns-clause-within
 returns-clause-within c =
