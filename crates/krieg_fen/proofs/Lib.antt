@@ -21,3 +21,5 @@ pub mod BoardSpellings
 pub mod FieldSpellings
 pub mod PositionSpellings
 pub mod ListSpellings
+pub mod Takings
+pub mod FormSpellings

@@ -2,6 +2,7 @@
 use Rattle.std.proofs.Common.{◌≡◌, inl, inr, ℕ, ◌<◌, ◌≤◌, Bool, true, false, not, cond, eqb, eqb-true, List, [], ◌∷◌, ◌++◌, refl, sym, subst, ap, ◌∙◌, append_assoc, arith}
 use Rattle.std.proofs.lemmas.Bool.{ne_eqb, and_parts, and_from, not-true}
 use Rattle.std.specs.List.{list_all}
+use Rattle.std.proofs.lemmas.List.Folds.{list_all-append}
 use Rattle.krieg_fen.specs.Lines.{lines, onto_line, with_ends, is_line, AreLines, EndsLines}
 use Rattle.krieg_fen.proofs.Free.{Above}
 
@@ -11,6 +12,14 @@ line_above n [] le above = refl
 line_above n (b ∷ l) le above =
     let h : n < b = above.0 in
     and_from _ _ (ap not (ne_eqb b 10 (λ e. absurd (omega arith)))) (line_above n l le above.1)
+
+-- two lines one behind the other
+pub line-append : (a b : List ℕ) → is_line a ≡ true → is_line b ≡ true → is_line (a ++ b) ≡ true
+line-append a b p q = list_all-append (λ c. not (eqb c 10)) a b ∙ and_from _ _ p q
+
+pub lines-append : (a b : List (List ℕ)) → AreLines a → AreLines b → AreLines (a ++ b)
+lines-append [] b p q = q
+lines-append (l ∷ a) b p q = (p.0, lines-append a b p.1 q)
 
 -- the first line ends at its line feed
 pub lines_first : (l rest : List ℕ) → is_line l ≡ true → lines (l ++ (10 ∷ rest)) ≡ l ∷ lines rest

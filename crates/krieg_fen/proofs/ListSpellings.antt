@@ -59,11 +59,11 @@ unfolding listed_form position_form
 listed_reads who first l p s h = ap (λ (r : Result Pos FenFault). position_kind r >>= matching who first) (position_reads l p s) ∙ matching_gives who first p h
 
 -- the lines that were read, and what they spell
-record ListRead (who : Side) (first : Option Pos) (n : ℕ) (ls : List (List ℕ)) (ps : List Pos) (q : Place) : Type 0 where
-  listed : List (List ℕ)
-  is : ls ≡ listed ++ q.left
-  spelled : SpellList who first listed ps
-  count : length ps ≡ n
+pub record ListRead (who : Side) (first : Option Pos) (n : ℕ) (ls : List (List ℕ)) (ps : List Pos) (q : Place) : Type 0 where
+  pub listed : List (List ℕ)
+  pub is : ls ≡ listed ++ q.left
+  pub spelled : SpellList who first listed ps
+  pub count : length ps ≡ n
 
 abbrev others : Pos → Result (List Pos × Place) TextFault → Result (List Pos × Place) TextFault
 others p r = r >>= λ o. Ok (p ∷ o.0, o.1)
@@ -94,7 +94,7 @@ list_line who first n line l ls ps q (Err kind) more is h = absurd cc
 list_line who first n line l ls ps q (Ok p) more is h =
     list_others who first n l ls p ps q (positions_at who (Some (unwrap_or first p)) n (place (line + 1) ls)) (listed_spells who first l p is) (more p) h
 
-list_spells : (n : ℕ) (who : Side) (first : Option Pos) (line : ℕ) (ls : List (List ℕ)) (ps : List Pos) (q : Place) → positions_at who first n (place line ls) ≡ Ok (ps, q) → ListRead who first n ls ps q
+pub list_spells : (n : ℕ) (who : Side) (first : Option Pos) (line : ℕ) (ls : List (List ℕ)) (ps : List Pos) (q : Place) → positions_at who first n (place line ls) ≡ Ok (ps, q) → ListRead who first n ls ps q
 list_spells zero who first line ls ps q e =
     let same = ok_is {A = List Pos × Place} ([], place line ls) (ps, q) e in
     let found : ListRead who first 0 ls [] (place line ls) = record { listed = []; is = refl; spelled = tt; count = refl } in

@@ -1,5 +1,5 @@
 -- Readers of lines that are made of local ones are local, and the law of the first bad line.
-use Rattle.std.proofs.Common.{◌≡◌, inl, inr, ℕ, ◌+◌, List, [], ◌∷◌, ◌++◌, length, Result, Ok, Err, refl, sym, ap, subst, ◌∙◌, append_assoc, arith, length-append}
+use Rattle.std.proofs.Common.{◌≡◌, inl, inr, ℕ, ◌+◌, Bool, true, false, cond, List, [], ◌∷◌, ◌++◌, length, Result, Ok, Err, refl, sym, ap, subst, ◌∙◌, append_assoc, arith, length-append}
 use Rattle.krieg_fen.specs.declared.fault.TextFault.{TextFault}
 use Rattle.krieg_fen.specs.declared.fault.TextFault.TheVariants.{At, NoMemory}
 use Rattle.krieg_fen.specs.declared.fault.TextKind.{TextKind}
@@ -69,6 +69,11 @@ local_taken form = record {
     stop : (n : ℕ) (ls : List (List ℕ)) (e : TextFault) → taken form (place n ls) ≡ Err e → FaultAt (taken form) n ls e
     stop n [] e h = at_end (taken form) n e cc
     stop n (l ∷ ls) e h = taken_stays form n l ls (form l) refl e h
+
+-- a choice between two readers
+pub local_cond : {A : Type 0} (t : Bool) (r s : LineReader A) → IsLocal r → IsLocal s → IsLocal (λ p. cond t (r p) (s p))
+local_cond true r s lr ls = lr
+local_cond false r s lr ls = ls
 
 -- one reader, and then another that may rest on what the first gave
 abbrev pub followed : {A B : Type 0} → LineReader A → (A → LineReader B) → LineReader B
