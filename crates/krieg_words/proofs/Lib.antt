@@ -13,3 +13,5 @@ pub mod LineLaws
 pub mod WritingLaws
 pub mod CleanWords
 pub mod DialectNames
+pub mod VersionTexts
+pub mod VersionSpellings

@@ -8,3 +8,4 @@ pub mod WordsReading
 pub mod LineText
 pub mod WordsWriting
 pub mod DialectText
+pub mod Versions

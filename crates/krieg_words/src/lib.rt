@@ -3,8 +3,8 @@
 //!
 //! The rules of this crate are the definitions of `specs/`: what words are (`Said`), their order
 //! (`Order`), pawn tries (`Tries`), the words of a move and of a position (`Words`), what a dialect
-//! tells (`Told`), and the texts (`WordsText`, `LineText`, `DialectText`; `WordsReading` reads words
-//! part by part). Only the writers take memory.
+//! tells (`Told`), the texts (`WordsText`, `LineText`, `DialectText`; `WordsReading` reads words part by
+//! part), and the first lines of a text, which tell its dialect (`Versions`). Only the writers take memory.
 #![tactic(auto)]
 
 mod captures;
@@ -15,6 +15,7 @@ mod reading;
 #[cfg(test)]
 mod tests;
 mod umpire;
+mod versions;
 mod words;
 mod writing;
 
@@ -23,5 +24,6 @@ pub use dialects::{Dialect, Line, told, told_line};
 pub use names::{dialect_name, read_dialect};
 pub use reading::{LineFault, WordsFault, read_line, read_line_in, read_words, read_words_in};
 pub use umpire::{opening, words_of};
+pub use versions::{read_dialect_line, read_version_lines, write_version_lines};
 pub use words::{End, Took, Words, compare};
 pub use writing::{write_line, write_line_in, write_words, write_words_in};

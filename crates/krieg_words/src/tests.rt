@@ -3,7 +3,7 @@
 
 use crate::*;
 use krieg_board::{Move, NoMemory, Position};
-use krieg_fen::{is_name, read_move, read_position};
+use krieg_fen::{Cursor, is_name, read_move, read_position};
 use krieg_moves::is_legal;
 use std::alloc::Global;
 
@@ -253,4 +253,28 @@ fn dialects_have_names(rt: HostRuntime) {
     assert_eq!(rt; read_dialect(b"plain"), Some(Dialect::Plain));
     assert_eq!(rt; read_dialect(b"icc"), None);
     assert!(rt; is_name(b"plain", dialect_name(Dialect::Plain)));
+}
+
+/// The dialect of a sheet that begins so.
+fn told_by(text: &[u8]) -> Option<Dialect> {
+    let mut from = Cursor::new(text);
+    read_version_lines(&mut from, b"krieg sheet ").ok()
+}
+
+#[test]
+fn first_lines_tell_the_dialect(rt: HostRuntime) -> Result<(), NoMemory> {
+    for (d, text) in [
+        (Dialect::Wild16, &b"krieg sheet 1\n"[..]),
+        (Dialect::Anytry, b"krieg sheet 2\ndialect anytry\n"),
+        (Dialect::Plain, b"krieg sheet 2\ndialect plain\n"),
+    ] {
+        let mut written = Vec::new(rt.alloc());
+        write_version_lines(b"krieg sheet ", d, &mut written)?;
+        assert!(rt; is_name(text, &written));
+        assert_eq!(rt; told_by(text), Some(d));
+    }
+    let loose = b"krieg sheet 2\ndialect wild16\n";
+    assert_eq!(rt; told_by(loose), Some(Dialect::Wild16));
+    assert_eq!(rt; told_by(b"krieg sheet 3\ndialect plain\n"), None);
+    Ok(())
 }
