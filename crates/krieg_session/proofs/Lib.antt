@@ -5,6 +5,5 @@ pub mod InPlace
 pub mod SheetsOfGames
 pub mod SessionTexts
 pub mod SessionsAgain
-pub mod SessionsRead
 pub mod LastPositions
 pub mod SessionsSpell

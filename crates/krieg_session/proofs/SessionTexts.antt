@@ -9,11 +9,10 @@ use Rattle.krieg_fen.specs.Lines.{ended_line, with_ends}
 use Rattle.krieg_fen.specs.FenText.{position_text}
 use Rattle.krieg_fen.specs.MoveText.{move_text}
 use Rattle.krieg_fen.specs.Outcomes.{Writes}
+use Rattle.krieg_words.specs.Versions.{version_lines, version_text}
 use Rattle.krieg_referee.specs.declared.verdict.Event.{Event}
 use Rattle.krieg_referee.specs.declared.verdict.Stop.{Stop}
-use Rattle.krieg_sheet.specs.Dialects.{version_lines, version_text}
 use Rattle.krieg_sheet.specs.SheetText.{listed_text}
-use Rattle.krieg_sheet.proofs.SheetTexts.{version_is}
 use Rattle.krieg_session.specs.Sessions.{SessionState}
 use Rattle.krieg_session.specs.SessionText.{event_text, last_text, session_text}
 use Rattle.krieg_session.specs.SessionPieces.{try_text, events_part, start_line_part, start_word_part, session_pieces}
@@ -42,10 +41,9 @@ start_is p es stop =
     ∙ append_assoc (codes "start ") (listed_text p) (events_part es stop)
 
 session_is : (s : SessionState) → session_text s ≡ session_pieces s
-unfolding session_text session_pieces
+unfolding session_text session_pieces version_text
 session_is s =
     flat_map-append ended_line (version_lines (codes "krieg session ") s.dialect) ((codes "start " ++ position_text s.start) ∷ (map event_text s.events ++ (last_text s.stop ∷ [])))
-    ∙ ap (λ (t : List ℕ). t ++ with_ends ((codes "start " ++ position_text s.start) ∷ (map event_text s.events ++ (last_text s.stop ∷ [])))) (version_is (codes "krieg session ") s.dialect)
     ∙ ap (λ (t : List ℕ). version_text (codes "krieg session ") s.dialect ++ t) (start_is s.start s.events s.stop)
 
 -- what a writer of the pieces did is what one of the text does

@@ -1,12 +1,9 @@
--- A written session is read again, and so is a written sheet of a game.
-use Rattle.std.proofs.Common.{◌≡◌, ℕ, ◌+◌, true, not, List, [], ◌∷◌, ◌++◌, map, Option, Some, None, Result, Ok, refl, sym, ap, ◌∙◌, append_assoc}
-use Rattle.std.specs.Prelude.{codes, ◌==◌}
-use Rattle.std.proofs.lemmas.Bool.{and_from}
+-- What spells a session is read as that session, and so are a written session and a written sheet of a game.
+use Rattle.std.proofs.Common.{◌≡◌, inl, ℕ, ◌+◌, true, List, [], ◌∷◌, ◌++◌, map, Option, Some, None, Result, Ok, refl, sym, ap, ◌∙◌, append_assoc}
+use Rattle.std.specs.Prelude.{codes}
 use Rattle.std.proofs.lemmas.List.{append-nil}
-use Rattle.std.proofs.lemmas.List.Folds.{list_all-append}
 use Rattle.std.proofs.lemmas.List.Elements.{All-head, All-tail}
 use Rattle.krieg_board.specs.Pos.{Pos}
-use Rattle.krieg_board.specs.Validity.{IsValid}
 use Rattle.krieg_board.specs.declared.men.Side.{Side}
 use Rattle.krieg_board.specs.declared.men.Side.TheVariants.{White, Black}
 use Rattle.krieg_board.specs.declared.men.Move.{Move}
@@ -15,43 +12,43 @@ use Rattle.krieg_fen.specs.declared.fault.TextKind.{TextKind}
 use Rattle.krieg_fen.specs.Outcomes.{◌>>=◌}
 use Rattle.krieg_fen.specs.Names.{behind}
 use Rattle.krieg_fen.specs.FenText.{position_text}
-use Rattle.krieg_fen.specs.Forms.{position_form, position_kind, number_form}
 use Rattle.krieg_fen.specs.Lines.{is_line, AreLines}
 use Rattle.krieg_fen.specs.MoveText.{move_text, IsOnBoard}
-use Rattle.krieg_fen.specs.Reading.{Place, place, on, goes_on, stops, taken, ended, whole, up_to_last}
+use Rattle.krieg_fen.specs.Reading.{Place, place, on, goes_on, stops, taken, whole, up_to_last}
+use Rattle.krieg_fen.specs.Spelling.{Spells}
 use Rattle.krieg_fen.proofs.CleanTexts.{move_line, position_line}
-use Rattle.krieg_fen.proofs.FenTexts.{position_again}
-use Rattle.krieg_fen.proofs.LineTexts.{lines_again}
+use Rattle.krieg_fen.proofs.FormSpellings.{position_read}
+use Rattle.krieg_fen.proofs.LineTexts.{line-append, lines-append, lines_again}
+use Rattle.krieg_fen.proofs.ListSpellings.{written_spells}
 use Rattle.krieg_fen.proofs.MoveTexts.{move_again}
 use Rattle.krieg_fen.proofs.NameLemmas.{behind_again}
+use Rattle.krieg_fen.proofs.Takings.{taken_again, Read, read_whole}
 use Rattle.krieg_words.specs.declared.dialects.Dialect.{Dialect}
-use Rattle.krieg_words.specs.declared.dialects.Dialect.TheVariants.{Wild16, Anytry, Plain}
+use Rattle.krieg_words.specs.Versions.{version_lines}
+use Rattle.krieg_words.proofs.VersionSpellings.{version_reads}
+use Rattle.krieg_words.proofs.VersionTexts.{version_are}
 use Rattle.krieg_referee.specs.declared.verdict.Event.{Event}
 use Rattle.krieg_referee.specs.declared.verdict.Stop.{Stop}
 use Rattle.krieg_referee.specs.declared.verdict.Stop.TheVariants.{Ended, Left, AsksUsed}
-use Rattle.krieg_sheet.specs.Dialects.{version_lines, dialect_form}
-use Rattle.krieg_sheet.proofs.CleanLines.{lines-append}
 use Rattle.krieg_sheet.proofs.SheetsAgain.{sheet_again}
 use Rattle.krieg_session.specs.Sessions.{SessionState}
-use Rattle.krieg_session.specs.SessionReading.{session_form, position_behind, start_form, tried, black_try, white_try, try_form, last_form, unless_last, line_form, led, event_form, events_at, session_at}
+use Rattle.krieg_session.specs.SessionReading.{position_behind, start_form, tried, black_try, white_try, try_form, last_form, unless_last, line_form, led, event_form, events_at, session_at, session_version_at}
+use Rattle.krieg_session.specs.SessionSpelling.{SpellsSession}
 use Rattle.krieg_session.specs.SessionText.{event_text, last_text, session_lines, session_text}
 use Rattle.krieg_session.specs.Telling.{side_mark, sheet_of}
-use Rattle.krieg_session.specs.Laws.{AreTries, SessionsAreReadBack, SheetsAreReadBack}
+use Rattle.krieg_session.specs.Laws.{AreTries, IsGame, SessionsAreReadBack, SheetsAreReadBack}
 use Rattle.krieg_session.specs.declared.reading.SessionLine.{SessionLine}
 use Rattle.krieg_session.specs.declared.reading.SessionLine.TheVariants.{Try, Last}
 use Rattle.krieg_session.proofs.SheetsOfGames.{sheets_in_place}
 
 -- No line of it has a line feed.
-line_joined : (a b : List ℕ) → is_line a ≡ true → is_line b ≡ true → is_line (a ++ b) ≡ true
-line_joined a b p q = list_all-append (λ c. not (c == 10)) a b ∙ and_from _ _ p q
-
 mark_line : (who : Side) → is_line (side_mark who) ≡ true
 mark_line White = refl
 mark_line Black = refl
 
 event_line : (e : Event) → is_line (event_text e) ≡ true
 unfolding event_text
-event_line e = line_joined (side_mark e.who) (move_text e.mv) (mark_line e.who) (move_line e.mv)
+event_line e = line-append (side_mark e.who) (move_text e.mv) (mark_line e.who) (move_line e.mv)
 
 event_lines : (es : List Event) → AreLines (map event_text es)
 event_lines [] = tt
@@ -64,25 +61,17 @@ last_line (Some (Left White)) = refl
 last_line (Some (Left Black)) = refl
 last_line (Some AsksUsed) = refl
 
-version_are : (d : Dialect) → AreLines (version_lines (codes "krieg session ") d)
-version_are Wild16 = (refl, tt)
-version_are Anytry = (refl, (refl, tt))
-version_are Plain = (refl, (refl, tt))
-
 session_are : (s : SessionState) → AreLines (session_lines s)
 session_are s =
-    lines-append (version_lines (codes "krieg session ") s.dialect) _ (version_are s.dialect) (
-      line_joined (codes "start ") (position_text s.start) refl (position_line s.start),
+    lines-append (version_lines (codes "krieg session ") s.dialect) _ (version_are (codes "krieg session ") s.dialect refl) (
+      line-append (codes "start ") (position_text s.start) refl (position_line s.start),
       lines-append (map event_text s.events) (last_text s.stop ∷ []) (event_lines s.events) (last_line s.stop, tt),
     )
 
 -- Each line by its form.
-pub taken_again : {A : Type 0} (form : List ℕ → Result A TextKind) (n : ℕ) (l : List ℕ) (ls : List (List ℕ)) (x : A) → form l ≡ Ok x → taken form (place n (l ∷ ls)) ≡ Ok (x, place (n + 1) ls)
-taken_again {A = A} form n l ls x is = ap (λ (f : Result A TextKind). ◌>>=◌ {B = A × Place} (on n f) (λ v. Ok (v, place (n + 1) ls))) is
-
-start_again : (p : Pos) → IsValid p → start_form (codes "start " ++ position_text p) ≡ Ok p
-unfolding start_form position_form
-start_again p valid = ap position_behind (behind_again (codes "start ") (position_text p)) ∙ ap position_kind (position_again p valid)
+start_again : (text : List ℕ) (p : Pos) → Spells text p → start_form (codes "start " ++ text) ≡ Ok p
+unfolding start_form
+start_again text p spells = ap position_behind (behind_again (codes "start ") text) ∙ position_read text p spells
 
 not_last : (who : Side) (text : List ℕ) → last_form (side_mark who ++ text) ≡ None
 unfolding last_form
@@ -114,17 +103,13 @@ last_again (Some (Left Black)) = refl
 last_again (Some AsksUsed) = refl
 
 -- The tries up to the last line.
-abbrev pub Events : Type 0
+abbrev Events : Type 0
 Events = List Event × Option Stop
 
 abbrev leads : List Event → ℕ → List (List ℕ) → Result SessionLine TextKind → Result (Events × Place) TextFault
 leads es n ls r = on n (r >>= λ l. Ok (led es l)) >>= λ step. elim step [ stops x ↦ Ok (x, place (n + 1) ls) | goes_on more ↦ up_to_last event_form more (n + 1) ls ]
 
-pub record Read {A : Type 0} (r : Result (A × Place) TextFault) (x : A) : Type 0 where
-  pub number : ℕ
-  pub is : r ≡ Ok (x, place number [])
-
-pub events_again : (es more : List Event) (stop : Option Stop) (n : ℕ) → AreTries more → Read (up_to_last event_form es n (map event_text more ++ (last_text stop ∷ []))) (es ++ more, stop)
+events_again : (es more : List Event) (stop : Option Stop) (n : ℕ) → AreTries more → Read (up_to_last event_form es n (map event_text more ++ (last_text stop ∷ []))) (es ++ more, stop) []
 events_again es [] stop n tries = record {
   number = n + 1;
   is = ap (leads es n []) (last_again stop) ∙ ap (λ (t : List Event). Ok ((t, stop), place (n + 1) [])) (sym (append-nil es));
@@ -140,37 +125,45 @@ events_again es (e ∷ more) stop n tries =
     }
 
 -- The whole.
-abbrev pub session_with : Dialect → Pos → Events → SessionState
+abbrev session_with : Dialect → Pos → Events → SessionState
 session_with d p x = record { dialect = d; start = p; events = x.0; stop = x.1 }
 
-abbrev pub behind_dialect : Dialect → Place → Result (SessionState × Place) TextFault
+abbrev behind_dialect : Dialect → Place → Result (SessionState × Place) TextFault
 behind_dialect d p = taken start_form p >>= λ start. events_at start.1 >>= λ events. Ok (session_with d start.0 events.0, events.1)
 
-pub version_again : (d : Dialect) (rest : List (List ℕ)) → (n : ℕ) × (session_at (place 1 (version_lines (codes "krieg session ") d ++ rest)) ≡ behind_dialect d (place n rest))
-unfolding session_at session_form number_form behind dialect_form
-version_again Wild16 rest = (2, refl)
-version_again Anytry rest = (3, refl)
-version_again Plain rest = (3, refl)
-
-all_again : (s : SessionState) → IsValid s.start → AreTries s.events → Read (session_at (place 1 (session_lines s))) s
-all_again s valid tries =
-    let start = codes "start " ++ position_text s.start in
+all_again : (ls : List (List ℕ)) (s : SessionState) → AreTries s.events → SpellsSession ls s → Read (session_at (place 1 ls)) s []
+unfolding session_at session_version_at
+all_again ls s tries spelled =
+    let start = codes "start " ++ spelled.start in
     let tail = map event_text s.events ++ (last_text s.stop ∷ []) in
-    let v = version_again s.dialect (start ∷ tail) in
-    let events = events_again [] s.events s.stop (v.0 + 1) tries in
+    let v = version_reads (codes "krieg session ") spelled.header s.dialect 1 (start ∷ tail) spelled.version in
+    let events = events_again [] s.events s.stop (v.number + 1) tries in
     record {
       number = events.number;
-      is = v.1
+      is = ap (λ (t : List (List ℕ)). session_at (place 1 t)) spelled.is
+          ∙ ap (λ (r : Result (Dialect × Place) TextFault). r >>= λ d. behind_dialect d.0 d.1) v.is
           ∙ ap (λ (r : Result (Pos × Place) TextFault). r >>= λ start. events_at start.1 >>= λ events. Ok (session_with s.dialect start.0 events.0, events.1))
-          (taken_again start_form v.0 start tail s.start (start_again s.start valid))
+          (taken_again start_form v.number start tail s.start (start_again spelled.start s.start spelled.position))
           ∙ ap (λ (r : Result (Events × Place) TextFault). r >>= λ events. Ok (session_with s.dialect s.start events.0, events.1)) events.is;
     }
 
+-- what spells a session is read as that session
+pub spelled_again : (ls : List (List ℕ)) (s : SessionState) → AreTries s.events → SpellsSession ls s → whole session_at ls ≡ Ok s
+spelled_again ls s tries spelled = read_whole session_at ls s (all_again ls s tries spelled)
+
+-- the written lines of a session spell it
+lines_spell : (s : SessionState) → IsGame s → SpellsSession (session_lines s) s
+lines_spell s game = record {
+  header = version_lines (codes "krieg session ") s.dialect;
+  start = position_text s.start;
+  is = refl;
+  version = inl refl;
+  position = written_spells s.start game.valid;
+}
+
 pub sessions_again : SessionsAreReadBack
 unfolding session_text
-sessions_again s game =
-    ap (whole session_at) (lines_again (session_lines s) (session_are s))
-    ∙ ap (λ (r : Result (SessionState × Place) TextFault). r >>= λ x. ended x.0 x.1.number x.1.left) (all_again s game.valid game.tries).is
+sessions_again s game = ap (whole session_at) (lines_again (session_lines s) (session_are s)) ∙ spelled_again (session_lines s) s game.tries (lines_spell s game)
 
 pub sheets_again : SheetsAreReadBack
 sheets_again d p events who valid tries = sheet_again (sheet_of d p events who) (sheets_in_place d p events who valid tries)

@@ -5,9 +5,9 @@ use Rattle.krieg_board.specs.Pos.{Pos}
 use Rattle.krieg_board.specs.declared.men.Move.{Move}
 use Rattle.krieg_fen.specs.Lines.{ended_line}
 use Rattle.krieg_fen.specs.MoveText.{move_text}
+use Rattle.krieg_words.specs.Versions.{version_text}
 use Rattle.krieg_referee.specs.declared.verdict.Event.{Event}
 use Rattle.krieg_referee.specs.declared.verdict.Stop.{Stop}
-use Rattle.krieg_sheet.specs.Dialects.{version_text}
 use Rattle.krieg_sheet.specs.SheetText.{listed_text}
 use Rattle.krieg_session.specs.Sessions.{SessionState}
 use Rattle.krieg_session.specs.SessionText.{last_text}

@@ -11,18 +11,19 @@ use Rattle.krieg_fen.specs.Names.{behind}
 use Rattle.krieg_fen.specs.MoveText.{move_of}
 use Rattle.krieg_fen.specs.Outcomes.{◌>>=◌}
 use Rattle.krieg_fen.specs.Reading.{LineReader, taken, Step, goes_on, stops, up_to_last}
-use Rattle.krieg_fen.specs.Forms.{version_form, position_form}
+use Rattle.krieg_fen.specs.Forms.{position_form}
+use Rattle.krieg_words.specs.declared.dialects.Dialect.{Dialect}
+use Rattle.krieg_words.specs.Versions.{version_at}
 use Rattle.krieg_referee.specs.declared.verdict.Event.{Event}
 use Rattle.krieg_referee.specs.declared.verdict.Stop.{Stop}
 use Rattle.krieg_referee.specs.declared.verdict.Stop.TheVariants.{Ended, Left, AsksUsed}
-use Rattle.krieg_sheet.specs.Dialects.{dialect_at}
 use Rattle.krieg_session.specs.Sessions.{SessionState}
 use Rattle.krieg_session.specs.declared.reading.SessionLine.{SessionLine}
 use Rattle.krieg_session.specs.declared.reading.SessionLine.TheVariants.{Try, Last}
 
--- the format's name and one of its two versions
-unfoldable pub session_form : List ℕ → Result ℕ TextKind
-session_form line = version_form (codes "krieg session ") 2 line
+-- the format's name with one of its two versions, and the dialect
+unfoldable pub session_version_at : LineReader Dialect
+session_version_at p = version_at (codes "krieg session ") p
 
 abbrev pub position_behind : Option (List ℕ) → Result Pos TextKind
 position_behind None = Err Syntax
@@ -81,8 +82,7 @@ events_at p = up_to_last event_form [] p.number p.left
 -- the places of a session in their order: version and dialect, start, tries, last line
 unfoldable pub session_at : LineReader SessionState
 session_at p = do
-  version ← taken session_form p
-  dialect ← dialect_at version.0 version.1
+  dialect ← session_version_at p
   start ← taken start_form dialect.1
   events ← events_at start.1
   Ok (record { dialect = dialect.0; start = start.0; events = events.0.0; stop = events.0.1 }, events.1)

@@ -1,22 +1,17 @@
 -- Which lines spell a session: the table of the format, without a reader.
-use Rattle.std.specs.Prelude.{◌≡◌, ◌⊎◌, ℕ, List, [], ◌∷◌, ◌++◌, codes, map}
+use Rattle.std.specs.Prelude.{◌≡◌, ℕ, List, [], ◌∷◌, ◌++◌, codes, map}
 use Rattle.krieg_board.specs.Pos.{Pos}
 use Rattle.krieg_fen.specs.Spelling.{Spells}
-use Rattle.krieg_words.specs.declared.dialects.Dialect.{Dialect}
-use Rattle.krieg_sheet.specs.Dialects.{dialect_text, version_lines}
+use Rattle.krieg_words.specs.Versions.{SpellVersion}
 use Rattle.krieg_session.specs.Sessions.{SessionState}
 use Rattle.krieg_session.specs.SessionText.{event_text, last_text}
-
--- the written form, or version 2 with the line of the dialect, which wild16 may have too
-abbrev pub SpellVersion : List (List ℕ) → Dialect → Type 0
-SpellVersion header d = (header ≡ version_lines (codes "krieg session ") d) ⊎ (header ≡ codes "krieg session 2" ∷ dialect_text d ∷ [])
 
 -- version and dialect, start, a line for each try, the last line: only the version of wild16 and the start have more than one spelling
 pub record SpellsSession (ls : List (List ℕ)) (s : SessionState) : Type 0 where
   pub header : List (List ℕ)
   pub start : List ℕ
   pub is : ls ≡ header ++ ((codes "start " ++ start) ∷ (map event_text s.events ++ (last_text s.stop ∷ [])))
-  pub version : SpellVersion header s.dialect
+  pub version : SpellVersion (codes "krieg session ") header s.dialect
   pub position : Spells start s.start
 
 -- one line, which spells the position

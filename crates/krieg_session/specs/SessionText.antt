@@ -4,10 +4,10 @@ use Rattle.krieg_board.specs.declared.men.Side.TheVariants.{White, Black}
 use Rattle.krieg_fen.specs.Lines.{with_ends}
 use Rattle.krieg_fen.specs.FenText.{position_text}
 use Rattle.krieg_fen.specs.MoveText.{move_text}
+use Rattle.krieg_words.specs.Versions.{version_lines}
 use Rattle.krieg_referee.specs.declared.verdict.Event.{Event}
 use Rattle.krieg_referee.specs.declared.verdict.Stop.{Stop}
 use Rattle.krieg_referee.specs.declared.verdict.Stop.TheVariants.{Ended, Left, AsksUsed}
-use Rattle.krieg_sheet.specs.Dialects.{version_lines}
 use Rattle.krieg_session.specs.Sessions.{SessionState}
 use Rattle.krieg_session.specs.Telling.{side_mark}
 

@@ -13,11 +13,9 @@ ghost use Rattle.krieg_session.specs.SessionReading as spec;
 
 use crate::session::Session;
 use krieg_board::{Position, Side};
-use krieg_fen::{
-    Cursor, TextFault, TextKind, behind, is_name, position_line, read_move, version_line,
-};
+use krieg_fen::{Cursor, TextFault, TextKind, behind, is_name, position_line, read_move};
 use krieg_referee::{Event, Stop};
-use krieg_sheet::read_dialect;
+use krieg_words::{Dialect, read_version_lines};
 use std::alloc::Global;
 
 /// A line behind the start.
@@ -28,18 +26,12 @@ enum SessionLine {
     Last(Option<Stop>),
 }
 
-#[tactic(auto, unfolding(crate::specs::SessionReading::session_form))]
-fn session_line(text: &[u8]) -> Result<u64, TextKind>
-    ensures { result ≡ spec.session_form text.now }
+/// The dialect, by the lines of the version.
+#[tactic(auto, unfolding(crate::specs::SessionReading::session_version_at))]
+fn read_session_version(from: &mut Cursor<'_>) -> Result<Dialect, TextFault>
+    ensures { GivesOn (λ d. d) result from.new (spec.session_version_at from.old) }
 {
-    version_line(b"krieg session ", 2, text)
-}
-
-fn read_session_version(from: &mut Cursor<'_>) -> Result<u64, TextFault>
-    ensures { GivesOn (λ n. n) result from.new (taken spec.session_form from.old) }
-{
-    let line = from.number();
-    session_line(from.line()?).map_err(|kind| TextFault::At { line, kind })
+    read_version_lines(from, b"krieg session ")
 }
 
 /// The position behind the word `start`.
@@ -141,8 +133,7 @@ fn read_lines(alloc: Global, text: &[u8]) -> Result<Session, TextFault>
     ensures { Gives (λ s. record { dialect = s.dialect; start = s.start; events = s.events.items; stop = s.stop }) result (whole spec.session_at (lines text.now)) }
 {
     let mut from = Cursor::new(text);
-    let version = read_session_version(&mut from)?;
-    let dialect = read_dialect(&mut from, version)?;
+    let dialect = read_session_version(&mut from)?;
     let start = read_start_line(&mut from)?;
     let (events, stop) = read_events(alloc, &mut from)?;
     from.end()?;
@@ -158,7 +149,7 @@ fn read_lines(alloc: Global, text: &[u8]) -> Result<Session, TextFault>
 ///
 /// The fault is the first line that is not accepted, or, where all lines are and the text is not
 /// complete, the number of lines plus 1 with `Syntax`. Its kinds are `Version`, `Syntax` and `Position`.
-#[tactic(auto, using(crate::proofs::SessionLocality::sessions, crate::proofs::SessionsRead::games, crate::proofs::SessionsSpell::spelled))]
+#[tactic(auto, using(crate::proofs::SessionLocality::sessions, crate::proofs::SessionsSpell::spelled))]
 pub fn read_session(alloc: Global, text: &[u8]) -> Result<Session, TextFault>
     ensures exact { Gives (λ s. record { dialect = s.dialect; start = s.start; events = s.events.items; stop = s.stop }) result (whole spec.session_at (lines text.now)) }
     // A fault stands behind the last line or at the first bad one, and rests on the lines up to it alone.

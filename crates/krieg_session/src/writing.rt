@@ -10,8 +10,8 @@ use crate::telling::side_mark;
 use krieg_board::{Move, NoMemory, Position, Side};
 use krieg_fen::write_move;
 use krieg_referee::{Event, Stop};
-use krieg_sheet::{write_listed, write_version};
-use krieg_words::Dialect;
+use krieg_sheet::write_listed;
+use krieg_words::{Dialect, write_version_lines};
 
 #[tactic(auto, using(krieg_fen::proofs::Fronts::fronts))]
 fn write_move_line(mv: Move, text: &mut Vec<u8>) -> Result<(), NoMemory>
@@ -108,7 +108,7 @@ fn write_pieces(
 ) -> Result<(), NoMemory>
     ensures { Writes result text.old.items text.new.items (pieces.session_pieces (record { dialect = d; start = start.now; events = events.now; stop = stop.now })) }
 {
-    write_version(b"krieg session ", d, text)?;
+    write_version_lines(b"krieg session ", d, text)?;
     write_start_word(start, events, stop, text)
 }
 

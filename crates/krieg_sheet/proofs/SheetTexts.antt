@@ -13,32 +13,20 @@ use Rattle.krieg_fen.specs.FenText.{position_text}
 use Rattle.krieg_fen.specs.Outcomes.{Writes}
 use Rattle.krieg_words.specs.Said.{Said}
 use Rattle.krieg_words.specs.LineText.{line_text}
+use Rattle.krieg_words.specs.Versions.{version_lines, version_text}
 use Rattle.krieg_words.specs.declared.dialects.Dialect.{Dialect}
-use Rattle.krieg_words.specs.declared.dialects.Dialect.TheVariants.{Wild16, Anytry, Plain}
 use Rattle.krieg_words.specs.declared.dialects.Line.TheVariants.{Opens}
 use Rattle.krieg_sheet.specs.Sheets.{SheetState, fresh}
-use Rattle.krieg_sheet.specs.Dialects.{dialect_text, version_lines, version_text}
 use Rattle.krieg_sheet.specs.SheetText.{side_line, head_lines, opens_lines, sheet_text, answer_text, listed_text, entry_text, opens_text, count_text, side_text, head_text, end_text, listed_part, entries_part, heard_part, sheet_pieces, answer_pieces}
-
-pub version_is : (name : List ℕ) (d : Dialect) → with_ends (version_lines name d) ≡ version_text name d
-unfolding version_text
-version_is name Wild16 = append-nil (ended_line (name ++ codes "1")) ∙ append_assoc name (codes "1") (10 ∷ [])
-version_is name Anytry =
-    ap (λ (t : List ℕ). t ++ (ended_line (dialect_text Anytry) ++ [])) (append_assoc name (codes "2") (10 ∷ []))
-    ∙ append_assoc name (codes "2" ++ (10 ∷ [])) (ended_line (dialect_text Anytry) ++ [])
-version_is name Plain =
-    ap (λ (t : List ℕ). t ++ (ended_line (dialect_text Plain) ++ [])) (append_assoc name (codes "2") (10 ∷ []))
-    ∙ append_assoc name (codes "2" ++ (10 ∷ [])) (ended_line (dialect_text Plain) ++ [])
 
 side_is : (who : Side) (n : ℕ) → with_ends (side_line who ∷ (codes "list " ++ number_text n) ∷ []) ≡ side_text who n
 unfolding side_text count_text
 side_is who n = ap (λ (t : List ℕ). ended_line (side_line who) ++ t) (append-nil (ended_line (codes "list " ++ number_text n)) ∙ append_assoc (codes "list ") (number_text n) (10 ∷ []))
 
 pub head_is : (d : Dialect) (who : Side) (n : ℕ) → with_ends (head_lines d who n) ≡ head_text d who n
-unfolding head_text
+unfolding head_text version_text
 head_is d who n =
     flat_map-append ended_line (version_lines (codes "krieg sheet ") d) (side_line who ∷ (codes "list " ++ number_text n) ∷ [])
-    ∙ ap (λ (t : List ℕ). t ++ with_ends (side_line who ∷ (codes "list " ++ number_text n) ∷ [])) (version_is (codes "krieg sheet ") d)
     ∙ ap (λ (t : List ℕ). version_text (codes "krieg sheet ") d ++ t) (side_is who n)
 
 opens_is : (d : Dialect) (opens : Option Said) → with_ends (opens_lines d opens) ≡ opens_text d opens

@@ -2,7 +2,6 @@ pub mod Sheets
 pub mod Turns
 pub mod Lists
 pub mod Places
-pub mod Dialects
 pub mod SheetReading
 pub mod SheetText
 pub mod SheetSpelling

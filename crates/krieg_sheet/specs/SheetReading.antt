@@ -5,18 +5,19 @@ use Rattle.krieg_fen.specs.declared.fault.TextKind.{TextKind}
 use Rattle.krieg_fen.specs.declared.fault.TextKind.TheVariants.{Syntax, OutOfPlace}
 use Rattle.krieg_fen.specs.Outcomes.{◌>>=◌}
 use Rattle.krieg_fen.specs.Reading.{LineReader, taken, Step, goes_on, stops, up_to_last}
-use Rattle.krieg_fen.specs.Forms.{version_form, count_form, side_form, positions_at}
+use Rattle.krieg_fen.specs.Forms.{count_form, side_form, positions_at}
 use Rattle.krieg_words.specs.Said.{Said}
 use Rattle.krieg_words.specs.LineText.{line_in}
+use Rattle.krieg_words.specs.declared.dialects.Dialect.{Dialect}
+use Rattle.krieg_words.specs.Versions.{version_at}
 use Rattle.krieg_words.specs.declared.dialects.Line.{Line}
 use Rattle.krieg_words.specs.declared.dialects.Line.TheVariants.{Opens}
 use Rattle.krieg_sheet.specs.Sheets.{SheetState, fresh, entered}
 use Rattle.krieg_sheet.specs.Turns.{is_in_place}
-use Rattle.krieg_sheet.specs.Dialects.{dialect_at}
 
--- the format's name and one of its two versions
-unfoldable pub sheet_form : List ℕ → Result ℕ TextKind
-sheet_form text = version_form (codes "krieg sheet ") 2 text
+-- the format's name with one of its two versions, and the dialect
+unfoldable pub sheet_version_at : LineReader Dialect
+sheet_version_at p = version_at (codes "krieg sheet ") p
 
 -- how many positions are listed
 unfoldable pub list_form : List ℕ → Result ℕ TextKind
@@ -65,8 +66,7 @@ entries_at s p = up_to_last entry_form s p.number p.left
 -- the places of a sheet in their order: version and dialect, side, number of positions, positions, lines, `end`
 unfoldable pub sheet_at : LineReader SheetState
 sheet_at p = do
-  version ← taken sheet_form p
-  dialect ← dialect_at version.0 version.1
+  dialect ← sheet_version_at p
   side ← taken side_form dialect.1
   count ← taken list_form side.1
   list ← positions_at side.0 None count.0 count.1

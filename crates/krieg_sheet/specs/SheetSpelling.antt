@@ -1,17 +1,12 @@
 -- Which lines spell a sheet: the table of the format, without a reader.
-use Rattle.std.specs.Prelude.{◌≡◌, ◌⊎◌, ℕ, List, [], ◌∷◌, ◌++◌, codes, length, map}
+use Rattle.std.specs.Prelude.{◌≡◌, ℕ, List, [], ◌∷◌, ◌++◌, codes, length, map}
 use Rattle.krieg_board.specs.Pos.{Pos}
 use Rattle.krieg_fen.specs.Decimals.{number_text}
 use Rattle.krieg_fen.specs.Spelling.{Spells}
 use Rattle.krieg_words.specs.LineText.{line_text}
-use Rattle.krieg_words.specs.declared.dialects.Dialect.{Dialect}
+use Rattle.krieg_words.specs.Versions.{SpellVersion}
 use Rattle.krieg_sheet.specs.Sheets.{SheetState}
-use Rattle.krieg_sheet.specs.Dialects.{dialect_text, version_lines}
 use Rattle.krieg_sheet.specs.SheetText.{side_line, opens_lines}
-
--- the written form, or version 2 with the line of the dialect, which wild16 may have too
-abbrev pub SpellVersion : List (List ℕ) → Dialect → Type 0
-SpellVersion header d = (header ≡ version_lines (codes "krieg sheet ") d) ⊎ (header ≡ codes "krieg sheet 2" ∷ dialect_text d ∷ [])
 
 -- each line spells its position
 abbrev pub SpellList : List (List ℕ) → List Pos → Type 0
@@ -28,5 +23,5 @@ pub record SpellsSheet (ls : List (List ℕ)) (s : SheetState) : Type 0 where
   pub header : List (List ℕ)
   pub positions : List (List ℕ)
   pub is : ls ≡ header ++ (side_line s.side ∷ (codes "list " ++ number_text (length s.list)) ∷ (positions ++ told_lines s))
-  pub version : SpellVersion header s.dialect
+  pub version : SpellVersion (codes "krieg sheet ") header s.dialect
   pub listed : SpellList positions s.list

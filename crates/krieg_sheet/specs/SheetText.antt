@@ -9,11 +9,11 @@ use Rattle.krieg_fen.specs.Decimals.{number_text}
 use Rattle.krieg_fen.specs.FenText.{position_text}
 use Rattle.krieg_words.specs.Said.{Said}
 use Rattle.krieg_words.specs.LineText.{line_text}
+use Rattle.krieg_words.specs.Versions.{version_lines, version_text}
 use Rattle.krieg_words.specs.declared.dialects.Dialect.{Dialect}
 use Rattle.krieg_words.specs.declared.dialects.Line.{Line}
 use Rattle.krieg_words.specs.declared.dialects.Line.TheVariants.{Opens}
 use Rattle.krieg_sheet.specs.Sheets.{SheetState, fresh}
-use Rattle.krieg_sheet.specs.Dialects.{version_lines, version_text}
 
 -- whose sheet it is
 abbrev pub side_line : Side → List ℕ

@@ -2,12 +2,11 @@
 //!
 //! The rules of this crate are the definitions of `specs/`: what a sheet is (`Sheets`), which entries are
 //! in place (`Turns`), what a list of positions must be (`Lists`), what holds of every sheet (`Places`), the
-//! versions of a text and their dialects (`Dialects`), the text of a sheet (`SheetText`), which lines spell
-//! one (`SheetSpelling`), how it is read line by line (`SheetReading`), and the hidden games that a sheet
-//! leaves open (`Games`; `Replays` finds where one ends). `push`, the reader and the writers take memory.
+//! text of a sheet (`SheetText`), which lines spell one (`SheetSpelling`), how it is read line by line
+//! (`SheetReading`), and the hidden games that a sheet leaves open (`Games`; `Replays` finds where one
+//! ends). `push`, the reader and the writers take memory.
 #![tactic(auto)]
 
-mod dialects;
 #[cfg(test)]
 mod games;
 mod lines;
@@ -19,7 +18,6 @@ mod tests;
 mod turns;
 mod writing;
 
-pub use dialects::{read_dialect, write_version};
 pub use reading::read_sheet;
 pub use sheet::{Sheet, SheetFault};
 pub use writing::{write_answer, write_end, write_head, write_listed, write_sheet};

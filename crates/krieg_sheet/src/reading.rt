@@ -11,24 +11,17 @@ ghost use Rattle.krieg_sheet.specs.Sheets.{SheetState};
 ghost use Rattle.krieg_sheet.specs.SheetReading as spec;
 ghost use Rattle.krieg_sheet.specs.SheetSpelling.{SpellsSheet};
 
-use crate::dialects::read_dialect;
 use crate::sheet::Sheet;
-use krieg_fen::{Cursor, TextFault, TextKind, count_line, is_name, read_side, version_line};
-use krieg_words::{Line, read_line_in};
+use krieg_fen::{Cursor, TextFault, TextKind, count_line, is_name, read_side};
+use krieg_words::{Dialect, Line, read_line_in, read_version_lines};
 use std::alloc::Global;
 
-#[tactic(auto, unfolding(crate::specs::SheetReading::sheet_form))]
-fn sheet_line(text: &[u8]) -> Result<u64, TextKind>
-    ensures { result ≡ spec.sheet_form text.now }
+/// The dialect, by the lines of the version.
+#[tactic(auto, unfolding(crate::specs::SheetReading::sheet_version_at))]
+fn read_sheet_version(from: &mut Cursor<'_>) -> Result<Dialect, TextFault>
+    ensures { GivesOn (λ d. d) result from.new (spec.sheet_version_at from.old) }
 {
-    version_line(b"krieg sheet ", 2, text)
-}
-
-fn read_sheet_version(from: &mut Cursor<'_>) -> Result<u64, TextFault>
-    ensures { GivesOn (λ n. n) result from.new (taken spec.sheet_form from.old) }
-{
-    let line = from.number();
-    sheet_line(from.line()?).map_err(|kind| TextFault::At { line, kind })
+    read_version_lines(from, b"krieg sheet ")
 }
 
 #[tactic(auto, unfolding(crate::specs::SheetReading::list_form))]
@@ -88,8 +81,7 @@ fn read_lines(alloc: Global, text: &[u8]) -> Result<Sheet, TextFault>
     ensures { Gives (λ s. s) result (whole spec.sheet_at (lines text.now)) }
 {
     let mut from = Cursor::new(text);
-    let version = read_sheet_version(&mut from)?;
-    let dialect = read_dialect(&mut from, version)?;
+    let dialect = read_sheet_version(&mut from)?;
     let side = read_side(&mut from)?;
     let count = read_list_count(&mut from)?;
     let list = from.list(alloc, count as usize, side)?;

@@ -10,11 +10,10 @@ ghost use Rattle.krieg_sheet.specs.SheetReading.{sheet_at};
 ghost use Rattle.krieg_sheet.specs.SheetSpelling.{SpellsSheet};
 ghost use Rattle.krieg_sheet.specs.SheetText as spec;
 
-use crate::dialects::write_version;
 use crate::sheet::Sheet;
 use krieg_board::{NoMemory, Position, Side};
 use krieg_fen::{write_number, write_position};
-use krieg_words::{Dialect, Line, Words, write_line_in};
+use krieg_words::{Dialect, Line, Words, write_line_in, write_version_lines};
 
 fn side_line(side: Side) -> &'static [u8]
     ensures { result.now ≡ ended_line (spec.side_line side) }
@@ -60,7 +59,7 @@ fn write_side(side: Side, n: usize, text: &mut Vec<u8>) -> Result<(), NoMemory>
 pub fn write_head(d: Dialect, side: Side, n: usize, text: &mut Vec<u8>) -> Result<(), NoMemory>
     ensures { Writes result text.old.items text.new.items (spec.head_text d side n) }
 {
-    write_version(b"krieg sheet ", d, text)?;
+    write_version_lines(b"krieg sheet ", d, text)?;
     write_side(side, n, text)
 }
 
