@@ -2,3 +2,4 @@ mod Listing
 mod OtherWords
 mod Pieces
 mod Solutions
+mod WholeGames

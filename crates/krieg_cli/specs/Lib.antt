@@ -3,3 +3,4 @@ pub mod Solution
 pub mod Refusals
 pub mod Outcome
 pub mod Ending
+pub mod WholeGames

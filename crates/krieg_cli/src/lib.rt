@@ -2,7 +2,8 @@
 //!
 //! Built so far are `umpire` on any session, `believe` on any sheet, and `solve 1 BUDGET LIMIT` on a sheet
 //! that lists one position and says no more. The definitions of `specs/` say which words are commands (`Command`), what each makes
-//! of its input (`Outcome`, `Solution`), the refusals (`Refusals`), and how a run ends (`Ending`).
+//! of its input (`Outcome`, `Solution`), the refusals (`Refusals`), how a run ends (`Ending`), and that `believe`
+//! lists where a game stands, given what `umpire` writes of it (`WholeGames`).
 #![tactic(auto)]
 
 mod command;

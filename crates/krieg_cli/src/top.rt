@@ -2,6 +2,7 @@ ghost use Rattle.std.specs.Prelude.{◌≡◌, Option, None, ℕ, map, string_by
 ghost use Rattle.krieg_cli.specs.Command.{command_of};
 ghost use Rattle.krieg_cli.specs.Refusals.{status};
 ghost use Rattle.krieg_cli.specs.Ending.{stream, WasRead, FailsToRead, Ends, Runs, Reports, refusal_of};
+ghost use Rattle.krieg_cli.specs.WholeGames.{IsTrueToGames};
 
 use crate::command::{Command, command_of};
 use crate::outcome::{is_built, outcome};
@@ -93,6 +94,11 @@ pub fn run<S: Source, O: Sink, E: Sink>(
         (stream (O.got out.old) (O.faults out.old)) (stream (O.got out.new) (O.faults out.new))
         × Reports ending (stream (E.got err.old) (E.faults err.old)) (stream (E.got err.new) (E.faults err.new)) }
     ensures usage { command_of (map string_bytes words.now) ≡ None → (result ≡ 1) × (input.new ≡ input.old) }
+    // What `umpire` writes for a player is his sheet of the game; given it, `believe` lists where that game stands.
+    ensures game { (ending : Option Refusal) × (result ≡ status ending)
+        × IsTrueToGames ending (command_of (map string_bytes words.now))
+        (stream (S.left input.old) (S.faults input.old)) (stream (S.left input.new) (S.faults input.new))
+        (stream (O.got out.old) (O.faults out.old)) (stream (O.got out.new) (O.faults out.new)) }
 {
     match obey(alloc, words, input, out) {
         Ok(()) => 0,

@@ -1,4 +1,4 @@
-use Rattle.std.proofs.Common.{rules, ◌≡◌, Ok}
+use Rattle.std.proofs.Common.{rules, Ok}
 use Rattle.krieg_ports.specs.Bytes.{AppendsPrefix}
 use Rattle.krieg_cli.specs.Outcome.{HasOutcome}
 use Rattle.krieg_cli.proofs.top.answer.Goals as goal
