@@ -1,0 +1,54 @@
+//! Reads and writes that fail, and an input that is too long.
+
+use super::{ROOK, SOLVE, run_to, sink, strings};
+use crate::run;
+use krieg_ports::{MemSink, MemSource};
+use std::alloc::{AllocError, Global};
+
+/// One byte more than an input may have.
+#[test]
+fn refuses_what_is_too_long(rt: HostRuntime) -> Result<(), AllocError> {
+    let bytes = vec![in rt.alloc(); b'x'; 67_108_865]?;
+    let mut input = MemSource::new(bytes, 1_000_000, Vec::new(rt.alloc()));
+    let mut out = sink(rt.alloc(), 100, 100, &[])?;
+    let mut err = sink(rt.alloc(), 100, 100, &[])?;
+    let words = strings(rt.alloc(), &SOLVE)?;
+    let status = run(rt.alloc(), &words, &mut input, &mut out, &mut err);
+    assert_eq!(rt; status, 2);
+    assert!(rt; out.bytes().is_empty());
+    assert!(rt; err.bytes() == b"krieg: input too long\n".as_slice());
+    Ok(())
+}
+
+/// A read that fails, at the first call, in mid-stream or at the end, gives no answer: the text comes in
+/// nine reads, and the tenth finds its end.
+#[test]
+fn tells_a_read_fault(rt: HostRuntime) -> Result<(), AllocError> {
+    for call in 1..11 {
+        let out = sink(rt.alloc(), 1000, 1000, &[])?;
+        let ran = run_to(rt.alloc(), &SOLVE, ROOK, &[call], out)?;
+        assert_eq!(rt; ran.status, 9, "call {call}");
+        assert!(rt; ran.out.is_empty());
+        assert!(rt; ran.err.as_slice() == b"krieg: read fault\n".as_slice());
+    }
+    Ok(())
+}
+
+/// Whether the first example's run over a sink that fails ends so, with this much written.
+fn breaks_off(alloc: Global, out: MemSink, written: &[u8]) -> Result<bool, AllocError> {
+    let ran = run_to(alloc, &SOLVE, ROOK, &[], out)?;
+    let is_told = ran.err.as_slice() == b"krieg: write fault\n".as_slice();
+    Ok(ran.status == 10 && ran.out.as_slice() == written && is_told)
+}
+
+/// A write that fails leaves what was written before it, and nothing else.
+#[test]
+fn tells_a_write_fault(rt: HostRuntime) -> Result<(), AllocError> {
+    let first = sink(rt.alloc(), 1000, 1000, &[1])?;
+    let fourth = sink(rt.alloc(), 1000, 1, &[4])?;
+    let full = sink(rt.alloc(), 3, 1000, &[])?;
+    assert!(rt; breaks_off(rt.alloc(), first, b"")?);
+    assert!(rt; breaks_off(rt.alloc(), fourth, b"kri")?);
+    assert!(rt; breaks_off(rt.alloc(), full, b"kri")?);
+    Ok(())
+}
