@@ -63,11 +63,11 @@ list_read who n p q ps low e =
     }
 
 -- What has no fault.
-record IsListable (who : Side) (f : Pos) (ps : List Pos) : Type 0 where
-  few : length (f ∷ ps) ≤ 200000
-  same : other_hand who f 1 ps ≡ None
+pub record IsListable (who : Side) (f : Pos) (ps : List Pos) : Type 0 where
+  pub few : length (f ∷ ps) ≤ 200000
+  pub same : other_hand who f 1 ps ≡ None
 
-listable : (who : Side) (f : Pos) (ps : List Pos) → list_fault who (f ∷ ps) ≡ None → IsListable who f ps
+pub listable : (who : Side) (f : Pos) (ps : List Pos) → list_fault who (f ∷ ps) ≡ None → IsListable who f ps
 listable who f ps e = go (leb (length (f ∷ ps)) 200000) refl e
   where
     by_other : (o : Option ℕ) → differs o ≡ None → o ≡ None
@@ -82,8 +82,8 @@ pub list_size : (who : Side) (list : List Pos) → list_fault who list ≡ None 
 list_size who [] e = absurd cc
 list_size who (f ∷ ps) e = (omega arith, (listable who f ps e).few)
 
-one_hand : (who : Side) (f : Pos) (k : ℕ) (p : Pos) (ps : List Pos) → other_hand who f k (p ∷ ps) ≡ None → (same_hand f p who ≡ true) × (other_hand who f (k + 1) ps ≡ None)
-one_hand who f k p ps e = go (same_hand f p who) refl e
+pub next_hand : (who : Side) (f : Pos) (k : ℕ) (p : Pos) (ps : List Pos) → other_hand who f k (p ∷ ps) ≡ None → (same_hand f p who ≡ true) × (other_hand who f (k + 1) ps ≡ None)
+next_hand who f k p ps e = go (same_hand f p who) refl e
   where
     go : (t : Bool) → same_hand f p who ≡ t → cond t (other_hand who f (k + 1) ps) (Some k) ≡ None → (same_hand f p who ≡ true) × (other_hand who f (k + 1) ps ≡ None)
     go true is h = (is, h)
@@ -94,7 +94,7 @@ with_hands [] [] who f k s e = tt
 with_hands [] (p ∷ ps) who f k s e = absurd s
 with_hands (t ∷ ts) [] who f k s e = absurd s
 with_hands (t ∷ ts) (p ∷ ps) who f k s e =
-    let h = one_hand who f k p ps e in
+    let h = next_hand who f k p ps e in
     (s.0, h.0, with_hands ts ps who f (k + 1) s.1 h.1)
 
 -- lines that spell such a list spell it with one hand

@@ -1,6 +1,6 @@
 -- All positions that are consistent with a sheet have one hand of its side.
-use Rattle.std.proofs.Common.{◌≡◌, ℕ, zero, suc, ◌+◌, ◌<◌, Bool, true, false, cond, List, [], ◌∷◌, length, Option, Some, None, refl, sym, subst, ◌∙◌, arith}
-use Rattle.std.specs.Prelude.{slice_index_or, nat_le}
+use Rattle.std.proofs.Common.{◌≡◌, ℕ, zero, suc, ◌+◌, ◌<◌, true, false, List, [], ◌∷◌, length, None, refl, sym, subst, ◌∙◌, arith}
+use Rattle.std.specs.Prelude.{slice_index_or}
 use Rattle.std.specs.List.{Contains}
 use Rattle.std.proofs.lemmas.List.Elements.{All-contains}
 use Rattle.krieg_board.specs.Men.{other, is_same_side}
@@ -19,23 +19,16 @@ use Rattle.krieg_words.specs.declared.dialects.Line.{Line}
 use Rattle.krieg_words.specs.declared.dialects.Line.TheVariants.{Opens, Illegal, Done, Heard, Early, Over}
 use Rattle.krieg_words.proofs.HandsKept.{alike-heard}
 use Rattle.krieg_sheet.specs.Sheets.{SheetState}
-use Rattle.krieg_sheet.specs.Lists.{other_hand, differs, list_fault}
+use Rattle.krieg_sheet.specs.Lists.{other_hand, list_fault}
 use Rattle.krieg_sheet.specs.Games.{Gives, Consistent}
 use Rattle.krieg_sheet.specs.Places.{IsSheet}
-use Rattle.krieg_sheet.specs.declared.sheet.SheetFault.{SheetFault}
-use Rattle.krieg_sheet.specs.declared.sheet.SheetFault.TheVariants.{Count}
+use Rattle.krieg_sheet.proofs.ListedPositions.{listable, next_hand}
 
 -- each of the positions has the hand of the first one
 each_alike : (who : Side) (first : Pos) (n : ℕ) (ps : List Pos) → other_hand who first n ps ≡ None → (k : ℕ) (d : Pos) → k < length ps → Alike who first (slice_index_or ps k d)
 each_alike who first n [] h k d l = absurd (omega arith)
-each_alike who first n (p ∷ ps) h k d l = by_test (same_hand first p who) refl h (λ e k l. each_alike who first (n + 1) ps e k d l) k l
-  where
-    by_test : (t : Bool) → same_hand first p who ≡ t → cond t (other_hand who first (n + 1) ps) (Some n) ≡ None →
-        (other_hand who first (n + 1) ps ≡ None → (k : ℕ) → k < length ps → Alike who first (slice_index_or ps k d)) →
-        (k : ℕ) → k < length (p ∷ ps) → Alike who first (slice_index_or (p ∷ ps) k d)
-    by_test true e h rest zero l = same_hand-alike who first p e
-    by_test true e h rest (suc k) l = rest h k (omega arith)
-    by_test false e h rest k l = absurd cc
+each_alike who first n (p ∷ ps) h zero d l = same_hand-alike who first p (next_hand who first n p ps h).0
+each_alike who first n (p ∷ ps) h (suc k) d l = each_alike who first (n + 1) ps (next_hand who first n p ps h).1 k d (omega arith)
 
 -- listed positions have one hand
 listed_alike : (who : Side) (list : List Pos) → list_fault who list ≡ None → (p q : Pos) → Contains list p → Contains list q → Alike who p q
@@ -43,20 +36,9 @@ listed_alike who [] h p q a b = absurd cc
 listed_alike who (first ∷ ps) h p q a b =
     alike-through who p first q (alike-back who first p (from_first p a.0 a.1 a.2)) (from_first q b.0 b.1 b.2)
   where
-    no_differs : (o : Option ℕ) → differs o ≡ None → o ≡ None
-    no_differs None e = refl
-    no_differs (Some i) e = absurd cc
-
-    no_fault : (t : Bool) (o : Option SheetFault) → cond t o (Some Count) ≡ None → o ≡ None
-    no_fault true o e = e
-    no_fault false o e = absurd cc
-
-    none_other : other_hand who first 1 ps ≡ None
-    none_other = no_differs (other_hand who first 1 ps) (no_fault (nat_le (length (first ∷ ps)) 200000) (differs (other_hand who first 1 ps)) h)
-
     from_first : (x : Pos) (k : ℕ) → k < length (first ∷ ps) → slice_index_or (first ∷ ps) k x ≡ x → Alike who first x
     from_first x zero l e = subst (Alike who first) e (alike-same who first)
-    from_first x (suc k) l e = subst (Alike who first) e (each_alike who first 1 ps none_other k x (omega arith))
+    from_first x (suc k) l e = subst (Alike who first) e (each_alike who first 1 ps (listable who first ps h).same k x (omega arith))
 
 not_mine : (side who : Side) → is_same_side side who ≡ false → side ≡ other who
 not_mine White White h = absurd cc
