@@ -66,7 +66,8 @@ pub fn is_clear(board: &Board, from: u8, to: u8) -> bool
     (0..64u8).all(|s| !(is_between(from, to, s) && board[s as usize].is_some()))
 }
 
-fn is_forward(side: Side, from: u8, to: u8) -> bool
+/// Whether `to` is on the next rank, as that side's pawns go.
+pub fn is_forward(side: Side, from: u8, to: u8) -> bool
     ensures { result ≡ spec.is_forward side from to }
 {
     match side {

@@ -15,8 +15,8 @@ mod square;
 mod tests;
 mod units;
 
-pub use attack::{apart, attacks, is_attacked, is_clear, is_king_attacked};
-pub use board::{Board, is_man, is_of};
+pub use attack::{apart, attacks, is_attacked, is_clear, is_forward, is_king_attacked};
+pub use board::{Board, is_empty, is_man, is_of};
 pub use hand::same_hand;
 pub use memory::NoMemory;
 pub use men::{Kind, Man, Move, Promo, Rights, Side};

@@ -1,10 +1,10 @@
 ghost use Rattle.std.specs.Prelude.{◌≡◌, ◌<◌, IfOk, IfErr, Some, None};
-ghost use Rattle.krieg_board.specs.Board.{man_at, is_empty};
+ghost use Rattle.krieg_board.specs.Board.{man_at};
 ghost use Rattle.krieg_board.specs.Validity as spec;
 ghost use Rattle.krieg_board.specs.Validity.{IsValid, first_fault};
 
 use crate::attack::is_king_attacked;
-use crate::board::{Board, is_man, is_of};
+use crate::board::{Board, is_empty, is_man, is_of};
 use crate::men::{Kind, Man, Rights, Side};
 use crate::square::{
     Square, crossed_rank, file_of, home_rank, landing_rank, pawn_rank, rank_of, square_at,
@@ -110,13 +110,6 @@ fn has_castles(board: &Board, rights: Rights) -> bool
         && has_castle(board, rights.white_long, Side::White, 0)
         && has_castle(board, rights.black_short, Side::Black, 7)
         && has_castle(board, rights.black_long, Side::Black, 0)
-}
-
-fn is_empty(board: &Board, s: u8) -> bool
-    requires { s < 64 }
-    ensures { result ≡ is_empty board.now s }
-{
-    board[s as usize].is_none()
 }
 
 fn is_crossed(board: &Board, pawn_side: Side, s: u8) -> bool

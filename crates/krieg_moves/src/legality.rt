@@ -1,6 +1,6 @@
 ghost use Rattle.std.specs.Prelude.{◌≡◌, ◌<◌, ℕ, Some, not};
-ghost use Rattle.krieg_board.specs.Board.{man_at, is_empty};
-ghost use Rattle.krieg_board.specs.Attacks.{is_forward, is_king_attacked};
+ghost use Rattle.krieg_board.specs.Board.{man_at};
+ghost use Rattle.krieg_board.specs.Attacks.{is_king_attacked};
 ghost use Rattle.krieg_moves.specs.After.{board_after};
 ghost use Rattle.krieg_moves.specs.Legal as spec;
 
@@ -8,29 +8,13 @@ use crate::change::{board_after, crossed, is_marked};
 use crate::wing::{Wing, arrival, corner, crossing, king_square};
 use krieg_board::{
     Board, Kind, Man, Move, Position, Promo, Rights, Side, attacks, file_of, is_attacked, is_clear,
-    is_king_attacked, is_of, landing_rank, last_rank, pawn_rank, rank_of,
+    is_empty, is_forward, is_king_attacked, is_of, landing_rank, last_rank, pawn_rank, rank_of,
 };
-
-fn is_empty(board: &Board, s: u8) -> bool
-    requires { s < 64 }
-    ensures { result ≡ is_empty board.now s }
-{
-    board[s as usize].is_none()
-}
 
 fn is_plain(promo: Promo) -> bool
     ensures { result ≡ spec.is_plain promo }
 {
     matches!(promo, Promo::Plain)
-}
-
-fn is_forward(side: Side, from: u8, to: u8) -> bool
-    ensures { result ≡ is_forward side from to }
-{
-    match side {
-        Side::White => rank_of(to) == rank_of(from) + 1,
-        Side::Black => rank_of(from) == rank_of(to) + 1,
-    }
 }
 
 fn is_step(board: &Board, side: Side, mv: &Move) -> bool

@@ -5,18 +5,14 @@ ghost use Rattle.krieg_board.specs.Attacks.{apart, is_forward};
 ghost use Rattle.krieg_board.specs.declared.men.Kind.TheVariants.{Pawn};
 ghost use Rattle.krieg_words.specs.Tries as spec;
 
-use krieg_board::{Kind, Move, Position, Promo, Side, Square, apart, file_of, is_man, rank_of};
+use krieg_board::{Kind, Move, Position, Promo, Side, Square, apart, file_of, is_forward, is_man};
 use krieg_moves::is_legal;
 
 /// Whether a pawn of that side captures in this direction: to the next file and the next rank.
 fn is_aimed(side: Side, from: u8, to: u8) -> bool
     ensures { result ≡ (apart (file_of from) (file_of to) == 1 && is_forward side from to) }
 {
-    apart(file_of(from), file_of(to)) == 1
-        && match side {
-            Side::White => rank_of(to) == rank_of(from) + 1,
-            Side::Black => rank_of(from) == rank_of(to) + 1,
-        }
+    apart(file_of(from), file_of(to)) == 1 && is_forward(side, from, to)
 }
 
 fn is_some_legal(p: &Position, from: Square, to: Square) -> bool
