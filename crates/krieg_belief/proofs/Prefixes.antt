@@ -1,5 +1,5 @@
 -- The sets on the way are the possible positions of the sheet's prefixes.
-use Rattle.std.proofs.Common.{◌≡◌, ℕ, zero, suc, ◌<◌, ◌≤◌, Bool, true, false, List, [], ◌∷◌, take, length, Option, Some, None, Result, Ok, Err, refl, sym, subst, arith}
+use Rattle.std.proofs.Common.{◌≡◌, ℕ, zero, suc, ◌<◌, ◌≤◌, Bool, true, false, List, [], ◌∷◌, take, length, Option, Some, None, Result, Ok, Err, refl, sym, ap, subst, arith}
 use Rattle.std.specs.Prelude.{IfOk, IfErr, OnOk, nat_le, if◌then◌else◌}
 use Rattle.std.proofs.lemmas.Bool.{and_parts}
 use Rattle.std.proofs.lemmas.Bool.Decides.{nat_tests}
@@ -24,7 +24,7 @@ use Rattle.krieg_theory.specs.Sets.{In}
 use Rattle.krieg_theory.proofs.Lists.{in_flat, flat_in}
 use Rattle.krieg_pack.specs.Members.{IsAscending, set_of}
 use Rattle.krieg_pack.proofs.Membership.{contains_in, in_contains}
-use Rattle.krieg_pack.proofs.PositionSets.{set_ascending, in_set, set_in}
+use Rattle.krieg_pack.proofs.PositionSets.{set_ascending, in_set, set_in, same_members}
 use Rattle.krieg_belief.specs.Steps.{has_opening, nexts, run, opened}
 use Rattle.krieg_belief.specs.Possible.{IsPossible, HaveOneHand, Within, prefix, list_line, line_of}
 use Rattle.krieg_belief.specs.Limits.{IsFirstExcess, IsStop, AllWithin, stopped, IsLateStop}
@@ -170,6 +170,16 @@ listed_le who (p ∷ ps) h = go (nat_le (length (p ∷ ps)) 200000) refl h
     go : (b : Bool) → nat_le (length (p ∷ ps)) 200000 ≡ b → (if b then differs (other_hand who p 1 ps) else Some Count) ≡ None → length (p ∷ ps) ≤ 200000
     go true e h = grind (arith, nat_tests)
     go false e h = absurd cc
+
+-- more positions than the limit are not within it, since a sheet has one list of possible positions
+pub excess_not_within : (s : SheetState) (limit line : ℕ) → IsFirstExcess s limit line → AllWithin limit s → ⊥
+excess_not_within s limit line excess within =
+    let more = excess.exceeds in
+    let few = within excess.place excess.in_sheet in
+    let same : more.0 ≡ few.0 = same_members more.0 few.0 more.1.ascending few.1.ascending
+    (λ p i. (few.1.exact p).1 ((more.1.exact p).0 i))
+    (λ p i. (more.1.exact p).1 ((few.1.exact p).0 i)) in
+    absurd (omega (arith, more.2, few.2, ap (λ (ps : List Pos). length ps) same))
 
 pub sheet_le : (s : SheetState) → IsSheet s → length s.list ≤ 200000
 sheet_le s sheet = listed_le s.side s.list sheet.listed

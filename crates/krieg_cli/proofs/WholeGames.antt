@@ -2,22 +2,19 @@
 use Rattle.std.proofs.Common.{◌≡◌, ℕ, ◌≤◌, List, length, Option, Some, None, Result, Ok, Err, refl, sym, ap, subst, ◌∙◌, arith, length-append, inl, inr}
 use Rattle.std.specs.Prelude.{true, IfSome}
 use Rattle.std.specs.Io.KnownBytes.{Appends, Consumes}
-use Rattle.krieg_board.specs.Pos.{Pos}
 use Rattle.krieg_board.specs.declared.men.Side.{Side}
 use Rattle.krieg_fen.specs.Lines.{lines}
 use Rattle.krieg_fen.specs.Reading.{whole}
 use Rattle.krieg_fen.specs.declared.fault.TextFault.{TextFault}
-use Rattle.krieg_sheet.specs.Sheets.{SheetState}
 use Rattle.krieg_sheet.specs.SheetReading.{sheet_at}
 use Rattle.krieg_sheet.specs.SheetText.{sheet_text}
-use Rattle.krieg_pack.proofs.PositionSets.{same_members}
-use Rattle.krieg_belief.specs.Limits.{AllWithin, IsFirstExcess}
+use Rattle.krieg_belief.proofs.Prefixes.{excess_not_within}
 use Rattle.krieg_session.specs.Sessions.{SessionState}
 use Rattle.krieg_session.specs.SessionReading.{session_at}
 use Rattle.krieg_session.specs.Laws.{IsGame}
 use Rattle.krieg_session.proofs.LastPositions.{last_is_consistent}
 use Rattle.krieg_session.proofs.SessionsAgain.{sheets_again}
-use Rattle.krieg_session.proofs.SessionsRead.{read_game}
+use Rattle.krieg_session.proofs.SessionsSpell.{code_game}
 use Rattle.krieg_ports.proofs.ToldBytes.{Consumes-all}
 use Rattle.krieg_cli.specs.Outcome.{is_built, umpired, BelievedText, Believed}
 use Rattle.krieg_cli.specs.Ending.{Stream, WasRead, ComesTo, Answers, Ends, Runs}
@@ -27,7 +24,7 @@ use Rattle.krieg_cli.specs.declared.command.Command.TheVariants.{Solve, Check, B
 use Rattle.krieg_cli.specs.declared.refusal.Refusal.{Refusal}
 use Rattle.krieg_cli.specs.declared.refusal.Refusal.TheVariants.{Usage, TooLong, BadText, TooMany, ReadFault, WriteFault, NoMemory, NotBuilt}
 
--- ---- what is written
+-- What is written.
 
 same_answer : (x y : List ℕ) → ◌≡◌ {A = Result (List ℕ) Refusal} (Ok x) (Ok y) → x ≡ y
 same_answer x y e = cc
@@ -38,7 +35,7 @@ text_of given s who text u = same_answer text (sheet_text (heard_sheet s who)) (
 
 heard : (given : List ℕ) (s : SessionState) (who : Side) (text : List ℕ) → IsUmpired given s who text → IsHeard s who text
 heard given s who text u =
-    let game : IsGame s = read_game (λ x. x) (Ok s) (lines given) u.spelled in
+    let game : IsGame s = code_game (λ x. x) (Ok s) (lines given) u.spelled in
     record {
       read = ap (λ t. whole sheet_at (lines t)) (text_of given s who text u) ∙ sheets_again s.dialect s.start s.events who game.valid game.tries;
       consistent = last_is_consistent s.dialect s.start s.events who;
@@ -55,17 +52,7 @@ tells_game who input input' out out' (text, (given, read, told), written) =
     let of = session_of given text who (whole session_at (lines given)) refl told in
     record { given = given; session = of.0; text = text; was_read = read; umpired = of.1; heard = heard given of.0 who text of.1; written = written }
 
--- ---- what is believed
-
--- more positions than the limit are not within it
-excess_not_within : (s : SheetState) (limit line : ℕ) → IsFirstExcess s limit line → AllWithin limit s → ⊥
-excess_not_within s limit line excess within =
-    let more = excess.exceeds in
-    let few = within excess.place excess.in_sheet in
-    let same : more.0 ≡ few.0 = same_members more.0 few.0 more.1.ascending few.1.ascending
-    (λ p i. (few.1.exact p).1 ((more.1.exact p).0 i))
-    (λ p i. (more.1.exact p).1 ((few.1.exact p).0 i)) in
-    absurd (omega (arith, more.2, few.2, ap (λ (ps : List Pos). length ps) same))
+-- What is believed.
 
 -- the text that was read is the one that the input held
 text_read : (input input' : Stream) (text read : List ℕ) → input.bytes ≡ Some text → WasRead input input' read → read ≡ text
@@ -109,7 +96,7 @@ ends_on_heard (Some NoMemory) limit given s who text input input' out out' u hol
 ends_on_heard (Some NotBuilt) limit given s who text input input' out out' u holds e =
     believed limit given s who text input input' (Err NotBuilt) u holds e.0
 
--- ---- every command
+-- Every command.
 
 ends_of : (ending : Option Refusal) (c : Command) (input input' out out' : Stream) → is_built c ≡ true → Runs ending (Some c) input input' out out' → Ends ending c input input' out out'
 ends_of ending c input input' out out' built (inl off) = absurd cc
