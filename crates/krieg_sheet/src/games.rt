@@ -162,65 +162,29 @@ fn game<'a>(
     }
 }
 
+/// White's rook goes to d1, and the reply is not heard.
+const TO_D1: &[&[u8]] = &[b"try h1d1 ok silent", b"heard silent"];
+
 /// A try that only one of two positions refuses, a reply that two positions lead to, replies that are
 /// missing, too many or not legal, and words that another dialect tells.
 #[test]
 fn hidden_games_end(rt: HostRuntime) {
     use Dialect::{Plain, Wild16};
     use Side::{Black, White};
+    let rook_alone: &[&[u8]] = &[b"try h1d1 ok silent"];
+    let early: &[&[u8]] = &[b"try h1d1 ok silent", b"try d1d8 early", b"heard silent"];
+    let both: &[&[u8]] = &[b"heard check file+knight"];
     for played in &[
         game(Wild16, White, G5, &[b"try g1g8 illegal"], &[], G5),
         game(Wild16, White, H5, &[b"try g1g8 illegal"], &[], b""),
         game(Wild16, White, H5, &[b"try g1g8 early"], &[], b""),
-        game(
-            Wild16,
-            White,
-            A8,
-            &[b"try h1d1 ok silent", b"heard silent"],
-            &[b"a8b8"],
-            B8,
-        ),
-        game(
-            Wild16,
-            White,
-            C8,
-            &[b"try h1d1 ok silent", b"heard silent"],
-            &[b"c8b8"],
-            B8,
-        ),
-        game(
-            Wild16,
-            White,
-            C8,
-            &[b"try h1d1 ok silent", b"heard silent"],
-            &[b"c8d8"],
-            b"",
-        ),
-        game(
-            Wild16,
-            White,
-            C8,
-            &[b"try h1d1 ok silent", b"heard silent"],
-            &[],
-            b"",
-        ),
-        game(Wild16, White, C8, &[b"try h1d1 ok silent"], &[b"c8b8"], b""),
-        game(
-            Wild16,
-            White,
-            C8,
-            &[b"try h1d1 ok silent", b"try d1d8 early", b"heard silent"],
-            &[b"c8b8"],
-            B8,
-        ),
-        game(
-            Wild16,
-            Black,
-            E4,
-            &[b"heard check file+knight"],
-            &[b"e4f6"],
-            F6,
-        ),
+        game(Wild16, White, A8, TO_D1, &[b"a8b8"], B8),
+        game(Wild16, White, C8, TO_D1, &[b"c8b8"], B8),
+        game(Wild16, White, C8, TO_D1, &[b"c8d8"], b""),
+        game(Wild16, White, C8, TO_D1, &[], b""),
+        game(Wild16, White, C8, rook_alone, &[b"c8b8"], b""),
+        game(Wild16, White, C8, early, &[b"c8b8"], B8),
+        game(Wild16, Black, E4, both, &[b"e4f6"], F6),
         game(Plain, Black, E4, &[b"heard check"], &[b"e4f6"], F6),
         game(Plain, Black, E4, &[b"heard silent"], &[b"e4f6"], b""),
         game(Wild16, White, G5, &[b"opens silent"], &[], b""),

@@ -4,7 +4,7 @@ use crate::*;
 use krieg_board::{BadPosition, Move, Position, Side};
 use krieg_fen::{TextFault, TextKind, is_name, read_move, read_position};
 use krieg_words::{Dialect, Line, read_words};
-use std::alloc::Global;
+use std::alloc::{AllocError, Global};
 
 const KNIGHT: &[u8] =
     b"krieg sheet 1\nside b\nlist 1\n4k3/8/8/8/4N3/8/8/4R1K1 w - -\nopens silent\nheard check file+knight\nend\n";
@@ -51,116 +51,121 @@ fn fault_of(alloc: Global, text: &[u8]) -> Option<TextFault> {
     read_sheet(alloc, text).err()
 }
 
+/// First lines, of which one is bad: its number and its kind.
+const BAD_HEADS: [(&[u8], usize, TextKind); 15] = [
+    (b"", 1, TextKind::Syntax),
+    (b"\n", 1, TextKind::Syntax),
+    (b"krieg sheet 9\nside w\n", 1, TextKind::Version),
+    (b"krieg sheet 0\n", 1, TextKind::Version),
+    (b"krieg sheet 01\n", 1, TextKind::Syntax),
+    (b"krieg session 1\n", 1, TextKind::Syntax),
+    (b"krieg sheet 1\r\nside w\r\n", 1, TextKind::Syntax),
+    (b"krieg sheet 2\ndialect icc\nside w\n", 2, TextKind::Syntax),
+    (b"krieg sheet 2\nside w\n", 2, TextKind::Syntax),
+    (b"krieg sheet 1\ndialect plain\n", 2, TextKind::Syntax),
+    (b"krieg sheet 1\nside white\n", 2, TextKind::Syntax),
+    (b"krieg sheet 1\nside w\nlist 0\nend\n", 3, TextKind::Count),
+    (b"krieg sheet 1\nside w\nlist 200001\n", 3, TextKind::Count),
+    (
+        b"krieg sheet 1\nside w\nlist 99999999999999999999\n",
+        3,
+        TextKind::Count,
+    ),
+    (b"krieg sheet 1\nside w\nlist 01\n", 3, TextKind::Syntax),
+];
+
 #[test]
-fn other_texts_are_refused_at_their_line(rt: HostRuntime) {
-    use TextKind::{Count, Differs, OutOfPlace, Syntax, Version};
+fn heads_are_refused_at_their_line(rt: HostRuntime) {
+    for (text, line, kind) in BAD_HEADS {
+        let fault = fault_of(rt.alloc(), text);
+        assert!(rt; fault == Some(TextFault::At { line, kind }), "line {line}");
+    }
+}
+
+/// Lists with a line that is no position, or whose position is not valid, or not of the first one's hand.
+#[test]
+fn lists_are_refused_at_their_line(rt: HostRuntime) {
+    let idle = TextKind::Position(BadPosition::IdleInCheck);
+    let kings = TextKind::Position(BadPosition::Kings);
+    let differs = TextKind::Differs;
     for (text, line, kind) in [
-        (&b""[..], 1, Syntax),
-        (b"\n", 1, Syntax),
-        (b"krieg sheet 9\nside w\n", 1, Version),
-        (b"krieg sheet 0\n", 1, Version),
-        (b"krieg sheet 01\n", 1, Syntax),
-        (b"krieg session 1\n", 1, Syntax),
-        (b"krieg sheet 1\r\nside w\r\n", 1, Syntax),
-        (b"krieg sheet 2\ndialect icc\nside w\n", 2, Syntax),
-        (b"krieg sheet 2\nside w\n", 2, Syntax),
-        (b"krieg sheet 1\ndialect plain\n", 2, Syntax),
-        (b"krieg sheet 1\nside white\n", 2, Syntax),
-        (b"krieg sheet 1\nside w\nlist 0\nend\n", 3, Count),
-        (b"krieg sheet 1\nside w\nlist 200001\n", 3, Count),
         (
-            b"krieg sheet 1\nside w\nlist 99999999999999999999\n",
-            3,
-            Count,
-        ),
-        (b"krieg sheet 1\nside w\nlist 01\n", 3, Syntax),
-        (
-            b"krieg sheet 1\nside w\nlist 1\n1k5R/8/1K6/8/8/8/8/8 w - -\nend\n",
+            &b"krieg sheet 1\nside w\nlist 1\n1k5R/8/1K6/8/8/8/8/8 w - -\nend\n"[..],
             4,
-            TextKind::Position(BadPosition::IdleInCheck),
+            idle,
         ),
         (
             b"krieg sheet 1\nside w\nlist 1\n8/8/1K6/8/8/8/8/7R w - -\nend\n",
             4,
-            TextKind::Position(BadPosition::Kings),
+            kings,
         ),
-        (b"krieg sheet 1\nside w\nlist 1\nend\n", 4, Syntax),
+        (b"krieg sheet 1\nside w\nlist 1\nend\n", 4, TextKind::Syntax),
         (
             b"krieg sheet 1\nside w\nlist 2\n1k6/8/1K6/8/8/8/8/7R w - -\n1k6/8/1K6/8/8/8/8/6R1 w - -\nend\n",
             5,
-            Differs,
+            differs,
         ),
         (
             b"krieg sheet 1\nside w\nlist 2\n1k6/8/1K6/8/8/8/8/7R w - -\n2k5/8/1K6/8/8/8/8/7R b - -\nend\n",
             5,
-            Differs,
-        ),
-        (
-            b"krieg sheet 1\nside w\nlist 1\n1k6/8/1K6/8/8/8/8/7R w - -\nheard silent\nend\n",
-            5,
-            OutOfPlace,
-        ),
-        (
-            b"krieg sheet 1\nside w\nlist 1\n1k6/8/1K6/8/8/8/8/7R w - -\ntry a1a1 over\nend\n",
-            5,
-            OutOfPlace,
-        ),
-        (
-            b"krieg sheet 1\nside w\nlist 1\n1k6/8/1K6/8/8/8/8/7R w - -\ntry a1a1 early\nend\n",
-            5,
-            OutOfPlace,
-        ),
-        (
-            b"krieg sheet 1\nside w\nlist 1\n1k6/8/1K6/8/8/8/8/7R w - -\nopens silent\nopens silent\nend\n",
-            6,
-            OutOfPlace,
-        ),
-        (
-            b"krieg sheet 1\nside w\nlist 1\n1k6/8/1K6/8/8/8/8/7R w - -\ntry a1a1 illegal\nopens silent\nend\n",
-            6,
-            OutOfPlace,
-        ),
-        (
-            b"krieg sheet 1\nside w\nlist 1\n1k6/8/1K6/8/8/8/8/7R w - -\nopens stalemate\ntry a1a1 illegal\nend\n",
-            6,
-            OutOfPlace,
-        ),
-        (
-            b"krieg sheet 1\nside w\nlist 1\n1k6/8/1K6/8/8/8/8/7R w - -\nopens stalemate\nopens silent\nend\n",
-            6,
-            OutOfPlace,
-        ),
-        (
-            b"krieg sheet 1\nside w\nlist 1\n1k6/8/1K6/8/8/8/8/7R w - -\nopens tries 17\nend\n",
-            5,
-            Syntax,
-        ),
-        (
-            b"krieg sheet 2\ndialect plain\nside w\nlist 1\n1k6/8/1K6/8/8/8/8/7R w - -\nopens check rank\nend\n",
-            6,
-            Syntax,
-        ),
-        (
-            b"krieg sheet 1\nside w\nlist 1\n1k6/8/1K6/8/8/8/8/7R w - -\nopens silent\n",
-            6,
-            Syntax,
-        ),
-        (
-            b"krieg sheet 1\nside w\nlist 1\n1k6/8/1K6/8/8/8/8/7R w - -\nend\nend\n",
-            6,
-            Syntax,
-        ),
-        (
-            b"krieg sheet 1\nside w\nlist 1\n1k6/8/1K6/8/8/8/8/7R w - -\nend\n\n",
-            6,
-            Syntax,
+            differs,
         ),
     ] {
-        assert!(rt;
-            fault_of(rt.alloc(), text) == Some(TextFault::At { line, kind }),
-            "line {line}"
-        );
+        let fault = fault_of(rt.alloc(), text);
+        assert!(rt; fault == Some(TextFault::At { line, kind }), "line {line}");
     }
+}
+
+const ONE: &[u8] = b"krieg sheet 1\nside w\nlist 1\n1k6/8/1K6/8/8/8/8/7R w - -\n";
+
+const ONE_PLAIN: &[u8] =
+    b"krieg sheet 2\ndialect plain\nside w\nlist 1\n1k6/8/1K6/8/8/8/8/7R w - -\n";
+
+/// What stands behind one listed position, in which White is to move: the first bad line and its kind.
+const BAD_TAILS: [(&[u8], &[u8], usize, TextKind); 12] = [
+    (ONE, b"heard silent\nend\n", 5, TextKind::OutOfPlace),
+    (ONE, b"try a1a1 over\nend\n", 5, TextKind::OutOfPlace),
+    (ONE, b"try a1a1 early\nend\n", 5, TextKind::OutOfPlace),
+    (
+        ONE,
+        b"opens silent\nopens silent\nend\n",
+        6,
+        TextKind::OutOfPlace,
+    ),
+    (
+        ONE,
+        b"try a1a1 illegal\nopens silent\nend\n",
+        6,
+        TextKind::OutOfPlace,
+    ),
+    (
+        ONE,
+        b"opens stalemate\ntry a1a1 illegal\nend\n",
+        6,
+        TextKind::OutOfPlace,
+    ),
+    (
+        ONE,
+        b"opens stalemate\nopens silent\nend\n",
+        6,
+        TextKind::OutOfPlace,
+    ),
+    (ONE, b"opens tries 17\nend\n", 5, TextKind::Syntax),
+    (ONE_PLAIN, b"opens check rank\nend\n", 6, TextKind::Syntax),
+    (ONE, b"opens silent\n", 6, TextKind::Syntax),
+    (ONE, b"end\nend\n", 6, TextKind::Syntax),
+    (ONE, b"end\n\n", 6, TextKind::Syntax),
+];
+
+#[test]
+fn tails_are_refused_at_their_line(rt: HostRuntime) -> Result<(), AllocError> {
+    for (head, tail, line, kind) in BAD_TAILS {
+        let mut text = head.to_vec(rt.alloc())?;
+        text.extend_from_slice(tail)?;
+        let fault = fault_of(rt.alloc(), &text);
+        assert!(rt; fault == Some(TextFault::At { line, kind }), "line {line}");
+    }
+    Ok(())
 }
 
 fn listed(alloc: Global, texts: &[&[u8]]) -> Option<Vec<Position>> {

@@ -4,9 +4,10 @@
 use super::{Ran, START, refuses, run_in};
 use std::alloc::{AllocError, Global};
 
-/// Anderssen against Kieseritzky, London 1851, as far as there are fewer than ten thousand positions: each try, how
-/// many positions are possible for White and for Black behind it, and the one in which the game stands.
-const IMMORTAL: [&str; 14] = [
+/// Anderssen against Kieseritzky, London 1851, as far as one player has fewer than 20,000 positions: each try, how
+/// many positions are possible for White and for Black behind it, where they are no more than that, and the one in
+/// which the game stands.
+const IMMORTAL: [&str; 17] = [
     "w e2e4, 1, 20, rnbqkbnr/pppppppp/8/8/4P3/8/PPPP1PPP/RNBQKBNR b KQkq e3",
     "b e7e5, 18, 18, rnbqkbnr/pppp1ppp/8/4p3/4P3/8/PPPP1PPP/RNBQKBNR w KQkq e6",
     "w f2f4, 2, 41, rnbqkbnr/pppp1ppp/8/4p3/4PP2/8/PPPP2PP/RNBQKBNR b KQkq f3",
@@ -21,15 +22,19 @@ const IMMORTAL: [&str; 14] = [
     "b h4h6, 509, 358, rnb1kb1r/p1pp1ppp/5n1q/1B6/4Pp2/5N2/PPPP2PP/RNBQ1K1R w kq -",
     "w d2d3, 374, 6531, rnb1kb1r/p1pp1ppp/5n1q/1B6/4Pp2/3P1N2/PPP3PP/RNBQ1K1R b kq -",
     "b f6h5, 5393, 5360, rnb1kb1r/p1pp1ppp/7q/1B5n/4Pp2/3P1N2/PPP3PP/RNBQ1K1R w kq -",
+    "w f3h4, 1565, -, rnb1kb1r/p1pp1ppp/7q/1B5n/4Pp1N/3P4/PPP3PP/RNBQ1K1R b kq -",
+    "b h6g5, 19636, -, rnb1kb1r/p1pp1ppp/8/1B4qn/4Pp1N/3P4/PPP3PP/RNBQ1K1R w kq -",
+    "w h4f5, 11190, -, rnb1kb1r/p1pp1ppp/8/1B3Nqn/4Pp2/3P4/PPP3PP/RNBQ1K1R b kq -",
 ];
 
 /// The game's further moves, up to the twentieth of both.
 const IMMORTAL_REST: &str =
-    "w f3h4\nb h6g5\nw h4f5\nb c7c6\nw g2g4\nb h5f6\nw h1g1\nb c6b5\nw h2h4\n\
-    b g5g6\nw h4h5\nb g6g5\nw d1f3\nb f6g8\nw c1f4\nb g5f6\nw b1c3\nb f8c5\n\
-    w c3d5\nb f6b2\nw f4d6\nb c5g1\nw e4e5\nb b2a1\nw f1e2\nb b8a6\n";
+    "b c7c6\nw g2g4\nb h5f6\nw h1g1\nb c6b5\nw h2h4\nb g5g6\nw h4h5\nb g6g5\n\
+    w d1f3\nb f6g8\nw c1f4\nb g5f6\nw b1c3\nb f8c5\nw c3d5\nb f6b2\nw f4d6\n\
+    b c5g1\nw e4e5\nb b2a1\nw f1e2\nb b8a6\n";
 
-/// The same of a game of rook and king against king: mate at the twentieth move, with tries that are illegal and that come too late.
+/// The same of a game of rook and king against king: mate at the twentieth move, with tries that are illegal and
+/// tries that come too late.
 const ROOK_GAME: [&str; 60] = [
     "w a1d1, 1, 1, 8/8/8/3k4/8/8/8/3RK3 b - -",
     "b d5e4, 6, 1, 8/8/8/8/4k3/8/8/3RK3 w - -",
@@ -97,12 +102,12 @@ const ROOK_GAME: [&str; 60] = [
 fn believed(alloc: Global, session: &str, side: &str, limit: &str) -> Result<Ran, AllocError> {
     let sheet = run_in(alloc, &["umpire", side], session, 4000)?;
     match str::from_utf8(&sheet.out) {
-        Ok(text) => run_in(alloc, &["believe", limit], text, 600_000),
+        Ok(text) => run_in(alloc, &["believe", limit], text, 2_000_000),
         Err(_) => Ok(sheet),
     }
 }
 
-/// Whether the player's sheet of the session leaves so many positions, this one among them.
+/// Whether the player's sheet of the session leaves so many positions, this one among them; a dash tells nothing.
 fn leaves(
     alloc: Global,
     session: &str,
@@ -110,6 +115,9 @@ fn leaves(
     count: &str,
     position: &str,
 ) -> Result<bool, AllocError> {
+    if count == "-" {
+        return Ok(true);
+    }
     let ran = believed(alloc, session, side, "200000")?;
     let head = format!(in alloc; "krieg sheet 1\nside {side}\nlist {count}\n")?;
     let line = format!(in alloc; "\n{position}\n")?;
@@ -129,8 +137,8 @@ fn parts(row: &str) -> Option<(&str, &str, &str, &str)> {
     Some((tried, white, black, position))
 }
 
-/// Whether behind the tries of the rows both players' positions are as the last row says.
-fn is_so(alloc: Global, tries: &str, row: (&str, &str, &str, &str)) -> Result<bool, AllocError> {
+/// Whether behind these tries both players' positions are as the row of the last one says.
+fn hold(alloc: Global, tries: &str, row: (&str, &str, &str, &str)) -> Result<bool, AllocError> {
     let (_, white, black, position) = row;
     let session = format!(in alloc; "{tries}end\n")?;
     Ok(
@@ -148,7 +156,7 @@ fn rows_that_hold(alloc: Global, start: &str, rows: &[&str]) -> Result<usize, Al
         };
         tries.push_str(row.0)?;
         tries.push_str("\n")?;
-        if !is_so(alloc, tries.as_str(), row)? {
+        if !hold(alloc, tries.as_str(), row)? {
             return Ok(i);
         }
     }
@@ -170,8 +178,8 @@ fn lists_the_true_position_behind_each_try(rt: HostRuntime) -> Result<(), AllocE
     Ok(())
 }
 
-/// The first twenty moves of the game of 1851: more than ten thousand positions are possible for Black behind
-/// White's eighth move, and for White behind Black's.
+/// The first twenty moves of the game of 1851: more than 20,000 positions are possible for Black behind
+/// White's eighth move, and for White behind Black's ninth.
 #[test]
 fn tells_where_a_game_leaves_too_many(rt: HostRuntime) -> Result<(), AllocError> {
     let mut session = format!(in rt.alloc(); "krieg session 1\nstart {START}\n")?;
@@ -181,9 +189,9 @@ fn tells_where_a_game_leaves_too_many(rt: HostRuntime) -> Result<(), AllocError>
     }
     session.push_str(IMMORTAL_REST)?;
     session.push_str("end\n")?;
-    let ran = believed(rt.alloc(), session.as_str(), "w", "10000")?;
-    assert!(rt; refuses(&ran, 7, "krieg: line 21: too many positions\n"));
-    let ran = believed(rt.alloc(), session.as_str(), "b", "10000")?;
+    let ran = believed(rt.alloc(), session.as_str(), "w", "20000")?;
+    assert!(rt; refuses(&ran, 7, "krieg: line 23: too many positions\n"));
+    let ran = believed(rt.alloc(), session.as_str(), "b", "20000")?;
     assert!(rt; refuses(&ran, 7, "krieg: line 20: too many positions\n"));
     Ok(())
 }
