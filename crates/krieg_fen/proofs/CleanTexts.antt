@@ -1,13 +1,18 @@
--- Which bytes stand in written numbers, squares, moves and positions: none is a line feed, and only a position has spaces.
-use Rattle.std.proofs.Common.{◌≡◌, ℕ, ◌^◌, ◌<◌, ◌≤◌, true, leb, List, [], ◌∷◌, ◌++◌, arith}
+-- Which bytes stand in written numbers, squares, moves and positions: none is a line feed, and only a position has spaces. Nor has a written line of a side or of a list a line feed.
+use Rattle.std.proofs.Common.{◌≡◌, ℕ, ◌^◌, ◌<◌, ◌≤◌, true, leb, List, [], ◌∷◌, ◌++◌, map, refl, arith}
+use Rattle.std.specs.Prelude.{codes}
 use Rattle.std.proofs.lemmas.Bool.{and_parts, leb-true}
 use Rattle.std.specs.List.{list_all}
 use Rattle.std.specs.Char.{is_ascii_digit}
+use Rattle.krieg_board.specs.declared.men.Side.{Side}
+use Rattle.krieg_board.specs.declared.men.Side.TheVariants.{White, Black}
 use Rattle.krieg_board.specs.declared.men.Move.{Move}
 use Rattle.krieg_board.specs.declared.men.Promo.{Promo}
 use Rattle.krieg_board.specs.declared.men.Promo.TheVariants.{Plain, Queen, Rook, Bishop, Knight}
 use Rattle.krieg_board.specs.Pos.{Pos}
-use Rattle.krieg_fen.specs.Lines.{is_line}
+use Rattle.krieg_fen.specs.Lines.{is_line, AreLines}
+use Rattle.krieg_fen.specs.Forms.{side_line}
+use Rattle.krieg_fen.specs.Listing.{list_head}
 use Rattle.krieg_fen.specs.Decimals.{number_text}
 use Rattle.krieg_fen.specs.MoveText.{square_text, promo_text, move_text}
 use Rattle.krieg_fen.specs.FenText.{board_text, side_text, rights_text, state_text, position_text}
@@ -15,7 +20,7 @@ use Rattle.krieg_fen.proofs.Free.{Above, above-append, above-less}
 use Rattle.krieg_fen.proofs.Numbers.{digits_again}
 use Rattle.krieg_fen.proofs.RankTexts.{board_above}
 use Rattle.krieg_fen.proofs.FenTexts.{side_above, rights_above, mark_above}
-use Rattle.krieg_fen.proofs.LineTexts.{line_above}
+use Rattle.krieg_fen.proofs.LineTexts.{line_above, line-append}
 
 pub digits_above : (ds : List ℕ) → list_all is_ascii_digit ds ≡ true → Above 47 ds
 digits_above [] all = tt
@@ -67,3 +72,14 @@ move_line m = line_above 48 (move_text m) (omega arith) (move_above m)
 
 pub position_line : (p : Pos) → is_line (position_text p) ≡ true
 position_line p = line_above 31 (position_text p) (omega arith) (position_above p)
+
+pub side_is : (who : Side) → is_line (side_line who) ≡ true
+side_is White = refl
+side_is Black = refl
+
+pub positions_are : (ps : List Pos) → AreLines (map position_text ps)
+positions_are [] = tt
+positions_are (p ∷ ps) = (position_line p, positions_are ps)
+
+pub list_head_are : (who : Side) (n : ℕ) → n < 2 ^ 64 → AreLines (list_head who n)
+list_head_are who n fits = (side_is who, (line-append (codes "list ") (number_text n) refl (number_line n fits), tt))

@@ -1,7 +1,13 @@
--- Which lines have the shared forms: a number behind a name, and a position.
-use Rattle.std.proofs.Common.{◌≡◌, ℕ, ◌<◌, ◌≤◌, ◌^◌, List, ◌++◌, Option, Some, None, Result, Ok, Err, refl, ap, ◌∙◌}
+-- Which lines have the shared forms: a number behind a name, a side, how many positions are listed, and a position.
+use Rattle.std.proofs.Common.{◌≡◌, ℕ, ◌<◌, ◌≤◌, ◌^◌, Bool, true, false, cond, List, ◌++◌, Option, Some, None, Result, Ok, Err, refl, ap, ◌∙◌, arith}
+use Rattle.std.specs.Prelude.{codes}
+use Rattle.std.specs.Str.{bytes_eq}
+use Rattle.std.proofs.lemmas.Slice.Eq.{bytes_eq-Decides}
 use Rattle.krieg_board.specs.Pos.{Pos}
+use Rattle.krieg_board.specs.declared.men.Side.{Side}
+use Rattle.krieg_board.specs.declared.men.Side.TheVariants.{White, Black}
 use Rattle.krieg_fen.specs.declared.fault.TextKind.{TextKind}
+use Rattle.krieg_fen.specs.declared.fault.TextKind.TheVariants.{Syntax, Count}
 use Rattle.krieg_fen.specs.declared.fen.FenFault.{FenFault}
 use Rattle.krieg_fen.specs.declared.fen.FenFault.TheVariants.{Fields, Field, Bad}
 use Rattle.krieg_fen.specs.declared.number.NumberFault.{NumberFault}
@@ -10,7 +16,7 @@ use Rattle.krieg_fen.specs.Names.{behind}
 use Rattle.krieg_fen.specs.Decimals.{number_text, number_between}
 use Rattle.krieg_fen.specs.Fen.{position_of}
 use Rattle.krieg_fen.specs.Spelling.{Spells}
-use Rattle.krieg_fen.specs.Forms.{number_form, number_behind, ranged, position_kind, position_form}
+use Rattle.krieg_fen.specs.Forms.{number_form, number_behind, ranged, side_line, side_form, list_line, list_form, position_kind, position_form}
 use Rattle.krieg_fen.proofs.NameLemmas.{behind_again, behind_spells}
 use Rattle.krieg_fen.proofs.Numbers.{between_spells, between_again}
 use Rattle.krieg_fen.proofs.PositionSpellings.{position_spells, position_reads}
@@ -37,6 +43,30 @@ pub number_read : (outside : TextKind) (name : List ℕ) (least most n : ℕ) �
 unfolding number_form
 number_read outside name least most n bound low high =
     ap (number_behind outside least most) (behind_again name (number_text n)) ∙ ap (ranged outside) (between_again least most n low high bound)
+
+-- a side
+pub side_spells : (text : List ℕ) (who : Side) → side_form text ≡ Ok who → text ≡ side_line who
+unfolding side_form
+side_spells text who e = go (bytes_eq text (side_line White)) (bytes_eq text (side_line Black)) (bytes_eq-Decides text (side_line White)).0 (bytes_eq-Decides text (side_line Black)).0 e
+  where
+    go : (a b : Bool) → (a ≡ true → text ≡ side_line White) → (b ≡ true → text ≡ side_line Black) → cond a (Ok White) (cond b (Ok Black) (Err Syntax)) ≡ Ok who → text ≡ side_line who
+    go true b w k h = let same : White ≡ who = cc in w refl ∙ ap side_line same
+    go false true w k h = let same : Black ≡ who = cc in k refl ∙ ap side_line same
+    go false false w k h = absurd cc
+
+pub side_again : (who : Side) → side_form (side_line who) ≡ Ok who
+unfolding side_form
+side_again White = refl
+side_again Black = refl
+
+-- how many positions are listed
+pub count_spells : (text : List ℕ) (n : ℕ) → list_form text ≡ Ok n → (1 ≤ n) × (n ≤ 200000) × (text ≡ list_line n)
+unfolding list_form
+count_spells text n e = number_is Count (codes "list ") 1 200000 text n (omega arith) e
+
+pub count_again : (n : ℕ) → 1 ≤ n → n ≤ 200000 → list_form (list_line n) ≡ Ok n
+unfolding list_form
+count_again n low high = number_read Count (codes "list ") 1 200000 n (omega arith) low high
 
 -- a position
 pub position_is : (text : List ℕ) (p : Pos) → position_form text ≡ Ok p → Spells text p

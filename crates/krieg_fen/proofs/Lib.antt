@@ -23,3 +23,4 @@ pub mod PositionSpellings
 pub mod ListSpellings
 pub mod Takings
 pub mod FormSpellings
+pub mod Listings

@@ -1,6 +1,8 @@
 -- Lines are read as listed positions exactly where they spell them.
 use Rattle.std.proofs.Common.{◌≡◌, ℕ, zero, suc, ◌+◌, Bool, true, false, cond, List, [], ◌∷◌, ◌++◌, length, Option, Some, None, Result, Ok, Err, refl, sym, subst, ap, ◌∙◌, arith}
 use Rattle.std.specs.Prelude.{unwrap_or, IfOk}
+use Rattle.std.specs.List.{All}
+use Rattle.std.proofs.lemmas.List.Elements.{All-nil, All-cons}
 use Rattle.krieg_board.specs.Pos.{Pos}
 use Rattle.krieg_board.specs.Hand.{same_hand}
 use Rattle.krieg_board.specs.Validity.{IsValid}
@@ -57,6 +59,13 @@ listed_spells who first l p e = listed_by who first l p (position_of l) refl e
 listed_reads : (who : Side) (first : Option Pos) (l : List ℕ) (p : Pos) → Spells l p → HasHand who first p → listed_form who first l ≡ Ok p
 unfolding listed_form position_form
 listed_reads who first l p s h = ap (λ (r : Result Pos FenFault). position_kind r >>= matching who first) (position_reads l p s) ∙ matching_gives who first p h
+
+-- positions that are spelled are valid
+pub spelled_valid : (listed : List (List ℕ)) (ps : List Pos) (who : Side) (first : Option Pos) → SpellList who first listed ps → All IsValid ps
+spelled_valid [] [] who first s = All-nil IsValid
+spelled_valid [] (p ∷ ps) who first s = absurd s
+spelled_valid (l ∷ ls) [] who first s = absurd s
+spelled_valid (l ∷ ls) (p ∷ ps) who first s = All-cons IsValid p ps s.0.is_valid (spelled_valid ls ps who (Some (unwrap_or first p)) s.2)
 
 -- the lines that were read, and what they spell
 pub record ListRead (who : Side) (first : Option Pos) (n : ℕ) (ls : List (List ℕ)) (ps : List Pos) (q : Place) : Type 0 where

@@ -1,5 +1,5 @@
 -- The forms of lines that several formats have: what each gives, or the kind of its fault.
-use Rattle.std.specs.Prelude.{ℕ, zero, suc, List, [], ◌∷◌, codes, Option, Some, None, Result, Ok, Err, if◌then◌else◌, unwrap_or}
+use Rattle.std.specs.Prelude.{ℕ, zero, suc, List, [], ◌∷◌, ◌++◌, codes, Option, Some, None, Result, Ok, Err, if◌then◌else◌, unwrap_or}
 use Rattle.std.specs.Str.{bytes_eq}
 use Rattle.krieg_board.specs.Pos.{Pos}
 use Rattle.krieg_board.specs.Hand.{same_hand}
@@ -12,7 +12,7 @@ use Rattle.krieg_fen.specs.declared.fen.FenFault.TheVariants.{Fields, Field, Bad
 use Rattle.krieg_fen.specs.declared.number.NumberFault.{NumberFault}
 use Rattle.krieg_fen.specs.declared.number.NumberFault.TheVariants.{NotPlain, OutOfRange}
 use Rattle.krieg_fen.specs.Names.{behind}
-use Rattle.krieg_fen.specs.Decimals.{number_between}
+use Rattle.krieg_fen.specs.Decimals.{number_text, number_between}
 use Rattle.krieg_fen.specs.Fen.{position_of}
 use Rattle.krieg_fen.specs.Outcomes.{◌>>=◌}
 use Rattle.krieg_fen.specs.Reading.{LineReader, taken}
@@ -40,8 +40,21 @@ abbrev pub count_form : List ℕ → ℕ → ℕ → List ℕ → Result ℕ Tex
 count_form name least most text = number_form Count name least most text
 
 -- whose text it is
+abbrev pub side_line : Side → List ℕ
+side_line White = codes "side w"
+side_line Black = codes "side b"
+
+-- the side that such a line names
 unfoldable pub side_form : List ℕ → Result Side TextKind
-side_form text = if bytes_eq text (codes "side w") then Ok White else (if bytes_eq text (codes "side b") then Ok Black else Err Syntax)
+side_form text = if bytes_eq text (side_line White) then Ok White else (if bytes_eq text (side_line Black) then Ok Black else Err Syntax)
+
+-- how many positions are listed
+abbrev pub list_line : ℕ → List ℕ
+list_line n = codes "list " ++ number_text n
+
+-- the number in such a line, from 1 to 200,000
+unfoldable pub list_form : List ℕ → Result ℕ TextKind
+list_form text = count_form (codes "list ") 1 200000 text
 
 -- a text that spells no position is syntax, and one whose position is not valid has the fault of it
 abbrev pub position_kind : Result Pos FenFault → Result Pos TextKind
@@ -69,3 +82,11 @@ positions_at who first (suc n) p = do
   one ← taken (listed_form who first) p
   others ← positions_at who (Some (unwrap_or first one.0)) n one.1
   Ok (one.0 ∷ others.0, others.1)
+
+-- whose text it is, how many positions are listed, and these
+unfoldable pub listing_at : LineReader (Side × List Pos)
+listing_at p = do
+  side ← taken side_form p
+  count ← taken list_form side.1
+  list ← positions_at side.0 None count.0 count.1
+  Ok ((side.0, list.0), list.1)

@@ -1,11 +1,12 @@
 -- Listed positions: the lines that spell them, and their written form.
-use Rattle.std.specs.Prelude.{◌≡◌, ℕ, true, List, [], ◌∷◌, ◌++◌, Option, Some, None, unwrap_or}
+use Rattle.std.specs.Prelude.{◌≡◌, ◌≤◌, ℕ, true, List, [], ◌∷◌, ◌++◌, Option, Some, None, unwrap_or, length}
 use Rattle.std.specs.List.{flat_map}
 use Rattle.krieg_board.specs.Pos.{Pos}
 use Rattle.krieg_board.specs.Hand.{same_hand}
 use Rattle.krieg_board.specs.declared.men.Side.{Side}
 use Rattle.krieg_fen.specs.Lines.{ended_line}
 use Rattle.krieg_fen.specs.FenText.{position_text}
+use Rattle.krieg_fen.specs.Forms.{side_line, list_line}
 use Rattle.krieg_fen.specs.Spelling.{Spells}
 
 -- the hand of the position, for that side, is that of the first one, where there is one already
@@ -25,6 +26,29 @@ pub record IsListed (who : Side) (old : List (List ℕ)) (ps : List Pos) (new : 
   pub is : old ≡ listed ++ new
   pub spelled : SpellList who None listed ps
 
+-- Whose text it is, how many positions are listed, and these, one to 200,000 with one hand: only they have more
+-- than one spelling.
+pub record SpellsListing (ls : List (List ℕ)) (who : Side) (ps : List Pos) : Type 0 where
+  pub positions : List (List ℕ)
+  pub is : ls ≡ side_line who ∷ list_line (length ps) ∷ positions
+  pub some : 1 ≤ length ps
+  pub few : length ps ≤ 200000
+  pub spelled : SpellList who None positions ps
+
+-- The written form.
+
+-- the lines before n positions
+abbrev pub list_head : Side → ℕ → List (List ℕ)
+list_head who n = side_line who ∷ list_line n ∷ []
+
+-- the same with their line feeds
+unfoldable pub list_head_text : Side → ℕ → List ℕ
+list_head_text who n = ended_line (side_line who) ++ ended_line (list_line n)
+
+-- the line of a position, with its line feed
+abbrev pub listed_text : Pos → List ℕ
+listed_text p = ended_line (position_text p)
+
 -- one line for each position
 abbrev pub positions_text : List Pos → List ℕ
-positions_text ps = flat_map (λ p. ended_line (position_text p)) ps
+positions_text ps = flat_map listed_text ps

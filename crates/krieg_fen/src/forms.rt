@@ -9,6 +9,7 @@ use crate::fen::{FenFault, read_position};
 use crate::names::{behind, is_name};
 use crate::number::{NumberFault, read_number_between};
 use krieg_board::{Position, Side, same_hand};
+use std::alloc::Global;
 
 /// The number from `least` to `most` that stands behind the name. A plain decimal outside the range is of
 /// the kind `outside`, and everything else is `Syntax`.
@@ -51,14 +52,24 @@ pub fn count_line(name: &[u8], least: u64, most: u64, text: &[u8]) -> Result<u64
     number_line(TextKind::Count, name, least, most, text)
 }
 
-/// The side of the line `side w` or `side b`.
+/// The line that says whose text it is, without its line feed.
+pub fn side_line(side: Side) -> &'static [u8]
+    ensures { result.now ≡ spec.side_line side }
+{
+    match side {
+        Side::White => b"side w",
+        Side::Black => b"side b",
+    }
+}
+
+/// The side that such a line names.
 #[tactic(auto, unfolding(crate::specs::Forms::side_form))]
-pub fn side_line(text: &[u8]) -> Result<Side, TextKind>
+fn side_named(text: &[u8]) -> Result<Side, TextKind>
     ensures { result ≡ spec.side_form text.now }
 {
-    if is_name(b"side w", text) {
+    if is_name(side_line(Side::White), text) {
         Ok(Side::White)
-    } else if is_name(b"side b", text) {
+    } else if is_name(side_line(Side::Black), text) {
         Ok(Side::Black)
     } else {
         Err(TextKind::Syntax)
@@ -127,5 +138,31 @@ pub fn read_side(from: &mut Cursor<'_>) -> Result<Side, TextFault>
     ensures { GivesOn (λ s. s) result from.new (taken spec.side_form from.old) }
 {
     let line = from.number();
-    side_line(from.line()?).map_err(|kind| TextFault::At { line, kind })
+    side_named(from.line()?).map_err(|kind| TextFault::At { line, kind })
+}
+
+/// The next line, as the number of listed positions, from 1 to 200,000.
+#[tactic(auto, unfolding(crate::specs::Forms::list_form))]
+fn read_list_line(from: &mut Cursor<'_>) -> Result<u64, TextFault>
+    ensures value { GivesOn (λ n. n) result from.new (taken spec.list_form from.old) }
+    ensures range { IfOk result (λ n. (1 ≤ n) × (n ≤ 200000)) }
+{
+    read_count(from, b"list ", 1, 200_000)
+}
+
+/// The next lines, as the side whose text it is, the number of positions that it lists, from 1 to 200,000,
+/// and these, which all have the hand of the first one for that side.
+///
+/// The kinds of its faults are `Syntax`, also where a line is missing, `Count`, `Position` and `Differs`.
+#[tactic(auto, unfolding(crate::specs::Forms::listing_at))]
+pub fn read_listing(
+    alloc: Global,
+    from: &mut Cursor<'_>,
+) -> Result<(Side, Vec<Position>), TextFault>
+    ensures { GivesOn (λ x. (x.0, x.1.items)) result from.new (spec.listing_at from.old) }
+{
+    let side = read_side(from)?;
+    let count = read_list_line(from)?;
+    let list = from.list(alloc, count as usize, side)?;
+    Ok((side, list))
 }

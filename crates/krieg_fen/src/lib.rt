@@ -26,11 +26,11 @@ pub use fault::{TextFault, TextKind};
 pub use fen::{FenFault, read_position};
 pub use fen_text::write_position;
 pub use forms::{
-    count_line, listed_line, number_line, position_line, read_count, read_side, read_version,
-    side_line, version_line,
+    count_line, listed_line, number_line, position_line, read_count, read_listing, read_side,
+    read_version, side_line, version_line,
 };
 pub use lines::{Lines, lines_of};
-pub use list::{read_list, write_list};
+pub use list::{read_list, write_list, write_list_head, write_listed};
 pub use moves::{MoveFault, read_move, read_square, square_of, write_move, write_square};
 pub use names::{behind, is_name};
 pub use number::{NumberFault, is_plain, read_number, read_number_between, write_number};

@@ -1,9 +1,8 @@
 ghost use Rattle.std.specs.Prelude.{◌≡◌, ◌≢◌, ◌<◌, ◌+◌, ◌^◌, ◌++◌, ℕ, List, IfOk, IfErr, OnOk, Ok, None, length, slice_get};
 ghost use Rattle.krieg_board.specs.Pos.{Pos};
 ghost use Rattle.krieg_fen.specs.Forms as spec;
-ghost use Rattle.krieg_fen.specs.FenText.{position_text};
 ghost use Rattle.krieg_fen.specs.Lines.{ended_line};
-ghost use Rattle.krieg_fen.specs.Listing.{SpellList, IsListed, positions_text};
+ghost use Rattle.krieg_fen.specs.Listing.{SpellList, IsListed, list_head_text, listed_text, positions_text};
 ghost use Rattle.krieg_fen.specs.Outcomes.{Writes};
 ghost use Rattle.krieg_fen.specs.Reading.{place, taken, IsRest, GivesOn};
 ghost use Rattle.krieg_fen.specs.FirstBad.{FaultAt};
@@ -11,8 +10,9 @@ ghost use Rattle.krieg_fen.specs.declared.fault.TextFault.TheVariants.{NoMemory 
 
 use crate::fault::{TextFault, TextKind};
 use crate::fen_text::write_position;
-use crate::forms::listed_line;
+use crate::forms::{listed_line, side_line};
 use crate::lines::Lines;
+use crate::number::write_number;
 use krieg_board::{NoMemory, Position, Side};
 use std::alloc::Global;
 
@@ -89,9 +89,49 @@ pub fn read_list(
     list_at(alloc, from, n, line, who)
 }
 
+/// Appends the line of the side.
 #[tactic(auto, using(crate::proofs::Fronts::fronts))]
-fn write_position_line(p: &Position, text: &mut Vec<u8>) -> Result<(), NoMemory>
-    ensures { Writes result text.old.items text.new.items (ended_line (position_text p.now)) }
+fn write_side_line(side: Side, text: &mut Vec<u8>) -> Result<(), NoMemory>
+    ensures { Writes result text.old.items text.new.items (ended_line (spec.side_line side)) }
+{
+    text.extend_from_slice(side_line(side))?;
+    text.push(b'\n')?;
+    Ok(())
+}
+
+/// Appends the number of positions behind its name.
+#[tactic(auto, using(crate::proofs::Fronts::fronts))]
+fn write_count(n: usize, text: &mut Vec<u8>) -> Result<(), NoMemory>
+    ensures { Writes result text.old.items text.new.items (spec.list_line n) }
+{
+    text.extend_from_slice(b"list ")?;
+    write_number(n as u64, text)
+}
+
+/// Appends the line of the number of positions.
+#[tactic(auto, using(crate::proofs::Fronts::fronts))]
+fn write_list_line(n: usize, text: &mut Vec<u8>) -> Result<(), NoMemory>
+    ensures { Writes result text.old.items text.new.items (ended_line (spec.list_line n)) }
+{
+    write_count(n, text)?;
+    text.push(b'\n')?;
+    Ok(())
+}
+
+/// Appends the lines that stand before `n` positions: whose text it is, and how many are listed. Behind
+/// them `write_list` appends the positions, or `write_listed` each of them.
+#[tactic(auto, using(crate::proofs::Fronts::fronts), unfolding(crate::specs::Listing::list_head_text))]
+pub fn write_list_head(side: Side, n: usize, text: &mut Vec<u8>) -> Result<(), NoMemory>
+    ensures { Writes result text.old.items text.new.items (list_head_text side n) }
+{
+    write_side_line(side, text)?;
+    write_list_line(n, text)
+}
+
+/// Appends the position in its written form, with a line feed behind it.
+#[tactic(auto, using(crate::proofs::Fronts::fronts))]
+pub fn write_listed(p: &Position, text: &mut Vec<u8>) -> Result<(), NoMemory>
+    ensures { Writes result text.old.items text.new.items (listed_text p.now) }
 {
     write_position(p, text)?;
     text.push(b'\n')?;
@@ -104,7 +144,7 @@ pub fn write_list(list: &[Position], text: &mut Vec<u8>) -> Result<(), NoMemory>
     ensures { Writes result text.old.items text.new.items (positions_text list.now) }
 {
     for p in list {
-        write_position_line(p, text)?;
+        write_listed(p, text)?;
     }
     Ok(())
 }

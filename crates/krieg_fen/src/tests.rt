@@ -164,6 +164,50 @@ fn lists_are_read_and_written(rt: HostRuntime) {
     assert!(rt; is_name(text, &written));
 }
 
+const LISTING: &[u8] = b"side b\nlist 2\n4k3/8/8/8/8/8/8/4K2R w K -\n4k3/8/8/8/8/8/8/4K3 w - -\n";
+
+#[test]
+fn listings_are_read_and_written(rt: HostRuntime) {
+    let mut from = Cursor::new(LISTING);
+    let mut written = Vec::new(rt.alloc());
+    match read_listing(rt.alloc(), &mut from) {
+        Ok((side, list)) => {
+            assert!(rt; write_list_head(side, list.len(), &mut written).is_ok());
+            assert!(rt; write_list(&list, &mut written).is_ok());
+        }
+        Err(_) => {}
+    }
+    assert!(rt; is_name(LISTING, &written));
+    assert_eq!(rt; from.number(), 5);
+}
+
+fn listing_fault(alloc: Global, text: &[u8]) -> Option<TextFault> {
+    read_listing(alloc, &mut Cursor::new(text)).err()
+}
+
+#[test]
+fn other_listings_are_refused(rt: HostRuntime) {
+    use TextKind::{Count, Differs, Syntax};
+    for (text, line, kind) in [
+        (&b""[..], 1, Syntax),
+        (b"side x\nlist 1\n", 1, Syntax),
+        (b"side w\n", 2, Syntax),
+        (b"side w\nlist\n", 2, Syntax),
+        (b"side w\nlist 01\n", 2, Syntax),
+        (b"side w\nlist 0\n", 2, Count),
+        (b"side w\nlist 200001\n", 2, Count),
+        (b"side w\nlist 1\n", 3, Syntax),
+        (
+            b"side w\nlist 2\n4k3/8/8/8/8/8/8/4K2R w K -\n4k3/8/8/8/8/8/8/4K3 w - -\n",
+            4,
+            Differs,
+        ),
+    ] {
+        let fault = TextFault::At { line, kind };
+        assert_eq!(rt; listing_fault(rt.alloc(), text), Some(fault));
+    }
+}
+
 fn list_fault(alloc: Global, n: usize, who: Side) -> Option<TextFault>
     requires { n < 2 ^ 32 }
 {

@@ -3,14 +3,11 @@ use Rattle.std.proofs.Common.{◌≡◌, ℕ, ◌≤◌, ◌<◌, ◌^◌, true,
 use Rattle.std.specs.Prelude.{codes}
 use Rattle.std.specs.List.{All}
 use Rattle.std.proofs.lemmas.List.Elements.{All-tail}
-use Rattle.krieg_board.specs.Pos.{Pos}
 use Rattle.krieg_board.specs.declared.men.Side.{Side}
-use Rattle.krieg_board.specs.declared.men.Side.TheVariants.{White, Black}
 use Rattle.krieg_fen.specs.Lines.{is_line, AreLines}
-use Rattle.krieg_fen.specs.Decimals.{number_text}
 use Rattle.krieg_fen.specs.FenText.{position_text}
-use Rattle.krieg_fen.proofs.LineTexts.{line_above, line-append, lines-append}
-use Rattle.krieg_fen.proofs.CleanTexts.{number_line, position_line}
+use Rattle.krieg_fen.proofs.LineTexts.{line_above, lines-append}
+use Rattle.krieg_fen.proofs.CleanTexts.{positions_are, list_head_are}
 use Rattle.krieg_words.specs.declared.dialects.Dialect.{Dialect}
 use Rattle.krieg_words.specs.declared.dialects.Line.{Line}
 use Rattle.krieg_words.specs.declared.dialects.Line.TheVariants.{Opens}
@@ -21,14 +18,10 @@ use Rattle.krieg_words.proofs.CleanWords as words
 use Rattle.krieg_words.proofs.VersionTexts.{version_are}
 use Rattle.krieg_sheet.specs.Sheets.{SheetState}
 use Rattle.krieg_sheet.specs.Places.{IsTold, IsOpening, IsSheet}
-use Rattle.krieg_sheet.specs.SheetText.{side_line, head_lines, opens_lines, sheet_lines}
+use Rattle.krieg_sheet.specs.SheetText.{head_lines, opens_lines, sheet_lines}
 
 line_line : (d : Dialect) (l : Line) → IsLine l → is_line (line_text d l) ≡ true
 line_line d l is = line_above 31 (line_text d l) (omega arith) (words.line_above d l is)
-
-positions_lines : (ps : List Pos) → AreLines (map position_text ps)
-positions_lines [] = tt
-positions_lines (p ∷ ps) = (position_line p, positions_lines ps)
 
 entries_lines : (d : Dialect) (ls : List Line) → All (IsTold d) ls → AreLines (map (line_text d) ls)
 entries_lines d [] all = tt
@@ -38,19 +31,15 @@ opens_are : (d : Dialect) (opens : Option Said) → IsOpening opens → AreLines
 opens_are d None is = tt
 opens_are d (Some w) is = (line_line d (Opens w) is, tt)
 
-side_is : (who : Side) → is_line (side_line who) ≡ true
-side_is White = refl
-side_is Black = refl
-
 head_are : (d : Dialect) (who : Side) (n : ℕ) → n < 2 ^ 64 → AreLines (head_lines d who n)
 head_are d who n fits =
     lines-append (version_lines (codes "krieg sheet ") d) _ (version_are (codes "krieg sheet ") d refl)
-    (side_is who, (line-append (codes "list ") (number_text n) refl (number_line n fits), tt))
+    (list_head_are who n fits)
 
 -- every line of a written sheet
 pub sheet_are : (s : SheetState) → IsSheet s → length s.list ≤ 200000 → AreLines (sheet_lines s)
 sheet_are s h le =
     lines-append (head_lines s.dialect s.side (length s.list)) _ (head_are s.dialect s.side (length s.list) (omega arith))
-    (lines-append (map position_text s.list) _ (positions_lines s.list)
+    (lines-append (map position_text s.list) _ (positions_are s.list)
     (lines-append (opens_lines s.dialect s.opens) _ (opens_are s.dialect s.opens h.opening)
     (lines-append (map (line_text s.dialect) s.entries) (codes "end" ∷ []) (entries_lines s.dialect s.entries h.told) (refl, tt))))

@@ -8,26 +8,23 @@ use Rattle.std.proofs.lemmas.List.Folds.{flat_map-map}
 use Rattle.krieg_board.specs.Pos.{Pos}
 use Rattle.krieg_board.specs.declared.men.Side.{Side}
 use Rattle.krieg_fen.specs.Lines.{ended_line, with_ends}
-use Rattle.krieg_fen.specs.Decimals.{number_text}
 use Rattle.krieg_fen.specs.FenText.{position_text}
+use Rattle.krieg_fen.specs.Listing.{list_head, positions_text}
 use Rattle.krieg_fen.specs.Outcomes.{Writes}
+use Rattle.krieg_fen.proofs.Listings.{list_head_is}
 use Rattle.krieg_words.specs.Said.{Said}
 use Rattle.krieg_words.specs.LineText.{line_text}
 use Rattle.krieg_words.specs.Versions.{version_lines, version_text}
 use Rattle.krieg_words.specs.declared.dialects.Dialect.{Dialect}
 use Rattle.krieg_words.specs.declared.dialects.Line.TheVariants.{Opens}
 use Rattle.krieg_sheet.specs.Sheets.{SheetState, fresh}
-use Rattle.krieg_sheet.specs.SheetText.{side_line, head_lines, opens_lines, sheet_text, answer_text, listed_text, entry_text, opens_text, count_text, side_text, head_text, end_text, listed_part, entries_part, heard_part, sheet_pieces, answer_pieces}
-
-side_is : (who : Side) (n : ℕ) → with_ends (side_line who ∷ (codes "list " ++ number_text n) ∷ []) ≡ side_text who n
-unfolding side_text count_text
-side_is who n = ap (λ (t : List ℕ). ended_line (side_line who) ++ t) (append-nil (ended_line (codes "list " ++ number_text n)) ∙ append_assoc (codes "list ") (number_text n) (10 ∷ []))
+use Rattle.krieg_sheet.specs.SheetText.{head_lines, opens_lines, sheet_text, answer_text, entry_text, opens_text, head_text, end_text, listed_part, entries_part, heard_part, sheet_pieces, answer_pieces}
 
 pub head_is : (d : Dialect) (who : Side) (n : ℕ) → with_ends (head_lines d who n) ≡ head_text d who n
 unfolding head_text version_text
 head_is d who n =
-    flat_map-append ended_line (version_lines (codes "krieg sheet ") d) (side_line who ∷ (codes "list " ++ number_text n) ∷ [])
-    ∙ ap (λ (t : List ℕ). version_text (codes "krieg sheet ") d ++ t) (side_is who n)
+    flat_map-append ended_line (version_lines (codes "krieg sheet ") d) (list_head who n)
+    ∙ ap (λ (t : List ℕ). version_text (codes "krieg sheet ") d ++ t) (list_head_is who n)
 
 opens_is : (d : Dialect) (opens : Option Said) → with_ends (opens_lines d opens) ≡ opens_text d opens
 opens_is d None = refl
@@ -49,7 +46,7 @@ pub sheet_is : (s : SheetState) → sheet_text s ≡ sheet_pieces s
 unfolding sheet_text sheet_pieces listed_part heard_part entries_part end_text
 sheet_is s =
     five_are (head_lines s.dialect s.side (length s.list)) (map position_text s.list) (opens_lines s.dialect s.opens) (map (line_text s.dialect) s.entries) (codes "end" ∷ [])
-    (head_text s.dialect s.side (length s.list)) (flat_map listed_text s.list) (opens_text s.dialect s.opens) (flat_map (entry_text s.dialect) s.entries) (ended_line (codes "end"))
+    (head_text s.dialect s.side (length s.list)) (positions_text s.list) (opens_text s.dialect s.opens) (flat_map (entry_text s.dialect) s.entries) (ended_line (codes "end"))
     (head_is s.dialect s.side (length s.list)) (flat_map-map ended_line position_text s.list) (opens_is s.dialect s.opens) (flat_map-map ended_line (line_text s.dialect) s.entries) refl
 
 pub answer_is : (d : Dialect) (who : Side) (list : List Pos) → answer_text d who list ≡ answer_pieces d who list

@@ -1,5 +1,5 @@
 -- What spells a sheet is read as that sheet, and a written sheet spells itself.
-use Rattle.std.proofs.Common.{◌≡◌, inl, ℕ, ◌+◌, ◌≤◌, Bool, true, false, cond, List, [], ◌∷◌, ◌++◌, map, length, Option, Some, None, Result, Ok, Err, refl, sym, ap, subst, ◌∙◌, append_assoc, arith}
+use Rattle.std.proofs.Common.{◌≡◌, inl, ℕ, ◌+◌, Bool, true, false, cond, List, [], ◌∷◌, ◌++◌, map, length, Option, Some, None, Result, Ok, Err, refl, sym, ap, subst, ◌∙◌, append_assoc, arith}
 use Rattle.std.specs.Prelude.{codes}
 use Rattle.std.specs.Str.{bytes_eq}
 use Rattle.std.specs.List.{All}
@@ -8,20 +8,17 @@ use Rattle.std.proofs.lemmas.List.{append-nil}
 use Rattle.std.proofs.lemmas.List.Elements.{All-tail}
 use Rattle.krieg_board.specs.Men.{is_same_side}
 use Rattle.krieg_board.specs.Pos.{Pos}
-use Rattle.krieg_board.specs.Validity.{IsValid}
 use Rattle.krieg_board.specs.declared.men.Side.{Side}
-use Rattle.krieg_board.specs.declared.men.Side.TheVariants.{White, Black}
 use Rattle.krieg_fen.specs.declared.fault.TextFault.{TextFault}
-use Rattle.krieg_fen.specs.declared.fault.TextKind.TheVariants.{Count, OutOfPlace}
+use Rattle.krieg_fen.specs.declared.fault.TextKind.TheVariants.{OutOfPlace}
 use Rattle.krieg_fen.specs.Outcomes.{◌>>=◌}
-use Rattle.krieg_fen.specs.Decimals.{number_text}
 use Rattle.krieg_fen.specs.FenText.{position_text}
 use Rattle.krieg_fen.specs.Lines.{lines}
-use Rattle.krieg_fen.specs.Reading.{Place, place, taken, whole, Gives}
-use Rattle.krieg_fen.specs.Forms.{side_form, positions_at}
-use Rattle.krieg_fen.proofs.FormSpellings.{number_read}
-use Rattle.krieg_fen.proofs.ListSpellings.{written_spells, list_reads}
-use Rattle.krieg_fen.proofs.Takings.{taken_again, Read, read_whole}
+use Rattle.krieg_fen.specs.Reading.{Place, place, whole, Gives}
+use Rattle.krieg_fen.specs.Forms.{listing_at}
+use Rattle.krieg_fen.specs.Listing.{list_head}
+use Rattle.krieg_fen.proofs.Listings.{listing_reads}
+use Rattle.krieg_fen.proofs.Takings.{Read, read_whole}
 use Rattle.krieg_fen.proofs.LineTexts.{lines_again}
 use Rattle.krieg_words.specs.Said.{Said}
 use Rattle.krieg_words.specs.LineText.{line_text, line_in}
@@ -34,13 +31,13 @@ use Rattle.krieg_words.proofs.LineLaws.{line_again}
 use Rattle.krieg_sheet.specs.Sheets.{SheetState, fresh, entered}
 use Rattle.krieg_sheet.specs.Turns.{first_turn, over_at_first, turn_after, over_after, may_stand, are_in_place, turn_of, is_over, is_in_place}
 use Rattle.krieg_sheet.specs.Places.{OpeningFits, IsOpening, IsTold, IsSheet}
-use Rattle.krieg_sheet.specs.SheetReading.{list_form, may_follow, followed_by, placed, next_form, entries_at, sheet_at, sheet_version_at}
-use Rattle.krieg_sheet.specs.SheetText.{side_line, opens_lines, sheet_lines, sheet_text}
-use Rattle.krieg_sheet.specs.SheetSpelling.{SpellList, told_lines, SpellsSheet}
+use Rattle.krieg_sheet.specs.SheetReading.{may_follow, followed_by, placed, next_form, entries_at, sheet_at, sheet_version_at}
+use Rattle.krieg_sheet.specs.SheetText.{opens_lines, sheet_lines, sheet_text}
+use Rattle.krieg_sheet.specs.SheetSpelling.{told_lines, SpellsSheet}
 use Rattle.krieg_sheet.proofs.Entering.{turn_behind-push, over_behind-push}
 use Rattle.krieg_sheet.proofs.Entries.{entries_last, entries_more}
 use Rattle.krieg_sheet.proofs.CleanLines.{sheet_are}
-use Rattle.krieg_sheet.proofs.ListedPositions.{list_size, list_spelled}
+use Rattle.krieg_sheet.proofs.ListedPositions.{list_size, list_written}
 
 -- the lines behind the list
 
@@ -118,36 +115,23 @@ body_again d who list (Some w) ls n fits is told stand =
 
 -- the lines before the list
 
-abbrev behind_dialect : Dialect → Place → Result (SheetState × Place) TextFault
-behind_dialect d p = taken side_form p >>= λ side. taken list_form side.1 >>= λ count. positions_at side.0 None count.0 count.1 >>= λ list. entries_at (fresh d side.0 list.0 None) list.1
+abbrev behind_listing : Dialect → (Side × List Pos) × Place → Result (SheetState × Place) TextFault
+behind_listing d listing = entries_at (fresh d listing.0.0 listing.0.1 None) listing.1
 
-side_again : (who : Side) → side_form (side_line who) ≡ Ok who
-unfolding side_form
-side_again White = refl
-side_again Black = refl
-
-count_again : (n : ℕ) → 1 ≤ n → n ≤ 200000 → list_form (codes "list " ++ number_text n) ≡ Ok n
-unfolding list_form
-count_again n low high = number_read Count (codes "list ") 1 200000 n (omega arith) low high
+abbrev behind_dialect : Dialect × Place → Result (SheetState × Place) TextFault
+behind_dialect d = listing_at d.1 >>= behind_listing d.0
 
 all_again : (ls : List (List ℕ)) (s : SheetState) → IsSheet s → SpellsSheet ls s → Read (sheet_at (place 1 ls)) s []
 unfolding sheet_at sheet_version_at
 all_again ls s h spelled =
-    let size = list_size s.side s.list h.listed in
-    let count = codes "list " ++ number_text (length s.list) in
-    let behind_count = spelled.positions ++ told_lines s in
-    let v = version_reads (codes "krieg sheet ") spelled.header s.dialect 1 (side_line s.side ∷ count ∷ behind_count) spelled.version in
-    let listed = list_reads spelled.positions s.list s.side None (v.number + 1 + 1) (told_lines s) (list_spelled spelled.positions s.list s.side spelled.listed h.listed) in
-    let body = body_again s.dialect s.side s.list s.opens s.entries (v.number + 1 + 1 + length s.list) h.fits h.opening h.told h.in_place in
+    let v = version_reads (codes "krieg sheet ") spelled.header s.dialect 1 (spelled.listing ++ told_lines s) spelled.version in
+    let listed = listing_reads spelled.listing s.side s.list v.number (told_lines s) spelled.listed in
+    let body = body_again s.dialect s.side s.list s.opens s.entries listed.number h.fits h.opening h.told h.in_place in
     record {
       number = body.number;
       is = ap (λ (ls : List (List ℕ)). sheet_at (place 1 ls)) spelled.is
-          ∙ ap (λ (r : Result (Dialect × Place) TextFault). r >>= λ d. behind_dialect d.0 d.1) v.is
-          ∙ ap (λ (r : Result (Side × Place) TextFault). r >>= λ side. taken list_form side.1 >>= λ count. positions_at side.0 None count.0 count.1 >>= λ list. entries_at (fresh s.dialect side.0 list.0 None) list.1)
-          (taken_again side_form v.number (side_line s.side) (count ∷ behind_count) s.side (side_again s.side))
-          ∙ ap (λ (r : Result (ℕ × Place) TextFault). r >>= λ count. positions_at s.side None count.0 count.1 >>= λ list. entries_at (fresh s.dialect s.side list.0 None) list.1)
-          (taken_again list_form (v.number + 1) count behind_count (length s.list) (count_again (length s.list) size.0 size.1))
-          ∙ ap (λ (r : Result (List Pos × Place) TextFault). r >>= λ list. entries_at (fresh s.dialect s.side list.0 None) list.1) listed
+          ∙ ap (λ (r : Result (Dialect × Place) TextFault). r >>= behind_dialect) v.is
+          ∙ ap (λ (r : Result ((Side × List Pos) × Place) TextFault). r >>= behind_listing s.dialect) listed.is
           ∙ body.is;
     }
 
@@ -155,18 +139,14 @@ all_again ls s h spelled =
 pub spelled_again : (ls : List (List ℕ)) (s : SheetState) → IsSheet s → SpellsSheet ls s → whole sheet_at ls ≡ Ok s
 spelled_again ls s h spelled = read_whole sheet_at ls s (all_again ls s h spelled)
 
-written_list : (ps : List Pos) → All IsValid ps → SpellList (map position_text ps) ps
-written_list [] valid = tt
-written_list (p ∷ ps) valid = (written_spells p (valid 0 p (omega arith)), written_list ps (All-tail IsValid p ps valid))
-
 -- the written lines of a sheet spell it
 pub lines_spell : (s : SheetState) → IsSheet s → SpellsSheet (sheet_lines s) s
 lines_spell s h = record {
   header = version_lines (codes "krieg sheet ") s.dialect;
-  positions = map position_text s.list;
-  is = append_assoc (version_lines (codes "krieg sheet ") s.dialect) (side_line s.side ∷ (codes "list " ++ number_text (length s.list)) ∷ []) (map position_text s.list ++ told_lines s);
+  listing = list_head s.side (length s.list) ++ map position_text s.list;
+  is = append_assoc (version_lines (codes "krieg sheet ") s.dialect) (list_head s.side (length s.list)) (map position_text s.list ++ told_lines s);
   version = inl refl;
-  listed = written_list s.list h.valid;
+  listed = list_written s.side s.list h.listed h.valid;
 }
 
 -- the written text of a sheet spells it

@@ -7,17 +7,16 @@ use Rattle.std.proofs.lemmas.List.{append-nil}
 use Rattle.std.proofs.lemmas.Slice.Eq.{bytes_eq-Decides}
 use Rattle.krieg_board.specs.Pos.{Pos}
 use Rattle.krieg_board.specs.declared.men.Side.{Side}
-use Rattle.krieg_board.specs.declared.men.Side.TheVariants.{White, Black}
 use Rattle.krieg_fen.specs.declared.fault.TextFault.{TextFault}
 use Rattle.krieg_fen.specs.declared.fault.TextKind.{TextKind}
-use Rattle.krieg_fen.specs.declared.fault.TextKind.TheVariants.{Syntax, OutOfPlace}
+use Rattle.krieg_fen.specs.declared.fault.TextKind.TheVariants.{OutOfPlace}
 use Rattle.krieg_fen.specs.Outcomes.{◌>>=◌}
-use Rattle.krieg_fen.specs.Decimals.{number_text}
-use Rattle.krieg_fen.specs.Reading.{Place, place, on, goes_on, stops, taken, whole, Gives}
-use Rattle.krieg_fen.specs.Forms.{side_form, positions_at}
+use Rattle.krieg_fen.specs.Reading.{Place, place, on, goes_on, stops, whole, Gives}
+use Rattle.krieg_fen.specs.Forms.{listing_at}
 use Rattle.krieg_fen.proofs.Locality.{ok_is}
-use Rattle.krieg_fen.proofs.ListSpellings.{list_spells}
-use Rattle.krieg_fen.proofs.Takings.{steps, taken_at, whole_read}
+use Rattle.krieg_fen.specs.Listing.{SpellsListing}
+use Rattle.krieg_fen.proofs.Listings.{listing_spells}
+use Rattle.krieg_fen.proofs.Takings.{steps, whole_read}
 use Rattle.krieg_words.specs.Said.{Said}
 use Rattle.krieg_words.specs.LineText.{line_text, line_in}
 use Rattle.krieg_words.specs.Versions.{SpellVersion, version_at}
@@ -27,19 +26,9 @@ use Rattle.krieg_words.specs.declared.dialects.Line.TheVariants.{Opens, Illegal,
 use Rattle.krieg_words.proofs.LineLaws.{line_spells}
 use Rattle.krieg_words.proofs.VersionSpellings.{version_spells}
 use Rattle.krieg_sheet.specs.Sheets.{SheetState, fresh, entered}
-use Rattle.krieg_sheet.specs.SheetReading.{list_form, may_open, may_follow, opened, followed_by, placed, next_form, led, entries_at, sheet_at, sheet_version_at}
-use Rattle.krieg_sheet.specs.SheetText.{side_line, opens_lines}
-use Rattle.krieg_sheet.specs.SheetSpelling.{SpellList, SpellsSheet}
-use Rattle.krieg_sheet.proofs.ListedPositions.{count_is, lines_spell}
-
-side_spells : (text : List ℕ) (who : Side) → side_form text ≡ Ok who → text ≡ side_line who
-unfolding side_form
-side_spells text who e = go (bytes_eq text (codes "side w")) (bytes_eq text (codes "side b")) (bytes_eq-Decides text (codes "side w")).0 (bytes_eq-Decides text (codes "side b")).0 e
-  where
-    go : (a b : Bool) → (a ≡ true → text ≡ codes "side w") → (b ≡ true → text ≡ codes "side b") → cond a (Ok White) (cond b (Ok Black) (Err Syntax)) ≡ Ok who → text ≡ side_line who
-    go true b w k h = let same : White ≡ who = cc in w refl ∙ ap side_line same
-    go false true w k h = let same : Black ≡ who = cc in k refl ∙ ap side_line same
-    go false false w k h = absurd cc
+use Rattle.krieg_sheet.specs.SheetReading.{may_open, may_follow, opened, followed_by, placed, next_form, led, entries_at, sheet_at, sheet_version_at}
+use Rattle.krieg_sheet.specs.SheetText.{opens_lines}
+use Rattle.krieg_sheet.specs.SheetSpelling.{SpellsSheet}
 
 -- the lines behind the positions
 abbrev NextIs : SheetState → List ℕ → Option Line → Type 0
@@ -148,50 +137,33 @@ body_spells d who list (l ∷ ls) t n q e = go (next_form s l) refl e
     go (Ok None) is h = from_tail d who list None t (l ∷ ls) q (tail_end s t l ls n q (next_is s l None is) h)
     go (Ok (Some line)) is h = by_line line (next_is s l (Some line) is).0 h
 
-abbrev by_list : Dialect → Side → List Pos × Place → Result (SheetState × Place) TextFault
-by_list d who list = entries_at (fresh d who list.0 None) list.1
-
-abbrev by_count : Dialect → Side → ℕ × Place → Result (SheetState × Place) TextFault
-by_count d who count = positions_at who None count.0 count.1 >>= by_list d who
-
-abbrev by_side : Dialect → Side × Place → Result (SheetState × Place) TextFault
-by_side d side = taken list_form side.1 >>= by_count d side.0
+abbrev by_listing : Dialect → (Side × List Pos) × Place → Result (SheetState × Place) TextFault
+by_listing d listing = entries_at (fresh d listing.0.0 listing.0.1 None) listing.1
 
 abbrev by_dialect : Dialect × Place → Result (SheetState × Place) TextFault
-by_dialect d = taken side_form d.1 >>= by_side d.0
+by_dialect d = listing_at d.1 >>= by_listing d.0
 
 record AllAt (p q : Place) (t : SheetState) : Type 0 where
   header : List (List ℕ)
-  positions : List (List ℕ)
+  listing : List (List ℕ)
   version : SpellVersion (codes "krieg sheet ") header t.dialect
-  listed : SpellList positions t.list
-  left : p.left ≡ header ++ (side_line t.side ∷ (codes "list " ++ number_text (length t.list)) ∷ (positions ++ (opens_lines t.dialect t.opens ++ (map (line_text t.dialect) t.entries ++ (codes "end" ∷ q.left)))))
+  listed : SpellsListing listing t.side t.list
+  left : p.left ≡ header ++ (listing ++ (opens_lines t.dialect t.opens ++ (map (line_text t.dialect) t.entries ++ (codes "end" ∷ q.left))))
 
 all_spell : (p q : Place) (t : SheetState) → sheet_at p ≡ Ok (t, q) → AllAt p q t
 unfolding sheet_at sheet_version_at
 all_spell p q t e =
     let d = steps (version_at (codes "krieg sheet ") p) by_dialect (t, q) e in
-    let side = steps (taken side_form d.mid.1) (by_side d.mid.0) (t, q) d.second in
-    let count = steps (taken list_form side.mid.1) (by_count d.mid.0 side.mid.0) (t, q) side.second in
-    let list = steps (positions_at side.mid.0 None count.mid.0 count.mid.1) (by_list d.mid.0 side.mid.0) (t, q) count.second in
+    let listing = steps (listing_at d.mid.1) (by_listing d.mid.0) (t, q) d.second in
     let header = version_spells (codes "krieg sheet ") p d.mid.1 d.mid.0 d.first in
-    let side_line_at = taken_at side_form d.mid.1 side.mid.1 side.mid.0 side.first in
-    let count_line_at = taken_at list_form side.mid.1 count.mid.1 count.mid.0 count.first in
-    let lines = list_spells count.mid.0 side.mid.0 None count.mid.1.number count.mid.1.left list.mid.0 list.mid.1 list.first in
-    let body = body_spells d.mid.0 side.mid.0 list.mid.0 list.mid.1.left t list.mid.1.number q list.second in
+    let listed = listing_spells d.mid.1 listing.mid.1 listing.mid.0 listing.first in
+    let body = body_spells d.mid.0 listing.mid.0.0 listing.mid.0.1 listing.mid.1.left t listing.mid.1.number q listing.second in
     subst (AllAt p q) body.is (record {
       header = header.lines;
-      positions = lines.listed;
+      listing = listed.lines;
       version = header.version;
-      listed = lines_spell lines.listed list.mid.0 side.mid.0 None lines.spelled;
-      left = header.left ∙ ap (λ (x : List (List ℕ)). header.lines ++ x) (
-          side_line_at.left
-          ∙ ap (λ (x : List ℕ). x ∷ side.mid.1.left) (side_spells side_line_at.text side.mid.0 side_line_at.is)
-          ∙ ap (λ (x : List (List ℕ)). side_line side.mid.0 ∷ x) (
-          count_line_at.left
-          ∙ ap (λ (x : List ℕ). x ∷ count.mid.1.left) ((count_is count_line_at.text count.mid.0 count_line_at.is).2 ∙ ap (λ (n : ℕ). codes "list " ++ number_text n) (sym lines.count))
-          ∙ ap (λ (x : List (List ℕ)). (codes "list " ++ number_text (length list.mid.0)) ∷ x) (
-          lines.is ∙ ap (λ (x : List (List ℕ)). lines.listed ++ x) body.left)));
+      listed = listed.spelled;
+      left = header.left ∙ ap (λ (x : List (List ℕ)). header.lines ++ x) (listed.left ∙ ap (λ (x : List (List ℕ)). listed.lines ++ x) body.left);
     })
 
 -- what is read is spelled so
@@ -199,7 +171,7 @@ pub sheet_spells : (ls : List (List ℕ)) (s : SheetState) → whole sheet_at ls
 sheet_spells ls s e =
     let r = whole_read sheet_at ls s e in
     let a = all_spell (place 1 ls) (place r.number []) s r.is in
-    record { header = a.header; positions = a.positions; is = a.left; version = a.version; listed = a.listed }
+    record { header = a.header; listing = a.listing; is = a.left; version = a.version; listed = a.listed }
 
 -- the same of what the code answered
 pub code_spells : (r : Result SheetState TextFault) (ls : List (List ℕ)) → Gives (λ t. t) r (whole sheet_at ls) → IfOk r (λ s. SpellsSheet ls s)

@@ -4,8 +4,8 @@ use Rattle.std.specs.Str.{bytes_eq}
 use Rattle.krieg_fen.specs.declared.fault.TextKind.{TextKind}
 use Rattle.krieg_fen.specs.declared.fault.TextKind.TheVariants.{Syntax, OutOfPlace}
 use Rattle.krieg_fen.specs.Outcomes.{◌>>=◌}
-use Rattle.krieg_fen.specs.Reading.{LineReader, taken, Step, goes_on, stops, up_to_last}
-use Rattle.krieg_fen.specs.Forms.{count_form, side_form, positions_at}
+use Rattle.krieg_fen.specs.Reading.{LineReader, Step, goes_on, stops, up_to_last}
+use Rattle.krieg_fen.specs.Forms.{listing_at}
 use Rattle.krieg_words.specs.Said.{Said}
 use Rattle.krieg_words.specs.LineText.{line_in}
 use Rattle.krieg_words.specs.declared.dialects.Dialect.{Dialect}
@@ -18,10 +18,6 @@ use Rattle.krieg_sheet.specs.Turns.{is_in_place}
 -- the format's name with one of its two versions, and the dialect
 unfoldable pub sheet_version_at : LineReader Dialect
 sheet_version_at p = version_at (codes "krieg sheet ") p
-
--- how many positions are listed
-unfoldable pub list_form : List ℕ → Result ℕ TextKind
-list_form text = count_form (codes "list ") 1 200000 text
 
 -- opening words stand right behind the list, once
 abbrev pub may_open : SheetState → Bool
@@ -63,11 +59,9 @@ entry_form s text = next_form s text >>= λ l. Ok (led s l)
 abbrev pub entries_at : SheetState → LineReader SheetState
 entries_at s p = up_to_last entry_form s p.number p.left
 
--- the places of a sheet in their order: version and dialect, side, number of positions, positions, lines, `end`
+-- the places of a sheet in their order: version and dialect, side and listed positions, lines, `end`
 unfoldable pub sheet_at : LineReader SheetState
 sheet_at p = do
   dialect ← sheet_version_at p
-  side ← taken side_form dialect.1
-  count ← taken list_form side.1
-  list ← positions_at side.0 None count.0 count.1
-  entries_at (fresh dialect.0 side.0 list.0 None) list.1
+  listing ← listing_at dialect.1
+  entries_at (fresh dialect.0 listing.0.0 listing.0.1 None) listing.1

@@ -3,10 +3,10 @@ use Rattle.std.specs.Prelude.{ℕ, List, [], ◌∷◌, ◌++◌, codes, Option,
 use Rattle.std.specs.List.{flat_map}
 use Rattle.krieg_board.specs.Pos.{Pos}
 use Rattle.krieg_board.specs.declared.men.Side.{Side}
-use Rattle.krieg_board.specs.declared.men.Side.TheVariants.{White, Black}
 use Rattle.krieg_fen.specs.Lines.{ended_line, with_ends}
-use Rattle.krieg_fen.specs.Decimals.{number_text}
 use Rattle.krieg_fen.specs.FenText.{position_text}
+use Rattle.krieg_fen.specs.Listing.{list_head, list_head_text, positions_text}
+pub use Rattle.krieg_fen.specs.Listing.{listed_text}
 use Rattle.krieg_words.specs.Said.{Said}
 use Rattle.krieg_words.specs.LineText.{line_text}
 use Rattle.krieg_words.specs.Versions.{version_lines, version_text}
@@ -15,14 +15,9 @@ use Rattle.krieg_words.specs.declared.dialects.Line.{Line}
 use Rattle.krieg_words.specs.declared.dialects.Line.TheVariants.{Opens}
 use Rattle.krieg_sheet.specs.Sheets.{SheetState, fresh}
 
--- whose sheet it is
-abbrev pub side_line : Side → List ℕ
-side_line White = codes "side w"
-side_line Black = codes "side b"
-
 -- the lines before the positions: version and dialect, side, number of positions
 abbrev pub head_lines : Dialect → Side → ℕ → List (List ℕ)
-head_lines d who n = version_lines (codes "krieg sheet ") d ++ (side_line who ∷ (codes "list " ++ number_text n) ∷ [])
+head_lines d who n = version_lines (codes "krieg sheet ") d ++ list_head who n
 
 -- the line of the opening words, where there are any
 abbrev pub opens_lines : Dialect → Option Said → List (List ℕ)
@@ -47,10 +42,6 @@ answer_text d who list = sheet_text (fresh d who list None)
 
 -- The same texts, piece by piece, as they are written.
 
--- the line of a position, with its line feed
-abbrev pub listed_text : Pos → List ℕ
-listed_text p = ended_line (position_text p)
-
 -- the line of what was heard
 abbrev pub entry_text : Dialect → Line → List ℕ
 entry_text d l = ended_line (line_text d l)
@@ -60,17 +51,9 @@ abbrev pub opens_text : Dialect → Option Said → List ℕ
 opens_text d None = []
 opens_text d (Some w) = entry_text d (Opens w)
 
--- how many positions there are
-unfoldable pub count_text : ℕ → List ℕ
-count_text n = codes "list " ++ ended_line (number_text n)
-
--- whose sheet it is, and that
-unfoldable pub side_text : Side → ℕ → List ℕ
-side_text who n = ended_line (side_line who) ++ count_text n
-
 -- everything before the positions
 unfoldable pub head_text : Dialect → Side → ℕ → List ℕ
-head_text d who n = version_text (codes "krieg sheet ") d ++ side_text who n
+head_text d who n = version_text (codes "krieg sheet ") d ++ list_head_text who n
 
 -- the last line
 unfoldable pub end_text : List ℕ
@@ -78,7 +61,7 @@ end_text = ended_line (codes "end")
 
 -- everything up to the last position
 unfoldable pub listed_part : Dialect → Side → List Pos → List ℕ
-listed_part d who list = head_text d who (length list) ++ flat_map listed_text list
+listed_part d who list = head_text d who (length list) ++ positions_text list
 
 -- the entries and the last line
 unfoldable pub entries_part : Dialect → List Line → List ℕ

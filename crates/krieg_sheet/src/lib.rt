@@ -18,6 +18,7 @@ mod tests;
 mod turns;
 mod writing;
 
+pub use krieg_fen::write_listed;
 pub use reading::read_sheet;
 pub use sheet::{Sheet, SheetFault};
-pub use writing::{write_answer, write_end, write_head, write_listed, write_sheet};
+pub use writing::{write_answer, write_end, write_head, write_sheet};

@@ -2,7 +2,7 @@ ghost use Rattle.std.specs.Prelude.{◌≡◌, ◌≢◌, ◌<◌, ◌^◌, true
 ghost use Rattle.std.specs.List.{All};
 ghost use Rattle.krieg_board.specs.Validity.{IsValid};
 ghost use Rattle.krieg_fen.specs.Lines.{lines};
-ghost use Rattle.krieg_fen.specs.Reading.{taken, whole, Gives, GivesOn};
+ghost use Rattle.krieg_fen.specs.Reading.{whole, Gives, GivesOn};
 ghost use Rattle.krieg_fen.specs.FirstBad.{FirstBad};
 ghost use Rattle.krieg_fen.specs.declared.fault.TextFault.TheVariants.{NoMemory as OutOfMemory};
 ghost use Rattle.krieg_words.specs.Told.{LineFits};
@@ -12,7 +12,7 @@ ghost use Rattle.krieg_sheet.specs.SheetReading as spec;
 ghost use Rattle.krieg_sheet.specs.SheetSpelling.{SpellsSheet};
 
 use crate::sheet::Sheet;
-use krieg_fen::{Cursor, TextFault, TextKind, count_line, is_name, read_side};
+use krieg_fen::{Cursor, TextFault, TextKind, is_name, read_listing};
 use krieg_words::{Dialect, Line, read_line_in, read_version_lines};
 use std::alloc::Global;
 
@@ -22,20 +22,6 @@ fn read_sheet_version(from: &mut Cursor<'_>) -> Result<Dialect, TextFault>
     ensures { GivesOn (λ d. d) result from.new (spec.sheet_version_at from.old) }
 {
     read_version_lines(from, b"krieg sheet ")
-}
-
-#[tactic(auto, unfolding(crate::specs::SheetReading::list_form))]
-fn list_line(text: &[u8]) -> Result<u64, TextKind>
-    ensures { result ≡ spec.list_form text.now }
-{
-    count_line(b"list ", 1, 200_000, text)
-}
-
-fn read_list_count(from: &mut Cursor<'_>) -> Result<u64, TextFault>
-    ensures { GivesOn (λ n. n) result from.new (taken spec.list_form from.old) }
-{
-    let line = from.number();
-    list_line(from.line()?).map_err(|kind| TextFault::At { line, kind })
 }
 
 /// `end`, or a line that may follow what was read.
@@ -82,9 +68,7 @@ fn read_lines(alloc: Global, text: &[u8]) -> Result<Sheet, TextFault>
 {
     let mut from = Cursor::new(text);
     let dialect = read_sheet_version(&mut from)?;
-    let side = read_side(&mut from)?;
-    let count = read_list_count(&mut from)?;
-    let list = from.list(alloc, count as usize, side)?;
+    let (side, list) = read_listing(alloc, &mut from)?;
     let mut sheet = Sheet::listed(alloc, dialect, side, list, None);
     read_entries(&mut from, &mut sheet)?;
     from.end()?;

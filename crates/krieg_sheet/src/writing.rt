@@ -1,7 +1,6 @@
 ghost use Rattle.std.specs.Prelude.{◌≡◌, ◌++◌, ◌∷◌, [], Ok, codes, length, map};
 ghost use Rattle.std.specs.List.{All, flat_map};
 ghost use Rattle.krieg_fen.specs.Lines.{lines, ended_line};
-ghost use Rattle.krieg_fen.specs.Decimals.{number_text};
 ghost use Rattle.krieg_fen.specs.Outcomes.{Writes};
 ghost use Rattle.krieg_fen.specs.Reading.{whole};
 ghost use Rattle.krieg_words.specs.Told.{LineFits};
@@ -12,45 +11,8 @@ ghost use Rattle.krieg_sheet.specs.SheetText as spec;
 
 use crate::sheet::Sheet;
 use krieg_board::{NoMemory, Position, Side};
-use krieg_fen::{write_number, write_position};
+use krieg_fen::{write_list, write_list_head};
 use krieg_words::{Dialect, Line, Words, write_line_in, write_version_lines};
-
-fn side_line(side: Side) -> &'static [u8]
-    ensures { result.now ≡ ended_line (spec.side_line side) }
-{
-    match side {
-        Side::White => b"side w\n",
-        Side::Black => b"side b\n",
-    }
-}
-
-/// Appends the number and a line feed.
-#[tactic(auto, using(krieg_fen::proofs::Fronts::fronts))]
-fn write_number_line(n: usize, text: &mut Vec<u8>) -> Result<(), NoMemory>
-    ensures { Writes result text.old.items text.new.items (ended_line (number_text n)) }
-{
-    write_number(n as u64, text)?;
-    text.push(b'\n')?;
-    Ok(())
-}
-
-/// Appends the line of the number of positions.
-#[tactic(auto, using(krieg_fen::proofs::Fronts::fronts), unfolding(crate::specs::SheetText::count_text))]
-fn write_count(n: usize, text: &mut Vec<u8>) -> Result<(), NoMemory>
-    ensures { Writes result text.old.items text.new.items (spec.count_text n) }
-{
-    text.extend_from_slice(b"list ")?;
-    write_number_line(n, text)
-}
-
-/// Appends the lines of the side and of the number of positions.
-#[tactic(auto, using(krieg_fen::proofs::Fronts::fronts), unfolding(crate::specs::SheetText::side_text))]
-fn write_side(side: Side, n: usize, text: &mut Vec<u8>) -> Result<(), NoMemory>
-    ensures { Writes result text.old.items text.new.items (spec.side_text side n) }
-{
-    text.extend_from_slice(side_line(side))?;
-    write_count(n, text)
-}
 
 /// Appends the lines of a sheet that stand before `n` positions: the version and the dialect, the side,
 /// and the number of positions. Behind them `write_listed` appends each position, and `write_end` the
@@ -60,17 +22,7 @@ pub fn write_head(d: Dialect, side: Side, n: usize, text: &mut Vec<u8>) -> Resul
     ensures { Writes result text.old.items text.new.items (spec.head_text d side n) }
 {
     write_version_lines(b"krieg sheet ", d, text)?;
-    write_side(side, n, text)
-}
-
-/// Appends the line of a position.
-#[tactic(auto, using(krieg_fen::proofs::Fronts::fronts))]
-pub fn write_listed(p: &Position, text: &mut Vec<u8>) -> Result<(), NoMemory>
-    ensures { Writes result text.old.items text.new.items (spec.listed_text p.now) }
-{
-    write_position(p, text)?;
-    text.push(b'\n')?;
-    Ok(())
+    write_list_head(side, n, text)
 }
 
 /// Appends the last line.
@@ -90,16 +42,6 @@ fn write_entry(d: Dialect, line: Line, text: &mut Vec<u8>) -> Result<(), NoMemor
 {
     write_line_in(d, line, text)?;
     text.push(b'\n')?;
-    Ok(())
-}
-
-#[tactic(auto, using(krieg_fen::proofs::Fronts::loops))]
-fn write_positions(list: &[Position], text: &mut Vec<u8>) -> Result<(), NoMemory>
-    ensures { Writes result text.old.items text.new.items (flat_map spec.listed_text list.now) }
-{
-    for p in list {
-        write_listed(p, text)?;
-    }
     Ok(())
 }
 
@@ -135,7 +77,7 @@ fn write_listed_part(
     ensures { Writes result text.old.items text.new.items (spec.listed_part d side list.now) }
 {
     write_head(d, side, list.len(), text)?;
-    write_positions(list, text)
+    write_list(list, text)
 }
 
 /// Appends the entries and the last line.
