@@ -8,16 +8,11 @@ use Rattle.krieg_moves.specs.Moves.{moves, is_mate}
 use Rattle.krieg_fen.specs.Lines.{with_ends}
 use Rattle.krieg_fen.specs.MoveText.{move_text}
 use Rattle.krieg_fen.specs.FenText.{position_text}
+use Rattle.krieg_fen.specs.Forms.{side_line, list_line}
 use Rattle.krieg_words.specs.Said.{Said}
 use Rattle.krieg_words.specs.Words.{opening}
 use Rattle.krieg_words.specs.WordsText.{words_text}
 use Rattle.krieg_words.specs.declared.dialects.Dialect.TheVariants.{Wild16}
-use Rattle.krieg_board.specs.declared.men.Side.{Side}
-use Rattle.krieg_board.specs.declared.men.Side.TheVariants.{White, Black}
-
-abbrev pub side_line : Side → List ℕ
-side_line White = codes "side w"
-side_line Black = codes "side b"
 
 -- the first of the legal moves, in their order, that mates
 unfoldable pub mating_move : Pos → Option Move
@@ -36,7 +31,7 @@ unfoldable pub head_lines : Pos → List (List ℕ)
 head_lines p =
     codes "krieg plan 1"
     ∷ side_line p.side
-    ∷ codes "list 1"
+    ∷ list_line 1
     ∷ position_text p
     ∷ codes "worst 1"
     ∷ codes "roots 1" ∷ []

@@ -1,14 +1,13 @@
 ghost use Rattle.std.specs.Prelude.{◌≡◌, ◌++◌, ◌∷◌, [], true, All, IfOk, OnOk};
 ghost use Rattle.std.specs.List.{find};
 ghost use Rattle.krieg_fen.specs.Lines.{with_ends, ended_line};
-ghost use Rattle.krieg_fen.specs.FenText.{position_text};
 ghost use Rattle.krieg_moves.specs.After.{after};
 ghost use Rattle.krieg_moves.specs.Legal.{is_legal};
 ghost use Rattle.krieg_moves.specs.Moves.{is_mate};
 ghost use Rattle.krieg_cli.specs.Solution as spec;
 
-use krieg_board::{Move, NoMemory, Position, Side};
-use krieg_fen::{write_move, write_position};
+use krieg_board::{Move, NoMemory, Position};
+use krieg_fen::{write_list_head, write_listed, write_move};
 use krieg_moves::{after, is_mate, legal_moves};
 use krieg_words::{Words, opening, write_words};
 use std::alloc::Global;
@@ -42,27 +41,10 @@ fn mating_move(alloc: Global, p: &Position) -> Result<Option<Move>, NoMemory>
     Ok(first_mate(p, moves.as_slice()))
 }
 
-fn side_line(side: Side) -> &'static [u8]
-    ensures { result.now ≡ spec.side_line side }
-{
-    match side {
-        Side::White => b"side w",
-        Side::Black => b"side b",
-    }
-}
-
 fn write_line(line: &[u8], text: &mut Vec<u8>) -> Result<(), NoMemory>
     ensures { OnOk result (text.new.items ≡ text.old.items ++ ended_line line.now) }
 {
     text.extend_from_slice(line)?;
-    text.push(b'\n')?;
-    Ok(())
-}
-
-fn write_position_line(p: &Position, text: &mut Vec<u8>) -> Result<(), NoMemory>
-    ensures { OnOk result (text.new.items ≡ text.old.items ++ ended_line (position_text p.now)) }
-{
-    write_position(p, text)?;
     text.push(b'\n')?;
     Ok(())
 }
@@ -85,14 +67,13 @@ fn write_play_line(mv: Move, text: &mut Vec<u8>) -> Result<(), NoMemory>
     Ok(())
 }
 
-#[tactic(auto, unfolding(crate::specs::Solution::head_lines))]
+#[tactic(auto, unfolding(crate::specs::Solution::head_lines, krieg_fen::specs::Listing::list_head_text))]
 fn write_head(p: &Position, text: &mut Vec<u8>) -> Result<(), NoMemory>
     ensures { OnOk result (text.new.items ≡ text.old.items ++ with_ends (spec.head_lines p.now)) }
 {
     write_line(b"krieg plan 1", text)?;
-    write_line(side_line(p.side()), text)?;
-    write_line(b"list 1", text)?;
-    write_position_line(p, text)?;
+    write_list_head(p.side(), 1, text)?;
+    write_listed(p, text)?;
     write_line(b"worst 1", text)?;
     write_line(b"roots 1", text)?;
     Ok(())
