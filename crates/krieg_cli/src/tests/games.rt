@@ -98,6 +98,23 @@ const ROOK_GAME: [&str; 60] = [
     "w e1e2, 2, 5, 8/8/8/8/8/1K6/8/1k2R3 b - -",
 ];
 
+/// The same of Saavedra's study of 1895, in which a pawn becomes a rook: Black does not hear what it became.
+const SAAVEDRA: [&str; 13] = [
+    "w c6c7, 1, 5, 8/2P5/1K6/3r4/8/8/8/k7 b - -",
+    "b d5d6, 1, 1, 8/2P5/1K1r4/8/8/8/8/k7 w - -",
+    "w b6b5, 1, 5, 8/2P5/3r4/1K6/8/8/8/k7 b - -",
+    "b d6d5, 1, 3, 8/2P5/8/1K1r4/8/8/8/k7 w - -",
+    "w b5b4, 1, 6, 8/2P5/8/3r4/1K6/8/8/k7 b - -",
+    "b d5d4, 1, 3, 8/2P5/8/8/1K1r4/8/8/k7 w - -",
+    "w b4b3, 1, 6, 8/2P5/8/8/3r4/1K6/8/k7 b - -",
+    "b d4d3, 1, 3, 8/2P5/8/8/8/1K1r4/8/k7 w - -",
+    "w b3c2, 1, 4, 8/2P5/8/8/8/3r4/2K5/k7 b - -",
+    "b d3d4, 12, 1, 8/2P5/8/8/3r4/8/2K5/k7 w - -",
+    "w c7c8r, 12, 7, 2R5/8/8/8/3r4/8/2K5/k7 b - -",
+    "b d4a4, 61, 7, 2R5/8/8/8/r7/8/2K5/k7 w - -",
+    "w c2b3, 35, 70, 2R5/8/8/8/r7/1K6/8/k7 b - -",
+];
+
 /// What `believe` makes of the player's sheet of the session.
 fn believed(alloc: Global, session: &str, side: &str, limit: &str) -> Result<Ran, AllocError> {
     let sheet = run_in(alloc, &["umpire", side], session, 4000)?;
@@ -163,17 +180,22 @@ fn rows_that_hold(alloc: Global, start: &str, rows: &[&str]) -> Result<usize, Al
     Ok(rows.len())
 }
 
-/// Each try of the two games, and the position in which it left the game, for both players.
+/// Each try of the three games, and the position in which it left the game, for both players.
 #[test]
 fn lists_the_true_position_behind_each_try(rt: HostRuntime) -> Result<(), AllocError> {
     assert_eq!(rt;
         rows_that_hold(rt.alloc(), START, &IMMORTAL)?,
         IMMORTAL.len()
     );
-    let start = "8/8/8/3k4/8/8/8/R3K3 w - -";
+    let rook = "8/8/8/3k4/8/8/8/R3K3 w - -";
     assert_eq!(rt;
-        rows_that_hold(rt.alloc(), start, &ROOK_GAME)?,
+        rows_that_hold(rt.alloc(), rook, &ROOK_GAME)?,
         ROOK_GAME.len()
+    );
+    let pawn = "8/8/1KP5/3r4/8/8/8/k7 w - -";
+    assert_eq!(rt;
+        rows_that_hold(rt.alloc(), pawn, &SAAVEDRA)?,
+        SAAVEDRA.len()
     );
     Ok(())
 }
