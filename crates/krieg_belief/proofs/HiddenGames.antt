@@ -13,6 +13,7 @@ use Rattle.krieg_moves.specs.After.{after}
 use Rattle.krieg_moves.specs.Moves.{moves}
 use Rattle.krieg_moves.proofs.Listed.{legal-listed, listed-legal}
 use Rattle.krieg_words.specs.Said.{Said}
+use Rattle.krieg_words.specs.Matching.{are_told}
 use Rattle.krieg_words.specs.Order.{words_cmp}
 use Rattle.krieg_words.specs.declared.dialects.Dialect.{Dialect}
 use Rattle.krieg_words.specs.declared.dialects.Line.{Line}
@@ -23,7 +24,7 @@ use Rattle.krieg_theory.specs.Sets.{In}
 use Rattle.krieg_theory.proofs.Lists.{in_filter, filter_in, in_map, map_in, in_flat, flat_in}
 use Rattle.krieg_pack.proofs.Membership.{contains_in, in_contains}
 use Rattle.krieg_pack.proofs.PositionSets.{in_set, set_in}
-use Rattle.krieg_belief.specs.Steps.{has_words, nexts, step, run}
+use Rattle.krieg_belief.specs.Steps.{nexts, step, run}
 
 equal_by : (o : Ordering) → is_eq o ≡ true → o ≡ Equal
 equal_by Less h = absurd cc
@@ -75,7 +76,7 @@ module _ (d : Dialect) (who : Side) where
       heard : (rs : List Move) → Gives d p (Heard w ∷ ls) who rs q → (p' : Pos) × In p' (nexts d who (Heard w) p) × Reaches p' ls q
       heard [] g = absurd g
       heard (r ∷ rs) g =
-          let there = in_map (after p) _ r (in_filter (has_words d w p) (moves p) r (contains_in r (moves p) (legal-listed p r g.1)) (words_same _ _ g.2)) in
+          let there = in_map (after p) _ r (in_filter (are_told d w p) (moves p) r (contains_in r (moves p) (legal-listed p r g.1)) (words_same _ _ g.2)) in
           (after p r, subst (In (after p r)) (sym (cond-false (is_same_side p.side who) _ _ g.0)) there, (rs, g.3))
   goes_on (Opens w) ls p q g = absurd g.1
 
@@ -100,11 +101,11 @@ module _ (d : Dialect) (who : Side) where
       (g.0, (c.0, subst (λ (x : Pos). Gives d x ls who g.0 q) (sym c.1) g.1))
   comes_from (Heard w) ls p p' q k i g = heard (is_same_side p.side who) refl i
     where
-      heard : (b : Bool) → is_same_side p.side who ≡ b → In p' (cond b [] (map (after p) (filter (has_words d w p) (moves p)))) → Reaches p (Heard w ∷ ls) q
+      heard : (b : Bool) → is_same_side p.side who ≡ b → In p' (cond b [] (map (after p) (filter (are_told d w p) (moves p)))) → Reaches p (Heard w ∷ ls) q
       heard true e i = absurd i
       heard false e i =
           let m = map_in (after p) _ p' i in
-          let f = filter_in (has_words d w p) (moves p) m.0 m.1 in
+          let f = filter_in (are_told d w p) (moves p) m.0 m.1 in
           (m.0 ∷ g.0, (e, listed-legal p m.0 (in_contains m.0 (moves p) f.0), same_words _ _ f.1, subst (λ (x : Pos). Gives d x ls who g.0 q) (sym m.2) g.1))
   comes_from (Opens w) ls p p' q k i g = absurd k
 

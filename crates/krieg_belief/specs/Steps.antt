@@ -5,22 +5,18 @@ use Rattle.std.specs.Ordering.{is_eq}
 use Rattle.krieg_board.specs.Men.{is_same_side}
 use Rattle.krieg_board.specs.Pos.{Pos}
 use Rattle.krieg_board.specs.declared.men.Side.{Side}
-use Rattle.krieg_board.specs.declared.men.Move.{Move}
 use Rattle.krieg_moves.specs.Legal.{is_legal}
 use Rattle.krieg_moves.specs.After.{after}
 use Rattle.krieg_moves.specs.Moves.{moves, is_ended}
 use Rattle.krieg_words.specs.Said.{Said}
-use Rattle.krieg_words.specs.Words.{words, opening}
+use Rattle.krieg_words.specs.Words.{opening}
 use Rattle.krieg_words.specs.Told.{told}
+use Rattle.krieg_words.specs.Matching.{are_told}
 use Rattle.krieg_words.specs.Order.{words_cmp}
 use Rattle.krieg_words.specs.declared.dialects.Dialect.{Dialect}
 use Rattle.krieg_words.specs.declared.dialects.Line.{Line}
 use Rattle.krieg_words.specs.declared.dialects.Line.TheVariants.{Opens, Illegal, Done, Heard, Early, Over}
 use Rattle.krieg_pack.specs.Members.{set_of}
-
--- the words are told of the move
-abbrev pub has_words : Dialect → Said → Pos → Move → Bool
-has_words d w p m = is_eq (words_cmp w (told d (words p m)))
 
 -- the words are told of the position at the start
 abbrev pub has_opening : Dialect → Said → Pos → Bool
@@ -30,8 +26,8 @@ has_opening d w p = is_eq (words_cmp w (told d (opening p)))
 abbrev pub nexts : Dialect → Side → Line → Pos → List Pos
 nexts d who (Opens w) p = cond (has_opening d w p) (p ∷ []) []
 nexts d who (Illegal m) p = cond (not (is_ended p) && (is_same_side p.side who && not (is_legal p m))) (p ∷ []) []
-nexts d who (Done m w) p = cond (is_same_side p.side who && (is_legal p m && has_words d w p m)) (after p m ∷ []) []
-nexts d who (Heard w) p = cond (is_same_side p.side who) [] (map (after p) (filter (has_words d w p) (moves p)))
+nexts d who (Done m w) p = cond (is_same_side p.side who && (is_legal p m && are_told d w p m)) (after p m ∷ []) []
+nexts d who (Heard w) p = cond (is_same_side p.side who) [] (map (after p) (filter (are_told d w p) (moves p)))
 nexts d who (Early m) p = cond (not (is_ended p) && not (is_same_side p.side who)) (p ∷ []) []
 nexts d who (Over m) p = cond (is_ended p) (p ∷ []) []
 

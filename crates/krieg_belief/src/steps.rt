@@ -1,14 +1,15 @@
-ghost use Rattle.std.specs.Prelude.{◌≡◌, ◌++◌, ◌<◌, ◌≤◌, true, IsTrue, IfOk, OnOk, Err, map, length};
+ghost use Rattle.std.specs.Prelude.{◌≡◌, ◌++◌, ◌<◌, ◌≤◌, true, IfOk, OnOk, Err, map, length};
 ghost use Rattle.std.specs.List.{All, filter};
 ghost use Rattle.krieg_moves.specs.Legal as rule;
 ghost use Rattle.krieg_moves.specs.After as change;
+ghost use Rattle.krieg_words.specs.Matching.{are_told};
 ghost use Rattle.krieg_belief.specs.Steps as spec;
 ghost use Rattle.krieg_belief.specs.declared.steps.StepStop.TheVariants as stop;
 
 use krieg_board::{Move, NoMemory, Position, Side};
 use krieg_moves::{after, has_move, is_legal, legal_moves};
 use krieg_pack::{Belief, Packed, pack, trim, unpack};
-use krieg_words::{Dialect, Line, Words, compare, opening, told, words_of};
+use krieg_words::{Dialect, Line, Words, are_told, compare, opening, told};
 use std::alloc::Global;
 
 /// Why a set was not made.
@@ -18,14 +19,6 @@ pub(crate) enum StepStop {
     TooMany,
     /// Memory was not found.
     NoMemory,
-}
-
-/// Whether these words are told of the legal move.
-fn has_words(d: Dialect, w: &Words, p: &Position, mv: Move) -> bool
-    requires { IsTrue (rule.is_legal p.now mv) }
-    ensures { result ≡ spec.has_words d w.now p.now mv }
-{
-    compare(w, &told(d, words_of(p, mv))).is_eq()
 }
 
 /// Whether these words are told of the position at the start.
@@ -44,10 +37,10 @@ fn push_heard(
     out: &mut Vec<Packed>,
 ) -> Result<(), NoMemory>
     requires { All (λ m. rule.is_legal p.now m ≡ true) moves.now }
-    ensures { OnOk result (out.new.items ≡ out.old.items ++ map (change.after p.now) (filter (spec.has_words d w.now p.now) moves.now)) }
+    ensures { OnOk result (out.new.items ≡ out.old.items ++ map (change.after p.now) (filter (are_told d w.now p.now) moves.now)) }
 {
     for mv in moves {
-        if has_words(d, w, p, *mv) {
+        if are_told(d, w, p, *mv) {
             out.push(pack(&after(p, *mv)))?;
         }
     }
@@ -80,7 +73,7 @@ fn push_next(
             Ok(())
         }
         Line::Done(mv, w) => {
-            if p.side() == who && (is_legal(p, *mv) && has_words(d, w, p, *mv)) {
+            if p.side() == who && (is_legal(p, *mv) && are_told(d, w, p, *mv)) {
                 out.push(pack(&after(p, *mv)))?;
             }
             Ok(())

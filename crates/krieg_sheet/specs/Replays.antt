@@ -1,6 +1,5 @@
 -- Where a hidden game ends that gives the entries, found move by move.
 use Rattle.std.specs.Prelude.{Bool, not, ◌&&◌, List, [], ◌∷◌, Option, Some, None, if◌then◌else◌}
-use Rattle.std.specs.Ordering.{is_eq}
 use Rattle.krieg_board.specs.Men.{is_same_side}
 use Rattle.krieg_board.specs.Pos.{Pos}
 use Rattle.krieg_board.specs.declared.men.Side.{Side}
@@ -9,16 +8,14 @@ use Rattle.krieg_moves.specs.Legal.{is_legal}
 use Rattle.krieg_moves.specs.After.{after}
 use Rattle.krieg_moves.specs.Moves.{is_ended}
 use Rattle.krieg_words.specs.Said.{Said}
-use Rattle.krieg_words.specs.Words.{words}
-use Rattle.krieg_words.specs.Told.{told}
-use Rattle.krieg_words.specs.Order.{words_cmp}
+use Rattle.krieg_words.specs.Matching.{are_told}
 use Rattle.krieg_words.specs.declared.dialects.Dialect.{Dialect}
 use Rattle.krieg_words.specs.declared.dialects.Line.{Line}
 use Rattle.krieg_words.specs.declared.dialects.Line.TheVariants.{Opens, Illegal, Done, Heard, Early, Over}
 
 -- the move of that side is legal, and these are its words
 abbrev pub is_told : Dialect → Pos → Move → Said → Bool
-is_told d p m w = is_legal p m && is_eq (words_cmp w (told d (words p m)))
+is_told d p m w = is_legal p m && are_told d w p m
 
 -- the end of the game from p with these replies, or None where it does not give the entries
 abbrev pub game_end : Dialect → Pos → List Line → Side → List Move → Option Pos

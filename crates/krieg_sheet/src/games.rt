@@ -8,14 +8,14 @@ ghost use Rattle.krieg_sheet.specs.Replays as spec;
 use krieg_board::{Move, Position, Side};
 use krieg_fen::{is_name, read_move, read_position, write_position};
 use krieg_moves::{after, has_move, is_legal};
-use krieg_words::{Dialect, Line, Words, compare, read_line_in, told, words_of};
+use krieg_words::{Dialect, Line, Words, are_told, read_line_in};
 use std::alloc::Global;
 
 /// Whether the move is legal and has these words.
 fn is_told(d: Dialect, p: &Position, mv: &Move, w: &Words) -> bool
     ensures { result ≡ spec.is_told d p.now mv.now w.now }
 {
-    is_legal(p, *mv) && compare(w, &told(d, words_of(p, *mv))).is_eq()
+    is_legal(p, *mv) && are_told(d, w, p, *mv)
 }
 
 fn game_end(

@@ -4,6 +4,7 @@ pub mod PawnCaptures
 pub mod TriesBound
 pub mod SaidLaws
 pub mod ToldLaws
+pub mod OtherCaptures
 pub mod HandsKept
 pub mod PartLaws
 pub mod NameLaws

@@ -3,6 +3,7 @@ pub mod Order
 pub mod Tries
 pub mod Words
 pub mod Told
+pub mod Matching
 pub mod WordsText
 pub mod WordsReading
 pub mod LineText

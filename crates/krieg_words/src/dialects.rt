@@ -35,7 +35,7 @@ pub enum Line {
 }
 
 /// The square of a capture, told as of a piece.
-fn as_piece(took: &Took) -> Took
+pub(crate) fn as_piece(took: &Took) -> Took
     ensures { result ≡ spec.as_piece took.now }
 {
     match took {

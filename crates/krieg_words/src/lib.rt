@@ -3,12 +3,13 @@
 //!
 //! The rules of this crate are the definitions of `specs/`: what words are (`Said`), their order
 //! (`Order`), pawn tries (`Tries`), the words of a move and of a position (`Words`), what a dialect
-//! tells (`Told`), the texts (`WordsText`, `LineText`, `DialectText`; `WordsReading` reads words part by
+//! tells (`Told`), whether words are told of a move (`Matching`), the texts (`WordsText`, `LineText`, `DialectText`; `WordsReading` reads words part by
 //! part), and the first lines of a text, which tell its dialect (`Versions`). Only the writers take memory.
 #![tactic(auto)]
 
 mod captures;
 mod dialects;
+mod matching;
 mod names;
 mod parts;
 mod reading;
@@ -21,6 +22,7 @@ mod writing;
 
 pub use captures::tries;
 pub use dialects::{Dialect, Line, told, told_line};
+pub use matching::are_told;
 pub use names::{dialect_name, read_dialect};
 pub use reading::{LineFault, WordsFault, read_line, read_line_in, read_words, read_words_in};
 pub use umpire::{opening, words_of};

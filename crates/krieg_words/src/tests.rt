@@ -87,6 +87,30 @@ fn words_of_moves(rt: HostRuntime) -> Result<(), NoMemory> {
     Ok(())
 }
 
+fn is_made_with(d: Dialect, w: &Words, p: &Position, mv: &Move) -> bool {
+    is_legal(p, *mv) && are_told(d, w, p, *mv)
+}
+
+/// Whether these are the words that the dialect tells of the legal move.
+fn is_heard(d: Dialect, fen: &[u8], mv: &[u8], text: &[u8]) -> bool {
+    match (read_position(fen), read_move(mv), read_words_in(d, text)) {
+        (Ok(p), Ok(mv), Ok(w)) => is_made_with(d, &w, &p, &mv),
+        _ => false,
+    }
+}
+
+#[test]
+fn finds_words_that_are_told(rt: HostRuntime) {
+    let pawn = b"4k3/8/8/3pP3/8/8/8/4K3 w - d6";
+    assert!(rt; is_heard(Dialect::Wild16, pawn, b"e5d6", b"pawn d5"));
+    assert!(rt; is_heard(Dialect::Plain, pawn, b"e5d6", b"took d5"));
+    assert!(rt; is_heard(Dialect::Anytry, pawn, b"e5e6", b"silent"));
+    assert!(rt; !is_heard(Dialect::Wild16, pawn, b"e5d6", b"piece d5"));
+    assert!(rt; !is_heard(Dialect::Wild16, pawn, b"e5d6", b"pawn d6"));
+    assert!(rt; !is_heard(Dialect::Wild16, pawn, b"e5d6", b"silent"));
+    assert!(rt; !is_heard(Dialect::Wild16, pawn, b"e5e6", b"pawn d5"));
+}
+
 #[test]
 fn dialects_tell_less(rt: HostRuntime) -> Result<(), NoMemory> {
     let sixteen = b"7k/n1n1n3/1P1P4/p1p1p1p1/1P1P1P2/p1p1p1p1/1P1P1P2/7K w - -";

@@ -34,7 +34,8 @@ fn taken(man: Option<Man>, s: Square) -> Took
     }
 }
 
-fn took_by(p: &Position, man: Option<Man>, mv: &Move) -> Took
+/// What the move of this man captures.
+pub(crate) fn took_by(p: &Position, man: Option<Man>, mv: &Move) -> Took
     ensures { result ≡ spec.took_by p.now man mv.now }
 {
     match man {

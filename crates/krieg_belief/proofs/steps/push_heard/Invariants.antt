@@ -1,8 +1,8 @@
 use Rattle.std.proofs.Common.{◌≡◌, ◌++◌, take, map}
 use Rattle.std.specs.List.{filter}
 use Rattle.krieg_moves.specs.After.{after}
-use Rattle.krieg_belief.specs.Steps.{has_words}
+use Rattle.krieg_words.specs.Matching.{are_told}
 use Rattle.krieg_belief.proofs.steps.push_heard.Given as goal
 
 abbrev pub invariant-loop-mv : goal.invariant-loop-mv
-invariant-loop-mv l = l.out.items ≡ l.initial.out.items ++ map (after l.p) (filter (has_words l.d l.w l.p) (take l.mv-index l.moves))
+invariant-loop-mv l = l.out.items ≡ l.initial.out.items ++ map (after l.p) (filter (are_told l.d l.w l.p) (take l.mv-index l.moves))
