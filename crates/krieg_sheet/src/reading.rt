@@ -1,6 +1,4 @@
-ghost use Rattle.std.specs.Prelude.{◌≡◌, ◌≢◌, ◌<◌, ◌^◌, true, IfSome, IfOk, IfErr, OnOk, Err, Ok, None};
-ghost use Rattle.std.specs.List.{All};
-ghost use Rattle.krieg_board.specs.Validity.{IsValid};
+ghost use Rattle.std.specs.Prelude.{◌≡◌, ◌≢◌, true, IfSome, IfOk, IfErr, Ok};
 ghost use Rattle.krieg_fen.specs.Lines.{lines};
 ghost use Rattle.krieg_fen.specs.Reading.{whole, Gives, GivesOn};
 ghost use Rattle.krieg_fen.specs.FirstBad.{FirstBad};

@@ -1,6 +1,6 @@
-ghost use Rattle.std.specs.Prelude.{◌≡◌, ◌++◌, ◌∷◌, [], Ok, codes, length, map};
+ghost use Rattle.std.specs.Prelude.{◌≡◌, Ok};
 ghost use Rattle.std.specs.List.{All, flat_map};
-ghost use Rattle.krieg_fen.specs.Lines.{lines, ended_line};
+ghost use Rattle.krieg_fen.specs.Lines.{lines};
 ghost use Rattle.krieg_fen.specs.Outcomes.{Writes};
 ghost use Rattle.krieg_fen.specs.Reading.{whole};
 ghost use Rattle.krieg_words.specs.Told.{LineFits};
