@@ -2,8 +2,7 @@
 use Rattle.std.proofs.Common.{◌≡◌, Bool, true, false, cond, not, List, [], ◌∷◌, map, filter, refl, sym, ap, subst, ◌∙◌, inl, inr}
 use Rattle.std.specs.Prelude.{⊤}
 use Rattle.std.specs.Ordering.{is_eq}
-use Rattle.std.specs.declared.cmp.Ordering.{Ordering}
-use Rattle.std.specs.declared.cmp.Ordering.TheVariants.{Less, Equal, Greater}
+use Rattle.std.specs.Cmp.{Equal-is}
 use Rattle.std.proofs.lemmas.Bool.{and_parts, and_from, not-true, cond-false, both_ways}
 use Rattle.krieg_board.specs.Men.{is_same_side}
 use Rattle.krieg_board.specs.Pos.{Pos}
@@ -11,14 +10,14 @@ use Rattle.krieg_board.specs.declared.men.Side.{Side}
 use Rattle.krieg_board.specs.declared.men.Move.{Move}
 use Rattle.krieg_moves.specs.After.{after}
 use Rattle.krieg_moves.specs.Moves.{moves}
-use Rattle.krieg_moves.proofs.Listed.{legal-listed, listed-legal}
+use Rattle.krieg_moves.proofs.Listed.{legal_listed, listed_legal}
 use Rattle.krieg_words.specs.Said.{Said}
 use Rattle.krieg_words.specs.Matching.{are_told}
 use Rattle.krieg_words.specs.Order.{words_cmp}
 use Rattle.krieg_words.specs.declared.dialects.Dialect.{Dialect}
 use Rattle.krieg_words.specs.declared.dialects.Line.{Line}
 use Rattle.krieg_words.specs.declared.dialects.Line.TheVariants.{Opens, Illegal, Done, Heard, Early, Over}
-use Rattle.krieg_words.proofs.OrderLaws.{words_cmp-equal, words_cmp-self}
+use Rattle.krieg_words.proofs.OrderLaws.{words_cmp_equal, words_cmp_self}
 use Rattle.krieg_sheet.specs.Games.{Gives}
 use Rattle.krieg_theory.specs.Sets.{In}
 use Rattle.krieg_theory.proofs.Lists.{in_filter, filter_in, in_map, map_in, in_flat, flat_in}
@@ -26,16 +25,11 @@ use Rattle.krieg_pack.proofs.Membership.{contains_in, in_contains}
 use Rattle.krieg_pack.proofs.PositionSets.{in_set, set_in}
 use Rattle.krieg_belief.specs.Steps.{nexts, step, run}
 
-equal_by : (o : Ordering) → is_eq o ≡ true → o ≡ Equal
-equal_by Less h = absurd cc
-equal_by Equal h = refl
-equal_by Greater h = absurd cc
-
 pub same_words : (v w : Said) → is_eq (words_cmp v w) ≡ true → v ≡ w
-same_words v w h = words_cmp-equal v w (equal_by (words_cmp v w) h)
+same_words v w h = words_cmp_equal v w ((Equal-is (words_cmp v w)).0 h)
 
 pub words_same : (v w : Said) → v ≡ w → is_eq (words_cmp v w) ≡ true
-words_same v w e = ap (λ (x : Said). is_eq (words_cmp v x)) (sym e) ∙ ap is_eq (words_cmp-self v)
+words_same v w e = ap (λ (x : Said). is_eq (words_cmp v x)) (sym e) ∙ ap is_eq (words_cmp_self v)
 
 -- a member of a list with one member at most
 pub in_cond : {X : Type 0} (b : Bool) (x y : X) → In y (cond b (x ∷ []) []) → (b ≡ true) × (x ≡ y)
@@ -76,7 +70,7 @@ module _ (d : Dialect) (who : Side) where
       heard : (rs : List Move) → Gives d p (Heard w ∷ ls) who rs q → (p' : Pos) × In p' (nexts d who (Heard w) p) × Reaches p' ls q
       heard [] g = absurd g
       heard (r ∷ rs) g =
-          let there = in_map (after p) _ r (in_filter (are_told d w p) (moves p) r (contains_in r (moves p) (legal-listed p r g.1)) (words_same _ _ g.2)) in
+          let there = in_map (after p) _ r (in_filter (are_told d w p) (moves p) r (contains_in r (moves p) (legal_listed p r g.1)) (words_same _ _ g.2)) in
           (after p r, subst (In (after p r)) (sym (cond-false (is_same_side p.side who) _ _ g.0)) there, (rs, g.3))
   goes_on (Opens w) ls p q g = absurd g.1
 
@@ -106,7 +100,7 @@ module _ (d : Dialect) (who : Side) where
       heard false e i =
           let m = map_in (after p) _ p' i in
           let f = filter_in (are_told d w p) (moves p) m.0 m.1 in
-          (m.0 ∷ g.0, (e, listed-legal p m.0 (in_contains m.0 (moves p) f.0), same_words _ _ f.1, subst (λ (x : Pos). Gives d x ls who g.0 q) (sym m.2) g.1))
+          (m.0 ∷ g.0, (e, listed_legal p m.0 (in_contains m.0 (moves p) f.0), same_words _ _ f.1, subst (λ (x : Pos). Gives d x ls who g.0 q) (sym m.2) g.1))
   comes_from (Opens w) ls p p' q k i g = absurd k
 
   -- the steps on sets have all that hidden games reach

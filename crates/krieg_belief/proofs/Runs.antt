@@ -10,21 +10,21 @@ use Rattle.krieg_words.specs.declared.dialects.Line.{Line}
 use Rattle.krieg_theory.proofs.Lists.{take_in, in_flat, flat_in}
 use Rattle.krieg_pack.specs.Members.{IsAscending, set_of}
 use Rattle.krieg_pack.proofs.PositionSets.{set_ascending, set_part_le}
-use Rattle.krieg_moves.proofs.MoveLists.{moves-legal}
+use Rattle.krieg_moves.proofs.MoveLists.{moves_legal}
 use Rattle.krieg_belief.specs.Steps.{nexts, step, run}
 use Rattle.krieg_belief.specs.Limits.{stopped, IsLateStop}
 use Rattle.krieg_belief.specs.declared.steps.StepStop.{StepStop}
 use Rattle.krieg_belief.specs.declared.steps.StepStop.TheVariants as steps
 use Rattle.krieg_belief.specs.declared.beliefs.BeliefStop.{BeliefStop}
 
-run-more : (d : Dialect) (who : Side) (ls : List Line) (l : Line) (ps : List Pos) → run d who (ls ++ l ∷ []) ps ≡ step d who l (run d who ls ps)
-run-more d who [] l ps = refl
-run-more d who (x ∷ ls) l ps = run-more d who ls l (step d who x ps)
+run_more : (d : Dialect) (who : Side) (ls : List Line) (l : Line) (ps : List Pos) → run d who (ls ++ l ∷ []) ps ≡ step d who l (run d who ls ps)
+run_more d who [] l ps = refl
+run_more d who (x ∷ ls) l ps = run_more d who ls l (step d who x ps)
 
 pub run_next : (d : Dialect) (who : Side) (ls : List Line) (i : ℕ) (l : Line) (start b next : List Pos) → i < length ls → l ≡ get_or ls i l → b ≡ run d who (take i ls) start →
     next ≡ step d who l b → next ≡ run d who (take (i + 1) ls) start
 run_next d who ls i l start b next h at there is =
-    is ∙ ap (step d who l) there ∙ sym (ap (λ (xs : List Line). run d who xs start) (take_more ls i l h) ∙ ap (λ (x : Line). run d who (take i ls ++ x ∷ []) start) (sym at) ∙ run-more d who (take i ls) l start)
+    is ∙ ap (step d who l) there ∙ sym (ap (λ (xs : List Line). run d who xs start) (take_more ls i l h) ∙ ap (λ (x : Line). run d who (take i ls ++ x ∷ []) start) (sym at) ∙ run_more d who (take i ls) l start)
 
 pub run_ascending : (d : Dialect) (who : Side) (ls : List Line) (ps : List Pos) → IsAscending ps → IsAscending (run d who ls ps)
 run_ascending d who [] ps up = up
@@ -44,7 +44,7 @@ next_more d who l ps i p h at =
     ap (flat_map f) (take_more ps i p h ∙ ap (λ (x : Pos). take i ps ++ x ∷ []) (sym at)) ∙ flat_map-append f (take i ps) (p ∷ []) ∙ ap (λ (r : List Pos). flat_map f (take i ps) ++ r) (append-nil (f p))
 
 -- the moves in the list of a position are legal
-pub ruleset listed = (moves-legal)
+pub ruleset listed = (moves_legal)
 
 -- the set of a part is too large, so the whole set is
 pub part_exceeds : (d : Dialect) (who : Side) (l : Line) (ps qs : List Pos) (n limit : ℕ) → limit < length (set_of qs) → set_of qs ≡ set_of (flat_map (nexts d who l) (take n ps)) →

@@ -1,10 +1,11 @@
 -- How one line of a sheet takes the possible positions to the next ones.
-use Rattle.std.specs.Prelude.{Bool, cond, not, ◌&&◌, List, [], ◌∷◌, Option, Some, None, map}
+use Rattle.std.specs.Prelude.{Bool, not, ◌&&◌, List, [], ◌∷◌, Option, Some, None, map, if◌then◌else◌}
 use Rattle.std.specs.List.{filter, flat_map}
 use Rattle.std.specs.Ordering.{is_eq}
 use Rattle.krieg_board.specs.Men.{is_same_side}
 use Rattle.krieg_board.specs.Pos.{Pos}
 use Rattle.krieg_board.specs.declared.men.Side.{Side}
+use Rattle.krieg_board.specs.declared.men.Move.{Move}
 use Rattle.krieg_moves.specs.Legal.{is_legal}
 use Rattle.krieg_moves.specs.After.{after}
 use Rattle.krieg_moves.specs.Moves.{moves, is_ended}
@@ -22,14 +23,18 @@ use Rattle.krieg_pack.specs.Members.{set_of}
 abbrev pub has_opening : Dialect → Said → Pos → Bool
 has_opening d w p = is_eq (words_cmp w (told d (opening p)))
 
+-- the position after the player's own move, where it may be made and has the words
+abbrev pub after_done : Dialect → Side → Move → Said → Pos → Option Pos
+after_done d who m w p = if is_same_side p.side who && (is_legal p m && are_told d w p m) then Some (after p m) else None
+
 -- where a game that stands in p may stand behind the line, which the side who hears
 abbrev pub nexts : Dialect → Side → Line → Pos → List Pos
-nexts d who (Opens w) p = cond (has_opening d w p) (p ∷ []) []
-nexts d who (Illegal m) p = cond (not (is_ended p) && (is_same_side p.side who && not (is_legal p m))) (p ∷ []) []
-nexts d who (Done m w) p = cond (is_same_side p.side who && (is_legal p m && are_told d w p m)) (after p m ∷ []) []
-nexts d who (Heard w) p = cond (is_same_side p.side who) [] (map (after p) (filter (are_told d w p) (moves p)))
-nexts d who (Early m) p = cond (not (is_ended p) && not (is_same_side p.side who)) (p ∷ []) []
-nexts d who (Over m) p = cond (is_ended p) (p ∷ []) []
+nexts d who (Opens w) p = if has_opening d w p then p ∷ [] else []
+nexts d who (Illegal m) p = if not (is_ended p) && (is_same_side p.side who && not (is_legal p m)) then p ∷ [] else []
+nexts d who (Done m w) p = if is_same_side p.side who && (is_legal p m && are_told d w p m) then after p m ∷ [] else []
+nexts d who (Heard w) p = if is_same_side p.side who then [] else map (after p) (filter (are_told d w p) (moves p))
+nexts d who (Early m) p = if not (is_ended p) && not (is_same_side p.side who) then p ∷ [] else []
+nexts d who (Over m) p = if is_ended p then p ∷ [] else []
 
 -- all positions in which a game may stand behind the line, each once
 abbrev pub step : Dialect → Side → Line → List Pos → List Pos

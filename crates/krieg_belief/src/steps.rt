@@ -7,9 +7,9 @@ ghost use Rattle.krieg_belief.specs.Steps as spec;
 ghost use Rattle.krieg_belief.specs.declared.steps.StepStop.TheVariants as stop;
 
 use krieg_board::{Move, NoMemory, Position, Side};
-use krieg_moves::{after, has_move, is_legal, legal_moves};
+use krieg_moves::{has_move, is_legal, legal_moves};
 use krieg_pack::{Belief, Packed, pack, trim, unpack};
-use krieg_words::{Dialect, Line, Words, are_told, compare, opening, told};
+use krieg_words::{Dialect, Line, Words, after_told, compare, opening, told};
 use std::alloc::Global;
 
 /// Why a set was not made.
@@ -28,6 +28,17 @@ fn has_opening(d: Dialect, w: &Words, p: &Position) -> bool
     compare(w, &told(d, opening(p))).is_eq()
 }
 
+/// The position after the player's own move, where it may be made and has the words.
+fn after_done(d: Dialect, who: Side, mv: &Move, w: &Words, p: &Position) -> Option<Position>
+    ensures { result ≡ spec.after_done d who mv.now w.now p.now }
+{
+    if p.side() == who && is_legal(p, *mv) {
+        after_told(d, w, p, *mv)
+    } else {
+        None
+    }
+}
+
 /// Adds the positions after those of the legal moves that have the words.
 fn push_heard(
     d: Dialect,
@@ -40,8 +51,8 @@ fn push_heard(
     ensures { OnOk result (out.new.items ≡ out.old.items ++ map (change.after p.now) (filter (are_told d w.now p.now) moves.now)) }
 {
     for mv in moves {
-        if are_told(d, w, p, *mv) {
-            out.push(pack(&after(p, *mv)))?;
+        if let Some(next) = after_told(d, w, p, *mv) {
+            out.push(pack(&next))?;
         }
     }
     Ok(())
@@ -73,8 +84,8 @@ fn push_next(
             Ok(())
         }
         Line::Done(mv, w) => {
-            if p.side() == who && (is_legal(p, *mv) && are_told(d, w, p, *mv)) {
-                out.push(pack(&after(p, *mv)))?;
+            if let Some(next) = after_done(d, who, mv, w, p) {
+                out.push(pack(&next))?;
             }
             Ok(())
         }

@@ -1,4 +1,13 @@
-pub mod Connectives
 pub mod SquareTests
 pub mod MenLemmas
 pub mod Facts
+pub mod SetLemmas
+pub mod SameTests
+pub mod BoardSets
+pub mod Writing
+pub mod Counting
+pub mod OneKing
+pub mod Copying
+pub mod SameMen
+pub mod Picked
+pub mod MoveOrder

@@ -1,5 +1,5 @@
 -- When two positions look the same to one side: its own men, its own castling rights and whose turn it is.
-use Rattle.std.specs.Prelude.{Bool, true, false, Option, Some, None, not, ◌&&◌, cond}
+use Rattle.std.specs.Prelude.{Bool, true, false, Option, Some, None, not, ◌&&◌, if◌then◌else◌}
 use Rattle.krieg_board.specs.Men.{is_same_side, is_same_kind, is_same_bool}
 use Rattle.krieg_board.specs.Squares.{every_square}
 use Rattle.krieg_board.specs.Board.{Board, man_at, is_of}
@@ -15,9 +15,16 @@ is_same_man None (Some b) = false
 is_same_man (Some a) None = false
 is_same_man (Some a) (Some b) = is_same_side a.side b.side && is_same_kind a.kind b.kind
 
+-- both hold men of one kind, or neither holds a man
+abbrev pub is_alike : Option Man → Option Man → Bool
+is_alike None None = true
+is_alike None (Some b) = false
+is_alike (Some a) None = false
+is_alike (Some a) (Some b) = is_same_kind a.kind b.kind
+
 -- both hold the same man of that side, or neither holds one
 abbrev pub is_same_of : Side → Option Man → Option Man → Bool
-is_same_of who a b = cond (is_of who a) (is_same_man a b) (not (is_of who b))
+is_same_of who a b = if is_of who a then is_same_man a b else not (is_of who b)
 
 -- the same men of that side on the same squares
 unfoldable pub has_same_men : Side → Board → Board → Bool

@@ -5,3 +5,6 @@ pub mod Attacks
 pub mod Pos
 pub mod Validity
 pub mod Hand
+pub mod Order
+pub mod Sets
+pub mod Boards

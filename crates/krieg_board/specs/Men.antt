@@ -1,5 +1,5 @@
 -- Sides, kinds and rights, and when two of them are the same.
-use Rattle.std.specs.Prelude.{ℕ, Bool, true, false, ◌+◌, cond}
+use Rattle.std.specs.Prelude.{ℕ, Bool, true, false, ◌+◌, if◌then◌else◌}
 use Rattle.krieg_board.specs.declared.men.Side.{Side}
 use Rattle.krieg_board.specs.declared.men.Side.TheVariants.{White, Black}
 use Rattle.krieg_board.specs.declared.men.Rights.{Rights}
@@ -32,4 +32,4 @@ is_same_bool _ _ = false
 
 -- the rights as a number: White short 1, White long 2, Black short 4, Black long 8
 abbrev pub bits_of : Rights → ℕ
-bits_of r = cond r.white_short 1 0 + cond r.white_long 2 0 + cond r.black_short 4 0 + cond r.black_long 8 0
+bits_of r = (if r.white_short then 1 else 0) + (if r.white_long then 2 else 0) + (if r.black_short then 4 else 0) + (if r.black_long then 8 else 0)

@@ -1,5 +1,5 @@
 -- Squares by number, file and rank: a1 is 0, b1 is 1, h1 is 7, a2 is 8, h8 is 63. Files and ranks are numbered from 0.
-use Rattle.std.specs.Prelude.{ℕ, Bool, List, ◌+◌, ◌*◌, ◌/◌, ◌%◌}
+use Rattle.std.specs.Prelude.{ℕ, zero, suc, Bool, List, [], ◌++◌, ◌+◌, ◌*◌, ◌/◌, ◌%◌}
 use Rattle.std.specs.List.{list_any, list_all, range_with_len}
 use Rattle.krieg_board.specs.declared.men.Side.{Side}
 use Rattle.krieg_board.specs.declared.men.Side.TheVariants.{White, Black}
@@ -52,3 +52,8 @@ some_square test = list_any test squares
 -- every square passes the test
 unfoldable pub every_square : (ℕ → Bool) → Bool
 every_square test = list_all test squares
+
+-- the lists of 0 to n - 1, one after another
+abbrev pub gathered : {A : Type 0} → (ℕ → List A) → ℕ → List A
+gathered list_of zero = []
+gathered list_of (suc n) = gathered list_of n ++ list_of n

@@ -1,5 +1,5 @@
 -- Valid positions, and the first fault of one that is not.
-use Rattle.std.specs.Prelude.{ℕ, Bool, true, ◌≡◌, Option, Some, None, not, ◌&&◌, ◌||◌, ◌==◌, nat_le, cond, count_by, length}
+use Rattle.std.specs.Prelude.{ℕ, Bool, true, ◌≡◌, Option, Some, None, not, ◌&&◌, ◌||◌, ◌==◌, nat_le, count_by, length, if◌then◌else◌}
 use Rattle.krieg_board.specs.Men.{other}
 use Rattle.krieg_board.specs.Squares.{file_of, rank_of, square_at, home_rank, pawn_rank, crossed_rank, landing_rank, every_square}
 use Rattle.krieg_board.specs.Board.{Board, man_at, is_empty, is_of, is_man}
@@ -65,12 +65,13 @@ has_mark b to_move (Some s) = is_crossed b (other to_move) s
 -- the first fault, in their order
 unfoldable pub first_fault : Pos → Option BadPosition
 first_fault p =
-    cond (not (has_kings p.board)) (Some bad.Kings)
-    (cond (not (has_pawns_inside p.board)) (Some bad.PawnRank)
-    (cond (not (is_small p.board White && is_small p.board Black)) (Some bad.TooManyMen)
-    (cond (is_king_attacked p.board (other p.side)) (Some bad.IdleInCheck)
-    (cond (not (has_castles p.board p.rights)) (Some bad.Rights)
-    (cond (not (has_mark p.board p.side p.mark)) (Some bad.Mark) None)))))
+    if not (has_kings p.board) then Some bad.Kings
+    else if not (has_pawns_inside p.board) then Some bad.PawnRank
+    else if not (is_small p.board White && is_small p.board Black) then Some bad.TooManyMen
+    else if is_king_attacked p.board (other p.side) then Some bad.IdleInCheck
+    else if not (has_castles p.board p.rights) then Some bad.Rights
+    else if not (has_mark p.board p.side p.mark) then Some bad.Mark
+    else None
 
 -- a board of 64 squares without a fault
 pub record IsValid (p : Pos) : Type 0 where

@@ -1,35 +1,30 @@
-ghost use Rattle.std.specs.Prelude.{◌≡◌};
+ghost use Rattle.std.specs.Prelude.{◌≡◌, ◌<◌, ℕ, not};
+ghost use Rattle.krieg_board.specs.Board.{man_at};
 ghost use Rattle.krieg_board.specs.Hand as spec;
+ghost use Rattle.krieg_board.specs.Sets.{has};
 
-use crate::board::{Board, is_of};
-use crate::men::{Man, Rights, Side};
+use crate::bits::Bits;
+use crate::men::{Rights, Side};
 use crate::position::Position;
 
-fn is_same_man(a: Option<Man>, b: Option<Man>) -> bool
-    ensures { result ≡ spec.is_same_man a b }
+/// The squares that do not hold men of one kind, or nothing, on both boards.
+fn differing(a: &Bits, b: &Bits) -> u64
+    ensures { (k : ℕ) → k < 64 → has result k ≡ not (spec.is_alike (man_at a.now k) (man_at b.now k)) }
 {
-    match (a, b) {
-        (None, None) => true,
-        (Some(a), Some(b)) => a.side == b.side && a.kind == b.kind,
-        _ => false,
-    }
+    let (a, b) = (a.sets(), b.sets());
+    (a.pawns ^ b.pawns)
+        | (a.knights ^ b.knights)
+        | (a.bishops ^ b.bishops)
+        | (a.rooks ^ b.rooks)
+        | (a.queens ^ b.queens)
+        | (a.kings ^ b.kings)
 }
 
-fn is_same_of(who: Side, a: Option<Man>, b: Option<Man>) -> bool
-    ensures { result ≡ spec.is_same_of who a b }
-{
-    if is_of(who, a) {
-        is_same_man(a, b)
-    } else {
-        !is_of(who, b)
-    }
-}
-
-#[tactic(auto, unfolding(crate::specs::Hand::has_same_men, crate::specs::Squares::every_square, crate::specs::Squares::squares))]
-fn has_same_men(who: Side, a: &Board, b: &Board) -> bool
+fn has_same_men(who: Side, a: &Bits, b: &Bits) -> bool
     ensures { result ≡ spec.has_same_men who a.now b.now }
 {
-    (0..64u8).all(|s| is_same_of(who, a[s as usize], b[s as usize]))
+    let own = a.men_of(who);
+    own == b.men_of(who) && differing(a, b) & own == 0
 }
 
 fn has_same_rights(who: Side, a: Rights, b: Rights) -> bool
@@ -47,7 +42,7 @@ fn has_same_rights(who: Side, a: Rights, b: Rights) -> bool
 pub fn same_hand(a: &Position, b: &Position, who: Side) -> bool
     ensures { result ≡ spec.same_hand a.now b.now who }
 {
-    has_same_men(who, a.board(), b.board())
+    has_same_men(who, a.bits(), b.bits())
         && has_same_rights(who, a.rights(), b.rights())
         && a.side() == b.side()
 }

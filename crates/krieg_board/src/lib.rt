@@ -5,22 +5,26 @@
 #![tactic(auto)]
 
 mod attack;
+mod bits;
 mod board;
 mod hand;
 mod memory;
 mod men;
 mod position;
+mod set;
 mod square;
 #[cfg(test)]
 mod tests;
 mod units;
 
 pub use attack::{apart, attacks, is_attacked, is_clear, is_forward, is_king_attacked};
+pub use bits::{Bits, Sets, king_of};
 pub use board::{Board, is_empty, is_man, is_of};
 pub use hand::same_hand;
 pub use memory::NoMemory;
-pub use men::{Kind, Man, Move, Promo, Rights, Side};
-pub use position::{BadPosition, Position};
+pub use men::{Kind, Man, Move, Promo, Rights, Side, know_squares};
+pub use position::{BadPosition, Position, know_valid};
+pub use set::{has, lowest, only, without_lowest};
 pub use square::{
     Square, crossed_rank, file_of, home_rank, landing_rank, last_rank, pawn_rank, rank_of,
     square_at,

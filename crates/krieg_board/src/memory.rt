@@ -1,6 +1,6 @@
 use std::alloc::{AllocError, AllocFailed};
 
-/// Memory was not found. It is the one answer that no clause of these crates ties to a cause.
+/// Memory was not found. No clause can promise that it is found; some say that a call needs none.
 #[derive(Clone, Copy, Debug, PartialEq, Eq)]
 pub struct NoMemory;
 

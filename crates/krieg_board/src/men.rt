@@ -1,7 +1,9 @@
-ghost use Rattle.std.specs.Prelude.{◌≡◌, ◌≤◌, ◌↔◌, IfSome, IsNone};
+ghost use Rattle.std.specs.Prelude.{◌≡◌, ◌<◌, ◌≤◌, ◌↔◌, IfSome, IsNone};
 ghost use Rattle.krieg_board.specs.Men.{other, bits_of};
+ghost use Rattle.krieg_board.specs.Order.{move_cmp};
 
 use crate::square::Square;
+use std::cmp::Ordering;
 
 /// The two players.
 #[derive(Clone, Copy, Debug, PartialEq, Eq)]
@@ -70,6 +72,26 @@ impl Side {
             Side::Black => Side::White,
         }
     }
+}
+
+impl Move {
+    /// The order of moves: by from-square, then by to-square, then by promotion. It is the derived
+    /// order too.
+    pub fn compare(&self, other: &Move) -> Ordering
+        ensures { result ≡ move_cmp self.now other.now }
+    {
+        self.cmp(other)
+    }
+}
+
+/// Tells a proof that both squares of a move are on the board.
+#[inline]
+pub fn know_squares(mv: &Move)
+    ensures from { mv.now.from < 64 }
+    ensures to { mv.now.to < 64 }
+{
+    let _from = mv.from.number();
+    let _to = mv.to.number();
 }
 
 impl Rights {

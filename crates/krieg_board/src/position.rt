@@ -1,9 +1,10 @@
-ghost use Rattle.std.specs.Prelude.{◌≡◌, ◌<◌, IfOk, IfErr, Some, None};
+ghost use Rattle.std.specs.Prelude.{◌≡◌, ◌<◌, IfOk, IfErr, Some, None, length};
 ghost use Rattle.krieg_board.specs.Board.{man_at};
 ghost use Rattle.krieg_board.specs.Validity as spec;
 ghost use Rattle.krieg_board.specs.Validity.{IsValid, first_fault};
 
 use crate::attack::is_king_attacked;
+use crate::bits::Bits;
 use crate::board::{Board, is_empty, is_man, is_of};
 use crate::men::{Kind, Man, Rights, Side};
 use crate::square::{
@@ -34,11 +35,14 @@ pub enum BadPosition {
 /// In contracts a position is a `Pos`, and each call that reads one says that it is valid.
 #[derive(Clone, Copy)]
 pub struct Position {
-    board: [Option<Man>; 64],
+    bits: Bits,
     side: Side,
     rights: Rights,
     mark: Option<Square>,
 }
+
+// Positions are copied at every move, and kept by the hundred thousand.
+const _: () = prove!(size_of::<Position>() <= 72);
 
 impl Model for Position {
     ghost use Rattle.krieg_board.specs.Pos.{Pos};
@@ -47,11 +51,11 @@ impl Model for Position {
 
     ghost use Rattle.krieg_board.specs.Validity.{IsValid};
 
-    ghost view = { λ p. record { board = p.board; side = p.side; rights = p.rights; mark = p.mark } };
+    ghost view = { λ p. record { board = p.bits; side = p.side; rights = p.rights; mark = p.mark } };
 
-    ghost invariant = { λ p. IsValid (record { board = p.board; side = p.side; rights = p.rights; mark = p.mark }) };
+    ghost invariant = { λ p. IsValid (record { board = p.bits; side = p.side; rights = p.rights; mark = p.mark }) };
 
-    ghost inverse = { λ p. record { board = p.board; side = p.side; rights = p.rights; mark = p.mark } };
+    ghost inverse = { λ p. record { bits = p.board; side = p.side; rights = p.rights; mark = p.mark } };
 }
 
 fn count_kind(board: &Board, side: Side, kind: Kind) -> usize
@@ -169,7 +173,7 @@ impl Position {
         match fault_of(&board, side, rights, &mark) {
             Some(fault) => Err(fault),
             None => Ok(Position {
-                board,
+                bits: Bits::from_board(&board),
                 side,
                 rights,
                 mark,
@@ -178,30 +182,28 @@ impl Position {
     }
 
     /// The position with these parts, which the caller knows to have no fault: nothing is tested again.
-    pub fn from_valid(
-        board: [Option<Man>; 64],
-        side: Side,
-        rights: Rights,
-        mark: Option<Square>,
-    ) -> Position
-        requires { first_fault (record { board = board; side = side; rights = rights; mark = mark }) ≡ None }
-        ensures value { result ≡ record { board = board; side = side; rights = rights; mark = mark } }
+    #[inline]
+    pub fn from_valid(bits: &Bits, side: Side, rights: Rights, mark: Option<Square>) -> Position
+        requires size { length bits.now ≡ 64 }
+        requires fault { first_fault (record { board = bits.now; side = side; rights = rights; mark = mark }) ≡ None }
+        ensures value { result ≡ record { board = bits.now; side = side; rights = rights; mark = mark } }
         ensures valid { IsValid result }
     {
         Position {
-            board,
+            bits: *bits,
             side,
             rights,
             mark,
         }
     }
 
-    /// What stands on each square, a1 first.
-    pub fn board(&self) -> &[Option<Man>; 64]
+    /// The board, by sets of squares.
+    #[inline]
+    pub fn bits(&self) -> &Bits
         ensures value { result.now ≡ self.now.board }
         ensures valid { IsValid self.now }
     {
-        &self.board
+        &self.bits
     }
 
     /// What stands on the square.
@@ -209,10 +211,11 @@ impl Position {
         ensures value { result ≡ man_at self.now.board s }
         ensures valid { IsValid self.now }
     {
-        self.board[s.number() as usize]
+        self.bits.man_at(s.number())
     }
 
     /// The side to move.
+    #[inline]
     pub fn side(&self) -> Side
         ensures value { result ≡ self.now.side }
         ensures valid { IsValid self.now }
@@ -235,4 +238,12 @@ impl Position {
     {
         self.mark
     }
+}
+
+/// Tells a proof that the position is valid, where nothing of it is read.
+#[inline]
+pub fn know_valid(p: &Position)
+    ensures { IsValid p.now }
+{
+    let _side = p.side;
 }

@@ -1,5 +1,5 @@
 -- The kinds of check that the side to move is in.
-use Rattle.std.specs.Prelude.{ℕ, Bool, true, false, ◌+◌, Option, ◌&&◌, ◌||◌, ◌==◌, cond}
+use Rattle.std.specs.Prelude.{ℕ, Bool, true, false, ◌+◌, Option, ◌&&◌, ◌||◌, ◌==◌, if◌then◌else◌}
 use Rattle.krieg_board.specs.Men.{other}
 use Rattle.krieg_board.specs.Squares.{file_of, rank_of, some_square}
 use Rattle.krieg_board.specs.Board.{Board, man_at, is_of, is_man}
@@ -20,10 +20,11 @@ is_knight m = is_man White Knight m || is_man Black Knight m
 -- the kind of check that this man gives from s to a king on k, where it attacks that square
 abbrev pub kind_from : Option Man → ℕ → ℕ → CheckKind
 kind_from man k s =
-    cond (is_knight man) Leap
-    (cond (file_of s == file_of k) File
-    (cond (rank_of s == rank_of k) Rank
-    (cond (is_long_diagonal k s) Long Short)))
+    if is_knight man then Leap
+    else if file_of s == file_of k then File
+    else if rank_of s == rank_of k then Rank
+    else if is_long_diagonal k s then Long
+    else Short
 
 abbrev pub is_same_check : CheckKind → CheckKind → Bool
 is_same_check File File = true
@@ -58,4 +59,4 @@ kinds p = record {
 
 -- the kinds as a number: file 1, rank 2, long diagonal 4, short diagonal 8, knight 16
 abbrev pub bits_of : Kinds → ℕ
-bits_of k = cond k.file 1 0 + cond k.rank 2 0 + cond k.long 4 0 + cond k.short 8 0 + cond k.knight 16 0
+bits_of k = (if k.file then 1 else 0) + (if k.rank then 2 else 0) + (if k.long then 4 else 0) + (if k.short then 8 else 0) + (if k.knight then 16 else 0)

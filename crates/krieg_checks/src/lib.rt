@@ -3,8 +3,10 @@
 //! No call takes memory.
 #![tactic(auto)]
 
+mod diagonals;
 mod kinds;
 #[cfg(test)]
 mod tests;
 
-pub use kinds::{CheckKind, Kinds, kinds_of, long_diagonal};
+pub use diagonals::long_diagonal;
+pub use kinds::{CheckKind, Kinds, kinds_of};

@@ -33,6 +33,52 @@ fn bits_by(men: &[(u8, Kind)]) -> Result<u8, BadPosition> {
     Ok(kinds_of(&Position::make(board, Side::White, NO_RIGHTS, None)?).bits())
 }
 
+/// The bits of a check: file 1, rank 2, long diagonal 4, short diagonal 8, knight 16.
+#[test]
+fn reads_and_writes_bits(rt: HostRuntime) -> Result<(), Fail> {
+    let none = Kinds {
+        knight: false,
+        short: false,
+        long: false,
+        rank: false,
+        file: false,
+    };
+    for (bits, kinds) in [
+        (0, none),
+        (1, Kinds { file: true, ..none }),
+        (2, Kinds { rank: true, ..none }),
+        (4, Kinds { long: true, ..none }),
+        (
+            8,
+            Kinds {
+                short: true,
+                ..none
+            },
+        ),
+        (
+            16,
+            Kinds {
+                knight: true,
+                ..none
+            },
+        ),
+        (
+            17,
+            Kinds {
+                knight: true,
+                file: true,
+                ..none
+            },
+        ),
+    ] {
+        assert_eq!(rt; Kinds::new(bits), Some(kinds), "{bits}");
+        assert_eq!(rt; kinds.bits(), bits, "{bits}");
+    }
+    assert_eq!(rt; Kinds::new(31).ok_or("31")?.bits(), 31);
+    assert!(rt; Kinds::new(32).is_none());
+    Ok(())
+}
+
 /// Through e1 the diagonal to a5 has five squares and that to h4 four.
 #[test]
 fn names_each_kind(rt: HostRuntime) -> Result<(), BadPosition> {
@@ -45,6 +91,12 @@ fn names_each_kind(rt: HostRuntime) -> Result<(), BadPosition> {
     assert_eq!(rt; bits_by(&[(21, Knight)])?, 16, "f3 by a leap");
     assert_eq!(rt; bits_by(&[(11, Pawn)])?, 4, "a pawn on d2 by its diagonal");
     assert_eq!(rt; bits_by(&[(13, Pawn)])?, 8, "a pawn on f2 by its diagonal");
+    assert_eq!(rt; bits_by(&[(60, Rook), (32, Bishop)])?, 5, "a double check");
+    assert_eq!(rt;
+        bits_by(&[(36, Queen), (60, Rook)])?,
+        1,
+        "one queen on the file"
+    );
     assert_eq!(rt;
         bits_by(&[(60, Rook), (19, Knight), (0, Rook)])?,
         19,

@@ -5,7 +5,7 @@ use Rattle.std.specs.Prelude.{Option, Result, Ok, Err, OnErr}
 use Rattle.std.specs.List.{flat_map}
 use Rattle.std.specs.Io.KnownBytes.{Appends}
 use Rattle.krieg_ports.specs.Bytes.{AppendsPrefix}
-use Rattle.krieg_ports.proofs.ToldBytes.{AppendsPrefix-more, AppendsPrefix-then}
+use Rattle.krieg_ports.proofs.ToldBytes.{AppendsPrefix_more, AppendsPrefix_then}
 
 pub on_err : {A E P : Type 0} (r : Result A E) → P → OnErr r P
 on_err (Ok x) p = tt
@@ -24,5 +24,5 @@ pub fails_within : {X : Type 0} (first middle last : Option (List ℕ)) (f : X �
 fails_within first middle last f xs i d h before part =
     let (rest, is) = split_at f xs i d h in
     subst (AppendsPrefix first last) (sym is)
-    (AppendsPrefix-then first middle last (flat_map f (take i xs)) (f (get_or xs i d) ++ rest) before
-    (AppendsPrefix-more middle last (f (get_or xs i d)) rest part))
+    (AppendsPrefix_then first middle last (flat_map f (take i xs)) (f (get_or xs i d) ++ rest) before
+    (AppendsPrefix_more middle last (f (get_or xs i d)) rest part))

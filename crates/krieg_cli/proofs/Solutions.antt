@@ -2,9 +2,9 @@
 use Rattle.std.proofs.Common.{◌≡◌, ℕ, List, ◌++◌, sym, ap, ◌∙◌, append_assoc}
 use Rattle.std.proofs.lemmas.List.Concat.{flat_map-append}
 use Rattle.krieg_fen.specs.Lines.{with_ends, ended_line}
-use Rattle.krieg_moves.proofs.MoveLists.{moves-legal}
+use Rattle.krieg_moves.proofs.MoveLists.{moves_legal}
 
-pub ruleset legal = (moves-legal)
+pub ruleset legal = (moves_legal)
 
 pub lines_more : (old more text : List ℕ) (ls ms : List (List ℕ)) → more ≡ old ++ with_ends ls → text ≡ more ++ with_ends ms → text ≡ old ++ with_ends (ls ++ ms)
 lines_more old more text ls ms first second =

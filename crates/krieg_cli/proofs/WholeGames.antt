@@ -15,7 +15,7 @@ use Rattle.krieg_session.specs.Laws.{IsGame}
 use Rattle.krieg_session.proofs.LastPositions.{last_is_consistent}
 use Rattle.krieg_session.proofs.SessionsAgain.{sheets_again}
 use Rattle.krieg_session.proofs.SessionsSpell.{code_game}
-use Rattle.krieg_ports.proofs.ToldBytes.{Consumes-all}
+use Rattle.krieg_ports.proofs.ToldBytes.{Consumes_all}
 use Rattle.krieg_cli.specs.Outcome.{is_built, umpired, BelievedText, Believed}
 use Rattle.krieg_cli.specs.Ending.{Stream, WasRead, ComesTo, Answers, Ends, Runs}
 use Rattle.krieg_cli.specs.WholeGames.{heard_sheet, standing, IsUmpired, IsHeard, TellsGame, EndsOnHeard, IsTrueToGames}
@@ -56,7 +56,7 @@ tells_game who input input' out out' (text, (given, read, told), written) =
 
 -- the text that was read is the one that the input held
 text_read : (input input' : Stream) (text read : List ℕ) → input.bytes ≡ Some text → WasRead input input' read → read ≡ text
-text_read input input' text read holds was = sym (subst (λ b. IfSome b (λ bytes. bytes ≡ read)) holds (Consumes-all input.bytes input'.bytes read was.0 was.1))
+text_read input input' text read holds was = sym (subst (λ b. IfSome b (λ bytes. bytes ≡ read)) holds (Consumes_all input.bytes input'.bytes read was.0 was.1))
 
 given_le : (old new : Option (List ℕ)) (text given : List ℕ) → old ≡ Some text → Consumes old new given → length given ≤ length text
 given_le old new text given holds took = within new (subst (λ b. Consumes b new given) holds took)

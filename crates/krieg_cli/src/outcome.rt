@@ -33,10 +33,11 @@ pub(crate) fn is_built(command: &Command) -> bool
 }
 
 /// The plan for the position of a sheet.
-fn solve(alloc: Global, text: &[u8]) -> Result<Vec<u8>, Refusal>
-    ensures { Decides (λ answer. answer.items) result (λ outcome. outcome ≡ spec.solved_sheet (whole sheet_at (lines text.now))) }
+fn solve(alloc: Global, text: Vec<u8>) -> Result<Vec<u8>, Refusal>
+    ensures { Decides (λ answer. answer.items) result (λ outcome. outcome ≡ spec.solved_sheet (whole sheet_at (lines text.items))) }
 {
-    let sheet = read_sheet(alloc, text)?;
+    let sheet = read_sheet(alloc, &text)?;
+    drop(text);
     match lone_position(&sheet) {
         Some(position) => Ok(solution_text(alloc, &position)?),
         None => Err(Refusal::NotBuilt),
@@ -76,10 +77,11 @@ fn listed_set(alloc: Global, sheet: &Sheet, limit: u64) -> Result<Belief, Refusa
 }
 
 /// The possible positions of a sheet.
-fn list_possible(alloc: Global, limit: u64, text: &[u8]) -> Result<Vec<u8>, Refusal>
-    ensures { Decides (λ answer. answer.items) result (spec.BelievedText limit (whole sheet_at (lines text.now))) }
+fn list_possible(alloc: Global, limit: u64, text: Vec<u8>) -> Result<Vec<u8>, Refusal>
+    ensures { Decides (λ answer. answer.items) result (spec.BelievedText limit (whole sheet_at (lines text.items))) }
 {
-    let sheet = read_sheet(alloc, text)?;
+    let sheet = read_sheet(alloc, &text)?;
+    drop(text);
     let set = listed_set(alloc, &sheet, limit)?;
     let mut answer = Vec::new(alloc);
     write_members(sheet.dialect(), sheet.side(), &set, &mut answer)?;
@@ -87,18 +89,19 @@ fn list_possible(alloc: Global, limit: u64, text: &[u8]) -> Result<Vec<u8>, Refu
 }
 
 /// What the umpire tells of a session.
-fn umpire_session(alloc: Global, who: Option<Side>, text: &[u8]) -> Result<Vec<u8>, Refusal>
-    ensures { Decides (λ answer. answer.items) result (λ outcome. outcome ≡ spec.umpired who (whole session_at (lines text.now))) }
+fn umpire_session(alloc: Global, who: Option<Side>, text: Vec<u8>) -> Result<Vec<u8>, Refusal>
+    ensures { Decides (λ answer. answer.items) result (λ outcome. outcome ≡ spec.umpired who (whole session_at (lines text.items))) }
 {
-    let session = read_session(alloc, text)?;
+    let session = read_session(alloc, &text)?;
+    drop(text);
     let mut answer = Vec::new(alloc);
     umpire(alloc, &session, who, &mut answer)?;
     Ok(answer)
 }
 
-/// What the command makes of the input.
-pub(crate) fn outcome(alloc: Global, command: &Command, text: &[u8]) -> Result<Vec<u8>, Refusal>
-    ensures { Decides (λ answer. answer.items) result (spec.HasOutcome command.now text.now) }
+/// What the command makes of the input, whose memory is given back once it is read.
+pub(crate) fn outcome(alloc: Global, command: &Command, text: Vec<u8>) -> Result<Vec<u8>, Refusal>
+    ensures { Decides (λ answer. answer.items) result (spec.HasOutcome command.now text.items) }
 {
     match command {
         Command::Solve(_, _, _) => solve(alloc, text),

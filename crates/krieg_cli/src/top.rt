@@ -39,7 +39,7 @@ fn answer<S: Source, O: Sink>(
         (stream (O.got out.old) (O.faults out.old)) (stream (O.got out.new) (O.faults out.new)) }
 {
     let text = read_input(alloc, input)?;
-    let answer = outcome(alloc, command, &text)?;
+    let answer = outcome(alloc, command, text)?;
     match write_all(out, &answer) {
         Ok(()) => Ok(()),
         Err(_) => Err(Refusal::WriteFault),

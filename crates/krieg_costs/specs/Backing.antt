@@ -1,5 +1,5 @@
 -- The pairs that no search can do without, and what they take.
-use Rattle.std.specs.Prelude.{ℕ, zero, suc, ◌+◌, cond, not, List, [], ◌∷◌, ◌++◌, length, filter, find, flat_map, Option, Some, None}
+use Rattle.std.specs.Prelude.{ℕ, zero, suc, ◌+◌, not, List, [], ◌∷◌, ◌++◌, length, filter, find, flat_map, Option, Some, None, if◌then◌else◌}
 use Rattle.std.specs.List.{list_any}
 use Rattle.krieg_theory.specs.Sets.{is_nil}
 use Rattle.krieg_theory.specs.Game.{Game}
@@ -31,7 +31,7 @@ module _ (G : Game) where
 
   -- what backs the refused part of the first try: nothing where it is empty
   abbrev pub refused_won : ℕ → (List G.Position → List (Pair G)) → (List G.Position → List (Pair G)) → List G.Position → List (Pair G)
-  refused_won j less here R = cond (is_nil R) [] (cond (can G j R) (less R) (here R))
+  refused_won j less here R = if is_nil R then [] else if can G j R then less R else here R
 
   -- what backs a set whose least number is j + 1, with its first try: the pair itself, the same set with one move
   -- less, which is lost, each class and the refused part at their least numbers, and the block of each earlier try
@@ -50,7 +50,7 @@ module _ (G : Game) where
   -- what backs a set that can be won within j, at its least number
   abbrev pub won : ℕ → List G.Position → List (Pair G)
   won zero B = []
-  won (suc j) B = cond (can G j B) (won j B) (won_within j (won j) (length B) B)
+  won (suc j) B = if can G j B then won j B else won_within j (won j) (length B) B
 
   -- the tries that must be split for a pair: all of them, or those up to the first that wins
   abbrev pub floor_price : Pair G → ℕ
@@ -69,7 +69,9 @@ module _ (G : Game) (O : Outset G) where
   -- what backs all opening sets where they can be won, or else the first that cannot; nothing where something is over
   abbrev pub backing : ℕ → List G.Position → List (Pair G)
   backing n S =
-      cond (list_any (is_over G O) S) [] (cond (can_plan G O n S) (flat_map (λ key. won G n (opening_set G O S key)) (openings G O S)) (lost_opening n S (first_lost n S)))
+      if list_any (is_over G O) S then []
+      else if can_plan G O n S then flat_map (λ key. won G n (opening_set G O S key)) (openings G O S)
+      else lost_opening n S (first_lost n S)
 
   -- the units that every search must take
   abbrev pub floor : ℕ → List G.Position → ℕ

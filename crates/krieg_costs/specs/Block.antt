@@ -1,5 +1,5 @@
 -- Why a try does not begin a node that wins all of a set within a number of moves.
-use Rattle.std.specs.Prelude.{ℕ, zero, suc, ◌==◌, ◌&&◌, ◌||◌, Bool, cond, not, List, find, Option, Some, None}
+use Rattle.std.specs.Prelude.{ℕ, zero, suc, ◌==◌, ◌&&◌, ◌||◌, Bool, not, List, find, Option, Some, None, if◌then◌else◌}
 use Rattle.std.specs.List.{list_any}
 use Rattle.krieg_theory.specs.Sets.{is_nil}
 use Rattle.krieg_theory.specs.Game.{Game}
@@ -27,13 +27,15 @@ module _ (G : Game) where
   -- the block by the first lost class, or by the refused part where no class is lost
   abbrev pub by_class : ℕ → List G.Position → G.Move → Option G.Key → Block G.Key
   by_class j B t (Some key) = LostClass key
-  by_class j B t None = cond (is_nil (refused G B t) || can G j (refused G B t)) NoBlock LostRefused
+  by_class j B t None = if is_nil (refused G B t) || can G j (refused G B t) then NoBlock else LostRefused
 
   -- the first of these that holds, for the number j
   abbrev pub block : ℕ → List G.Position → G.Move → Block G.Key
   block zero B t = NoBlock
   block (suc j) B t =
-      cond ((j == 0) && lives_in_some B t) Lives (cond (stale_in_some G B t) Stale (by_class (suc j) B t (find (λ key. not (can G j (class G B t key))) (keys G B t))))
+      if (j == 0) && lives_in_some B t then Lives
+      else if stale_in_some G B t then Stale
+      else by_class (suc j) B t (find (λ key. not (can G j (class G B t key))) (keys G B t))
 
   -- the pair that cannot be won, where the block has one
   abbrev pub pair_of : ℕ → List G.Position → G.Move → Block G.Key → Option (Pair G)

@@ -1,5 +1,5 @@
 -- What a search by the recursion over sets takes, if it stores nothing.
-use Rattle.std.specs.Prelude.{ℕ, zero, suc, ◌+◌, cond, List, length}
+use Rattle.std.specs.Prelude.{ℕ, zero, suc, ◌+◌, List, length, if◌then◌else◌}
 use Rattle.krieg_theory.specs.Game.{Game}
 use Rattle.krieg_theory.specs.Split.{refused, tries, given, keys, class}
 use Rattle.krieg_theory.specs.Plans.{Outset, openings, opening_set}
@@ -33,7 +33,7 @@ module _ (G : Game) (O : Outset G) where
   -- the units for the replies that come before the first own turn: none where the player is to move, and else one
   -- for each listed position and one for each reply
   abbrev pub first_made : List G.Position → ℕ
-  first_made S = total (λ p. cond (O.waits p) (suc (length (O.starts p))) 0) S
+  first_made S = total (λ p. if O.waits p then suc (length (O.starts p)) else 0) S
 
   -- the cost of a list of positions is that of its opening sets
   abbrev pub cost_of : ℕ → List G.Position → ℕ

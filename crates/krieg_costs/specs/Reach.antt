@@ -1,5 +1,5 @@
 -- What a search takes that never looks at a set with the same number twice.
-use Rattle.std.specs.Prelude.{◌≡◌, ℕ, zero, suc, ◌+◌, ◌<◌, ◌≤◌, true, false, cond, List, [], ◌∷◌, ◌++◌, length, flat_map}
+use Rattle.std.specs.Prelude.{◌≡◌, ℕ, zero, suc, ◌+◌, ◌<◌, ◌≤◌, true, false, List, [], ◌∷◌, ◌++◌, length, flat_map, if◌then◌else◌}
 use Rattle.krieg_theory.specs.Sets.{In, is_nil}
 use Rattle.krieg_theory.specs.Game.{Game}
 use Rattle.krieg_theory.specs.Split.{refused, legal_in_some, tries, keys, class}
@@ -12,7 +12,8 @@ module _ (G : Game) where
   abbrev pub reach_within : ℕ → (List G.Position → List (Pair G)) → ℕ → List G.Position → List (Pair G)
   reach_within j less zero B = []
   reach_within j less (suc n) B =
-      cond (is_nil B) [] ((B, suc j) ∷ (less B ++ flat_map (λ t. reach_within j less n (refused G B t) ++ flat_map (λ key. less (class G B t key)) (keys G B t)) (tries G B)))
+      if is_nil B then []
+      else (B, suc j) ∷ (less B ++ flat_map (λ t. reach_within j less n (refused G B t) ++ flat_map (λ key. less (class G B t key)) (keys G B t)) (tries G B))
 
   -- the pairs that are met from a set with every number up to j
   abbrev pub reach : ℕ → List G.Position → List (Pair G)

@@ -1,5 +1,5 @@
 -- Sums over lists, and lists without repeats.
-use Rattle.std.specs.Prelude.{ℕ, zero, suc, ◌+◌, ◌==◌, ◌&&◌, Bool, true, false, cond, List, [], ◌∷◌, ⊤}
+use Rattle.std.specs.Prelude.{ℕ, zero, suc, ◌+◌, ◌==◌, ◌&&◌, Bool, true, false, List, [], ◌∷◌, ⊤, if◌then◌else◌}
 use Rattle.std.specs.List.{list_any}
 use Rattle.krieg_theory.specs.Sets.{In, same}
 use Rattle.krieg_theory.specs.Game.{Game}
@@ -17,7 +17,7 @@ numbers_to (suc n) = suc n ∷ numbers_to n
 -- all up to the first that passes, with it; all of them where none does
 abbrev pub up_to : {X : Type 0} → (X → Bool) → List X → List X
 up_to f [] = []
-up_to f (x ∷ xs) = x ∷ cond (f x) [] (up_to f xs)
+up_to f (x ∷ xs) = x ∷ (if f x then [] else up_to f xs)
 
 -- nothing stands twice in the list
 abbrev pub IsOnce : {X : Type 0} → List X → Type 0
@@ -43,4 +43,4 @@ module _ (G : Game) where
   -- each pair of the list, once
   abbrev pub once : List Pair → List Pair
   once [] = []
-  once (q ∷ qs) = cond (list_any (same_pair q) qs) (once qs) (q ∷ once qs)
+  once (q ∷ qs) = if list_any (same_pair q) qs then once qs else q ∷ once qs

@@ -13,7 +13,7 @@ use Rattle.krieg_fen.specs.Letters.{capital, small_letter, kind_by, man_of}
 use Rattle.krieg_fen.specs.Ranks.{Row, squares_at, row_of, onto_row, eight, ranks_of, board_of}
 use Rattle.krieg_fen.specs.FenText.{rank_at}
 use Rattle.krieg_fen.specs.Spelling.{SpellRanks, SpellsBoard}
-use Rattle.krieg_fen.proofs.Free.{Above, above-append, above-less, pieces_first, pieces_last}
+use Rattle.krieg_fen.proofs.Free.{Above, above_append, above_less, pieces_first, pieces_last}
 use Rattle.krieg_fen.proofs.RankTexts.{rank_long}
 
 onto_parts : (a b : Option Row) (w : Row) → onto_row a b ≡ Some w → (x : Row) × (y : Row) × (a ≡ Some x) × (b ≡ Some y) × (x ++ y ≡ w)
@@ -102,7 +102,7 @@ AllAbove n (p ∷ ps) = Above n p × AllAbove n ps
 
 pub all_less : (m n : ℕ) (ps : List (List ℕ)) → m ≤ n → AllAbove n ps → AllAbove m ps
 all_less m n [] le a = tt
-all_less m n (p ∷ ps) le a = (above-less m n p le a.0, all_less m n ps le a.1)
+all_less m n (p ∷ ps) le a = (above_less m n p le a.0, all_less m n ps le a.1)
 
 -- joined parts are cut again
 pub pieces_join : (c : ℕ) (p : List ℕ) (ps : List (List ℕ)) → Above c p → AllAbove c ps → pieces c (join_with_byte c (p ∷ ps)) ≡ p ∷ ps
@@ -112,7 +112,7 @@ pieces_join c p (q ∷ ps) a all = pieces_first c p (join_with_byte c (q ∷ ps)
 join_above : (n c : ℕ) (ps : List (List ℕ)) → n < c → AllAbove n ps → Above n (join_with_byte c ps)
 join_above n c [] lt all = tt
 join_above n c (p ∷ []) lt all = all.0
-join_above n c (p ∷ q ∷ ps) lt all = above-append n p (c ∷ join_with_byte c (q ∷ ps)) all.0 (lt, join_above n c (q ∷ ps) lt all.1)
+join_above n c (p ∷ q ∷ ps) lt all = above_append n p (c ∷ join_with_byte c (q ∷ ps)) all.0 (lt, join_above n c (q ∷ ps) lt all.1)
 
 ranks_high : (n : ℕ) (rs : List (List ℕ)) (board : Board) → SpellRanks rs n board → AllAbove 47 rs
 ranks_high zero [] board s = tt

@@ -16,11 +16,11 @@ use Rattle.krieg_fen.specs.Listing.{list_head}
 use Rattle.krieg_fen.specs.Decimals.{number_text}
 use Rattle.krieg_fen.specs.MoveText.{square_text, promo_text, move_text}
 use Rattle.krieg_fen.specs.FenText.{board_text, side_text, rights_text, state_text, position_text}
-use Rattle.krieg_fen.proofs.Free.{Above, above-append, above-less}
+use Rattle.krieg_fen.proofs.Free.{Above, above_append, above_less}
 use Rattle.krieg_fen.proofs.Numbers.{digits_again}
 use Rattle.krieg_fen.proofs.RankTexts.{board_above}
 use Rattle.krieg_fen.proofs.FenTexts.{side_above, rights_above, mark_above}
-use Rattle.krieg_fen.proofs.LineTexts.{line_above, line-append}
+use Rattle.krieg_fen.proofs.LineTexts.{line_above, line_append}
 
 pub digits_above : (ds : List ℕ) → list_all is_ascii_digit ds ≡ true → Above 47 ds
 digits_above [] all = tt
@@ -46,19 +46,19 @@ promo_above Knight = (omega arith, tt)
 -- letters and digits alone
 pub move_above : (m : Move) → Above 48 (move_text m)
 unfolding move_text
-move_above m = above-append 48 (square_text m.from) (square_text m.to ++ promo_text m.promo) (square_above m.from) (above-append 48 (square_text m.to) (promo_text m.promo) (square_above m.to) (promo_above m.promo))
+move_above m = above_append 48 (square_text m.from) (square_text m.to ++ promo_text m.promo) (square_above m.from) (above_append 48 (square_text m.to) (promo_text m.promo) (square_above m.to) (promo_above m.promo))
 
 -- no byte below a space
 pub position_above : (p : Pos) → Above 31 (position_text p)
 unfolding position_text state_text
 position_above p =
-    above-append 31 (board_text p.board) _ (above-less 31 32 _ (omega arith) (board_above p.board)) (
+    above_append 31 (board_text p.board) _ (above_less 31 32 _ (omega arith) (board_above p.board)) (
       omega arith,
-      above-append 31 (side_text p.side) _ (above-less 31 32 _ (omega arith) (side_above p.side)) (
+      above_append 31 (side_text p.side) _ (above_less 31 32 _ (omega arith) (side_above p.side)) (
         omega arith,
-        above-append 31 (rights_text p.rights) _ (above-less 31 32 _ (omega arith) (rights_above p.rights)) (
+        above_append 31 (rights_text p.rights) _ (above_less 31 32 _ (omega arith) (rights_above p.rights)) (
           omega arith,
-          above-less 31 32 _ (omega arith) (mark_above p.mark),
+          above_less 31 32 _ (omega arith) (mark_above p.mark),
         ),
       ),
     )
@@ -82,4 +82,4 @@ positions_are [] = tt
 positions_are (p ∷ ps) = (position_line p, positions_are ps)
 
 pub list_head_are : (who : Side) (n : ℕ) → n < 2 ^ 64 → AreLines (list_head who n)
-list_head_are who n fits = (side_is who, (line-append (codes "list ") (number_text n) refl (number_line n fits), tt))
+list_head_are who n fits = (side_is who, (line_append (codes "list ") (number_text n) refl (number_line n fits), tt))

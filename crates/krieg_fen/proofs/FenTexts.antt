@@ -1,5 +1,6 @@
 -- A position that was written is read again.
 use Rattle.std.proofs.Common.{◌≡◌, ℕ, ◌+◌, ◌/◌, ◌%◌, ◌<◌, Bool, true, false, cond, ◌||◌, eqb, eqb-true, List, [], ◌∷◌, Option, Some, None, Result, Ok, refl, ap, ◌∙◌, arith}
+use Rattle.std.proofs.lemmas.Bool.{and_parts}
 use Rattle.krieg_board.specs.declared.men.Side.{Side}
 use Rattle.krieg_board.specs.declared.men.Side.TheVariants.{White, Black}
 use Rattle.krieg_board.specs.declared.men.Rights.{Rights}
@@ -9,7 +10,6 @@ use Rattle.krieg_board.specs.Board.{Board}
 use Rattle.krieg_board.specs.Pos.{Pos}
 use Rattle.krieg_board.specs.Validity.{IsValid, has_mark}
 use Rattle.krieg_board.proofs.Facts.{facts}
-use Rattle.krieg_board.proofs.Connectives.{and-both}
 use Rattle.krieg_fen.specs.Outcomes.{◌>>=◌}
 use Rattle.krieg_fen.specs.MoveText.{square_of}
 use Rattle.krieg_fen.specs.Pieces.{pieces}
@@ -88,7 +88,7 @@ mark_low Black s on = omega arith
 pub mark_again : (board : Board) (side : Side) (mark : Option ℕ) → has_mark board side mark ≡ true → mark_of (mark_text mark) ≡ Some mark
 mark_again board side None has = refl
 mark_again board side (Some s) has =
-    let on : rank_of s ≡ crossed_rank (other side) = eqb-true (rank_of s) (crossed_rank (other side)) (and-both (eqb (rank_of s) (crossed_rank (other side))) _ has).0 in
+    let on : rank_of s ≡ crossed_rank (other side) = eqb-true (rank_of s) (crossed_rank (other side)) (and_parts (eqb (rank_of s) (crossed_rank (other side))) _ has).0 in
     ap (λ (t : Bool). cond t (mark_at (square_of (97 + s % 8) (49 + s / 8))) None) (mark_digit (other side) s on)
     ∙ ap mark_at (square_again s (mark_low (other side) s on))
 

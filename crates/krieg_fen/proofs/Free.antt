@@ -9,13 +9,13 @@ abbrev pub Above : ℕ → List ℕ → Type 0
 Above n [] = Unit {0}
 Above n (b ∷ bs) = (n < b) × Above n bs
 
-pub above-append : (n : ℕ) (xs ys : List ℕ) → Above n xs → Above n ys → Above n (xs ++ ys)
-above-append n [] ys p q = q
-above-append n (x ∷ xs) ys p q = (p.0, above-append n xs ys p.1 q)
+pub above_append : (n : ℕ) (xs ys : List ℕ) → Above n xs → Above n ys → Above n (xs ++ ys)
+above_append n [] ys p q = q
+above_append n (x ∷ xs) ys p q = (p.0, above_append n xs ys p.1 q)
 
-pub above-less : (m n : ℕ) (xs : List ℕ) → m ≤ n → Above n xs → Above m xs
-above-less m n [] le p = tt
-above-less m n (x ∷ xs) le p = (let h : n < x = p.0 in omega arith, above-less m n xs le p.1)
+pub above_less : (m n : ℕ) (xs : List ℕ) → m ≤ n → Above n xs → Above m xs
+above_less m n [] le p = tt
+above_less m n (x ∷ xs) le p = (let h : n < x = p.0 in omega arith, above_less m n xs le p.1)
 
 -- the first piece ends at the separator
 pub pieces_first : (c : ℕ) (part rest : List ℕ) → Above c part → pieces c (part ++ (c ∷ rest)) ≡ part ∷ pieces c rest

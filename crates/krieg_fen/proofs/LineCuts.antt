@@ -25,19 +25,19 @@ lines_whole (b ∷ c ∷ bs) some none =
 
 pub ruleset cuts = (lines_cut, lines_whole)
 
-length-onto : (b : ℕ) (ls : List (List ℕ)) → length (onto_line b ls) ≤ length ls + 1
-length-onto b [] = omega arith
-length-onto b (l ∷ ls) = omega arith
+length_onto : (b : ℕ) (ls : List (List ℕ)) → length (onto_line b ls) ≤ length ls + 1
+length_onto b [] = omega arith
+length_onto b (l ∷ ls) = omega arith
 
-pub length-lines-le : (bs : List ℕ) → length (lines bs) ≤ length bs
-length-lines-le [] = omega arith
-length-lines-le (b ∷ bs) =
+pub length_lines_le : (bs : List ℕ) → length (lines bs) ≤ length bs
+length_lines_le [] = omega arith
+length_lines_le (b ∷ bs) =
     elim (eqb b 10) as (λ t. length (cond t ([] ∷ lines bs) (onto_line b (lines bs))) ≤ length (b ∷ bs)) [
-      | true ↦ omega (arith, length-lines-le bs)
-      | false ↦ omega (arith, length-lines-le bs, length-onto b (lines bs))
+      | true ↦ omega (arith, length_lines_le bs)
+      | false ↦ omega (arith, length_lines_le bs, length_onto b (lines bs))
     ]
 
-pub ruleset sizes = (length-lines-le)
+pub ruleset sizes = (length_lines_le)
 
 onto_some : (b : ℕ) (ls : List (List ℕ)) → onto_line b ls ≡ [] → ⊥
 onto_some b [] e = absurd cc

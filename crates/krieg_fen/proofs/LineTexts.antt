@@ -14,12 +14,12 @@ line_above n (b ∷ l) le above =
     and_from _ _ (ap not (ne_eqb b 10 (λ e. absurd (omega arith)))) (line_above n l le above.1)
 
 -- two lines one behind the other
-pub line-append : (a b : List ℕ) → is_line a ≡ true → is_line b ≡ true → is_line (a ++ b) ≡ true
-line-append a b p q = list_all-append (λ c. not (eqb c 10)) a b ∙ and_from _ _ p q
+pub line_append : (a b : List ℕ) → is_line a ≡ true → is_line b ≡ true → is_line (a ++ b) ≡ true
+line_append a b p q = list_all-append (λ c. not (eqb c 10)) a b ∙ and_from _ _ p q
 
-pub lines-append : (a b : List (List ℕ)) → AreLines a → AreLines b → AreLines (a ++ b)
-lines-append [] b p q = q
-lines-append (l ∷ a) b p q = (p.0, lines-append a b p.1 q)
+pub lines_append : (a b : List (List ℕ)) → AreLines a → AreLines b → AreLines (a ++ b)
+lines_append [] b p q = q
+lines_append (l ∷ a) b p q = (p.0, lines_append a b p.1 q)
 
 -- the first line ends at its line feed
 pub lines_first : (l rest : List ℕ) → is_line l ≡ true → lines (l ++ (10 ∷ rest)) ≡ l ∷ lines rest

@@ -16,13 +16,13 @@ use Rattle.krieg_fen.proofs.Locality.{local_pure, local_taken, local_bind}
 abbrev pub with_front : List Pos → Result (List Pos × Place) TextFault → Result (List Pos × Place) TextFault
 with_front front read = read >>= λ x. Ok (front ++ x.0, x.1)
 
-first-push : (list : List Pos) (p : Pos) → slice_get (list ++ p ∷ []) 0 ≡ Some (unwrap_or (slice_get list 0) p)
-first-push [] p = refl
-first-push (q ∷ list) p = refl
+first_push : (list : List Pos) (p : Pos) → slice_get (list ++ p ∷ []) 0 ≡ Some (unwrap_or (slice_get list 0) p)
+first_push [] p = refl
+first_push (q ∷ list) p = refl
 
-front-push : (list : List Pos) (p : Pos) (r : Result (List Pos × Place) TextFault) → with_front list (r >>= λ o. Ok (p ∷ o.0, o.1)) ≡ with_front (list ++ p ∷ []) r
-front-push list p (Ok x) = ap (λ (ps : List Pos). Ok (ps, x.1)) (sym (append_assoc list (p ∷ []) x.0))
-front-push list p (Err e) = refl
+front_push : (list : List Pos) (p : Pos) (r : Result (List Pos × Place) TextFault) → with_front list (r >>= λ o. Ok (p ∷ o.0, o.1)) ≡ with_front (list ++ p ∷ []) r
+front_push list p (Ok x) = ap (λ (ps : List Pos). Ok (ps, x.1)) (sym (append_assoc list (p ∷ []) x.0))
+front_push list p (Err e) = refl
 
 more : (n i : ℕ) → i < n → n - i ≡ suc (n - (i + 1))
 more n i lt = omega arith
@@ -37,8 +37,8 @@ listed_ok who list n i line from new p all lt read so =
     let step : positions_at who (slice_get list 0) (n - i) (place (line + i) from) ≡ rest (p, place (line + (i + 1)) new) =
     ap (λ (k : ℕ). positions_at who (slice_get list 0) k (place (line + i) from)) (more n i lt) ∙ ap (λ (r : Result (Pos × Place) TextFault). r >>= rest) read
     ∙ ap (λ (k : ℕ). rest (p, place k new)) number in
-    ap (λ (f : Option Pos). with_front (list ++ p ∷ []) (positions_at who f (n - (i + 1)) (place (line + (i + 1)) new))) (first-push list p)
-    ∙ sym (front-push list p (positions_at who (Some (unwrap_or (slice_get list 0) p)) (n - (i + 1)) (place (line + (i + 1)) new)))
+    ap (λ (f : Option Pos). with_front (list ++ p ∷ []) (positions_at who f (n - (i + 1)) (place (line + (i + 1)) new))) (first_push list p)
+    ∙ sym (front_push list p (positions_at who (Some (unwrap_or (slice_get list 0) p)) (n - (i + 1)) (place (line + (i + 1)) new)))
     ∙ ap (with_front list) (sym step) ∙ so
 
 pub listed_fails : (e : TextFault) (who : Side) (list : List Pos) (n i : ℕ) (from : Place) (all : Result (List Pos × Place) TextFault) → i < n →

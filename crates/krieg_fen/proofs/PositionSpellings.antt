@@ -17,7 +17,7 @@ use Rattle.krieg_fen.specs.declared.fen.FenFault.{FenFault}
 use Rattle.krieg_fen.specs.Fen.{clocks_at, unless, checked, position_at, position_of}
 use Rattle.krieg_fen.specs.FenText.{side_text, rights_text, mark_text}
 use Rattle.krieg_fen.specs.Spelling.{AreClocks, Spells}
-use Rattle.krieg_fen.proofs.Free.{above-less}
+use Rattle.krieg_fen.proofs.Free.{above_less}
 use Rattle.krieg_fen.proofs.FenTexts.{side_again, side_above, rights_again, rights_above, mark_again, mark_above, parts, parts_again}
 use Rattle.krieg_fen.proofs.BoardSpellings.{board_spells, board_long, board_high, board_reads, AllAbove, pieces_join}
 use Rattle.krieg_fen.proofs.FieldSpellings.{side_spells, rights_spells, mark_spells, clocks_spell, clocks_read, clock_above}
@@ -93,7 +93,7 @@ position_spells text p e = fields_spell (pieces 32 text) text p (sym (join_with_
 clocks_above : (clocks : List (List ℕ)) → AreClocks clocks → AllAbove 32 clocks
 clocks_above [] are = tt
 clocks_above (h ∷ []) are = absurd are
-clocks_above (h ∷ f ∷ []) are = (above-less 32 47 h (omega arith) (clock_above h are.0), (above-less 32 47 f (omega arith) (clock_above f are.1), tt))
+clocks_above (h ∷ f ∷ []) are = (above_less 32 47 h (omega arith) (clock_above h are.0), (above_less 32 47 f (omega arith) (clock_above f are.1), tt))
 clocks_above (h ∷ f ∷ g ∷ k) are = absurd are
 
 fields_read : (p : Pos) (a : List ℕ) (clocks : List (List ℕ)) → AreClocks clocks → board_of a ≡ Some p.board → IsValid p →

@@ -12,7 +12,7 @@ use Rattle.krieg_fen.specs.Pieces.{pieces}
 use Rattle.krieg_fen.specs.Letters.{letter}
 use Rattle.krieg_fen.specs.Ranks.{Row, squares_at, row_of, onto_row, eight, ranks_of, board_of}
 use Rattle.krieg_fen.specs.FenText.{run, row_text, rank_text, rank_at, ranks_text, board_text}
-use Rattle.krieg_fen.proofs.Free.{Above, above-append, above-less, pieces_first, pieces_last}
+use Rattle.krieg_fen.proofs.Free.{Above, above_append, above_less, pieces_first, pieces_last}
 
 abbrev man : Side → Kind → Option Man
 man side kind = Some (record { side = side; kind = kind })
@@ -49,9 +49,9 @@ onto_nil : (o : Option Row) → onto_row (Some []) o ≡ o
 onto_nil None = refl
 onto_nil (Some r) = refl
 
-row-append : (xs ys : List ℕ) → row_of (xs ++ ys) ≡ onto_row (row_of xs) (row_of ys)
-row-append [] ys = sym (onto_nil (row_of ys))
-row-append (x ∷ xs) ys = ap (onto_row (squares_at x)) (row-append xs ys) ∙ sym (onto_three (squares_at x) (row_of xs) (row_of ys))
+row_append : (xs ys : List ℕ) → row_of (xs ++ ys) ≡ onto_row (row_of xs) (row_of ys)
+row_append [] ys = sym (onto_nil (row_of ys))
+row_append (x ∷ xs) ys = ap (onto_row (squares_at x)) (row_append xs ys) ∙ sym (onto_three (squares_at x) (row_of xs) (row_of ys))
 
 one_more : (n : ℕ) (row : Row) → replicate (suc n) None ++ row ≡ replicate n None ++ (None ∷ row)
 one_more zero row = refl
@@ -61,7 +61,7 @@ pub row_again : (row : Row) (n : ℕ) → n + length row ≤ 8 → row_of (row_t
 row_again [] n le = run_again n (omega arith) ∙ ap Some (sym (append-nil (replicate n None)))
 row_again (None ∷ row) n le = row_again row (suc n) (omega arith) ∙ ap Some (one_more n row)
 row_again (Some m ∷ row) n le =
-    row-append (run n) (letter m.side m.kind ∷ row_text 0 row)
+    row_append (run n) (letter m.side m.kind ∷ row_text 0 row)
     ∙ rw (run_again n (omega arith), letter_again m.side m.kind, row_again row 0 (omega arith)) refl
 
 -- a rank of eight squares
@@ -90,15 +90,15 @@ run_above (suc n) = (omega arith, tt)
 row_above : (row : Row) (n : ℕ) → Above 47 (row_text n row)
 row_above [] n = run_above n
 row_above (None ∷ row) n = row_above row (suc n)
-row_above (Some m ∷ row) n = above-append 47 (run n) (letter m.side m.kind ∷ row_text 0 row) (run_above n) (letter_above m.side m.kind, row_above row 0)
+row_above (Some m ∷ row) n = above_append 47 (run n) (letter m.side m.kind ∷ row_text 0 row) (run_above n) (letter_above m.side m.kind, row_above row 0)
 
 -- no space in the text of a board
 pub ranks_above : (n : ℕ) (board : Board) → Above 32 (ranks_text n board)
 ranks_above zero board = tt
-ranks_above (suc zero) board = above-less 32 47 (rank_text (rank_at board 0)) (omega arith) (row_above (rank_at board 0) 0)
+ranks_above (suc zero) board = above_less 32 47 (rank_text (rank_at board 0)) (omega arith) (row_above (rank_at board 0) 0)
 ranks_above (suc (suc n)) board =
-    above-append 32 (rank_text (rank_at board (suc n))) (47 ∷ ranks_text (suc n) board)
-    (above-less 32 47 (rank_text (rank_at board (suc n))) (omega arith) (row_above (rank_at board (suc n)) 0)) (omega arith, ranks_above (suc n) board)
+    above_append 32 (rank_text (rank_at board (suc n))) (47 ∷ ranks_text (suc n) board)
+    (above_less 32 47 (rank_text (rank_at board (suc n))) (omega arith) (row_above (rank_at board (suc n)) 0)) (omega arith, ranks_above (suc n) board)
 
 pub rank_long : (n : ℕ) (board : Board) → 8 * n + 8 ≤ length board → length (rank_at board n) ≡ 8
 rank_long n board le = length-take-le 8 (drop (8 * n) board) (omega (arith, length-drop (8 * n) board))

@@ -196,6 +196,6 @@ fn write_state(
 pub fn write_position(p: &Position, text: &mut Vec<u8>) -> Result<(), NoMemory>
     ensures { Writes result text.old.items text.new.items (position_text p.now) }
 {
-    write_board(p.board(), text)?;
+    write_board(&p.bits().to_board(), text)?;
     write_state(p.side(), p.rights(), p.mark(), text)
 }

@@ -1,5 +1,6 @@
 -- The man that arrives: a king stays a king, no pawn is made, and a pawn stands on no first or last rank.
 use Rattle.std.proofs.Common.{◌≡◌, ℕ, Bool, true, false, not, ◌||◌, refl, cond, ◌==◌, ◌+◌, ◌<◌, ◌≤◌, arith, sym, ◌≢◌, ◌∙◌, ap, inl, inr}
+use Rattle.std.proofs.lemmas.Bool.{and_from, and_parts, or_cases, eqb-true, eqb-false}
 use Rattle.std.specs.Prelude.{Some}
 use Rattle.krieg_board.specs.declared.men.Side.{Side}
 use Rattle.krieg_board.specs.declared.men.Side.TheVariants.{White, Black}
@@ -15,14 +16,12 @@ use Rattle.krieg_board.specs.Squares.{rank_of, home_rank, landing_rank, last_ran
 use Rattle.krieg_board.specs.Board.{man_at, is_of, is_man}
 use Rattle.krieg_board.specs.Attacks.{attacks, is_forward}
 use Rattle.krieg_board.specs.Validity.{is_pawn}
-use Rattle.krieg_board.proofs.Connectives.{and-both, both-and, or-either}
-use Rattle.krieg_board.proofs.MenLemmas.{is_man-other_kind, is_pawn-not, is_pawn-tells}
+use Rattle.krieg_board.proofs.MenLemmas.{is_man_other_kind, is_pawn_not, is_pawn_tells}
 use Rattle.krieg_moves.specs.After.{kind_after, placed, is_marked}
 use Rattle.krieg_moves.specs.Legal.{is_plain, is_step, is_double_step, is_pawn_capture, is_pawn_move, is_move_of_kind, has_promotion, can_castle}
 use Rattle.krieg_moves.specs.declared.wing.Wing.TheVariants.{Short, Long}
-use Rattle.krieg_moves.proofs.Boards.{one}
+use Rattle.krieg_board.proofs.Counting.{one}
 use Rattle.krieg_moves.proofs.Movers.{Mover}
-use Rattle.krieg_moves.proofs.Shapes.{eq_from, not_eq}
 use Rattle.krieg_moves.proofs.Pawns.{step, double_step, attack_forward}
 
 -- what stands on the to-square
@@ -60,13 +59,10 @@ one_le false b h = omega arith
 one_le true false h = absurd (let e = h refl in cc)
 one_le true true h = omega arith
 
-pub clash : (t : Bool) → t ≡ true → t ≡ false → ⊥
-clash t h k = cc
-
 -- a pawn never goes to the rank where its side's officers begin
 forward_rank : (side : Side) (f t : ℕ) → f < 64 → is_forward side f t ≡ true → rank_of t ≢ home_rank side
-forward_rank White f t l h = λ e. (let r = eq_from (rank_of t) (rank_of f + 1) h in omega arith)
-forward_rank Black f t l h = λ e. (let r = eq_from (rank_of f) (rank_of t + 1) h in omega arith)
+forward_rank White f t l h = λ e. (let r = eqb-true (rank_of t) (rank_of f + 1) h in omega arith)
+forward_rank Black f t l h = λ e. (let r = eqb-true (rank_of f) (rank_of t + 1) h in omega arith)
 
 landing_not_home : (side : Side) (t : ℕ) → rank_of t ≡ landing_rank side → rank_of t ≢ home_rank side
 landing_not_home White t h = λ e. omega arith
@@ -79,12 +75,12 @@ inside_by Black r h l = (l, h)
 pawn_rank_not : (p : Pos) (m : Move) (man : Man) → Mover p m man → man.kind ≡ Pawn →
     (is_step p.board p.side m || (is_double_step p.board p.side m || is_pawn_capture p m)) ≡ true → rank_of m.to ≢ home_rank p.side
 pawn_rank_not p m man v pawn h =
-    elim (or-either (is_step p.board p.side m) (is_double_step p.board p.side m || is_pawn_capture p m) h) [
+    elim (or_cases (is_step p.board p.side m) (is_double_step p.board p.side m || is_pawn_capture p m) h) [
       | inl s ↦ forward_rank p.side m.from m.to v.from_in (step p m s).forward
-      | inr r ↦ elim (or-either (is_double_step p.board p.side m) (is_pawn_capture p m) r) [
+      | inr r ↦ elim (or_cases (is_double_step p.board p.side m) (is_pawn_capture p m) r) [
         | inl d ↦ landing_not_home p.side m.to (double_step p m d).lands
         | inr c ↦ forward_rank p.side m.from m.to v.from_in
-            (attack_forward p m man v pawn (and-both (attacks p.board m.from m.to) (is_of (other p.side) (man_at p.board m.to) || is_marked p.mark m.to) c).0)
+            (attack_forward p m man v pawn (and_parts (attacks p.board m.from m.to) (is_of (other p.side) (man_at p.board m.to) || is_marked p.mark m.to) c).0)
       ]
     ]
 
@@ -94,34 +90,34 @@ not_last true true h k = cc
 not_last true false h k = cc
 not_last false plain h k = refl
 
-arrives-plain : (p : Pos) (m : Move) (man : Man) → is_plain m.promo ≡ true → is_same_kind man.kind Pawn ≡ false → Arrives p m man
-arrives-plain p m man plain officer =
+arrives_plain : (p : Pos) (m : Move) (man : Man) → is_plain m.promo ≡ true → is_same_kind man.kind Pawn ≡ false → Arrives p m man
+arrives_plain p m man plain officer =
     let same = placed_is man m plain in
     record {
       king = λ side. ap (λ x. is_man side King (Some x)) same;
       pawn = λ side. (let e : one (is_man side Pawn (Some (placed man m))) ≡ one (is_man side Pawn (Some man)) = ap (λ x. one (is_man side Pawn (Some x))) same in omega arith);
-      inside = λ h. absurd (let e = ap (λ x. is_pawn (Some x)) (sym same) ∙ h in let no = is_pawn-not man officer in cc);
+      inside = λ h. absurd (let e = ap (λ x. is_pawn (Some x)) (sym same) ∙ h in let no = is_pawn_not man officer in cc);
     }
 
-arrives-pawn : (p : Pos) (m : Move) (man : Man) → Mover p m man → man.kind ≡ Pawn → is_pawn_move p m ≡ true → Arrives p m man
-arrives-pawn p m man v pawn h =
-    let r = and-both (has_promotion p.side m) (is_step p.board p.side m || (is_double_step p.board p.side m || is_pawn_capture p m)) h in
+arrives_pawn : (p : Pos) (m : Move) (man : Man) → Mover p m man → man.kind ≡ Pawn → is_pawn_move p m ≡ true → Arrives p m man
+arrives_pawn p m man v pawn h =
+    let r = and_parts (has_promotion p.side m) (is_step p.board p.side m || (is_double_step p.board p.side m || is_pawn_capture p m)) h in
     let home = pawn_rank_not p m man v pawn r.1 in
     record {
-      king = λ side. is_man-other_kind side King (placed man m) (not_king_after m.promo man.kind pawn) ∙ sym (is_man-other_kind side King man (ap (λ k. is_same_kind k King) pawn));
+      king = λ side. is_man_other_kind side King (placed man m) (not_king_after m.promo man.kind pawn) ∙ sym (is_man_other_kind side King man (ap (λ k. is_same_kind k King) pawn));
       pawn = λ side. one_le (is_man side Pawn (Some (placed man m))) (is_man side Pawn (Some man))
-          (λ q. both-and (is_same_side man.side side) (is_same_kind man.kind Pawn) (and-both (is_same_side man.side side) (is_same_kind (kind_after m.promo man.kind) Pawn) q).0 (ap (λ k. is_same_kind k Pawn) pawn));
-      inside = λ q. (let plain = plain_from_pawn m.promo man.kind (is_pawn-tells (placed man m) q) in
-          inside_by p.side (rank_of m.to) home (not_eq (rank_of m.to) (last_rank p.side) (not_last (rank_of m.to == last_rank p.side) (is_plain m.promo) r.0 plain)));
+          (λ q. and_from (is_same_side man.side side) (is_same_kind man.kind Pawn) (and_parts (is_same_side man.side side) (is_same_kind (kind_after m.promo man.kind) Pawn) q).0 (ap (λ k. is_same_kind k Pawn) pawn));
+      inside = λ q. (let plain = plain_from_pawn m.promo man.kind (is_pawn_tells (placed man m) q) in
+          inside_by p.side (rank_of m.to) home (eqb-false (rank_of m.to) (last_rank p.side) (not_last (rank_of m.to == last_rank p.side) (is_plain m.promo) r.0 plain)));
     }
 
 pub arrives : (p : Pos) (m : Move) (man : Man) → Mover p m man → Arrives p m man
 arrives p m man v = by_kind man.kind refl v.moves
   where
     by_kind : (k : Kind) → man.kind ≡ k → is_move_of_kind k p m ≡ true → Arrives p m man
-    by_kind Pawn e h = arrives-pawn p m man v e h
-    by_kind Knight e h = arrives-plain p m man (and-both (is_plain m.promo) (attacks p.board m.from m.to) h).0 (ap (λ x. is_same_kind x Pawn) e)
-    by_kind Bishop e h = arrives-plain p m man (and-both (is_plain m.promo) (attacks p.board m.from m.to) h).0 (ap (λ x. is_same_kind x Pawn) e)
-    by_kind Rook e h = arrives-plain p m man (and-both (is_plain m.promo) (attacks p.board m.from m.to) h).0 (ap (λ x. is_same_kind x Pawn) e)
-    by_kind Queen e h = arrives-plain p m man (and-both (is_plain m.promo) (attacks p.board m.from m.to) h).0 (ap (λ x. is_same_kind x Pawn) e)
-    by_kind King e h = arrives-plain p m man (and-both (is_plain m.promo) (attacks p.board m.from m.to || (can_castle Short p m || can_castle Long p m)) h).0 (ap (λ x. is_same_kind x Pawn) e)
+    by_kind Pawn e h = arrives_pawn p m man v e h
+    by_kind Knight e h = arrives_plain p m man (and_parts (is_plain m.promo) (attacks p.board m.from m.to) h).0 (ap (λ x. is_same_kind x Pawn) e)
+    by_kind Bishop e h = arrives_plain p m man (and_parts (is_plain m.promo) (attacks p.board m.from m.to) h).0 (ap (λ x. is_same_kind x Pawn) e)
+    by_kind Rook e h = arrives_plain p m man (and_parts (is_plain m.promo) (attacks p.board m.from m.to) h).0 (ap (λ x. is_same_kind x Pawn) e)
+    by_kind Queen e h = arrives_plain p m man (and_parts (is_plain m.promo) (attacks p.board m.from m.to) h).0 (ap (λ x. is_same_kind x Pawn) e)
+    by_kind King e h = arrives_plain p m man (and_parts (is_plain m.promo) (attacks p.board m.from m.to || (can_castle Short p m || can_castle Long p m)) h).0 (ap (λ x. is_same_kind x Pawn) e)

@@ -1,5 +1,6 @@
 -- A king's move has one of the effects, castling on either wing among them.
 use Rattle.std.proofs.Common.{◌≡◌, ℕ, Bool, true, false, not, ◌&&◌, ◌||◌, refl, cond, ◌==◌, nat_le, ◌<◌, arith, sym, set, ◌≢◌, ◌∙◌, ap, inl, inr, subst}
+use Rattle.std.proofs.lemmas.Bool.{and_from, and_left, and_parts, and_right, cond-false, cond-true, not-true, or_cases, eqb-true, eq-eqb, ne_eqb}
 use Rattle.std.specs.Prelude.{Option, Some, None, is_some}
 use Rattle.krieg_board.specs.declared.men.Side.{Side}
 use Rattle.krieg_board.specs.declared.men.Side.TheVariants.{White, Black}
@@ -14,18 +15,17 @@ use Rattle.krieg_board.specs.Squares.{file_of, rank_of, square_at, home_rank}
 use Rattle.krieg_board.specs.Board.{Board, man_at, is_man}
 use Rattle.krieg_board.specs.Attacks.{attacks, can_reach, is_clear, is_between, apart}
 use Rattle.krieg_board.specs.Validity.{has_castles, has_castle}
-use Rattle.krieg_board.proofs.SquareTests.{every_square-at}
+use Rattle.krieg_board.proofs.SquareTests.{every_square_at}
 use Rattle.krieg_board.proofs.Facts.{Facts}
-use Rattle.krieg_board.proofs.Connectives.{and-both, both-and, not-false, or-either}
-use Rattle.krieg_board.proofs.MenLemmas.{same_kind-eq}
+use Rattle.krieg_board.proofs.MenLemmas.{same_kind_eq}
 use Rattle.krieg_moves.specs.Wings.{king_square, corner, arrival, crossing}
 use Rattle.krieg_moves.specs.After.{board_after, moved, with_rook, is_en_passant, is_castling}
 use Rattle.krieg_moves.specs.Legal.{can_castle, holds, is_safe, is_plain, is_king_move, is_move_of_kind}
 use Rattle.krieg_moves.specs.declared.wing.Wing.{Wing}
 use Rattle.krieg_moves.specs.declared.wing.Wing.TheVariants.{Short, Long}
-use Rattle.krieg_moves.proofs.Effects.{Effect, Effect-castle}
+use Rattle.krieg_moves.proofs.Effects.{Effect, Effect_castle}
 use Rattle.krieg_moves.proofs.Movers.{Mover, attacked_no_king}
-use Rattle.krieg_moves.proofs.Shapes.{true-and-false, false-and, cond-at-true, cond-at-false, eq_from, eq_to, eq_not, found_man, attack_reaches, passes_not, effect-plain}
+use Rattle.krieg_moves.proofs.Shapes.{found_man, attack_reaches, passes_not, effect_plain}
 
 -- the squares of castling differ, and they are on the board
 pub record Apart (wing : Wing) (side : Side) : Type 0 where
@@ -102,11 +102,11 @@ near_not : (wing : Wing) (side : Side) (f t : ℕ) → nat_le (apart (file_of f)
 near_not wing side f t h = by_test (f == king_square side) refl (t == arrival wing side) refl
   where
     by_test : (a : Bool) → (f == king_square side) ≡ a → (b : Bool) → (t == arrival wing side) ≡ b → (f == king_square side && t == arrival wing side) ≡ false
-    by_test false e b e' = false-and (f == king_square side) (t == arrival wing side) e
-    by_test true e false e' = true-and-false (f == king_square side) (t == arrival wing side) e'
+    by_test false e b e' = and_left (f == king_square side) (t == arrival wing side) e
+    by_test true e false e' = and_right (f == king_square side) (t == arrival wing side) e'
     by_test true e true e' =
-        let from_is = eq_from f (king_square side) e in
-        let to_is = eq_from t (arrival wing side) e' in
+        let from_is = eqb-true f (king_square side) e in
+        let to_is = eqb-true t (arrival wing side) e' in
         let two : apart (file_of f) (file_of t) ≡ 2 =
         ap (λ x. apart (file_of x) (file_of t)) from_is ∙ (ap (λ x. apart (file_of (king_square side)) (file_of x)) to_is ∙ far_apart wing side) in
         absurd (no_two (apart (file_of f) (file_of t)) h two)
@@ -114,12 +114,12 @@ near_not wing side f t h = by_test (f == king_square side) refl (t == arrival wi
         no_two : (n : ℕ) → nat_le n 1 ≡ true → n ≡ 2 → ⊥
         no_two n h e = (let no : nat_le 2 1 ≡ true = ap (λ x. nat_le x 1) (sym e) ∙ h in cc)
 
-king_near : (p : Pos) (m : Move) (man : Man) (wing : Wing) → Mover p m man → man.kind ≡ King → attacks p.board m.from m.to ≡ true → is_castling wing man m ≡ false
+pub king_near : (p : Pos) (m : Move) (man : Man) (wing : Wing) → Mover p m man → man.kind ≡ King → attacks p.board m.from m.to ≡ true → is_castling wing man m ≡ false
 king_near p m man wing v king a =
     let r = attack_reaches p.board man m.from m.to v.departs.stands a in
     let near : can_reach King man.side m.from m.to ≡ true = ap (λ k. can_reach k man.side m.from m.to) (sym king) ∙ r in
-    let q = and-both (nat_le (apart (file_of m.from) (file_of m.to)) 1) (nat_le (apart (rank_of m.from) (rank_of m.to)) 1) near in
-    true-and-false (is_same_kind man.kind King) (m.from == king_square man.side && m.to == arrival wing man.side) (near_not wing man.side m.from m.to q.0)
+    let q = and_parts (nat_le (apart (file_of m.from) (file_of m.to)) 1) (nat_le (apart (rank_of m.from) (rank_of m.to)) 1) near in
+    and_right (is_same_kind man.kind King) (m.from == king_square man.side && m.to == arrival wing man.side) (near_not wing man.side m.from m.to q.0)
 
 pub record FourCastles (b : Board) (r : Rights) : Type 0 where
   pub white_short : has_castle b r.white_short White 7 ≡ true
@@ -129,15 +129,15 @@ pub record FourCastles (b : Board) (r : Rights) : Type 0 where
 
 pub four_castles : (b : Board) (r : Rights) → has_castles b r ≡ true → FourCastles b r
 four_castles b r h =
-    let p = and-both (has_castle b r.white_short White 7) (has_castle b r.white_long White 0 && (has_castle b r.black_short Black 7 && has_castle b r.black_long Black 0)) h in
-    let q = and-both (has_castle b r.white_long White 0) (has_castle b r.black_short Black 7 && has_castle b r.black_long Black 0) p.1 in
-    let s = and-both (has_castle b r.black_short Black 7) (has_castle b r.black_long Black 0) q.1 in
+    let p = and_parts (has_castle b r.white_short White 7) (has_castle b r.white_long White 0 && (has_castle b r.black_short Black 7 && has_castle b r.black_long Black 0)) h in
+    let q = and_parts (has_castle b r.white_long White 0) (has_castle b r.black_short Black 7 && has_castle b r.black_long Black 0) p.1 in
+    let s = and_parts (has_castle b r.black_short Black 7) (has_castle b r.black_long Black 0) q.1 in
     record { white_short = p.0; white_long = q.0; black_short = s.0; black_long = s.1 }
 
 -- a right that is held has its king and its rook on their squares
 pub held_castle : (b : Board) (held : Bool) (side : Side) (rook : ℕ) → has_castle b held side rook ≡ true → held ≡ true →
     (is_man side King (man_at b (square_at 4 (home_rank side))) ≡ true) × (is_man side Rook (man_at b (square_at rook (home_rank side))) ≡ true)
-held_castle b true side rook h k = and-both (is_man side King (man_at b (square_at 4 (home_rank side)))) (is_man side Rook (man_at b (square_at rook (home_rank side)))) h
+held_castle b true side rook h k = and_parts (is_man side King (man_at b (square_at 4 (home_rank side)))) (is_man side Rook (man_at b (square_at rook (home_rank side)))) h
 held_castle b false side rook h k = cc
 
 pub rook_stands : (b : Board) (r : Rights) (wing : Wing) (side : Side) → has_castles b r ≡ true → holds r side wing ≡ true → is_man side Rook (man_at b (corner wing side)) ≡ true
@@ -154,8 +154,8 @@ none_from_some (Some a) h = cc
 clear_empty : (b : Board) (f t s : ℕ) → is_clear b f t ≡ true → is_between f t s ≡ true → s < 64 → man_at b s ≡ None
 unfolding is_clear
 clear_empty b f t s h between l =
-    let r = every_square-at (λ s. not (is_between f t s && is_some (man_at b s))) h s l in
-    none_from_some (man_at b s) (at_true (is_between f t s) (is_some (man_at b s)) between (not-false (is_between f t s && is_some (man_at b s)) r))
+    let r = every_square_at (λ s. not (is_between f t s && is_some (man_at b s))) h s l in
+    none_from_some (man_at b s) (at_true (is_between f t s) (is_some (man_at b s)) between (not-true (is_between f t s && is_some (man_at b s)) r))
   where
     at_true : (a b : Bool) → a ≡ true → (a && b) ≡ false → b ≡ false
     at_true true b h k = k
@@ -163,30 +163,30 @@ clear_empty b f t s h between l =
 
 -- the king arrives on one wing only
 one_wing : (side : Side) (t : ℕ) → t ≡ arrival Long side → (t == arrival Short side) ≡ false
-one_wing White t e = eq_not t 6 (λ z. omega arith)
-one_wing Black t e = eq_not t 62 (λ z. omega arith)
+one_wing White t e = ne_eqb t 6 (λ z. omega arith)
+one_wing Black t e = ne_eqb t 62 (λ z. omega arith)
 
 castles_short_not : (man : Man) (m : Move) → m.to ≡ arrival Long man.side → is_castling Short man m ≡ false
 castles_short_not man m e =
-    true-and-false (is_same_kind man.kind King) (m.from == king_square man.side && m.to == arrival Short man.side)
-    (true-and-false (m.from == king_square man.side) (m.to == arrival Short man.side) (one_wing man.side m.to e))
+    and_right (is_same_kind man.kind King) (m.from == king_square man.side && m.to == arrival Short man.side)
+    (and_right (m.from == king_square man.side) (m.to == arrival Short man.side) (one_wing man.side m.to e))
 
 -- the board after castling
-board_after-castling : (b : Board) (mark : Option ℕ) (man : Man) (m : Move) (wing : Wing) → man.kind ≡ King → m.from ≡ king_square man.side → m.to ≡ arrival wing man.side →
+board_after_castling : (b : Board) (mark : Option ℕ) (man : Man) (m : Move) (wing : Wing) → man.kind ≡ King → m.from ≡ king_square man.side → m.to ≡ arrival wing man.side →
     board_after b mark man m ≡ with_rook wing man.side (moved b man m)
-board_after-castling b mark man m wing king from_is to_is =
+board_after_castling b mark man m wing king from_is to_is =
     let no_pawn = passes_not mark man m (ap (λ k. is_same_kind k Pawn) king) in
-    cond-at-false (is_en_passant mark man m) _ _ no_pawn ∙ by_wing wing to_is
+    cond-false (is_en_passant mark man m) _ _ no_pawn ∙ by_wing wing to_is
   where
     castles : (wing : Wing) → m.to ≡ arrival wing man.side → is_castling wing man m ≡ true
     castles wing to_is =
-        both-and (is_same_kind man.kind King) (m.from == king_square man.side && m.to == arrival wing man.side) (ap (λ k. is_same_kind k King) king)
-        (both-and (m.from == king_square man.side) (m.to == arrival wing man.side) (eq_to m.from (king_square man.side) from_is) (eq_to m.to (arrival wing man.side) to_is))
+        and_from (is_same_kind man.kind King) (m.from == king_square man.side && m.to == arrival wing man.side) (ap (λ k. is_same_kind k King) king)
+        (and_from (m.from == king_square man.side) (m.to == arrival wing man.side) (eq-eqb m.from (king_square man.side) from_is) (eq-eqb m.to (arrival wing man.side) to_is))
 
     by_wing : (wing : Wing) → m.to ≡ arrival wing man.side →
         cond (is_castling Short man m) (with_rook Short man.side (moved b man m)) (cond (is_castling Long man m) (with_rook Long man.side (moved b man m)) (moved b man m)) ≡ with_rook wing man.side (moved b man m)
-    by_wing Short to_is = cond-at-true (is_castling Short man m) _ _ (castles Short to_is)
-    by_wing Long to_is = cond-at-false (is_castling Short man m) _ _ (castles_short_not man m to_is) ∙ cond-at-true (is_castling Long man m) _ _ (castles Long to_is)
+    by_wing Short to_is = cond-true (is_castling Short man m) _ _ (castles Short to_is)
+    by_wing Long to_is = cond-false (is_castling Short man m) _ _ (castles_short_not man m to_is) ∙ cond-true (is_castling Long man m) _ _ (castles Long to_is)
 
 man_is : (x : Man) (side : Side) (which : Kind) → x.side ≡ side → x.kind ≡ which → x ≡ record { side = side; kind = which }
 man_is x side which e f = λ i. record { side = e i; kind = f i }
@@ -199,49 +199,49 @@ pub record Castling (p : Pos) (m : Move) (wing : Wing) : Type 0 where
   pub rook : man_at p.board (corner wing p.side) ≡ Some (record { side = p.side; kind = Rook })
   pub free : man_at p.board (crossing wing p.side) ≡ None
 
-castling_by : (p : Pos) (m : Move) (wing : Wing) → Facts p → can_castle wing p m ≡ true → Castling p m wing
+pub castling_by : (p : Pos) (m : Move) (wing : Wing) → Facts p → can_castle wing p m ≡ true → Castling p m wing
 castling_by p m wing f h =
     let safe = is_safe p (king_square p.side) && (is_safe p (crossing wing p.side) && is_safe p (arrival wing p.side)) in
     let clear = is_clear p.board (king_square p.side) (corner wing p.side) in
-    let h1 = and-both (m.from == king_square p.side) (m.to == arrival wing p.side && (holds p.rights p.side wing && (clear && safe))) h in
-    let h2 = and-both (m.to == arrival wing p.side) (holds p.rights p.side wing && (clear && safe)) h1.1 in
-    let h3 = and-both (holds p.rights p.side wing) (clear && safe) h2.1 in
-    let h4 = and-both clear safe h3.1 in
-    let to_is : m.to ≡ arrival wing p.side = eq_from m.to (arrival wing p.side) h2.0 in
+    let h1 = and_parts (m.from == king_square p.side) (m.to == arrival wing p.side && (holds p.rights p.side wing && (clear && safe))) h in
+    let h2 = and_parts (m.to == arrival wing p.side) (holds p.rights p.side wing && (clear && safe)) h1.1 in
+    let h3 = and_parts (holds p.rights p.side wing) (clear && safe) h2.1 in
+    let h4 = and_parts clear safe h3.1 in
+    let to_is : m.to ≡ arrival wing p.side = eqb-true m.to (arrival wing p.side) h2.0 in
     let s = squares_apart wing p.side in
     let (rook, is, side, kind) = found_man p.side Rook (man_at p.board (corner wing p.side)) (rook_stands p.board p.rights wing p.side f.castles h3.0) in
     record {
-      from_is = eq_from m.from (king_square p.side) h1.0;
+      from_is = eqb-true m.from (king_square p.side) h1.0;
       to_is = to_is;
       empty = ap (man_at p.board) to_is ∙ clear_empty p.board (king_square p.side) (corner wing p.side) (arrival wing p.side) h4.0 s.arrived s.arrival_in;
       rook = is ∙ ap (λ x. Some x) (man_is rook p.side Rook side kind);
       free = clear_empty p.board (king_square p.side) (corner wing p.side) (crossing wing p.side) h4.0 s.crossed s.crossing_in;
     }
 
-effect-castling : (p : Pos) (m : Move) (man : Man) (wing : Wing) → Facts p → Mover p m man → man.kind ≡ King → can_castle wing p m ≡ true →
+effect_castling : (p : Pos) (m : Move) (man : Man) (wing : Wing) → Facts p → Mover p m man → man.kind ≡ King → can_castle wing p m ≡ true →
     Effect p.board man m (board_after p.board p.mark man m)
-effect-castling p m man wing f v king h =
+effect_castling p m man wing f v king h =
     let c = castling_by p m wing f h in
     let s = squares_apart wing p.side in
     let rook : Man = record { side = p.side; kind = Rook } in
     let board_is : board_after p.board p.mark man m ≡ set (set (moved p.board man m) (corner wing p.side) None) (crossing wing p.side) (Some rook) =
-    board_after-castling p.board p.mark man m wing king (c.from_is ∙ ap king_square (sym v.own)) (c.to_is ∙ ap (arrival wing) (sym v.own))
+    board_after_castling p.board p.mark man m wing king (c.from_is ∙ ap king_square (sym v.own)) (c.to_is ∙ ap (arrival wing) (sym v.own))
     ∙ ap (λ x. with_rook wing x (moved p.board man m)) v.own in
     subst (Effect p.board man m) (sym board_is)
-    (Effect-castle p.board man m (corner wing p.side) (crossing wing p.side) rook v.departs c.empty king
+    (Effect_castle p.board man m (corner wing p.side) (crossing wing p.side) rook v.departs c.empty king
     (omega (arith, f.squares, s.corner_in)) (omega (arith, f.squares, s.crossing_in))
     (λ e. s.corner_king (e ∙ c.from_is)) (λ e. s.corner_arrival (e ∙ c.to_is)) (λ e. s.crossing_king (e ∙ c.from_is)) (λ e. s.crossing_arrival (e ∙ c.to_is)) s.crossing_corner
     c.rook c.free refl (sym v.own))
 
-pub effect-king : (p : Pos) (m : Move) (man : Man) → Facts p → Mover p m man → man.kind ≡ King →
+pub effect_king : (p : Pos) (m : Move) (man : Man) → Facts p → Mover p m man → man.kind ≡ King →
     (attacks p.board m.from m.to || (can_castle Short p m || can_castle Long p m)) ≡ true → Effect p.board man m (board_after p.board p.mark man m)
-effect-king p m man f v king h =
-    elim (or-either (attacks p.board m.from m.to) (can_castle Short p m || can_castle Long p m) h) [
-      | inl a ↦ effect-plain p m man v (passes_not p.mark man m (ap (λ k. is_same_kind k Pawn) king))
+effect_king p m man f v king h =
+    elim (or_cases (attacks p.board m.from m.to) (can_castle Short p m || can_castle Long p m) h) [
+      | inl a ↦ effect_plain p m man v (passes_not p.mark man m (ap (λ k. is_same_kind k Pawn) king))
           (λ wing. king_near p m man wing v king a) (attacked_no_king p m man f v a)
-      | inr c ↦ elim (or-either (can_castle Short p m) (can_castle Long p m) c) [
-        | inl s ↦ effect-castling p m man Short f v king s
-        | inr l ↦ effect-castling p m man Long f v king l
+      | inr c ↦ elim (or_cases (can_castle Short p m) (can_castle Long p m) c) [
+        | inl s ↦ effect_castling p m man Short f v king s
+        | inr l ↦ effect_castling p m man Long f v king l
       ]
     ]
 
@@ -256,16 +256,16 @@ arrival_tells Long Short Black e = absurd (omega arith)
 -- a king that goes as in castling castles
 pub castling : (p : Pos) (m : Move) (man : Man) (wing : Wing) → Facts p → Mover p m man → is_castling wing man m ≡ true → Castling p m wing
 castling p m man wing f v h =
-    let a = and-both (is_same_kind man.kind King) (m.from == king_square man.side && m.to == arrival wing man.side) h in
-    let b = and-both (m.from == king_square man.side) (m.to == arrival wing man.side) a.1 in
-    let king = same_kind-eq man.kind King a.0 in
+    let a = and_parts (is_same_kind man.kind King) (m.from == king_square man.side && m.to == arrival wing man.side) h in
+    let b = and_parts (m.from == king_square man.side) (m.to == arrival wing man.side) a.1 in
+    let king = same_kind_eq man.kind King a.0 in
     let moves : is_king_move p m ≡ true = subst (λ (k : Kind). is_move_of_kind k p m ≡ true) king v.moves in
-    let r = and-both (is_plain m.promo) (attacks p.board m.from m.to || (can_castle Short p m || can_castle Long p m)) moves in
-    elim (or-either (attacks p.board m.from m.to) (can_castle Short p m || can_castle Long p m) r.1) [
+    let r = and_parts (is_plain m.promo) (attacks p.board m.from m.to || (can_castle Short p m || can_castle Long p m)) moves in
+    elim (or_cases (attacks p.board m.from m.to) (can_castle Short p m || can_castle Long p m) r.1) [
       | inl a ↦ absurd (let no = king_near p m man wing v king a in cc)
-      | inr c ↦ elim (or-either (can_castle Short p m) (can_castle Long p m) c) [
-        | inl s ↦ on_wing Short (eq_from m.to (arrival wing man.side) b.1) s
-        | inr l ↦ on_wing Long (eq_from m.to (arrival wing man.side) b.1) l
+      | inr c ↦ elim (or_cases (can_castle Short p m) (can_castle Long p m) c) [
+        | inl s ↦ on_wing Short (eqb-true m.to (arrival wing man.side) b.1) s
+        | inr l ↦ on_wing Long (eqb-true m.to (arrival wing man.side) b.1) l
       ]
     ]
   where

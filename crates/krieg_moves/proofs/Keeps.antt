@@ -1,5 +1,6 @@
 -- The kings, the numbers of men, the pawns' ranks and the castling rights after a move are those of a valid position.
 use Rattle.std.proofs.Common.{◌≡◌, ℕ, Bool, true, false, not, ◌&&◌, ◌||◌, refl, ◌==◌, nat_le, ◌+◌, ◌≤◌, arith, sym, ◌≢◌, ◌∙◌, ap, inl, inr}
+use Rattle.std.proofs.lemmas.Bool.{and_from, and_parts, not-true, eqb-true, eq-eqb, eqb-false, both_ways}
 use Rattle.std.specs.Prelude.{Some}
 use Rattle.std.proofs.lemmas.Bool.Decides.{nat_tests}
 use Rattle.krieg_board.specs.declared.men.Side.{Side}
@@ -12,26 +13,24 @@ use Rattle.krieg_board.specs.Pos.{Pos}
 use Rattle.krieg_board.specs.Squares.{rank_of}
 use Rattle.krieg_board.specs.Board.{Board, man_at, is_of, is_man}
 use Rattle.krieg_board.specs.Validity.{is_pawn, has_kings, has_pawns_inside, has_castles, has_castle, is_small, count_kind, count_side}
-use Rattle.krieg_board.proofs.SquareTests.{every_square-at, every_square-all}
+use Rattle.krieg_board.proofs.SquareTests.{every_square_at, every_square_all}
 use Rattle.krieg_board.proofs.Facts.{Facts}
-use Rattle.krieg_board.proofs.Connectives.{and-both, both-and, not-false}
 use Rattle.krieg_moves.specs.Wings.{king_square, corner, rook_file}
 use Rattle.krieg_moves.specs.After.{placed, rights_after, keeps_right}
 use Rattle.krieg_moves.specs.declared.wing.Wing.{Wing}
 use Rattle.krieg_moves.specs.declared.wing.Wing.TheVariants.{Short, Long}
-use Rattle.krieg_moves.proofs.Boards.{one}
+use Rattle.krieg_board.proofs.Counting.{one}
 use Rattle.krieg_moves.proofs.Effects.{Effect}
 use Rattle.krieg_moves.proofs.Movers.{Mover}
-use Rattle.krieg_moves.proofs.Shapes.{eq_from, eq_to, not_eq}
 use Rattle.krieg_moves.proofs.Castling.{four_castles, held_castle}
-use Rattle.krieg_moves.proofs.Arrivals.{Arrives, clash}
+use Rattle.krieg_moves.proofs.Arrivals.{Arrives}
 
 pub kings_after : (p : Pos) (m : Move) (man : Man) (next : Board) → Facts p → Arrives p m man → Effect p.board man m next → has_kings next ≡ true
 kings_after p m man next f a e =
-    let was = and-both (count_kind p.board White King == 1) (count_kind p.board Black King == 1) f.kings in
-    both-and (count_kind next White King == 1) (count_kind next Black King == 1)
-    (eq_to (count_kind next White King) 1 (one_king White (eq_from (count_kind p.board White King) 1 was.0)))
-    (eq_to (count_kind next Black King) 1 (one_king Black (eq_from (count_kind p.board Black King) 1 was.1)))
+    let was = and_parts (count_kind p.board White King == 1) (count_kind p.board Black King == 1) f.kings in
+    and_from (count_kind next White King == 1) (count_kind next Black King == 1)
+    (eq-eqb (count_kind next White King) 1 (one_king White (eqb-true (count_kind p.board White King) 1 was.0)))
+    (eq-eqb (count_kind next Black King) 1 (one_king Black (eqb-true (count_kind p.board Black King) 1 was.1)))
   where
     sums : (n o x t y : ℕ) → n + x + t ≡ o + y → y ≡ x → t ≡ 0 → o ≡ 1 → n ≡ 1
     sums n o x t y c same none h = omega arith
@@ -45,8 +44,8 @@ kings_after p m man next f a e =
 
 pub small_after : (p : Pos) (m : Move) (man : Man) (next : Board) → Facts p → Arrives p m man → Effect p.board man m next → (is_small next White && is_small next Black) ≡ true
 small_after p m man next f a e =
-    let was = and-both (is_small p.board White) (is_small p.board Black) f.small in
-    both-and (is_small next White) (is_small next Black) (small White was.0) (small Black was.1)
+    let was = and_parts (is_small p.board White) (is_small p.board Black) f.small in
+    and_from (is_small next White) (is_small next Black) (small White was.0) (small Black was.1)
   where
     fewer : (n o x t y : ℕ) → n + x + t ≡ o + y → y ≤ x → n ≤ o
     fewer n o x t y c h = omega arith
@@ -56,10 +55,10 @@ small_after p m man next f a e =
 
     small : (side : Side) → is_small p.board side ≡ true → is_small next side ≡ true
     small side h =
-        let was = and-both (nat_le (count_side p.board side) 16) (nat_le (count_kind p.board side Pawn) 8) h in
+        let was = and_parts (nat_le (count_side p.board side) 16) (nat_le (count_kind p.board side Pawn) 8) h in
         let men = fewer (count_side next side) (count_side p.board side) (one (is_of side (Some man))) (one (is_of side e.taken)) (one (is_of side (Some (placed man m)))) (e.counts (is_of side) refl) (omega arith) in
         let pawns = fewer (count_kind next side Pawn) (count_kind p.board side Pawn) (one (is_man side Pawn (Some man))) (one (is_man side Pawn e.taken)) (one (is_man side Pawn (Some (placed man m)))) (e.counts (is_man side Pawn) refl) (a.pawn side) in
-        both-and (nat_le (count_side next side) 16) (nat_le (count_kind next side Pawn) 8)
+        and_from (nat_le (count_side next side) 16) (nat_le (count_kind next side Pawn) 8)
         (le_trans_test (count_side next side) (count_side p.board side) 16 men was.0) (le_trans_test (count_kind next side Pawn) (count_kind p.board side Pawn) 8 pawns was.1)
 
 inside_test : (t : Bool) (r : ℕ) → (t ≡ true → (r ≢ 0) × (r ≢ 7)) → not (t && (r == 0 || r == 7)) ≡ true
@@ -72,10 +71,10 @@ inside_test true r h = let k = h refl in edge r k.0 k.1
 pub pawns_after : (p : Pos) (m : Move) (man : Man) (next : Board) → Facts p → Arrives p m man → Effect p.board man m next → has_pawns_inside next ≡ true
 unfolding has_pawns_inside
 pawns_after p m man next f a e =
-    every_square-all (λ s. not (is_pawn (man_at next s) && (rank_of s == 0 || rank_of s == 7))) (λ s l.
+    every_square_all (λ s. not (is_pawn (man_at next s) && (rank_of s == 0 || rank_of s == 7))) (λ s l.
     elim (e.each s) [
       | inl same ↦ ap (λ x. not (is_pawn x && (rank_of s == 0 || rank_of s == 7))) same
-          ∙ every_square-at (λ s. not (is_pawn (man_at p.board s) && (rank_of s == 0 || rank_of s == 7))) f.pawns s l
+          ∙ every_square_at (λ s. not (is_pawn (man_at p.board s) && (rank_of s == 0 || rank_of s == 7))) f.pawns s l
       | inr r ↦ elim r [
         | inl none ↦ ap (λ t. not (t && (rank_of s == 0 || rank_of s == 7))) none
         | inr there ↦ inside_test (is_pawn (man_at next s)) (rank_of s)
@@ -91,27 +90,27 @@ castle_after : (p : Pos) (m : Move) (man : Man) (next : Board) → Mover p m man
     has_castle p.board held side (rook_file wing) ≡ true → has_castle next (keeps_right held wing side man m) side (rook_file wing) ≡ true
 castle_after p m man next v e held wing side h =
     implied (keeps_right held wing side man m) (is_man side King (man_at next (king_square side)) && is_man side Rook (man_at next (corner wing side))) (λ k.
-    let a = and-both held (not (is_same_kind man.kind King && is_same_side man.side side) && (not (m.from == corner wing side) && not (m.to == corner wing side))) k in
-    let b = and-both (not (is_same_kind man.kind King && is_same_side man.side side)) (not (m.from == corner wing side) && not (m.to == corner wing side)) a.1 in
-    let c = and-both (not (m.from == corner wing side)) (not (m.to == corner wing side)) b.1 in
-    let still = not-false (is_same_kind man.kind King && is_same_side man.side side) b.0 in
-    let not_from = not_eq m.from (corner wing side) (not-false (m.from == corner wing side) c.0) in
-    let not_to = not_eq m.to (corner wing side) (not-false (m.to == corner wing side) c.1) in
+    let a = and_parts held (not (is_same_kind man.kind King && is_same_side man.side side) && (not (m.from == corner wing side) && not (m.to == corner wing side))) k in
+    let b = and_parts (not (is_same_kind man.kind King && is_same_side man.side side)) (not (m.from == corner wing side) && not (m.to == corner wing side)) a.1 in
+    let c = and_parts (not (m.from == corner wing side)) (not (m.to == corner wing side)) b.1 in
+    let still = not-true (is_same_kind man.kind King && is_same_side man.side side) b.0 in
+    let not_from = eqb-false m.from (corner wing side) (not-true (m.from == corner wing side) c.0) in
+    let not_to = eqb-false m.to (corner wing side) (not-true (m.to == corner wing side) c.1) in
     let was = held_castle p.board held side (rook_file wing) h a.0 in
     let rook = e.kept (corner wing side) side Rook was.1 refl (λ z. not_from (sym z)) (λ z. not_to (sym z)) still in
     let king' = e.kept (king_square side) side King was.0 refl (λ z. moves_not z was.0 still) (λ z. taken_not z was.0) still in
-    both-and (is_man side King (man_at next (king_square side))) (is_man side Rook (man_at next (corner wing side)))
+    and_from (is_man side King (man_at next (king_square side))) (is_man side Rook (man_at next (corner wing side)))
     (ap (is_man side King) king' ∙ was.0) (ap (is_man side Rook) rook ∙ was.1))
   where
     moves_not : king_square side ≡ m.from → is_man side King (man_at p.board (king_square side)) ≡ true → (is_same_kind man.kind King && is_same_side man.side side) ≡ false → ⊥
     moves_not z here still =
         let it : is_man side King (Some man) ≡ true = ap (is_man side King) (sym v.departs.stands ∙ ap (man_at p.board) (sym z)) ∙ here in
-        let parts = and-both (is_same_side man.side side) (is_same_kind man.kind King) it in
-        let yes = both-and (is_same_kind man.kind King) (is_same_side man.side side) parts.1 parts.0 in
-        clash (is_same_kind man.kind King && is_same_side man.side side) yes still
+        let parts = and_parts (is_same_side man.side side) (is_same_kind man.kind King) it in
+        let yes = and_from (is_same_kind man.kind King) (is_same_side man.side side) parts.1 parts.0 in
+        both_ways (is_same_kind man.kind King && is_same_side man.side side) still yes
 
     taken_not : king_square side ≡ m.to → is_man side King (man_at p.board (king_square side)) ≡ true → ⊥
-    taken_not z here = clash (is_man side King (man_at p.board m.to)) (ap (λ s. is_man side King (man_at p.board s)) (sym z) ∙ here) (e.no_king_there side)
+    taken_not z here = both_ways (is_man side King (man_at p.board m.to)) (e.no_king_there side) (ap (λ s. is_man side King (man_at p.board s)) (sym z) ∙ here)
 
 pub castles_after : (p : Pos) (m : Move) (man : Man) (next : Board) → Facts p → Mover p m man → Effect p.board man m next → has_castles next (rights_after p.rights man m) ≡ true
 castles_after p m man next f v e =
@@ -121,6 +120,6 @@ castles_after p m man next f v e =
     let wl = castle_after p m man next v e p.rights.white_long Long White c.white_long in
     let bs = castle_after p m man next v e p.rights.black_short Short Black c.black_short in
     let bl = castle_after p m man next v e p.rights.black_long Long Black c.black_long in
-    both-and (has_castle next r.white_short White 7) (has_castle next r.white_long White 0 && (has_castle next r.black_short Black 7 && has_castle next r.black_long Black 0)) ws
-    (both-and (has_castle next r.white_long White 0) (has_castle next r.black_short Black 7 && has_castle next r.black_long Black 0) wl
-    (both-and (has_castle next r.black_short Black 7) (has_castle next r.black_long Black 0) bs bl))
+    and_from (has_castle next r.white_short White 7) (has_castle next r.white_long White 0 && (has_castle next r.black_short Black 7 && has_castle next r.black_long Black 0)) ws
+    (and_from (has_castle next r.white_long White 0) (has_castle next r.black_short Black 7 && has_castle next r.black_long Black 0) wl
+    (and_from (has_castle next r.black_short Black 7) (has_castle next r.black_long Black 0) bs bl))

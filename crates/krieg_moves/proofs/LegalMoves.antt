@@ -1,5 +1,6 @@
 -- What a legal move tells: who moves, and whether a promotion is named.
-use Rattle.std.proofs.Common.{◌≡◌, ℕ, Bool, true, false, not, ◌&&◌, ◌||◌, refl, cond, nat_lt, ◌==◌, sym, ◌∙◌, ap}
+use Rattle.std.proofs.Common.{◌≡◌, Bool, true, false, not, ◌&&◌, ◌||◌, refl, cond, nat_lt, ◌==◌, sym, ◌∙◌, ap}
+use Rattle.std.proofs.lemmas.Bool.{and_parts}
 use Rattle.std.specs.Prelude.{Option, Some, None}
 use Rattle.krieg_board.specs.declared.men.Kind.{Kind}
 use Rattle.krieg_board.specs.declared.men.Kind.TheVariants.{Pawn, Knight, Bishop, Rook, Queen, King}
@@ -10,8 +11,8 @@ use Rattle.krieg_board.specs.Pos.{Pos}
 use Rattle.krieg_board.specs.Squares.{rank_of, last_rank}
 use Rattle.krieg_board.specs.Board.{man_at, is_of, is_man}
 use Rattle.krieg_board.specs.Attacks.{attacks, is_king_attacked}
-use Rattle.krieg_board.proofs.Connectives.{and-both}
 use Rattle.krieg_moves.specs.After.{after}
+use Rattle.krieg_moves.specs.Moves.{promotes}
 use Rattle.krieg_moves.specs.Legal.{is_legal, is_candidate, is_move_of, is_move_of_kind, is_plain, has_promotion, is_step, is_double_step, is_pawn_capture, can_castle}
 use Rattle.krieg_moves.specs.declared.wing.Wing.TheVariants.{Short, Long}
 
@@ -24,26 +25,22 @@ pub record Legal (p : Pos) (m : Move) : Type 0 where
 pub legal : (p : Pos) (m : Move) → is_legal p m ≡ true → Legal p m
 unfolding is_legal is_candidate
 legal p m h =
-    let c = and-both (is_candidate p m) (not (is_king_attacked (after p m).board p.side)) h in
-    let u = and-both (nat_lt m.from 64) (nat_lt m.to 64 && (not (is_of p.side (man_at p.board m.to)) && is_move_of (man_at p.board m.from) p m)) c.0 in
-    let t = and-both (nat_lt m.to 64) (not (is_of p.side (man_at p.board m.to)) && is_move_of (man_at p.board m.from) p m) u.1 in
-    record { from_in = u.0; to_in = t.0; moves = (and-both (not (is_of p.side (man_at p.board m.to))) (is_move_of (man_at p.board m.from) p m) t.1).1 }
+    let c = and_parts (is_candidate p m) (not (is_king_attacked (after p m).board p.side)) h in
+    let u = and_parts (nat_lt m.from 64) (nat_lt m.to 64 && (not (is_of p.side (man_at p.board m.to)) && is_move_of (man_at p.board m.from) p m)) c.0 in
+    let t = and_parts (nat_lt m.to 64) (not (is_of p.side (man_at p.board m.to)) && is_move_of (man_at p.board m.from) p m) u.1 in
+    record { from_in = u.0; to_in = t.0; moves = (and_parts (not (is_of p.side (man_at p.board m.to))) (is_move_of (man_at p.board m.from) p m) t.1).1 }
 
 -- a man of the side to move stands on the from-square
-pub legal-own : (p : Pos) (m : Move) → is_legal p m ≡ true → is_of p.side (man_at p.board m.from) ≡ true
-legal-own p m h = own (man_at p.board m.from) (legal p m h).moves
+pub legal_own : (p : Pos) (m : Move) → is_legal p m ≡ true → is_of p.side (man_at p.board m.from) ≡ true
+legal_own p m h = own (man_at p.board m.from) (legal p m h).moves
   where
     own : (x : Option Man) → is_move_of x p m ≡ true → is_of p.side x ≡ true
     own None h = cc
-    own (Some man) h = (and-both (is_same_side man.side p.side) (is_move_of_kind man.kind p m) h).0
-
--- a pawn of the side to move reaches the last rank
-abbrev pub promotes : Pos → ℕ → ℕ → Bool
-promotes p f t = is_man p.side Pawn (man_at p.board f) && rank_of t == last_rank p.side
+    own (Some man) h = (and_parts (is_same_side man.side p.side) (is_move_of_kind man.kind p m) h).0
 
 -- no promotion is named exactly where no pawn reaches the last rank
-pub legal-promotion : (p : Pos) (m : Move) → is_legal p m ≡ true → is_plain m.promo ≡ not (promotes p m.from m.to)
-legal-promotion p m h = by_man (man_at p.board m.from) (legal p m h).moves
+pub legal_promotion : (p : Pos) (m : Move) → is_legal p m ≡ true → is_plain m.promo ≡ not (promotes p m.from m.to)
+legal_promotion p m h = by_man (man_at p.board m.from) (legal p m h).moves
   where
     other_kind : (side last : Bool) (which : Kind) → is_same_kind which Pawn ≡ false → is_plain m.promo ≡ true → is_plain m.promo ≡ not ((side && is_same_kind which Pawn) && last)
     other_kind true last which officer plain = plain ∙ sym (ap (λ t. not (t && last)) officer)
@@ -58,17 +55,17 @@ legal-promotion p m h = by_man (man_at p.board m.from) (legal p m h).moves
     by_kind : (side : Bool) (which : Kind) → side ≡ true → is_move_of_kind which p m ≡ true → is_plain m.promo ≡ not ((side && is_same_kind which Pawn) && rank_of m.to == last_rank p.side)
     by_kind side Pawn e h =
         of_pawn side (rank_of m.to == last_rank p.side) (is_plain m.promo) e
-        (and-both (has_promotion p.side m) (is_step p.board p.side m || (is_double_step p.board p.side m || is_pawn_capture p m)) h).0
-    by_kind side Knight e h = other_kind side (rank_of m.to == last_rank p.side) Knight refl (and-both (is_plain m.promo) (attacks p.board m.from m.to) h).0
-    by_kind side Bishop e h = other_kind side (rank_of m.to == last_rank p.side) Bishop refl (and-both (is_plain m.promo) (attacks p.board m.from m.to) h).0
-    by_kind side Rook e h = other_kind side (rank_of m.to == last_rank p.side) Rook refl (and-both (is_plain m.promo) (attacks p.board m.from m.to) h).0
-    by_kind side Queen e h = other_kind side (rank_of m.to == last_rank p.side) Queen refl (and-both (is_plain m.promo) (attacks p.board m.from m.to) h).0
+        (and_parts (has_promotion p.side m) (is_step p.board p.side m || (is_double_step p.board p.side m || is_pawn_capture p m)) h).0
+    by_kind side Knight e h = other_kind side (rank_of m.to == last_rank p.side) Knight refl (and_parts (is_plain m.promo) (attacks p.board m.from m.to) h).0
+    by_kind side Bishop e h = other_kind side (rank_of m.to == last_rank p.side) Bishop refl (and_parts (is_plain m.promo) (attacks p.board m.from m.to) h).0
+    by_kind side Rook e h = other_kind side (rank_of m.to == last_rank p.side) Rook refl (and_parts (is_plain m.promo) (attacks p.board m.from m.to) h).0
+    by_kind side Queen e h = other_kind side (rank_of m.to == last_rank p.side) Queen refl (and_parts (is_plain m.promo) (attacks p.board m.from m.to) h).0
     by_kind side King e h =
         other_kind side (rank_of m.to == last_rank p.side) King refl
-        (and-both (is_plain m.promo) (attacks p.board m.from m.to || (can_castle Short p m || can_castle Long p m)) h).0
+        (and_parts (is_plain m.promo) (attacks p.board m.from m.to || (can_castle Short p m || can_castle Long p m)) h).0
 
     by_man : (x : Option Man) → is_move_of x p m ≡ true → is_plain m.promo ≡ not (is_man p.side Pawn x && rank_of m.to == last_rank p.side)
     by_man None h = cc
     by_man (Some man) h =
-        let r = and-both (is_same_side man.side p.side) (is_move_of_kind man.kind p m) h in
+        let r = and_parts (is_same_side man.side p.side) (is_move_of_kind man.kind p m) h in
         by_kind (is_same_side man.side p.side) man.kind r.0 r.1

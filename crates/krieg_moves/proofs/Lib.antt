@@ -13,3 +13,12 @@ pub mod OwnMen
 pub mod Hands
 pub mod MoveLists
 pub mod Listed
+pub mod Kings
+pub mod Putting
+pub mod Answering
+pub mod AnswerSets
+pub mod Safety
+pub mod Steps
+pub mod Going
+pub mod PawnGoing
+pub mod Listing

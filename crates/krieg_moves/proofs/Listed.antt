@@ -7,10 +7,11 @@ use Rattle.krieg_board.specs.declared.men.Promo.TheVariants as promo
 use Rattle.krieg_board.specs.declared.men.Move.{Move}
 use Rattle.krieg_board.specs.Pos.{Pos}
 use Rattle.krieg_moves.specs.Legal.{is_legal}
-use Rattle.krieg_moves.specs.Moves.{gathered, moves_between, moves_from, all_moves, moves}
+use Rattle.krieg_board.specs.Squares.{gathered}
+use Rattle.krieg_moves.specs.Moves.{moves_between, moves_from, all_moves, moves}
 use Rattle.krieg_moves.proofs.Movers.{below_from}
 use Rattle.krieg_moves.proofs.LegalMoves.{legal}
-use Rattle.krieg_moves.proofs.MoveLists.{moves-legal}
+use Rattle.krieg_moves.proofs.MoveLists.{moves_legal}
 
 first : (x : Move) (xs : List Move) → Contains (x ∷ xs) x
 first x xs = (0, omega arith, refl)
@@ -22,9 +23,9 @@ first_or_later : (x y : Move) (xs : List Move) → Contains (y ∷ xs) x → (y 
 first_or_later x y xs (zero, l, e) = inl e
 first_or_later x y xs (suc k, l, e) = inr (k, omega arith, e)
 
-contains-filter : (test : Move → Bool) (x : Move) (xs : List Move) → test x ≡ true → Contains xs x → Contains (filter test xs) x
-contains-filter test x [] h (k, l, e) = absurd (omega arith)
-contains-filter test x (y ∷ ys) h c = by_first (first_or_later x y ys c) (contains-filter test x ys h)
+contains_filter : (test : Move → Bool) (x : Move) (xs : List Move) → test x ≡ true → Contains xs x → Contains (filter test xs) x
+contains_filter test x [] h (k, l, e) = absurd (omega arith)
+contains_filter test x (y ∷ ys) h c = by_first (first_or_later x y ys c) (contains_filter test x ys h)
   where
     kept : (t : Bool) → t ≡ true → Contains (cond t (x ∷ filter test ys) (filter test ys)) x
     kept true e = first x (filter test ys)
@@ -38,9 +39,9 @@ contains-filter test x (y ∷ ys) h c = by_first (first_or_later x y ys c) (cont
     by_first (inl e) rest = subst (λ (z : Move). Contains (cond (test z) (z ∷ filter test ys) (filter test ys)) x) (sym e) (kept (test x) h)
     by_first (inr c) rest = passed (test y) (rest c)
 
-contains-gathered : (g : ℕ → List Move) (m : Move) (k n : ℕ) → k < n → Contains (g k) m → Contains (gathered g n) m
-contains-gathered g m k zero h c = absurd (omega arith)
-contains-gathered g m k (suc n) h c = by_place (same_or_below k n h) (λ l. contains-gathered g m k n l c)
+contains_gathered : (g : ℕ → List Move) (m : Move) (k n : ℕ) → k < n → Contains (g k) m → Contains (gathered g n) m
+contains_gathered g m k zero h c = absurd (omega arith)
+contains_gathered g m k (suc n) h c = by_place (same_or_below k n h) (λ l. contains_gathered g m k n l c)
   where
     same_or_below : (k n : ℕ) → k < suc n → (k ≡ n) ⊎ (k < n)
     same_or_below k n h = grind arith
@@ -56,17 +57,17 @@ between f t promo.Rook = (2, omega arith, refl)
 between f t promo.Bishop = (3, omega arith, refl)
 between f t promo.Knight = (4, omega arith, refl)
 
-pub all-moves : (m : Move) → m.from < 64 → m.to < 64 → Contains all_moves m
+pub in_all_moves : (m : Move) → m.from < 64 → m.to < 64 → Contains all_moves m
 unfolding all_moves moves_from
-all-moves m f t = contains-gathered moves_from m m.from 64 f (contains-gathered (moves_between m.from) m m.to 64 t (between m.from m.to m.promo))
+in_all_moves m f t = contains_gathered moves_from m m.from 64 f (contains_gathered (moves_between m.from) m m.to 64 t (between m.from m.to m.promo))
 
 -- each legal move is listed
-pub legal-listed : (p : Pos) (m : Move) → is_legal p m ≡ true → Contains (moves p) m
+pub legal_listed : (p : Pos) (m : Move) → is_legal p m ≡ true → Contains (moves p) m
 unfolding moves
-legal-listed p m h =
+legal_listed p m h =
     let l = legal p m h in
-    contains-filter (is_legal p) m all_moves h (all-moves m (below_from m.from 64 l.from_in) (below_from m.to 64 l.to_in))
+    contains_filter (is_legal p) m all_moves h (in_all_moves m (below_from m.from 64 l.from_in) (below_from m.to 64 l.to_in))
 
 -- each listed move is legal
-pub listed-legal : (p : Pos) (m : Move) → Contains (moves p) m → is_legal p m ≡ true
-listed-legal p m c = All-contains (λ m. is_legal p m ≡ true) (moves p) m (moves-legal p) c
+pub listed_legal : (p : Pos) (m : Move) → Contains (moves p) m → is_legal p m ≡ true
+listed_legal p m c = All-contains (λ m. is_legal p m ≡ true) (moves p) m (moves_legal p) c

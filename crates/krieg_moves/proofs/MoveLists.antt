@@ -1,5 +1,7 @@
 -- The loops over the squares end with the whole list, and what they skip is not legal.
 use Rattle.std.proofs.Common.{◌≡◌, ℕ, zero, suc, ◌+◌, ◌<◌, Bool, true, false, not, ◌||◌, cond, List, [], ◌∷◌, ◌++◌, ap, sym, ◌∙◌, refl, inl, inr, arith, add-one}
+use Rattle.std.proofs.lemmas.Bool.{cond-false, false_from_ne_true, not-true, or_right}
+use Rattle.std.proofs.Math.Bool.{or-false}
 use Rattle.std.specs.Prelude.{◌⊎◌}
 use Rattle.std.specs.List.{list_any, filter, All}
 use Rattle.std.proofs.lemmas.List.Elements.{filter_passes, filter-append}
@@ -10,24 +12,21 @@ use Rattle.krieg_board.specs.declared.men.Move.{Move}
 use Rattle.krieg_board.specs.Pos.{Pos}
 use Rattle.krieg_board.specs.Board.{man_at, is_of}
 use Rattle.krieg_moves.specs.Legal.{is_legal, is_plain}
-use Rattle.krieg_moves.specs.Moves.{gathered, plain_move, promotions, moves_between, moves_from, all_moves, is_nil, moves}
-use Rattle.krieg_moves.proofs.LegalMoves.{legal-own, legal-promotion, promotes}
+use Rattle.krieg_board.specs.Squares.{gathered}
+use Rattle.krieg_moves.specs.Moves.{promotes, plain_move, promotions, moves_between, moves_from, all_moves, is_nil, moves}
+use Rattle.krieg_moves.proofs.LegalMoves.{legal_own, legal_promotion}
 
-pub gathered-moves_from : (f n : ℕ) → n ≡ 64 → gathered (moves_between f) n ≡ moves_from f
+pub gathered_moves_from : (f n : ℕ) → n ≡ 64 → gathered (moves_between f) n ≡ moves_from f
 unfolding moves_from
-gathered-moves_from f n e = ap (gathered (moves_between f)) e
+gathered_moves_from f n e = ap (gathered (moves_between f)) e
 
-pub gathered-all_moves : (n : ℕ) → n ≡ 64 → gathered moves_from n ≡ all_moves
+pub gathered_all_moves : (n : ℕ) → n ≡ 64 → gathered moves_from n ≡ all_moves
 unfolding all_moves
-gathered-all_moves n e = ap (gathered moves_from) e
-
-to_false : (t : Bool) → (t ≡ true → ⊥) → t ≡ false
-to_false true h = absurd (h refl)
-to_false false h = refl
+gathered_all_moves n e = ap (gathered moves_from) e
 
 -- a promotion is not legal where no pawn reaches the last rank, and the plain move is not where one does
-wrong_promo : (p : Pos) (m : Move) (plain last : Bool) → is_plain m.promo ≡ plain → promotes p m.from m.to ≡ last → plain ≡ last → is_legal p m ≡ false
-wrong_promo p m plain last e l same = to_false (is_legal p m) (λ h. clash plain last same (sym e ∙ (legal-promotion p m h ∙ ap not l)))
+pub wrong_promo : (p : Pos) (m : Move) (plain last : Bool) → is_plain m.promo ≡ plain → promotes p m.from m.to ≡ last → plain ≡ last → is_legal p m ≡ false
+wrong_promo p m plain last e l same = false_from_ne_true (is_legal p m) (λ h. clash plain last same (sym e ∙ (legal_promotion p m h ∙ ap not l)))
   where
     clash : (a b : Bool) → a ≡ b → a ≡ not b → ⊥
     clash true true e h = cc
@@ -35,23 +34,19 @@ wrong_promo p m plain last e l same = to_false (is_legal p m) (λ h. clash plain
     clash true false e h = cc
     clash false true e h = cc
 
-filter-first_not : (test : Move → Bool) (x : Move) (xs : List Move) → test x ≡ false → filter test (x ∷ xs) ≡ filter test xs
-filter-first_not test x xs h = go (test x) h
-  where
-    go : (t : Bool) → t ≡ false → cond t (x ∷ filter test xs) (filter test xs) ≡ filter test xs
-    go false h = refl
-    go true h = cc
+filter_first_not : (test : Move → Bool) (x : Move) (xs : List Move) → test x ≡ false → filter test (x ∷ xs) ≡ filter test xs
+filter_first_not test x xs h = cond-false (test x) (x ∷ filter test xs) (filter test xs) h
 
-any-first_not : (test : Move → Bool) (x : Move) (xs : List Move) → test x ≡ false → list_any test (x ∷ xs) ≡ list_any test xs
-any-first_not test x xs h = ap (λ t. t || list_any test xs) h
+any_first_not : (test : Move → Bool) (x : Move) (xs : List Move) → test x ≡ false → list_any test (x ∷ xs) ≡ list_any test xs
+any_first_not test x xs h = ap (λ t. t || list_any test xs) h
 
-pub filter-promotions : (p : Pos) (f t : ℕ) → promotes p f t ≡ true → filter (is_legal p) (moves_between f t) ≡ filter (is_legal p) (promotions f t)
-filter-promotions p f t h = filter-first_not (is_legal p) (plain_move f t) (promotions f t) (wrong_promo p (plain_move f t) true true refl h refl)
+pub filter_promotions : (p : Pos) (f t : ℕ) → promotes p f t ≡ true → filter (is_legal p) (moves_between f t) ≡ filter (is_legal p) (promotions f t)
+filter_promotions p f t h = filter_first_not (is_legal p) (plain_move f t) (promotions f t) (wrong_promo p (plain_move f t) true true refl h refl)
 
-pub any-promotions : (p : Pos) (f t : ℕ) → promotes p f t ≡ true → list_any (is_legal p) (moves_between f t) ≡ list_any (is_legal p) (promotions f t)
-any-promotions p f t h = any-first_not (is_legal p) (plain_move f t) (promotions f t) (wrong_promo p (plain_move f t) true true refl h refl)
+pub any_promotions : (p : Pos) (f t : ℕ) → promotes p f t ≡ true → list_any (is_legal p) (moves_between f t) ≡ list_any (is_legal p) (promotions f t)
+any_promotions p f t h = any_first_not (is_legal p) (plain_move f t) (promotions f t) (wrong_promo p (plain_move f t) true true refl h refl)
 
-no_promotion : (p : Pos) (f t : ℕ) (r : Promo) → promotes p f t ≡ false → is_plain r ≡ false → is_legal p (record { from = f; to = t; promo = r }) ≡ false
+pub no_promotion : (p : Pos) (f t : ℕ) (r : Promo) → promotes p f t ≡ false → is_plain r ≡ false → is_legal p (record { from = f; to = t; promo = r }) ≡ false
 no_promotion p f t r h e = wrong_promo p (record { from = f; to = t; promo = r }) false false e h refl
 
 none_of_promotions : (p : Pos) (f t : ℕ) → promotes p f t ≡ false → filter (is_legal p) (promotions f t) ≡ []
@@ -62,21 +57,17 @@ any_of_promotions : (p : Pos) (f t : ℕ) → promotes p f t ≡ false → list_
 any_of_promotions p f t h =
     rw (no_promotion p f t promo.Queen h refl, no_promotion p f t promo.Rook h refl, no_promotion p f t promo.Bishop h refl, no_promotion p f t promo.Knight h refl)
 
-pub filter-plain : (p : Pos) (f t : ℕ) → promotes p f t ≡ false → filter (is_legal p) (moves_between f t) ≡ filter (is_legal p) (plain_move f t ∷ [])
-filter-plain p f t h = ap (λ xs. cond (is_legal p (plain_move f t)) (plain_move f t ∷ xs) xs) (none_of_promotions p f t h)
+pub filter_plain : (p : Pos) (f t : ℕ) → promotes p f t ≡ false → filter (is_legal p) (moves_between f t) ≡ filter (is_legal p) (plain_move f t ∷ [])
+filter_plain p f t h = ap (λ xs. cond (is_legal p (plain_move f t)) (plain_move f t ∷ xs) xs) (none_of_promotions p f t h)
 
-pub any-plain : (p : Pos) (f t : ℕ) → promotes p f t ≡ false → list_any (is_legal p) (moves_between f t) ≡ is_legal p (plain_move f t)
-any-plain p f t h = ap (λ x. is_legal p (plain_move f t) || x) (any_of_promotions p f t h) ∙ or_false (is_legal p (plain_move f t))
-  where
-    or_false : (t : Bool) → (t || false) ≡ t
-    or_false true = refl
-    or_false false = refl
+pub any_plain : (p : Pos) (f t : ℕ) → promotes p f t ≡ false → list_any (is_legal p) (moves_between f t) ≡ is_legal p (plain_move f t)
+any_plain p f t h = ap (λ x. is_legal p (plain_move f t) || x) (any_of_promotions p f t h) ∙ or-false (is_legal p (plain_move f t))
 
-pub ruleset between = (filter-promotions, any-promotions, filter-plain, any-plain)
+pub ruleset between = (filter_promotions, any_promotions, filter_plain, any_plain)
 
-pub is_nil-filter : (test : Move → Bool) (xs : List Move) → is_nil (filter test xs) ≡ not (list_any test xs)
-is_nil-filter test [] = refl
-is_nil-filter test (x ∷ xs) = by (test x) (is_nil-filter test xs)
+pub is_nil_filter : (test : Move → Bool) (xs : List Move) → is_nil (filter test xs) ≡ not (list_any test xs)
+is_nil_filter test [] = refl
+is_nil_filter test (x ∷ xs) = by (test x) (is_nil_filter test xs)
   where
     by : (t : Bool) → is_nil (filter test xs) ≡ not (list_any test xs) → is_nil (cond t (x ∷ filter test xs) (filter test xs)) ≡ not (t || list_any test xs)
     by true rest = refl
@@ -84,10 +75,10 @@ is_nil-filter test (x ∷ xs) = by (test x) (is_nil-filter test xs)
 
 -- nothing is legal from a square without a man of the side to move
 not_own : (p : Pos) (m : Move) → is_of p.side (man_at p.board m.from) ≡ false → is_legal p m ≡ false
-not_own p m h = to_false (is_legal p m) (λ k. (let yes = legal-own p m k in cc))
+not_own p m h = false_from_ne_true (is_legal p m) (λ k. (let yes = legal_own p m k in cc))
 
-filter_between-none : (p : Pos) (f t : ℕ) → is_of p.side (man_at p.board f) ≡ false → filter (is_legal p) (moves_between f t) ≡ []
-filter_between-none p f t h =
+filter_between_none : (p : Pos) (f t : ℕ) → is_of p.side (man_at p.board f) ≡ false → filter (is_legal p) (moves_between f t) ≡ []
+filter_between_none p f t h =
     rw (
       not_own p (plain_move f t) h,
       not_own p (record { from = f; to = t; promo = promo.Queen }) h,
@@ -96,62 +87,57 @@ filter_between-none p f t h =
       not_own p (record { from = f; to = t; promo = promo.Knight }) h,
     )
 
-filter_gathered-none : (test : Move → Bool) (g : ℕ → List Move) → ((t : ℕ) → filter test (g t) ≡ []) → (n : ℕ) → filter test (gathered g n) ≡ []
-filter_gathered-none test g none zero = refl
-filter_gathered-none test g none (suc n) =
-    filter-append test (gathered g n) (g n) ∙ (ap (λ xs. xs ++ filter test (g n)) (filter_gathered-none test g none n) ∙ none n)
+filter_gathered_none : (test : Move → Bool) (g : ℕ → List Move) → ((t : ℕ) → filter test (g t) ≡ []) → (n : ℕ) → filter test (gathered g n) ≡ []
+filter_gathered_none test g none zero = refl
+filter_gathered_none test g none (suc n) =
+    filter-append test (gathered g n) (g n) ∙ (ap (λ xs. xs ++ filter test (g n)) (filter_gathered_none test g none n) ∙ none n)
 
 -- a list from which nothing is taken has no element that passes
-any-by_filter : (test : Move → Bool) (xs : List Move) → filter test xs ≡ [] → list_any test xs ≡ false
-any-by_filter test xs e = opposite (list_any test xs) (sym (is_nil-filter test xs) ∙ ap is_nil e)
-  where
-    opposite : (t : Bool) → not t ≡ true → t ≡ false
-    opposite true h = cc
-    opposite false h = refl
+pub any_by_filter : (test : Move → Bool) (xs : List Move) → filter test xs ≡ [] → list_any test xs ≡ false
+any_by_filter test xs e = not-true (list_any test xs) (sym (is_nil_filter test xs) ∙ ap is_nil e)
 
-pub filter-not_own : (p : Pos) (f : ℕ) → is_of p.side (man_at p.board f) ≡ false → filter (is_legal p) (moves_from f) ≡ []
+pub any_between_not_own : (p : Pos) (f t : ℕ) → is_of p.side (man_at p.board f) ≡ false → list_any (is_legal p) (moves_between f t) ≡ false
+any_between_not_own p f t h = any_by_filter (is_legal p) (moves_between f t) (filter_between_none p f t h)
+
+pub filter_not_own : (p : Pos) (f : ℕ) → is_of p.side (man_at p.board f) ≡ false → filter (is_legal p) (moves_from f) ≡ []
 unfolding moves_from
-filter-not_own p f h = filter_gathered-none (is_legal p) (moves_between f) (λ t. filter_between-none p f t h) 64
+filter_not_own p f h = filter_gathered_none (is_legal p) (moves_between f) (λ t. filter_between_none p f t h) 64
 
-pub any-not_own : (p : Pos) (f : ℕ) → is_of p.side (man_at p.board f) ≡ false → list_any (is_legal p) (moves_from f) ≡ false
-any-not_own p f h = any-by_filter (is_legal p) (moves_from f) (filter-not_own p f h)
+pub any_not_own : (p : Pos) (f : ℕ) → is_of p.side (man_at p.board f) ≡ false → list_any (is_legal p) (moves_from f) ≡ false
+any_not_own p f h = any_by_filter (is_legal p) (moves_from f) (filter_not_own p f h)
 
-pub ruleset ended = (gathered-moves_from, gathered-all_moves)
+pub ruleset ended = (gathered_moves_from, gathered_all_moves)
 
 -- the test of a whole list from the tests of its parts
-pub list_any-gathered_at : (test : Move → Bool) (g : ℕ → List Move) (k n : ℕ) → k < n → list_any test (g k) ≡ true → list_any test (gathered g n) ≡ true
-list_any-gathered_at test g k zero h e = absurd (omega arith)
-list_any-gathered_at test g k (suc n) h e =
-    list_any-append test (gathered g n) (g n) ∙ or-by (list_any-gathered_at test g k n) (same_or_below k n h)
+pub list_any_gathered_at : (test : Move → Bool) (g : ℕ → List Move) (k n : ℕ) → k < n → list_any test (g k) ≡ true → list_any test (gathered g n) ≡ true
+list_any_gathered_at test g k zero h e = absurd (omega arith)
+list_any_gathered_at test g k (suc n) h e =
+    list_any-append test (gathered g n) (g n) ∙ or_by (list_any_gathered_at test g k n) (same_or_below k n h)
   where
     same_or_below : (k n : ℕ) → k < suc n → (k ≡ n) ⊎ (k < n)
     same_or_below k n h = grind arith
 
-    either-right : (a b : Bool) → b ≡ true → (a || b) ≡ true
-    either-right true b h = refl
-    either-right false b h = h
+    or_by : (k < n → list_any test (g k) ≡ true → list_any test (gathered g n) ≡ true) → (k ≡ n) ⊎ (k < n) → (list_any test (gathered g n) || list_any test (g n)) ≡ true
+    or_by earlier (inl same) = or_right (list_any test (gathered g n)) (list_any test (g n)) (ap (λ x. list_any test (g x)) (sym same) ∙ e)
+    or_by earlier (inr below) = ap (λ t. t || list_any test (g n)) (earlier below e)
 
-    or-by : (k < n → list_any test (g k) ≡ true → list_any test (gathered g n) ≡ true) → (k ≡ n) ⊎ (k < n) → (list_any test (gathered g n) || list_any test (g n)) ≡ true
-    or-by earlier (inl same) = either-right (list_any test (gathered g n)) (list_any test (g n)) (ap (λ x. list_any test (g x)) (sym same) ∙ e)
-    or-by earlier (inr below) = ap (λ t. t || list_any test (g n)) (earlier below e)
-
-pub list_any-gathered_more : (test : Move → Bool) (g : ℕ → List Move) (n : ℕ) → list_any test (gathered g n) ≡ false → list_any test (g n) ≡ false →
+pub list_any_gathered_more : (test : Move → Bool) (g : ℕ → List Move) (n : ℕ) → list_any test (gathered g n) ≡ false → list_any test (g n) ≡ false →
     list_any test (gathered g (n + 1)) ≡ false
-list_any-gathered_more test g n h k = rw add-one (list_any-append test (gathered g n) (g n) ∙ (ap (λ t. t || list_any test (g n)) h ∙ k))
+list_any_gathered_more test g n h k = rw add-one (list_any-append test (gathered g n) (g n) ∙ (ap (λ t. t || list_any test (g n)) h ∙ k))
 
-pub ruleset any_moves = (list_any-gathered_at, list_any-gathered_more, gathered-moves_from, gathered-all_moves, any-not_own)
+pub ruleset any_moves = (list_any_gathered_at, list_any_gathered_more, gathered_moves_from, gathered_all_moves, any_not_own)
 
-pub ruleset any_from_moves = (is_nil-filter)
+pub ruleset any_from_moves = (is_nil_filter)
 
-pub moves_from-at : (test : Move → Bool) (f k : ℕ) → k < 64 → list_any test (moves_between f k) ≡ true → list_any test (moves_from f) ≡ true
+pub moves_from_at : (test : Move → Bool) (f k : ℕ) → k < 64 → list_any test (moves_between f k) ≡ true → list_any test (moves_from f) ≡ true
 unfolding moves_from
-moves_from-at test f k h e = list_any-gathered_at test (moves_between f) k 64 h e
+moves_from_at test f k h e = list_any_gathered_at test (moves_between f) k 64 h e
 
-pub all_moves-at : (test : Move → Bool) (k : ℕ) → k < 64 → list_any test (moves_from k) ≡ true → list_any test all_moves ≡ true
+pub all_moves_at : (test : Move → Bool) (k : ℕ) → k < 64 → list_any test (moves_from k) ≡ true → list_any test all_moves ≡ true
 unfolding all_moves
-all_moves-at test k h e = list_any-gathered_at test moves_from k 64 h e
+all_moves_at test k h e = list_any_gathered_at test moves_from k 64 h e
 
 -- each listed move is legal
-pub moves-legal : (p : Pos) → All (λ m. is_legal p m ≡ true) (moves p)
+pub moves_legal : (p : Pos) → All (λ m. is_legal p m ≡ true) (moves p)
 unfolding moves
-moves-legal p = filter_passes (is_legal p) all_moves
+moves_legal p = filter_passes (is_legal p) all_moves

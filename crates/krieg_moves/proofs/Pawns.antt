@@ -1,5 +1,6 @@
 -- A pawn's move has one of the effects.
 use Rattle.std.proofs.Common.{◌≡◌, ℕ, Bool, true, false, not, ◌&&◌, ◌||◌, refl, ◌==◌, ◌+◌, ◌<◌, arith, sym, set, ◌≢◌, ◌∙◌, ap, inl, inr, subst}
+use Rattle.std.proofs.lemmas.Bool.{and_from, and_left, and_parts, cond-true, or_cases, eqb-true, ne_eqb}
 use Rattle.std.specs.Prelude.{Option, Some, None}
 use Rattle.krieg_board.specs.declared.men.Side.{Side}
 use Rattle.krieg_board.specs.declared.men.Side.TheVariants.{White, Black}
@@ -14,14 +15,13 @@ use Rattle.krieg_board.specs.Board.{Board, man_at, is_empty, is_of, is_man}
 use Rattle.krieg_board.specs.Attacks.{attacks, can_reach, apart, is_forward}
 use Rattle.krieg_board.specs.Validity.{has_mark, is_crossed}
 use Rattle.krieg_board.proofs.Facts.{Facts}
-use Rattle.krieg_board.proofs.Connectives.{and-both, both-and, or-either}
-use Rattle.krieg_board.proofs.MenLemmas.{same_kind-eq}
+use Rattle.krieg_board.proofs.MenLemmas.{same_kind_eq}
 use Rattle.krieg_moves.specs.After.{board_after, moved, is_en_passant, is_castling, is_marked, passed_square, crossed}
 use Rattle.krieg_moves.specs.Legal.{is_step, is_double_step, is_pawn_capture, is_pawn_move, is_move_of_kind, has_promotion}
 use Rattle.krieg_moves.specs.declared.wing.Wing.{Wing}
-use Rattle.krieg_moves.proofs.Effects.{Effect, Effect-passing}
+use Rattle.krieg_moves.proofs.Effects.{Effect, Effect_passing}
 use Rattle.krieg_moves.proofs.Movers.{Mover, attacked_no_king, empty_no_king}
-use Rattle.krieg_moves.proofs.Shapes.{false-and, cond-at-true, none_from, found_man, attack_reaches, castles_not, effect-plain, eq_from, eq_not}
+use Rattle.krieg_moves.proofs.Shapes.{none_from, found_man, attack_reaches, castles_not, effect_plain}
 
 -- a pawn that goes straight forward
 pub record Straight (p : Pos) (m : Move) : Type 0 where
@@ -43,9 +43,9 @@ same_file_passes_not true true h = refl
 same_file_passes_not true false h = cc
 same_file_passes_not false u h = refl
 
-pub effect-straight : (p : Pos) (m : Move) (man : Man) → Mover p m man → man.kind ≡ Pawn → Straight p m → Effect p.board man m (board_after p.board p.mark man m)
-effect-straight p m man v pawn s =
-    effect-plain p m man v (no_passing p man m (same_file_passes_not (is_marked p.mark m.to) (file_of m.from == file_of m.to) s.same_file))
+pub effect_straight : (p : Pos) (m : Move) (man : Man) → Mover p m man → man.kind ≡ Pawn → Straight p m → Effect p.board man m (board_after p.board p.mark man m)
+effect_straight p m man v pawn s =
+    effect_plain p m man v (no_passing p man m (same_file_passes_not (is_marked p.mark m.to) (file_of m.from == file_of m.to) s.same_file))
     (pawn_castles_not man m pawn) (empty_no_king p m s.empty)
 
 -- what a step tells
@@ -55,8 +55,8 @@ pub record Step (p : Pos) (m : Move) : Type 0 where
 
 pub step : (p : Pos) (m : Move) → is_step p.board p.side m ≡ true → Step p m
 step p m h =
-    let r = and-both (file_of m.from == file_of m.to) (is_forward p.side m.from m.to && is_empty p.board m.to) h in
-    let q = and-both (is_forward p.side m.from m.to) (is_empty p.board m.to) r.1 in
+    let r = and_parts (file_of m.from == file_of m.to) (is_forward p.side m.from m.to && is_empty p.board m.to) h in
+    let q = and_parts (is_forward p.side m.from m.to) (is_empty p.board m.to) r.1 in
     record { straight = record { empty = none_from (man_at p.board m.to) q.1; same_file = r.0 }; forward = q.0 }
 
 -- what a two-square advance tells
@@ -69,14 +69,14 @@ pub record DoubleStep (p : Pos) (m : Move) : Type 0 where
 pub double_step : (p : Pos) (m : Move) → is_double_step p.board p.side m ≡ true → DoubleStep p m
 double_step p m h =
     let free = is_empty p.board (crossed p.side m.from) && is_empty p.board m.to in
-    let r = and-both (file_of m.from == file_of m.to) (rank_of m.from == pawn_rank p.side && (rank_of m.to == landing_rank p.side && free)) h in
-    let q = and-both (rank_of m.from == pawn_rank p.side) (rank_of m.to == landing_rank p.side && free) r.1 in
-    let s = and-both (rank_of m.to == landing_rank p.side) free q.1 in
-    let t = and-both (is_empty p.board (crossed p.side m.from)) (is_empty p.board m.to) s.1 in
+    let r = and_parts (file_of m.from == file_of m.to) (rank_of m.from == pawn_rank p.side && (rank_of m.to == landing_rank p.side && free)) h in
+    let q = and_parts (rank_of m.from == pawn_rank p.side) (rank_of m.to == landing_rank p.side && free) r.1 in
+    let s = and_parts (rank_of m.to == landing_rank p.side) free q.1 in
+    let t = and_parts (is_empty p.board (crossed p.side m.from)) (is_empty p.board m.to) s.1 in
     record {
       straight = record { empty = none_from (man_at p.board m.to) t.1; same_file = r.0 };
-      departs = eq_from (rank_of m.from) (pawn_rank p.side) q.0;
-      lands = eq_from (rank_of m.to) (landing_rank p.side) s.0;
+      departs = eqb-true (rank_of m.from) (pawn_rank p.side) q.0;
+      lands = eqb-true (rank_of m.to) (landing_rank p.side) s.0;
       free = none_from (man_at p.board (crossed p.side m.from)) t.0;
     }
 
@@ -85,45 +85,49 @@ pub attack_forward : (p : Pos) (m : Move) (man : Man) → Mover p m man → man.
 attack_forward p m man v pawn a =
     let r = attack_reaches p.board man m.from m.to v.departs.stands a in
     let q : can_reach Pawn man.side m.from m.to ≡ true = ap (λ k. can_reach k man.side m.from m.to) (sym pawn) ∙ r in
-    ap (λ s. is_forward s m.from m.to) (sym v.own) ∙ (and-both (apart (file_of m.from) (file_of m.to) == 1) (is_forward man.side m.from m.to) q).1
+    ap (λ s. is_forward s m.from m.to) (sym v.own) ∙ (and_parts (apart (file_of m.from) (file_of m.to) == 1) (is_forward man.side m.from m.to) q).1
 
 pub leaves_file : (p : Pos) (m : Move) (man : Man) → Mover p m man → man.kind ≡ Pawn → attacks p.board m.from m.to ≡ true → apart (file_of m.from) (file_of m.to) ≡ 1
 leaves_file p m man v pawn a =
     let r = attack_reaches p.board man m.from m.to v.departs.stands a in
     let q : can_reach Pawn man.side m.from m.to ≡ true = ap (λ k. can_reach k man.side m.from m.to) (sym pawn) ∙ r in
-    eq_from (apart (file_of m.from) (file_of m.to)) 1 (and-both (apart (file_of m.from) (file_of m.to) == 1) (is_forward man.side m.from m.to) q).0
+    eqb-true (apart (file_of m.from) (file_of m.to)) 1 (and_parts (apart (file_of m.from) (file_of m.to) == 1) (is_forward man.side m.from m.to) q).0
 
 -- what a mark tells of the pawn that crossed it
-record Crossed (b : Board) (side : Side) (s : ℕ) : Type 0 where
-  rank : rank_of s ≡ crossed_rank (other side)
-  pawn : is_man (other side) Pawn (man_at b (square_at (file_of s) (landing_rank (other side)))) ≡ true
-  empty : man_at b s ≡ None
+pub record Crossed (b : Board) (side : Side) (s : ℕ) : Type 0 where
+  pub rank : rank_of s ≡ crossed_rank (other side)
+  pub pawn : is_man (other side) Pawn (man_at b (square_at (file_of s) (landing_rank (other side)))) ≡ true
+  pub empty : man_at b s ≡ None
 
 crossed_by : (b : Board) (side : Side) (s : ℕ) → is_crossed b (other side) s ≡ true → Crossed b side s
 crossed_by b side s h =
     let stands = is_man (other side) Pawn (man_at b (square_at (file_of s) (landing_rank (other side)))) in
     let left = is_empty b (square_at (file_of s) (pawn_rank (other side))) in
-    let r = and-both (rank_of s == crossed_rank (other side)) (stands && (is_empty b s && left)) h in
-    let q = and-both stands (is_empty b s && left) r.1 in
-    let t = and-both (is_empty b s) left q.1 in
-    record { rank = eq_from (rank_of s) (crossed_rank (other side)) r.0; pawn = q.0; empty = none_from (man_at b s) t.0 }
+    let r = and_parts (rank_of s == crossed_rank (other side)) (stands && (is_empty b s && left)) h in
+    let q = and_parts stands (is_empty b s && left) r.1 in
+    let t = and_parts (is_empty b s) left q.1 in
+    record { rank = eqb-true (rank_of s) (crossed_rank (other side)) r.0; pawn = q.0; empty = none_from (man_at b s) t.0 }
 
 marked_is : (mark : Option ℕ) (b : Board) (side : Side) (s : ℕ) → is_marked mark s ≡ true → has_mark b side mark ≡ true → is_crossed b (other side) s ≡ true
 marked_is None b side s h k = cc
-marked_is (Some t) b side s h k = subst (λ (x : ℕ). is_crossed b (other side) x ≡ true) (eq_from t s h) k
+marked_is (Some t) b side s h k = subst (λ (x : ℕ). is_crossed b (other side) x ≡ true) (eqb-true t s h) k
+
+-- what a square tells that is marked
+pub marked_crossed : (p : Pos) (s : ℕ) → Facts p → is_marked p.mark s ≡ true → Crossed p.board p.side s
+marked_crossed p s f h = crossed_by p.board p.side s (marked_is p.mark p.board p.side s h f.mark)
 
 -- a pawn that arrives on the mark departs from the rank of the pawn that crossed it
 passed_rank : (side : Side) (f t : ℕ) → is_forward side f t ≡ true → rank_of t ≡ crossed_rank (other side) → rank_of f ≡ landing_rank (other side)
-passed_rank White f t h e = let r = eq_from (rank_of t) (rank_of f + 1) h in omega arith
-passed_rank Black f t h e = let r = eq_from (rank_of f) (rank_of t + 1) h in omega arith
+passed_rank White f t h e = let r = eqb-true (rank_of t) (rank_of f + 1) h in omega arith
+passed_rank Black f t h e = let r = eqb-true (rank_of f) (rank_of t + 1) h in omega arith
 
 passed_apart : (side : Side) (f t : ℕ) → f < 64 → apart (file_of f) (file_of t) ≡ 1 → is_forward side f t ≡ true →
     (square_at (file_of t) (rank_of f) < 64) × (square_at (file_of t) (rank_of f) ≢ f) × (square_at (file_of t) (rank_of f) ≢ t)
-passed_apart White f t l files h = let r = eq_from (rank_of t) (rank_of f + 1) h in (omega arith, (λ e. omega arith), (λ e. omega arith))
-passed_apart Black f t l files h = let r = eq_from (rank_of f) (rank_of t + 1) h in (omega arith, (λ e. omega arith), (λ e. omega arith))
+passed_apart White f t l files h = let r = eqb-true (rank_of t) (rank_of f + 1) h in (omega arith, (λ e. omega arith), (λ e. omega arith))
+passed_apart Black f t l files h = let r = eqb-true (rank_of f) (rank_of t + 1) h in (omega arith, (λ e. omega arith), (λ e. omega arith))
 
-other_file : (a b : ℕ) → apart a b ≡ 1 → (a == b) ≡ false
-other_file a b h = eq_not a b (λ e. omega arith)
+pub other_file : (a b : ℕ) → apart a b ≡ 1 → (a == b) ≡ false
+other_file a b h = ne_eqb a b (λ e. omega arith)
 
 -- A capture in passing: the to-square is empty, and the enemy pawn that is captured stands on the passed square.
 pub record Passing (p : Pos) (m : Move) (man : Man) : Type 0 where
@@ -137,9 +141,9 @@ pub record Passing (p : Pos) (m : Move) (man : Man) : Type 0 where
   pub not_from : passed_square m ≢ m.from
   pub not_to : passed_square m ≢ m.to
 
-passing-marked : (p : Pos) (m : Move) (man : Man) → Facts p → Mover p m man → man.kind ≡ Pawn → attacks p.board m.from m.to ≡ true → is_marked p.mark m.to ≡ true → Passing p m man
-passing-marked p m man f v pawn a marked =
-    let c = crossed_by p.board p.side m.to (marked_is p.mark p.board p.side m.to marked f.mark) in
+passing_marked : (p : Pos) (m : Move) (man : Man) → Facts p → Mover p m man → man.kind ≡ Pawn → attacks p.board m.from m.to ≡ true → is_marked p.mark m.to ≡ true → Passing p m man
+passing_marked p m man f v pawn a marked =
+    let c = marked_crossed p m.to f marked in
     let files = leaves_file p m man v pawn a in
     let forward = attack_forward p m man v pawn a in
     let where_is : passed_square m ≡ square_at (file_of m.to) (landing_rank (other p.side)) =
@@ -147,8 +151,8 @@ passing-marked p m man f v pawn a marked =
     let (gone, is, side, kind) = found_man (other p.side) Pawn (man_at p.board (square_at (file_of m.to) (landing_rank (other p.side)))) c.pawn in
     let away = passed_apart p.side m.from m.to v.from_in files forward in
     record {
-      passes = both-and (is_same_kind man.kind Pawn) (is_marked p.mark m.to && not (file_of m.from == file_of m.to)) (ap (λ k. is_same_kind k Pawn) pawn)
-          (both-and (is_marked p.mark m.to) (not (file_of m.from == file_of m.to)) marked (ap not (other_file (file_of m.from) (file_of m.to) files)));
+      passes = and_from (is_same_kind man.kind Pawn) (is_marked p.mark m.to && not (file_of m.from == file_of m.to)) (ap (λ k. is_same_kind k Pawn) pawn)
+          (and_from (is_marked p.mark m.to) (not (file_of m.from == file_of m.to)) marked (ap not (other_file (file_of m.from) (file_of m.to) files)));
       empty = c.empty;
       gone = gone;
       stands = ap (man_at p.board) where_is ∙ is;
@@ -159,31 +163,31 @@ passing-marked p m man f v pawn a marked =
       not_to = away.2;
     }
 
-effect-passing : (p : Pos) (m : Move) (man : Man) → Facts p → Mover p m man → Passing p m man → Effect p.board man m (board_after p.board p.mark man m)
-effect-passing p m man f v w =
-    let board_is : board_after p.board p.mark man m ≡ set (moved p.board man m) (passed_square m) None = cond-at-true (is_en_passant p.mark man m) _ _ w.passes in
+effect_passing : (p : Pos) (m : Move) (man : Man) → Facts p → Mover p m man → Passing p m man → Effect p.board man m (board_after p.board p.mark man m)
+effect_passing p m man f v w =
+    let board_is : board_after p.board p.mark man m ≡ set (moved p.board man m) (passed_square m) None = cond-true (is_en_passant p.mark man m) _ _ w.passes in
     subst (Effect p.board man m) (sym board_is)
-    (Effect-passing p.board man m (passed_square m) w.gone v.departs w.empty (omega (arith, f.squares, w.inside)) w.not_from w.not_to w.stands w.kind)
+    (Effect_passing p.board man m (passed_square m) w.gone v.departs w.empty (omega (arith, f.squares, w.inside)) w.not_from w.not_to w.stands w.kind)
 
-effect-capture : (p : Pos) (m : Move) (man : Man) → Facts p → Mover p m man → man.kind ≡ Pawn → is_pawn_capture p m ≡ true → Effect p.board man m (board_after p.board p.mark man m)
-effect-capture p m man f v pawn h =
-    let r = and-both (attacks p.board m.from m.to) (is_of (other p.side) (man_at p.board m.to) || is_marked p.mark m.to) h in
+effect_capture : (p : Pos) (m : Move) (man : Man) → Facts p → Mover p m man → man.kind ≡ Pawn → is_pawn_capture p m ≡ true → Effect p.board man m (board_after p.board p.mark man m)
+effect_capture p m man f v pawn h =
+    let r = and_parts (attacks p.board m.from m.to) (is_of (other p.side) (man_at p.board m.to) || is_marked p.mark m.to) h in
     by_mark (is_marked p.mark m.to) refl r.0
   where
     by_mark : (t : Bool) → is_marked p.mark m.to ≡ t → attacks p.board m.from m.to ≡ true → Effect p.board man m (board_after p.board p.mark man m)
-    by_mark true marked a = effect-passing p m man f v (passing-marked p m man f v pawn a marked)
+    by_mark true marked a = effect_passing p m man f v (passing_marked p m man f v pawn a marked)
     by_mark false marked a =
-        effect-plain p m man v (no_passing p man m (false-and (is_marked p.mark m.to) (not (file_of m.from == file_of m.to)) marked))
+        effect_plain p m man v (no_passing p man m (and_left (is_marked p.mark m.to) (not (file_of m.from == file_of m.to)) marked))
         (pawn_castles_not man m pawn) (attacked_no_king p m man f v a)
 
-pub effect-pawn : (p : Pos) (m : Move) (man : Man) → Facts p → Mover p m man → man.kind ≡ Pawn →
+pub effect_pawn : (p : Pos) (m : Move) (man : Man) → Facts p → Mover p m man → man.kind ≡ Pawn →
     (is_step p.board p.side m || (is_double_step p.board p.side m || is_pawn_capture p m)) ≡ true → Effect p.board man m (board_after p.board p.mark man m)
-effect-pawn p m man f v pawn h =
-    elim (or-either (is_step p.board p.side m) (is_double_step p.board p.side m || is_pawn_capture p m) h) [
-      | inl s ↦ effect-straight p m man v pawn (step p m s).straight
-      | inr r ↦ elim (or-either (is_double_step p.board p.side m) (is_pawn_capture p m) r) [
-        | inl d ↦ effect-straight p m man v pawn (double_step p m d).straight
-        | inr c ↦ effect-capture p m man f v pawn c
+effect_pawn p m man f v pawn h =
+    elim (or_cases (is_step p.board p.side m) (is_double_step p.board p.side m || is_pawn_capture p m) h) [
+      | inl s ↦ effect_straight p m man v pawn (step p m s).straight
+      | inr r ↦ elim (or_cases (is_double_step p.board p.side m) (is_pawn_capture p m) r) [
+        | inl d ↦ effect_straight p m man v pawn (double_step p m d).straight
+        | inr c ↦ effect_capture p m man f v pawn c
       ]
     ]
 
@@ -195,15 +199,15 @@ not_both false h k = cc
 pub passing : (p : Pos) (m : Move) (man : Man) → Facts p → Mover p m man → is_en_passant p.mark man m ≡ true → Passing p m man
 passing p m man f v h =
     let same_file = file_of m.from == file_of m.to in
-    let a = and-both (is_same_kind man.kind Pawn) (is_marked p.mark m.to && not same_file) h in
-    let b = and-both (is_marked p.mark m.to) (not same_file) a.1 in
-    let pawn = same_kind-eq man.kind Pawn a.0 in
+    let a = and_parts (is_same_kind man.kind Pawn) (is_marked p.mark m.to && not same_file) h in
+    let b = and_parts (is_marked p.mark m.to) (not same_file) a.1 in
+    let pawn = same_kind_eq man.kind Pawn a.0 in
     let moves : is_pawn_move p m ≡ true = subst (λ (k : Kind). is_move_of_kind k p m ≡ true) pawn v.moves in
-    let r = and-both (has_promotion p.side m) (is_step p.board p.side m || (is_double_step p.board p.side m || is_pawn_capture p m)) moves in
-    elim (or-either (is_step p.board p.side m) (is_double_step p.board p.side m || is_pawn_capture p m) r.1) [
+    let r = and_parts (has_promotion p.side m) (is_step p.board p.side m || (is_double_step p.board p.side m || is_pawn_capture p m)) moves in
+    elim (or_cases (is_step p.board p.side m) (is_double_step p.board p.side m || is_pawn_capture p m) r.1) [
       | inl s ↦ absurd (not_both same_file (step p m s).straight.same_file b.1)
-      | inr r ↦ elim (or-either (is_double_step p.board p.side m) (is_pawn_capture p m) r) [
+      | inr r ↦ elim (or_cases (is_double_step p.board p.side m) (is_pawn_capture p m) r) [
         | inl d ↦ absurd (not_both same_file (double_step p m d).straight.same_file b.1)
-        | inr c ↦ passing-marked p m man f v pawn (and-both (attacks p.board m.from m.to) (is_of (other p.side) (man_at p.board m.to) || is_marked p.mark m.to) c).0 b.0
+        | inr c ↦ passing_marked p m man f v pawn (and_parts (attacks p.board m.from m.to) (is_of (other p.side) (man_at p.board m.to) || is_marked p.mark m.to) c).0 b.0
       ]
     ]

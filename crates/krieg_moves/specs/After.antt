@@ -1,5 +1,5 @@
 -- The position after a move (FIDE Laws, articles 3.7 and 3.8).
-use Rattle.std.specs.Prelude.{ℕ, Bool, false, Option, Some, None, not, ◌&&◌, ◌==◌, cond, slice_set}
+use Rattle.std.specs.Prelude.{ℕ, Bool, false, Option, Some, None, not, ◌&&◌, ◌==◌, slice_set, if◌then◌else◌}
 use Rattle.krieg_board.specs.Men.{other, is_same_side, is_same_kind}
 use Rattle.krieg_board.specs.Squares.{file_of, rank_of, square_at, pawn_rank, crossed_rank, landing_rank}
 use Rattle.krieg_board.specs.Board.{Board, man_at}
@@ -56,10 +56,10 @@ with_rook wing side b = slice_set (slice_set b (corner wing side) None) (crossin
 
 abbrev pub board_after : Board → Option ℕ → Man → Move → Board
 board_after b mark man m =
-    cond (is_en_passant mark man m) (slice_set (moved b man m) (passed_square m) None)
-    (cond (is_castling Short man m) (with_rook Short man.side (moved b man m))
-    (cond (is_castling Long man m) (with_rook Long man.side (moved b man m))
-    (moved b man m)))
+    if is_en_passant mark man m then slice_set (moved b man m) (passed_square m) None
+    else if is_castling Short man m then with_rook Short man.side (moved b man m)
+    else if is_castling Long man m then with_rook Long man.side (moved b man m)
+    else moved b man m
 
 -- a right stays where its king does not move, and no move begins or ends on its rook's corner
 abbrev pub keeps_right : Bool → Wing → Side → Man → Move → Bool
@@ -85,7 +85,7 @@ crossed side s = square_at (file_of s) (crossed_rank side)
 
 -- the mark is the crossed square after a two-square advance, and otherwise none
 abbrev pub mark_after : Man → Move → Option ℕ
-mark_after man m = cond (is_advance man m) (Some (crossed man.side m.from)) None
+mark_after man m = if is_advance man m then Some (crossed man.side m.from) else None
 
 abbrev pub after_by : Pos → Option Man → Move → Pos
 after_by p None m = p

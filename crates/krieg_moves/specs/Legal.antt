@@ -1,5 +1,5 @@
 -- Which moves are legal (FIDE Laws, articles 3.1 to 3.10).
-use Rattle.std.specs.Prelude.{ℕ, Bool, true, false, Option, Some, None, not, ◌&&◌, ◌||◌, ◌==◌, nat_lt, cond}
+use Rattle.std.specs.Prelude.{ℕ, Bool, true, false, Option, Some, None, not, ◌&&◌, ◌||◌, ◌==◌, nat_lt, if◌then◌else◌}
 use Rattle.krieg_board.specs.Men.{other, is_same_side}
 use Rattle.krieg_board.specs.Squares.{file_of, rank_of, pawn_rank, landing_rank, last_rank}
 use Rattle.krieg_board.specs.Board.{Board, man_at, is_empty, is_of}
@@ -40,7 +40,7 @@ is_pawn_capture p m = attacks p.board m.from m.to && (is_of (other p.side) (man_
 
 -- a promotion is named exactly where the pawn reaches the last rank
 abbrev pub has_promotion : Side → Move → Bool
-has_promotion side m = cond (rank_of m.to == last_rank side) (not (is_plain m.promo)) (is_plain m.promo)
+has_promotion side m = if rank_of m.to == last_rank side then not (is_plain m.promo) else is_plain m.promo
 
 abbrev pub is_pawn_move : Pos → Move → Bool
 is_pawn_move p m = has_promotion p.side m && (is_step p.board p.side m || (is_double_step p.board p.side m || is_pawn_capture p m))

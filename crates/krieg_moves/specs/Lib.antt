@@ -2,3 +2,5 @@ pub mod Wings
 pub mod After
 pub mod Legal
 pub mod Moves
+pub mod Guarding
+pub mod Targets

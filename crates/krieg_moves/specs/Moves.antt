@@ -1,15 +1,14 @@
 -- The legal moves in their order, and the ends of a game (FIDE Laws, articles 5.1.1 and 5.2.1).
-use Rattle.std.specs.Prelude.{ℕ, Bool, true, false, List, [], ◌∷◌, ◌++◌, zero, suc, filter, not, ◌&&◌}
+use Rattle.std.specs.Prelude.{ℕ, Bool, true, false, List, [], ◌∷◌, filter, not, ◌&&◌, ◌==◌, if◌then◌else◌}
+use Rattle.krieg_board.specs.Squares.{gathered, rank_of, last_rank}
+use Rattle.krieg_board.specs.Board.{man_at, is_man}
 use Rattle.krieg_board.specs.Pos.{Pos}
 use Rattle.krieg_board.specs.Attacks.{is_king_attacked}
+use Rattle.krieg_board.specs.declared.men.Kind.TheVariants.{Pawn}
 use Rattle.krieg_board.specs.declared.men.Promo.TheVariants as promo
 use Rattle.krieg_board.specs.declared.men.Move.{Move}
-use Rattle.krieg_moves.specs.Legal.{is_legal}
-
--- the lists of 0 to n - 1, one after another
-abbrev pub gathered : (ℕ → List Move) → ℕ → List Move
-gathered list_of zero = []
-gathered list_of (suc n) = gathered list_of n ++ list_of n
+use Rattle.std.specs.List.{list_any}
+use Rattle.krieg_moves.specs.Legal.{is_legal, is_plain}
 
 -- the move between two squares that names no promotion
 abbrev pub plain_move : ℕ → ℕ → Move
@@ -26,6 +25,18 @@ promotions f t =
 -- the five moves between two squares, in order
 abbrev pub moves_between : ℕ → ℕ → List Move
 moves_between f t = plain_move f t ∷ promotions f t
+
+-- a pawn of the side to move reaches the last rank
+abbrev pub promotes : Pos → ℕ → ℕ → Bool
+promotes p f t = is_man p.side Pawn (man_at p.board f) && rank_of t == last_rank p.side
+
+-- a promotion is named exactly where a pawn reaches the last rank
+abbrev pub fits : Pos → Move → Bool
+fits p m = if promotes p m.from m.to then not (is_plain m.promo) else is_plain m.promo
+
+-- the man on f may go to t: one of the five moves is legal, the plain one or that with one of the four promotions
+unfoldable pub can_go : Pos → ℕ → ℕ → Bool
+can_go p f t = list_any (is_legal p) (moves_between f t)
 
 -- the moves from a square, by to-square and then by promotion
 unfoldable pub moves_from : ℕ → List Move

@@ -5,7 +5,7 @@ ghost use Rattle.krieg_moves.specs.Legal.{is_legal};
 
 use crate::wing::{Wing, arrival, corner, crossing, king_square};
 use krieg_board::{
-    Board, Kind, Man, Move, Position, Promo, Rights, Side, Square, crossed_rank, file_of,
+    Bits, Kind, Man, Move, Position, Promo, Rights, Side, Square, crossed_rank, file_of,
     landing_rank, pawn_rank, rank_of, square_at,
 };
 
@@ -30,13 +30,11 @@ fn placed(man: Man, mv: &Move) -> Man
     }
 }
 
-fn moved(board: &Board, man: Man, mv: &Move) -> Board
-    ensures { result ≡ spec.moved board.now man mv.now }
+fn moved(bits: &Bits, man: Man, mv: &Move) -> Bits
+    ensures { result ≡ spec.moved bits.now man mv.now }
 {
-    let mut next = *board;
-    next[mv.from.number() as usize] = None;
-    next[mv.to.number() as usize] = Some(placed(man, mv));
-    next
+    bits.with(mv.from.number(), None)
+        .with(mv.to.number(), Some(placed(man, mv)))
 }
 
 /// Whether the mark is that square.
@@ -82,27 +80,24 @@ fn is_castling(wing: Wing, man: Man, mv: &Move) -> bool
         && mv.to.number() == arrival(wing, man.side)
 }
 
-fn with_rook(wing: Wing, side: Side, board: &Board) -> Board
-    ensures { result ≡ spec.with_rook wing side board.now }
+fn with_rook(wing: Wing, side: Side, bits: &Bits) -> Bits
+    ensures { result ≡ spec.with_rook wing side bits.now }
 {
     let rook = Man {
         side,
         kind: Kind::Rook,
     };
-    let mut next = *board;
-    next[corner(wing, side) as usize] = None;
-    next[crossing(wing, side) as usize] = Some(rook);
-    next
+    bits.with(corner(wing, side), None)
+        .with(crossing(wing, side), Some(rook))
 }
 
 /// The board after the move of this man.
-pub fn board_after(board: &Board, mark: &Option<Square>, man: Man, mv: &Move) -> Board
-    ensures { result ≡ spec.board_after board.now mark.now man mv.now }
+pub fn board_after(bits: &Bits, mark: &Option<Square>, man: Man, mv: &Move) -> Bits
+    ensures { result ≡ spec.board_after bits.now mark.now man mv.now }
 {
-    let mut next = moved(board, man, mv);
+    let next = moved(bits, man, mv);
     if is_en_passant(mark, man, mv) {
-        next[passed_number(mv) as usize] = None;
-        return next;
+        return next.with(passed_number(mv), None);
     }
     if is_castling(Wing::Short, man, mv) {
         return with_rook(Wing::Short, man.side, &next);
@@ -171,9 +166,9 @@ pub fn after(p: &Position, mv: Move) -> Position
     match p.man_at(mv.from) {
         None => *p,
         Some(man) => {
-            let board = board_after(p.board(), &p.mark(), man, mv);
+            let board = board_after(p.bits(), &p.mark(), man, mv);
             Position::from_valid(
-                board,
+                &board,
                 p.side().other(),
                 rights_after(p.rights(), man, mv),
                 mark_after(man, mv),

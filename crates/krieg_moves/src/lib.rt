@@ -8,14 +8,18 @@
 
 mod change;
 mod ends;
+mod guard;
 mod legality;
 mod list;
+mod target;
 #[cfg(test)]
 mod tests;
 mod wing;
 
 pub use change::{after, is_en_passant, passed_square};
-pub use ends::{has_move, in_check, is_mate, is_stalemate};
+pub use ends::{has_move, has_move_by, in_check, is_mate, is_stalemate};
+pub use guard::Guard;
 pub use legality::is_legal;
 pub use list::legal_moves;
+pub use target::{pawn_captures, targets};
 pub use wing::Wing;

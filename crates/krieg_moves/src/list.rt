@@ -1,101 +1,103 @@
-ghost use Rattle.std.specs.Prelude.{◌≡◌, ◌++◌, ◌∷◌, [], ◌&&◌, ◌==◌, ℕ, OnOk, IfOk, filter};
-ghost use Rattle.krieg_board.specs.Squares.{rank_of, last_rank};
-ghost use Rattle.krieg_board.specs.Board.{man_at, is_man};
-ghost use Rattle.krieg_board.specs.declared.men.Kind.TheVariants.{Pawn};
+ghost use Rattle.std.specs.Prelude.{◌≡◌, ◌≤◌, ◌<◌, ◌++◌, ◌∷◌, [], true, OnOk, OnErr, IfOk, IfErr, filter, length};
+ghost use Rattle.krieg_moves.specs.Guarding.{IsGuard};
 ghost use Rattle.krieg_moves.specs.Legal as spec;
 ghost use Rattle.krieg_moves.specs.Moves as list;
 
-use crate::legality::is_legal_move;
-use krieg_board::{
-    Kind, Move, NoMemory, Position, Promo, Square, is_man, is_of, last_rank, rank_of,
-};
+use crate::guard::Guard;
+use crate::legality::promotes;
+use crate::target::targets;
+use krieg_board::{Move, NoMemory, Position, Promo, Square, know_valid, lowest, without_lowest};
 use smallvec::SmallVec;
 use std::alloc::Global;
 
-/// Whether a pawn of the side to move would be promoted by going there.
-pub fn is_promotion(p: &Position, from: Square, to: Square) -> bool
-    ensures { result ≡ (is_man p.now.side Pawn (man_at p.now.board from) && rank_of to == last_rank p.now.side) }
-{
-    is_man(p.side(), Kind::Pawn, p.man_at(from)) && rank_of(to.number()) == last_rank(p.side())
-}
-
-/// Adds the move, where it is legal.
-fn push_legal(
-    p: &Position,
+fn push(
     from: Square,
     to: Square,
     promo: Promo,
     moves: &mut SmallVec<Move, 64>,
 ) -> Result<(), NoMemory>
-    ensures { OnOk result (moves.new.items ≡ moves.old.items ++ filter (spec.is_legal p.now) (record { from = from; to = to; promo = promo } ∷ [])) }
+    requires room { 64 ≤ moves.old.capacity }
+    ensures pushed { OnOk result (moves.new.items ≡ moves.old.items ++ record { from = from; to = to; promo = promo } ∷ []) }
+    ensures room { 64 ≤ moves.new.capacity }
+    ensures full { OnErr result (64 < length (moves.old.items ++ record { from = from; to = to; promo = promo } ∷ [])) }
 {
-    let mv = &Move { from, to, promo };
-    if is_legal_move(p, mv) {
-        moves.push(*mv)?;
-    }
+    moves.push(Move { from, to, promo })?;
     Ok(())
 }
 
-fn push_promotions(
-    p: &Position,
-    from: Square,
-    to: Square,
-    moves: &mut SmallVec<Move, 64>,
-) -> Result<(), NoMemory>
-    ensures { OnOk result (moves.new.items ≡ moves.old.items ++ filter (spec.is_legal p.now) (list.promotions from to)) }
+/// Adds the four promotions between two squares.
+fn push_promotions(from: Square, to: Square, moves: &mut SmallVec<Move, 64>) -> Result<(), NoMemory>
+    requires room { 64 ≤ moves.old.capacity }
+    ensures pushed { OnOk result (moves.new.items ≡ moves.old.items ++ list.promotions from to) }
+    ensures room { 64 ≤ moves.new.capacity }
+    ensures full { OnErr result (64 < length (moves.old.items ++ list.promotions from to)) }
 {
-    push_legal(p, from, to, Promo::Queen, moves)?;
-    push_legal(p, from, to, Promo::Rook, moves)?;
-    push_legal(p, from, to, Promo::Bishop, moves)?;
-    push_legal(p, from, to, Promo::Knight, moves)
+    push(from, to, Promo::Queen, moves)?;
+    push(from, to, Promo::Rook, moves)?;
+    push(from, to, Promo::Bishop, moves)?;
+    push(from, to, Promo::Knight, moves)
 }
 
-/// Adds the legal moves between two squares: promotions where a pawn reaches the last rank, and
-/// otherwise at most the plain move.
-#[tactic(auto, using(crate::proofs::MoveLists::between))]
+/// Adds the legal moves between two squares, where there are any: four promotions where a pawn reaches
+/// the last rank, and otherwise the plain move.
 fn push_between(
     p: &Position,
     from: Square,
     to: Square,
     moves: &mut SmallVec<Move, 64>,
 ) -> Result<(), NoMemory>
-    ensures { OnOk result (moves.new.items ≡ moves.old.items ++ filter (spec.is_legal p.now) (list.moves_between from to)) }
+    requires legal { list.can_go p.now from to ≡ true }
+    requires room { 64 ≤ moves.old.capacity }
+    ensures pushed { OnOk result (moves.new.items ≡ moves.old.items ++ filter (spec.is_legal p.now) (list.moves_between from to)) }
+    ensures room { 64 ≤ moves.new.capacity }
+    ensures full { OnErr result (64 < length (moves.old.items ++ filter (spec.is_legal p.now) (list.moves_between from to))) }
 {
-    if is_promotion(p, from, to) {
-        push_promotions(p, from, to, moves)
-    } else {
-        push_legal(p, from, to, Promo::Plain, moves)
+    know_valid(p);
+    let _from = from.number();
+    let _to = to.number();
+    if promotes(p, from, to) {
+        return push_promotions(from, to, moves);
     }
+    push(from, to, Promo::Plain, moves)
 }
 
-/// Adds the legal moves from a square, of which there are none where it holds no man of the side to
-/// move.
-#[tactic(auto, using(crate::proofs::MoveLists::ended))]
-fn push_from(p: &Position, from: Square, moves: &mut SmallVec<Move, 64>) -> Result<(), NoMemory>
-    ensures { OnOk result (moves.new.items ≡ moves.old.items ++ filter (spec.is_legal p.now) (list.moves_from from)) }
+/// Adds the legal moves from a square.
+fn push_from(
+    p: &Position,
+    guard: &Guard,
+    from: Square,
+    moves: &mut SmallVec<Move, 64>,
+) -> Result<(), NoMemory>
+    requires guard { IsGuard p.now guard.now }
+    requires room { 64 ≤ moves.old.capacity }
+    ensures pushed { OnOk result (moves.new.items ≡ moves.old.items ++ filter (spec.is_legal p.now) (list.moves_from from)) }
+    ensures room { 64 ≤ moves.new.capacity }
+    ensures full { OnErr result (64 < length (moves.old.items ++ filter (spec.is_legal p.now) (list.moves_from from))) }
 {
-    if !is_of(p.side(), p.man_at(from)) {
-        return Ok(());
-    }
-    for to in 0..64u8 {
-        if let Some(square) = Square::new(to) {
-            push_between(p, from, square, moves)?;
-        }
+    let mut rest = targets(p, guard, from);
+    while rest != 0 {
+        let to = lowest(rest);
+        rest = without_lowest(rest);
+        push_between(p, from, to, moves)?;
     }
     Ok(())
 }
 
 /// All legal moves of the side to move, each once, by from-square, then by to-square, then by
-/// promotion. `NoMemory` comes only for want of memory; up to 64 moves take none.
-#[tactic(auto, using(crate::proofs::MoveLists::ended), unfolding(crate::specs::Moves::moves))]
+/// promotion. `NoMemory` comes only for want of memory, and never where there are 64 moves at most: they
+/// take none.
+#[tactic(auto, unfolding(crate::specs::Moves::moves))]
 pub fn legal_moves(alloc: Global, p: &Position) -> Result<SmallVec<Move, 64>, NoMemory>
-    ensures { IfOk result (λ found. found.items ≡ list.moves p.now) }
+    ensures exact { IfOk result (λ found. found.items ≡ list.moves p.now) }
+    ensures few { IfErr result (λ e. 64 < length (list.moves p.now)) }
 {
+    let guard = &Guard::of(p);
     let mut moves = SmallVec::new(alloc);
-    for from in 0..64u8 {
-        if let Some(square) = Square::new(from) {
-            push_from(p, square, &mut moves)?;
-        }
+    let mut rest = p.bits().men_of(p.side());
+    while rest != 0 {
+        let from = lowest(rest);
+        rest = without_lowest(rest);
+        push_from(p, guard, from, &mut moves)?;
     }
     Ok(moves)
 }

@@ -1,8 +1,10 @@
 -- The bytes of a packed position, two codes at a time, and their order.
 use Rattle.std.proofs.Common.{◌≡◌, ℕ, zero, suc, ◌+◌, ◌*◌, ◌<◌, List, [], ◌∷◌, ◌++◌, length, refl, sym, ap, ◌∙◌, arith, map, take, drop, get_or, append_assoc}
-use Rattle.std.specs.Prelude.{Option, None, slice_set}
+use Rattle.std.specs.Prelude.{⊤, Option, None, slice_set}
 use Rattle.std.specs.Cmp.Lexicographic.{slice_cmp}
 use Rattle.std.specs.Ordering.{nat_cmp, ordering_then}
+use Rattle.std.specs.declared.cmp.Ordering.{Ordering}
+use Rattle.std.proofs.lemmas.Cmp.{ranked, by_ranked}
 use Rattle.std.proofs.lemmas.List.{take_more_set, drop_more, get_or-map, length-map, take-append-drop, append-nil, drop_all}
 use Rattle.krieg_board.specs.Men.{bits_of}
 use Rattle.krieg_board.specs.Pos.{Pos}
@@ -10,9 +12,8 @@ use Rattle.krieg_board.specs.declared.men.Man.{Man}
 use Rattle.krieg_pack.specs.Codes.{man_code, mark_code, side_code, numbers}
 use Rattle.krieg_pack.specs.Bytes.{paired, bytes_of}
 use Rattle.krieg_pack.specs.Order.{position_cmp}
-use Rattle.krieg_pack.proofs.Digits.{AreDigits}
-use Rattle.krieg_pack.proofs.Unpacking.{codes_below}
-use Rattle.krieg_pack.proofs.PackedOrder.{value_cmp}
+use Rattle.krieg_pack.proofs.CodeBits.{code_below}
+use Rattle.krieg_pack.proofs.PackedOrder.{cmp_less, cmp_greater, cmp_same}
 
 -- one byte more is written, and two codes fewer are left
 pub pair_step : (bytes : List ℕ) (men : List (Option Man)) (i : ℕ) → i < length bytes → 2 * i + 1 < length men →
@@ -41,8 +42,34 @@ bytes_end bytes p i rights mark side last l state done er em es =
     let first : take 32 bytes ≡ paired codes = (λ k. take (sym last k) bytes) ∙ sym (append-nil (take i bytes)) ∙ ap (λ r. take i bytes ++ paired r) (sym none) ∙ done in
     sym (take-append-drop 32 bytes) ∙ (λ k. first k ++ state k) ∙ (λ k. paired codes ++ (er k ∷ em k ∷ es k ∷ []))
 
+-- each number is the code of a man, or of an empty square
+abbrev AreCodes : List ℕ → Type 0
+AreCodes [] = ⊤
+AreCodes (x ∷ xs) = (x < 16) × AreCodes xs
+
+codes_below : (ms : List (Option Man)) → AreCodes (map man_code ms)
+codes_below [] = tt
+codes_below (m ∷ ms) = (code_below m, codes_below ms)
+
+-- two codes in one byte compare as they do one after another
+pair_cmp : (a b c d : ℕ) (o : Ordering) → b < 16 → d < 16 → ordering_then (nat_cmp (16 * a + b) (16 * c + d)) o ≡ ordering_then (nat_cmp a c) (ordering_then (nat_cmp b d) o)
+pair_cmp a b c d o b_in d_in =
+    let bytes = λ (r : Ordering). ordering_then r o in
+    let first = λ (r : Ordering). ordering_then r (ordering_then (nat_cmp b d) o) in
+    by_ranked (a < c) (a ≡ c) (c < a) (nat_cmp a c) (ranked a c (nat_cmp a c) refl)
+    (λ is h. ap bytes (cmp_less (16 * a + b) (16 * c + d) (omega arith)) ∙ sym (ap first is))
+    (λ is h. ap bytes (level h) ∙ sym (ap first is))
+    (λ is h. ap bytes (cmp_greater (16 * a + b) (16 * c + d) (omega arith)) ∙ sym (ap first is))
+  where
+    level : a ≡ c → nat_cmp (16 * a + b) (16 * c + d) ≡ nat_cmp b d
+    level h =
+        by_ranked (b < d) (b ≡ d) (d < b) (nat_cmp b d) (ranked b d (nat_cmp b d) refl)
+        (λ is l. cmp_less (16 * a + b) (16 * c + d) (omega arith) ∙ sym is)
+        (λ is l. cmp_same (16 * a + b) (16 * c + d) (omega arith) ∙ sym is)
+        (λ is l. cmp_greater (16 * a + b) (16 * c + d) (omega arith) ∙ sym is)
+
 -- codes compare two by two as they do one by one
-paired_cmp : (n : ℕ) (xs ys us vs : List ℕ) → length xs ≡ 2 * n → length ys ≡ 2 * n → AreDigits xs → AreDigits ys →
+paired_cmp : (n : ℕ) (xs ys us vs : List ℕ) → length xs ≡ 2 * n → length ys ≡ 2 * n → AreCodes xs → AreCodes ys →
     slice_cmp nat_cmp (paired xs ++ us) (paired ys ++ vs) ≡ slice_cmp nat_cmp (xs ++ us) (ys ++ vs)
 paired_cmp zero [] [] us vs l m d e = refl
 paired_cmp zero [] (y ∷ ys) us vs l m d e = absurd (omega arith)
@@ -52,12 +79,8 @@ paired_cmp (suc n) (a ∷ []) ys us vs l m d e = absurd (omega arith)
 paired_cmp (suc n) (a ∷ b ∷ xs) [] us vs l m d e = absurd (omega arith)
 paired_cmp (suc n) (a ∷ b ∷ xs) (c ∷ []) us vs l m d e = absurd (omega arith)
 paired_cmp (suc n) (a ∷ b ∷ xs) (c ∷ f ∷ ys) us vs l m d e =
-    let byte = λ (x y : ℕ). 16 * x + y in
-    let left : byte a b ≡ 16 * (16 * 0 + a) + b = omega arith in
-    let right : byte c f ≡ 16 * (16 * 0 + c) + f = omega arith in
     ap (λ r. ordering_then (nat_cmp (16 * a + b) (16 * c + f)) r) (paired_cmp n xs ys us vs (omega arith) (omega arith) d.1.1 e.1.1)
-    ∙ (λ k. ordering_then (nat_cmp (left k) (right k)) (slice_cmp nat_cmp (xs ++ us) (ys ++ vs)))
-    ∙ value_cmp 0 0 (a ∷ b ∷ []) (c ∷ f ∷ []) (xs ++ us) (ys ++ vs) refl refl (d.0, (d.1.0, tt)) (e.0, (e.1.0, tt))
+    ∙ pair_cmp a b c f (slice_cmp nat_cmp (xs ++ us) (ys ++ vs)) d.1.0 e.1.0
 
 -- the order of positions is the order of their bytes
 pub bytes_cmp : (p q : Pos) → length p.board ≡ 64 → length q.board ≡ 64 → slice_cmp nat_cmp (bytes_of p) (bytes_of q) ≡ position_cmp p q

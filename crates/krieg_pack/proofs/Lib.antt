@@ -1,5 +1,7 @@
-pub mod Digits
+pub mod CodeBits
 pub mod Unpacking
+pub mod MenSets
+pub mod CodePairs
 pub mod PackedOrder
 pub mod ByteLemmas
 pub mod Membership

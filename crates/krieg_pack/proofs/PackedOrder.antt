@@ -1,97 +1,123 @@
--- Packed positions compare, field by field, as positions do, number by number.
-use Rattle.std.proofs.Common.{◌≡◌, ℕ, ◌+◌, ◌*◌, ◌<◌, List, [], ◌∷◌, ◌++◌, length, refl, sym, ap, ◌∙◌, arith, map, take, drop, append_assoc}
-use Rattle.std.specs.Prelude.{Option}
+-- Packed positions compare as positions do, number by number: the first square that differs decides.
+use Rattle.std.proofs.Common.{◌≡◌, ◌≢◌, ℕ, zero, suc, ◌^◌, ◌<◌, true, false, not, nat_lt, cond, List, [], ◌∷◌, ◌++◌, length, get_or, refl, sym, ap, ◌∙◌, arith, map, w64}
+use Rattle.std.specs.Prelude.{None}
+use Rattle.std.specs.Int.{trailing_zeros}
 use Rattle.std.specs.Cmp.Lexicographic.{slice_cmp}
-use Rattle.std.specs.Ordering.{nat_cmp, ordering_then}
+use Rattle.std.specs.Ordering.{nat_cmp, ordering_then, is_eq}
 use Rattle.std.specs.declared.cmp.Ordering.{Ordering}
 use Rattle.std.specs.declared.cmp.Ordering.TheVariants.{Less, Equal, Greater}
-use Rattle.std.proofs.lemmas.Cmp.{ranked, by_ranked}
+use Rattle.std.proofs.lemmas.Bool.{eq-eqb, ne_eqb, eqb-true, not-false}
 use Rattle.std.proofs.lemmas.Bool.Decides.{nat_tests}
-use Rattle.std.proofs.lemmas.List.{length-map, length-take-le, map-append}
-use Rattle.krieg_board.specs.Men.{bits_of}
+use Rattle.std.proofs.lemmas.Cmp.{ranked, by_ranked}
+use Rattle.std.proofs.lemmas.List.{length-map, get_or-map, ext_get_or}
+use Rattle.krieg_board.specs.Board.{man_at}
 use Rattle.krieg_board.specs.Pos.{Pos}
-use Rattle.krieg_board.specs.declared.men.Man.{Man}
-use Rattle.krieg_pack.specs.Codes.{numbers, man_code, mark_code, side_code}
+use Rattle.krieg_board.specs.Sets.{has, IsLowest}
+use Rattle.krieg_board.proofs.SetLemmas.{has_zero, lowest}
+use Rattle.krieg_pack.specs.Codes.{numbers, man_code}
 use Rattle.krieg_pack.specs.Order.{position_cmp}
-use Rattle.krieg_pack.specs.Packing.{value, word, packed}
+use Rattle.krieg_pack.specs.Packing.{state}
 use Rattle.krieg_pack.specs.declared.packed.Packed.TheInside.{Inside}
-use Rattle.krieg_pack.proofs.Digits.{AreDigits, value-less}
-use Rattle.krieg_pack.proofs.Unpacking.{codes_below, in_four, part_length}
+use Rattle.krieg_pack.proofs.Unpacking.{Stand}
+use Rattle.krieg_pack.proofs.CodePairs.{AreApart}
 
-cmp_less : (x y : ℕ) → x < y → nat_cmp x y ≡ Less
+pub cmp_less : (x y : ℕ) → x < y → nat_cmp x y ≡ Less
 cmp_less x y h = grind (arith, nat_tests)
 
-cmp_greater : (x y : ℕ) → y < x → nat_cmp x y ≡ Greater
+pub cmp_greater : (x y : ℕ) → y < x → nat_cmp x y ≡ Greater
 cmp_greater x y h = grind (arith, nat_tests)
 
-cmp_same : (x y : ℕ) → x ≡ y → nat_cmp x y ≡ Equal
+pub cmp_same : (x y : ℕ) → x ≡ y → nat_cmp x y ≡ Equal
 cmp_same x y h = grind (arith, nat_tests)
 
--- below the same number, two values compare as the lists of their digits do
-pub value_cmp : (a b : ℕ) (xs ys us vs : List ℕ) → a ≡ b → length xs ≡ length ys → AreDigits xs → AreDigits ys →
-    ordering_then (nat_cmp (value a xs) (value b ys)) (slice_cmp nat_cmp us vs) ≡ slice_cmp nat_cmp (xs ++ us) (ys ++ vs)
-value_cmp a b [] [] us vs e l d f = ap (λ o. ordering_then o (slice_cmp nat_cmp us vs)) (cmp_same a b e)
-value_cmp a b [] (y ∷ ys) us vs e l d f = absurd (omega arith)
-value_cmp a b (x ∷ xs) [] us vs e l d f = absurd (omega arith)
-value_cmp a b (x ∷ xs) (y ∷ ys) us vs e l d f =
-    let left = λ (o : Ordering). ordering_then o (slice_cmp nat_cmp us vs) in
-    let right = λ (o : Ordering). ordering_then o (slice_cmp nat_cmp (xs ++ us) (ys ++ vs)) in
-    let same : length xs ≡ length ys = omega arith in
+-- two numbers that differ decide, whatever comes behind them
+decided : (x y : ℕ) (o : Ordering) → x ≢ y → ordering_then (nat_cmp x y) o ≡ nat_cmp x y
+decided x y o n =
+    let then = λ (r : Ordering). ordering_then r o in
     by_ranked (x < y) (x ≡ y) (y < x) (nat_cmp x y) (ranked x y (nat_cmp x y) refl)
-    (λ is h. ap left (cmp_less _ _ (value-less (16 * a + x) (16 * b + y) xs ys same d.1 f.1 (omega arith))) ∙ sym (ap right is))
-    (λ is h. value_cmp (16 * a + x) (16 * b + y) xs ys us vs (omega arith) same d.1 f.1 ∙ sym (ap right is))
-    (λ is h. ap left (cmp_greater _ _ (value-less (16 * b + y) (16 * a + x) ys xs (sym same) f.1 d.1 (omega arith))) ∙ sym (ap right is))
+    (λ is h. ap then is ∙ sym is) (λ is h. absurd (n h)) (λ is h. ap then is ∙ sym is)
 
--- two words compare as their codes do, one by one
-word_cmp : (xs ys : List (Option Man)) (us vs : List ℕ) → length xs ≡ 16 → length ys ≡ 16 →
-    ordering_then (nat_cmp (word xs) (word ys)) (slice_cmp nat_cmp us vs) ≡ slice_cmp nat_cmp (map man_code xs ++ us) (map man_code ys ++ vs)
-unfolding word
-word_cmp xs ys us vs l m =
-    let same : length (map man_code xs) ≡ length (map man_code ys) = length-map xs man_code ∙ l ∙ sym m ∙ sym (length-map ys man_code) in
-    value_cmp 0 0 (map man_code xs) (map man_code ys) us vs refl same (codes_below xs) (codes_below ys)
+untied : (x y : ℕ) → x ≢ y → is_eq (nat_cmp x y) ≡ false
+untied x y n =
+    by_ranked (x < y) (x ≡ y) (y < x) (nat_cmp x y) (ranked x y (nat_cmp x y) refl)
+    (λ is h. ap is_eq is) (λ is h. absurd (n h)) (λ is h. ap is_eq is)
 
--- the numbers by the words that hold them
-numbers-words : (p : Pos) → length p.board ≡ 64 →
-    numbers p ≡ map man_code (take 16 p.board) ++ (map man_code (take 16 (drop 16 p.board)) ++ (map man_code (take 16 (drop 32 p.board)) ++ (map man_code (take 16 (drop 48 p.board))
-    ++ (bits_of p.rights ∷ mark_code p.mark ∷ side_code p.side ∷ []))))
-unfolding numbers
-numbers-words p l =
-    let state = bits_of p.rights ∷ mark_code p.mark ∷ side_code p.side ∷ [] in
-    ap (λ men. map man_code men ++ state) (sym (in_four p.board l)) ∙ simp (map-append, append_assoc)
+-- lists that are the same before a place and differ there compare as what stands there
+first_decides : (t : ℕ) (xs ys us vs : List ℕ) → t < length xs → t < length ys → ((k : ℕ) → k < t → get_or xs k 0 ≡ get_or ys k 0) → get_or xs t 0 ≢ get_or ys t 0 →
+    slice_cmp nat_cmp (xs ++ us) (ys ++ vs) ≡ nat_cmp (get_or xs t 0) (get_or ys t 0)
+first_decides t [] ys us vs h l e n = absurd (omega arith)
+first_decides t (x ∷ xs) [] us vs h l e n = absurd (omega arith)
+first_decides zero (x ∷ xs) (y ∷ ys) us vs h l e n = decided x y (slice_cmp nat_cmp (xs ++ us) (ys ++ vs)) n
+first_decides (suc t) (x ∷ xs) (y ∷ ys) us vs h l e n =
+    ap (λ (o : Ordering). ordering_then o (slice_cmp nat_cmp (xs ++ us) (ys ++ vs))) (cmp_same x y (e 0 (omega arith)))
+    ∙ first_decides t xs ys us vs (omega arith) (omega arith) (λ k b. e (suc k) (omega arith)) n
+
+-- the same front of two lists decides nothing
+front_same : (xs us vs : List ℕ) → slice_cmp nat_cmp (xs ++ us) (xs ++ vs) ≡ slice_cmp nat_cmp us vs
+front_same [] us vs = refl
+front_same (x ∷ xs) us vs =
+    ap (λ (o : Ordering). ordering_then o (slice_cmp nat_cmp (xs ++ us) (xs ++ vs))) (cmp_same x x refl) ∙ front_same xs us vs
+
+same_there : (set : ℕ) (p q : Pos) (k : ℕ) → AreApart set p q → k < 64 → has set k ≡ false → man_code (man_at p.board k) ≡ man_code (man_at q.board k)
+same_there set p q k a h e = eqb-true _ _ (not-false _ (sym (a k h) ∙ e))
+
+other_there : (set : ℕ) (p q : Pos) (k : ℕ) → AreApart set p q → k < 64 → has set k ≡ true → man_code (man_at p.board k) ≢ man_code (man_at q.board k)
+other_there set p q k a h e same = true_not (sym e ∙ a k h ∙ ap not (eq-eqb _ _ same))
+  where
+    true_not : true ≡ false → ⊥
+    true_not e = cc
+
+module _ (set : ℕ) (p q : Pos) (a : AreApart set p q) (l : length p.board ≡ 64) (m : length q.board ≡ 64) where
+  code_p : (k : ℕ) → k < 64 → get_or (map man_code p.board) k 0 ≡ man_code (man_at p.board k)
+  code_p k h = get_or-map man_code p.board k None 0 (omega arith)
+
+  code_q : (k : ℕ) → k < 64 → get_or (map man_code q.board) k 0 ≡ man_code (man_at q.board k)
+  code_q k h = get_or-map man_code q.board k None 0 (omega arith)
+
+  -- the lowest of them decides
+  lowest_decides : (s : ℕ) → IsLowest set s → nat_cmp (man_code (man_at p.board s)) (man_code (man_at q.board s)) ≡ position_cmp p q
+  unfolding numbers
+  lowest_decides s low =
+      let below : s < 64 = low.below in
+      sym (first_decides s (map man_code p.board) (map man_code q.board) _ _
+      (omega (arith, length-map p.board man_code)) (omega (arith, length-map q.board man_code))
+      (λ k h. code_p k (omega arith) ∙ same_there set p q k a (omega arith) (low.first k h) ∙ sym (code_q k (omega arith)))
+      (λ e. other_there set p q s a below low.member (sym (code_p s below) ∙ e ∙ code_q s below))
+      ∙ (λ i. nat_cmp (code_p s below i) (code_q s below i)))
+
+  -- by which of its codes is smaller
+  pub smaller_decides : (s : ℕ) → IsLowest set s → cond (nat_lt (man_code (man_at p.board s)) (man_code (man_at q.board s))) Less Greater ≡ position_cmp p q
+  smaller_decides s low =
+      let n = ne_eqb _ _ (other_there set p q s a low.below low.member) in
+      sym (ap (λ t. cond (nat_lt (man_code (man_at p.board s)) (man_code (man_at q.board s))) Less (cond t Equal Greater)) n) ∙ lowest_decides s low
+
+  -- so where there are any, the positions do not tie
+  pub some_decide : 0 < set → set < 2 ^ 64 → is_eq (position_cmp p q) ≡ false
+  some_decide any small =
+      let low = lowest set any small in
+      let s = trailing_zeros w64 set in
+      sym (ap is_eq (lowest_decides s low)) ∙ untied _ _ (other_there set p q s a low.below low.member)
+
+  -- where there are none, the rest decides
+  pub state_decides : set ≡ 0 → slice_cmp nat_cmp (state p) (state q) ≡ position_cmp p q
+  unfolding numbers
+  state_decides none =
+      let size_p = length-map p.board man_code in
+      let size_q = length-map q.board man_code in
+      let codes : map man_code p.board ≡ map man_code q.board =
+      ext_get_or 0 (map man_code p.board) (map man_code q.board) (size_p ∙ l ∙ sym m ∙ sym size_q)
+      (λ k h. let below : k < 64 = omega (arith, size_p) in
+      code_p k below ∙ same_there set p q k a below (ap (λ n. has n k) none ∙ has_zero k) ∙ sym (code_q k below)) in
+      sym (ap (λ xs. slice_cmp nat_cmp (map man_code p.board ++ state p) (xs ++ state q)) (sym codes) ∙ front_same (map man_code p.board) (state p) (state q))
 
 then_Equal : (o : Ordering) → o ≡ ordering_then o Equal
 then_Equal Less = refl
 then_Equal Equal = refl
 then_Equal Greater = refl
 
--- the fields one after another
-abbrev pub fields_cmp : Inside → Inside → Ordering
-fields_cmp a b =
-    ordering_then (nat_cmp a.first b.first)
-    (ordering_then (nat_cmp a.second b.second)
-    (ordering_then (nat_cmp a.third b.third)
-    (ordering_then (nat_cmp a.fourth b.fourth)
-    (ordering_then (nat_cmp a.rights b.rights)
-    (ordering_then (nat_cmp a.mark b.mark) (nat_cmp a.side b.side))))))
-
-packed_cmp : (p q : Pos) → length p.board ≡ 64 → length q.board ≡ 64 → fields_cmp (packed p) (packed q) ≡ position_cmp p q
-unfolding packed
-packed_cmp p q l m =
-    let a = packed p in
-    let b = packed q in
-    let first = λ (o : Ordering). ordering_then (nat_cmp a.first b.first) o in
-    let second = λ (o : Ordering). ordering_then (nat_cmp a.second b.second) o in
-    let third = λ (o : Ordering). ordering_then (nat_cmp a.third b.third) o in
-    let fourth = λ (o : Ordering). ordering_then (nat_cmp a.fourth b.fourth) o in
-    let state = λ (o : Ordering). ordering_then (nat_cmp a.rights b.rights) (ordering_then (nat_cmp a.mark b.mark) o) in
-    let part = λ (at : ℕ) (r : Pos). take 16 (drop at r.board) in
-    ap (λ o. first (second (third (fourth (state o))))) (then_Equal (nat_cmp a.side b.side))
-    ∙ ap (λ o. first (second (third o))) (word_cmp (part 48 p) (part 48 q) _ _ (part_length 48 p.board l (omega arith)) (part_length 48 q.board m (omega arith)))
-    ∙ ap (λ o. first (second o)) (word_cmp (part 32 p) (part 32 q) _ _ (part_length 32 p.board l (omega arith)) (part_length 32 q.board m (omega arith)))
-    ∙ ap first (word_cmp (part 16 p) (part 16 q) _ _ (part_length 16 p.board l (omega arith)) (part_length 16 q.board m (omega arith)))
-    ∙ word_cmp (take 16 p.board) (take 16 q.board) _ _ (length-take-le 16 p.board (omega arith)) (length-take-le 16 q.board (omega arith))
-    ∙ (λ i. slice_cmp nat_cmp (sym (numbers-words p l) i) (sym (numbers-words q m) i))
-
--- fields that stand for two positions compare as the positions do
-pub fields_cmp-positions : (a b : Inside) (p q : Pos) → packed p ≡ a → packed q ≡ b → length p.board ≡ 64 → length q.board ≡ 64 → fields_cmp a b ≡ position_cmp p q
-fields_cmp-positions a b p q e f l m = (λ i. fields_cmp (sym e i) (sym f i)) ∙ packed_cmp p q l m
+-- the three bytes compare as what they stand for
+pub state_cmp : (a b : Inside) (p q : Pos) → Stand a p → Stand b q →
+    ordering_then (nat_cmp a.rights b.rights) (ordering_then (nat_cmp a.mark b.mark) (nat_cmp a.side b.side)) ≡ slice_cmp nat_cmp (state p) (state q)
+state_cmp a b p q s t =
+    ap (λ (o : Ordering). ordering_then (nat_cmp a.rights b.rights) (ordering_then (nat_cmp a.mark b.mark) o)) (then_Equal (nat_cmp a.side b.side))
+    ∙ (λ i. slice_cmp nat_cmp (s.rights i ∷ s.mark i ∷ s.side i ∷ []) (t.rights i ∷ t.mark i ∷ t.side i ∷ []))

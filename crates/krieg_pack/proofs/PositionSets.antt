@@ -44,15 +44,15 @@ pub is_set_of : (members ps : List Pos) → IsSetOf members ps → members ≡ s
 is_set_of members ps s = same_members members (set_of ps) s.ascending (set_ascending ps) (λ p i. in_set p ps ((s.exact p).0 i)) (λ p i. (s.exact p).1 (set_in p ps i))
 
 -- an ascending list is its own set
-pub set_of-ascending : (ps : List Pos) → IsAscending ps → set_of ps ≡ ps
-set_of-ascending ps up = same_members (set_of ps) ps (set_ascending ps) up (λ p i. set_in p ps i) (λ p i. in_set p ps i)
+pub set_of_ascending : (ps : List Pos) → IsAscending ps → set_of ps ≡ ps
+set_of_ascending ps up = same_members (set_of ps) ps (set_ascending ps) up (λ p i. set_in p ps i) (λ p i. in_set p ps i)
 
-pub set_of-set : (ps : List Pos) → set_of (set_of ps) ≡ set_of ps
-set_of-set ps = set_of-ascending (set_of ps) (set_ascending ps)
+pub set_of_set : (ps : List Pos) → set_of (set_of ps) ≡ set_of ps
+set_of_set ps = set_of_ascending (set_of ps) (set_ascending ps)
 
-pub set_of-nil : set_of [] ≡ []
+pub set_of_nil : set_of [] ≡ []
 unfolding set_of
-set_of-nil = refl
+set_of_nil = refl
 
 -- lists with the same members have one set
 pub same_sets : (ps qs : List Pos) → ((p : Pos) → In p ps → In p qs) → ((p : Pos) → In p qs → In p ps) → set_of ps ≡ set_of qs
@@ -69,17 +69,17 @@ pub set_part_le : (ps qs : List Pos) → ((p : Pos) → In p ps → In p qs) →
 set_part_le ps qs f = part_le position_lt position_order (set_of ps) (set_of qs) (set_ascending ps) (set_ascending qs) (λ p i. in_set p qs (f p (set_in p ps i)))
 
 -- repeats may be dropped of a first part before the rest comes
-pub set_of-early : (ps qs : List Pos) → set_of (set_of ps ++ qs) ≡ set_of (ps ++ qs)
+pub set_of_early : (ps qs : List Pos) → set_of (set_of ps ++ qs) ≡ set_of (ps ++ qs)
 unfolding set_of
-set_of-early ps qs = as_set_early position_lt position_order ps qs
+set_of_early ps qs = as_set_early position_lt position_order ps qs
 
 -- and what has one set may stand for each other in front of more
-pub set_of-front : (ps qs rs : List Pos) → set_of ps ≡ set_of qs → set_of (ps ++ rs) ≡ set_of (qs ++ rs)
-set_of-front ps qs rs e = sym (set_of-early ps rs) ∙ ap (λ s. set_of (s ++ rs)) e ∙ set_of-early qs rs
+pub set_of_front : (ps qs rs : List Pos) → set_of ps ≡ set_of qs → set_of (ps ++ rs) ≡ set_of (qs ++ rs)
+set_of_front ps qs rs e = sym (set_of_early ps rs) ∙ ap (λ s. set_of (s ++ rs)) e ∙ set_of_early qs rs
 
 -- a buffer that has the set of what came before, after more came and repeats were dropped
-pub set_of-grown : (now pushed before came more : List Pos) → set_of now ≡ set_of pushed → pushed ≡ before ++ more → set_of before ≡ set_of came → set_of now ≡ set_of (came ++ more)
-set_of-grown now pushed before came more same is e = same ∙ ap set_of is ∙ set_of-front before came more e
+pub set_of_grown : (now pushed before came more : List Pos) → set_of now ≡ set_of pushed → pushed ≡ before ++ more → set_of before ≡ set_of came → set_of now ≡ set_of (came ++ more)
+set_of_grown now pushed before came more same is e = same ∙ ap set_of is ∙ set_of_front before came more e
 
 -- some members of an ascending list, in their order, ascend
 pub filter_ascending : (f : Pos → Bool) (ps : List Pos) → IsAscending ps → IsAscending (filter f ps)

@@ -1,5 +1,5 @@
 -- What a number stands for: the way back from the codes.
-use Rattle.std.specs.Prelude.{ℕ, ◌-◌, ◌/◌, ◌%◌, ◌==◌, Option, Some, None, cond, nat_le}
+use Rattle.std.specs.Prelude.{ℕ, ◌-◌, ◌/◌, ◌%◌, ◌==◌, Option, Some, None, nat_le, if◌then◌else◌}
 use Rattle.krieg_board.specs.declared.men.Side.{Side}
 use Rattle.krieg_board.specs.declared.men.Side.TheVariants.{White, Black}
 use Rattle.krieg_board.specs.declared.men.Kind.{Kind}
@@ -9,22 +9,22 @@ use Rattle.krieg_board.specs.declared.men.Rights.{Rights}
 
 -- the kinds by 1 to 5, and a king by any other number
 abbrev pub kind_of : ℕ → Kind
-kind_of n = cond (n == 1) Pawn (cond (n == 2) Knight (cond (n == 3) Bishop (cond (n == 4) Rook (cond (n == 5) Queen King))))
+kind_of n = if n == 1 then Pawn else if n == 2 then Knight else if n == 3 then Bishop else if n == 4 then Rook else if n == 5 then Queen else King
 
 -- nothing by 0, a white man by 1 to 6, a black one by a greater number
 abbrev pub man_of : ℕ → Option Man
 man_of n =
-    cond (n == 0) None
-    (cond (nat_le n 6) (Some (record { side = White; kind = kind_of n }))
-    (Some (record { side = Black; kind = kind_of (n - 6) })))
+    if n == 0 then None
+    else if nat_le n 6 then Some (record { side = White; kind = kind_of n })
+    else Some (record { side = Black; kind = kind_of (n - 6) })
 
 -- White by 0, Black by any other number
 abbrev pub side_of : ℕ → Side
-side_of n = cond (n == 0) White Black
+side_of n = if n == 0 then White else Black
 
 -- no mark by 0, else the square before the number
 abbrev pub mark_of : ℕ → Option ℕ
-mark_of n = cond (n == 0) None (Some (n - 1))
+mark_of n = if n == 0 then None else Some (n - 1)
 
 -- the rights by their bits
 abbrev pub rights_of : ℕ → Rights

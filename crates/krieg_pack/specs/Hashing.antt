@@ -9,11 +9,11 @@ use Rattle.krieg_pack.specs.Order.{position_eq}
 use Rattle.krieg_pack.specs.Packing.{packed}
 use Rattle.krieg_pack.specs.SameNumbers.{equal_position}
 
--- the words one by one, and then the three bytes at once
+-- the four sets one by one, and then the three bytes at once
 unfoldable pub fed_by : Pos → HashWrites
 fed_by p =
     let k = packed p in
-    fed.u64 k.first ++ (fed.u64 k.second ++ (fed.u64 k.third ++ (fed.u64 k.fourth ++ (k.rights ∷ k.mark ∷ k.side ∷ []) ∷ [])))
+    fed.u64 k.ones ++ (fed.u64 k.twos ++ (fed.u64 k.fours ++ (fed.u64 k.eights ++ (k.rights ∷ k.mark ∷ k.side ∷ []) ∷ [])))
 
 pub positions_fed : fed.Alike position_eq fed_by
 positions_fed = record { fed = λ p q h. ap fed_by (equal_position p q h) }

@@ -1,8 +1,10 @@
 //! Positions in few bytes, and ordered sets of them.
 //!
-//! `packed` keeps one valid position in four words and three bytes, and has the order of positions.
-//! `belief` has sets of positions, ascending and without repeats. `buffer` keeps a list small in which
-//! such a set is gathered. `codes` has the numbers of men, marks and rights.
+//! `packed` keeps one valid position as four sets of squares and three bytes, and has the order of
+//! positions. `planes` has these sets: one for each bit of the codes of the squares, so a position is
+//! packed and unpacked by a few operations on the sets of its men. `codes` has the numbers of marks,
+//! rights and sides. `belief` has sets of positions, ascending and without repeats. `buffer` keeps a list
+//! small in which such a set is gathered.
 //!
 //! The rules are the definitions of `specs/`: the numbers of a position (`Codes`), the order of
 //! positions (`Order`), the 35 bytes (`Bytes`) and sets of positions (`Members`), by what `krieg_theory`
@@ -14,6 +16,7 @@ mod belief;
 mod buffer;
 mod codes;
 mod packed;
+mod planes;
 #[cfg(test)]
 mod tests;
 

@@ -64,9 +64,9 @@ fn writes_codes(rt: HostRuntime) -> Result<(), BadPosition> {
     Ok(())
 }
 
-/// Every kind of man on the first and the last rank, with all rights, a mark and Black to move.
-#[test]
-fn writes_every_code(rt: HostRuntime) -> Result<(), BadPosition> {
+/// Every kind of man of both sides: the officers on the first and the last rank, a white pawn on e4 and
+/// a black one on a7.
+fn full_board() -> Board {
     use Kind::{Bishop, King, Knight, Pawn, Queen, Rook};
     let officers = [Rook, Knight, Bishop, Queen, King, Bishop, Knight, Rook];
     let mut board = board_of(&[(28, Side::White, Pawn), (48, Side::Black, Pawn)]);
@@ -81,13 +81,24 @@ fn writes_every_code(rt: HostRuntime) -> Result<(), BadPosition> {
             kind,
         });
     }
+    board
+}
+
+/// This board with all rights, the mark on e3 and Black to move.
+fn full_position() -> Result<Position, BadPosition> {
     let all = Rights {
         white_short: true,
         white_long: true,
         black_short: true,
         black_long: true,
     };
-    let p = Position::make(board, Side::Black, all, Square::new(20))?;
+    Position::make(full_board(), Side::Black, all, Square::new(20))
+}
+
+/// Every kind of man on the first and the last rank, with all rights, a mark and Black to move.
+#[test]
+fn writes_every_code(rt: HostRuntime) -> Result<(), BadPosition> {
+    let p = full_position()?;
     let bytes = pack(&p).bytes();
     let first = [16 * 4 + 2, 16 * 3 + 5, 16 * 6 + 3, 16 * 2 + 4];
     let last = [16 * 10 + 8, 16 * 9 + 11, 16 * 12 + 9, 16 * 8 + 10];
@@ -99,6 +110,23 @@ fn writes_every_code(rt: HostRuntime) -> Result<(), BadPosition> {
     assert_eq!(rt; bytes[14], 16);
     assert_eq!(rt; bytes[24], 16 * 7);
     assert_eq!(rt; (bytes[32], bytes[33], bytes[34]), (15, 21, 1));
+    Ok(())
+}
+
+/// What was packed comes back: every man on its square, the rights, the mark and the side to move.
+#[test]
+fn gives_back_every_man(rt: HostRuntime) -> Result<(), BadPosition> {
+    let board = full_board();
+    let q = unpack(&pack(&full_position()?));
+    for i in 0..64u8 {
+        let Some(s) = Square::new(i) else {
+            continue;
+        };
+        assert_eq!(rt; q.man_at(s), board[i as usize], "square {i}");
+    }
+    assert_eq!(rt; q.rights().bits(), 15);
+    assert_eq!(rt; q.mark(), Square::new(20));
+    assert_eq!(rt; q.side(), Side::Black);
     Ok(())
 }
 

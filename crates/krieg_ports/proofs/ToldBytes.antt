@@ -9,106 +9,106 @@ use Rattle.krieg_ports.specs.Bytes.{AppendsPrefix, Gave}
 -- ---- both
 
 -- bytes that stay as they were in two calls
-pub Keeps-then : (first middle last : Option (List ℕ)) → Keeps first middle → Keeps middle last → Keeps first last
-Keeps-then None middle last one two = tt
-Keeps-then (Some x) None last one two = absurd one
-Keeps-then (Some x) (Some y) None one two = absurd two
-Keeps-then (Some x) (Some y) (Some z) one two = two ∙ one
+pub Keeps_then : (first middle last : Option (List ℕ)) → Keeps first middle → Keeps middle last → Keeps first last
+Keeps_then None middle last one two = tt
+Keeps_then (Some x) None last one two = absurd one
+Keeps_then (Some x) (Some y) None one two = absurd two
+Keeps_then (Some x) (Some y) (Some z) one two = two ∙ one
 
 -- ---- a sink
 
 -- a sink that kept its bytes got nothing
-pub Appends-nothing : (old new : Option (List ℕ)) → Keeps old new → Appends old new []
-Appends-nothing None new kept = tt
-Appends-nothing (Some x) None kept = absurd kept
-Appends-nothing (Some x) (Some y) kept = kept ∙ sym (append-nil x)
+pub Appends_nothing : (old new : Option (List ℕ)) → Keeps old new → Appends old new []
+Appends_nothing None new kept = tt
+Appends_nothing (Some x) None kept = absurd kept
+Appends_nothing (Some x) (Some y) kept = kept ∙ sym (append-nil x)
 
 -- two texts one after the other
-pub Appends-then : (first middle last : Option (List ℕ)) (s t : List ℕ) → Appends first middle s → Appends middle last t → Appends first last (s ++ t)
-Appends-then None middle last s t one two = tt
-Appends-then (Some x) None last s t one two = absurd one
-Appends-then (Some x) (Some y) None s t one two = absurd two
-Appends-then (Some x) (Some y) (Some z) s t one two = two ∙ rw one (append_assoc x s t)
+pub Appends_then : (first middle last : Option (List ℕ)) (s t : List ℕ) → Appends first middle s → Appends middle last t → Appends first last (s ++ t)
+Appends_then None middle last s t one two = tt
+Appends_then (Some x) None last s t one two = absurd one
+Appends_then (Some x) (Some y) None s t one two = absurd two
+Appends_then (Some x) (Some y) (Some z) s t one two = two ∙ rw one (append_assoc x s t)
 
 -- nothing, and then a text
-pub Appends-after : (first middle last : Option (List ℕ)) (s : List ℕ) → Keeps first middle → Appends middle last s → Appends first last s
-Appends-after None middle last s kept two = tt
-Appends-after (Some x) None last s kept two = absurd kept
-Appends-after (Some x) (Some y) None s kept two = absurd two
-Appends-after (Some x) (Some y) (Some z) s kept two = two ∙ ap (λ xs. xs ++ s) kept
+pub Appends_after : (first middle last : Option (List ℕ)) (s : List ℕ) → Keeps first middle → Appends middle last s → Appends first last s
+Appends_after None middle last s kept two = tt
+Appends_after (Some x) None last s kept two = absurd kept
+Appends_after (Some x) (Some y) None s kept two = absurd two
+Appends_after (Some x) (Some y) (Some z) s kept two = two ∙ ap (λ xs. xs ++ s) kept
 
 -- a text, and then nothing
-pub Appends-kept : (first middle last : Option (List ℕ)) (s : List ℕ) → Appends first middle s → Keeps middle last → Appends first last s
-Appends-kept None middle last s one kept = tt
-Appends-kept (Some x) None last s one kept = absurd one
-Appends-kept (Some x) (Some y) None s one kept = absurd kept
-Appends-kept (Some x) (Some y) (Some z) s one kept = kept ∙ one
+pub Appends_kept : (first middle last : Option (List ℕ)) (s : List ℕ) → Appends first middle s → Keeps middle last → Appends first last s
+Appends_kept None middle last s one kept = tt
+Appends_kept (Some x) None last s one kept = absurd one
+Appends_kept (Some x) (Some y) None s one kept = absurd kept
+Appends_kept (Some x) (Some y) (Some z) s one kept = kept ∙ one
 
 -- a call that left the bytes as they were, and then a write
-pub WriteAppends-after : {E : Type 0} (first middle last : Option (List ℕ)) (r : Result ℕ E) (piece : List ℕ) → Keeps first middle → WriteAppends middle last r piece → WriteAppends first last r piece
-WriteAppends-after first middle last (Ok n) piece kept wrote = Appends-after first middle last (take n piece) kept wrote
-WriteAppends-after first middle last (Err e) piece kept wrote = Keeps-then first middle last kept wrote
+pub WriteAppends_after : {E : Type 0} (first middle last : Option (List ℕ)) (r : Result ℕ E) (piece : List ℕ) → Keeps first middle → WriteAppends middle last r piece → WriteAppends first last r piece
+WriteAppends_after first middle last (Ok n) piece kept wrote = Appends_after first middle last (take n piece) kept wrote
+WriteAppends_after first middle last (Err e) piece kept wrote = Keeps_then first middle last kept wrote
 
 -- all of a text is a front part of it
-pub AppendsPrefix-all : (old new : Option (List ℕ)) (s : List ℕ) → Appends old new s → AppendsPrefix old new s
-AppendsPrefix-all old new s got = (s, [], sym (append-nil s), got)
+pub AppendsPrefix_all : (old new : Option (List ℕ)) (s : List ℕ) → Appends old new s → AppendsPrefix old new s
+AppendsPrefix_all old new s got = (s, [], sym (append-nil s), got)
 
 -- nothing is a front part of every text
-pub AppendsPrefix-nothing : (old new : Option (List ℕ)) (s : List ℕ) → Keeps old new → AppendsPrefix old new s
-AppendsPrefix-nothing old new s kept = ([], s, refl, Appends-nothing old new kept)
+pub AppendsPrefix_nothing : (old new : Option (List ℕ)) (s : List ℕ) → Keeps old new → AppendsPrefix old new s
+AppendsPrefix_nothing old new s kept = ([], s, refl, Appends_nothing old new kept)
 
 -- the first i elements are a front part
-pub AppendsPrefix-take : (old new : Option (List ℕ)) (i : ℕ) (s : List ℕ) → Appends old new (take i s) → AppendsPrefix old new s
-AppendsPrefix-take old new i s got = (take i s, drop i s, grind (arith, common_steps), got)
+pub AppendsPrefix_take : (old new : Option (List ℕ)) (i : ℕ) (s : List ℕ) → Appends old new (take i s) → AppendsPrefix old new s
+AppendsPrefix_take old new i s got = (take i s, drop i s, grind (arith, common_steps), got)
 
 -- a front part of a text is one of a longer text
-pub AppendsPrefix-more : (old new : Option (List ℕ)) (s t : List ℕ) → AppendsPrefix old new s → AppendsPrefix old new (s ++ t)
-AppendsPrefix-more old new s t (sent, rest, parts, got) =
+pub AppendsPrefix_more : (old new : Option (List ℕ)) (s t : List ℕ) → AppendsPrefix old new s → AppendsPrefix old new (s ++ t)
+AppendsPrefix_more old new s t (sent, rest, parts, got) =
     (sent, rest ++ t, ap (λ xs. xs ++ t) parts ∙ append_assoc sent rest t, got)
 
 -- a text, and then a front part of another, are a front part of both together
-pub AppendsPrefix-then : (first middle last : Option (List ℕ)) (s t : List ℕ) → Appends first middle s → AppendsPrefix middle last t → AppendsPrefix first last (s ++ t)
-AppendsPrefix-then first middle last s t one (sent, rest, parts, two) =
-    (s ++ sent, rest, ap (λ xs. s ++ xs) parts ∙ sym (append_assoc s sent rest), Appends-then first middle last s sent one two)
+pub AppendsPrefix_then : (first middle last : Option (List ℕ)) (s t : List ℕ) → Appends first middle s → AppendsPrefix middle last t → AppendsPrefix first last (s ++ t)
+AppendsPrefix_then first middle last s t one (sent, rest, parts, two) =
+    (s ++ sent, rest, ap (λ xs. s ++ xs) parts ∙ sym (append_assoc s sent rest), Appends_then first middle last s sent one two)
 
 -- ---- a source
 
 -- two pieces one after the other
-pub Consumes-then : (first middle last : Option (List ℕ)) (s t : List ℕ) → Consumes first middle s → Consumes middle last t → Consumes first last (s ++ t)
-Consumes-then None middle last s t one two = tt
-Consumes-then (Some x) None last s t one two = absurd one
-Consumes-then (Some x) (Some y) None s t one two = absurd two
-Consumes-then (Some x) (Some y) (Some z) s t one two = one ∙ ap (λ xs. s ++ xs) two ∙ sym (append_assoc s t z)
+pub Consumes_then : (first middle last : Option (List ℕ)) (s t : List ℕ) → Consumes first middle s → Consumes middle last t → Consumes first last (s ++ t)
+Consumes_then None middle last s t one two = tt
+Consumes_then (Some x) None last s t one two = absurd one
+Consumes_then (Some x) (Some y) None s t one two = absurd two
+Consumes_then (Some x) (Some y) (Some z) s t one two = one ∙ ap (λ xs. s ++ xs) two ∙ sym (append_assoc s t z)
 
 -- a piece, and then nothing
-pub Consumes-kept : (first middle last : Option (List ℕ)) (s : List ℕ) → Consumes first middle s → Keeps middle last → Consumes first last s
-Consumes-kept None middle last s one kept = tt
-Consumes-kept (Some x) None last s one kept = absurd one
-Consumes-kept (Some x) (Some y) None s one kept = absurd kept
-Consumes-kept (Some x) (Some y) (Some z) s one kept = one ∙ ap (λ xs. s ++ xs) (sym kept)
+pub Consumes_kept : (first middle last : Option (List ℕ)) (s : List ℕ) → Consumes first middle s → Keeps middle last → Consumes first last s
+Consumes_kept None middle last s one kept = tt
+Consumes_kept (Some x) None last s one kept = absurd one
+Consumes_kept (Some x) (Some y) None s one kept = absurd kept
+Consumes_kept (Some x) (Some y) (Some z) s one kept = one ∙ ap (λ xs. s ++ xs) (sym kept)
 
 -- nothing, and then a piece
-pub Consumes-after : (first middle last : Option (List ℕ)) (s : List ℕ) → Keeps first middle → Consumes middle last s → Consumes first last s
-Consumes-after None middle last s kept two = tt
-Consumes-after (Some x) None last s kept two = absurd kept
-Consumes-after (Some x) (Some y) None s kept two = absurd two
-Consumes-after (Some x) (Some y) (Some z) s kept two = sym kept ∙ two
+pub Consumes_after : (first middle last : Option (List ℕ)) (s : List ℕ) → Keeps first middle → Consumes middle last s → Consumes first last s
+Consumes_after None middle last s kept two = tt
+Consumes_after (Some x) None last s kept two = absurd kept
+Consumes_after (Some x) (Some y) None s kept two = absurd two
+Consumes_after (Some x) (Some y) (Some z) s kept two = sym kept ∙ two
 
 -- a call that left the bytes as they were, and then a read
-pub ReadConsumes-after : {E : Type 0} (first middle last : Option (List ℕ)) (r : Result ℕ E) (buf : List ℕ) → Keeps first middle → ReadConsumes middle last r buf → ReadConsumes first last r buf
-ReadConsumes-after first middle last (Ok n) buf kept (read, end) = (Consumes-after first middle last (take n buf) kept read, end)
-ReadConsumes-after first middle last (Err e) buf kept read = Keeps-then first middle last kept read
+pub ReadConsumes_after : {E : Type 0} (first middle last : Option (List ℕ)) (r : Result ℕ E) (buf : List ℕ) → Keeps first middle → ReadConsumes middle last r buf → ReadConsumes first last r buf
+ReadConsumes_after first middle last (Ok n) buf kept (read, end) = (Consumes_after first middle last (take n buf) kept read, end)
+ReadConsumes_after first middle last (Err e) buf kept read = Keeps_then first middle last kept read
 
 -- what was read up to the end are all bytes that were left
-pub Consumes-all : (old new : Option (List ℕ)) (s : List ℕ) → Consumes old new s → IsAtEnd new → IfSome old (λ bytes. bytes ≡ s)
-Consumes-all None new s read end = tt
-Consumes-all (Some x) None s read end = absurd read
-Consumes-all (Some x) (Some y) s read end = read ∙ ap (λ xs. s ++ xs) end ∙ append-nil s
+pub Consumes_all : (old new : Option (List ℕ)) (s : List ℕ) → Consumes old new s → IsAtEnd new → IfSome old (λ bytes. bytes ≡ s)
+Consumes_all None new s read end = tt
+Consumes_all (Some x) None s read end = absurd read
+Consumes_all (Some x) (Some y) s read end = read ∙ ap (λ xs. s ++ xs) end ∙ append-nil s
 
 -- the bytes of two calls count together
-pub Gave-then : (first middle last : Option (List ℕ)) (s t : List ℕ) (P : ℕ → Type 0) → Consumes first middle s → Consumes middle last t → P (length s + length t) → Gave first last P
-Gave-then first middle last s t P one two count =
-    (s ++ t, Consumes-then first middle last s t one two, subst P (sym (length-append s t)) count)
+pub Gave_then : (first middle last : Option (List ℕ)) (s t : List ℕ) (P : ℕ → Type 0) → Consumes first middle s → Consumes middle last t → P (length s + length t) → Gave first last P
+Gave_then first middle last s t P one two count =
+    (s ++ t, Consumes_then first middle last s t one two, subst P (sym (length-append s t)) count)
 
 -- ---- a loop over the parts of a text
 

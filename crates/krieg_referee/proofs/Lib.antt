@@ -1,2 +1,2 @@
-pub mod DoneTries
+pub mod Ends
 pub mod Stripping

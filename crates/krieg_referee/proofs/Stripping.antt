@@ -1,5 +1,6 @@
 -- A try of the other player that is not done changes nothing and is not heard.
 use Rattle.std.proofs.Common.{◌≡◌, Bool, true, false, ◌||◌, refl, sym, ap, ◌∙◌, List, [], ◌∷◌, cond}
+use Rattle.std.proofs.lemmas.Bool.{or_parts}
 use Rattle.std.specs.Prelude.{Some, None, map}
 use Rattle.std.specs.List.{cons_option}
 use Rattle.krieg_board.specs.Men.{is_same_side}
@@ -29,18 +30,14 @@ not_heard Early h = refl
 not_heard Illegal h = refl
 not_heard (Done w) h = cc
 
-or-neither : (a b : Bool) → (a || b) ≡ false → (a ≡ false) × (b ≡ false)
-or-neither true b h = cc
-or-neither false b h = (refl, h)
-
 -- a try that the player did not make and that is not done gives him no line
 no_line : (p : Pos) (e : Event) (who : Side) → is_same_side e.who who ≡ false → is_done (verdict p e.who e.mv) ≡ false → line_for who (judged p e) ≡ None
 no_line p e who others not_done =
     ap (λ own. cond own (Some (own_line e.mv (verdict p e.who e.mv))) (others_line (verdict p e.who e.mv))) others ∙ not_heard (verdict p e.who e.mv) not_done
 
-pub lines-strip : (p : Pos) (es : List Event) (who : Side) → lines_for who (judge p es) ≡ lines_for who (judge p (strip p es who))
-lines-strip p [] who = refl
-lines-strip p (e ∷ es) who = by_try (is_same_side e.who who || is_done (verdict p e.who e.mv)) refl (lines-strip (next p e.who e.mv) es who)
+pub lines_strip : (p : Pos) (es : List Event) (who : Side) → lines_for who (judge p es) ≡ lines_for who (judge p (strip p es who))
+lines_strip p [] who = refl
+lines_strip p (e ∷ es) who = by_try (is_same_side e.who who || is_done (verdict p e.who e.mv)) refl (lines_strip (next p e.who e.mv) es who)
   where
     q : Pos
     q = next p e.who e.mv
@@ -51,12 +48,12 @@ lines-strip p (e ∷ es) who = by_try (is_same_side e.who who || is_done (verdic
         ap (cons_option (line_for who (judged p e))) rest
         ∙ sym (ap (λ b. lines_for who (judge p (cond b (e ∷ strip q es who) (strip q es who)))) kept)
     by_try false dropped rest =
-        let neither = or-neither (is_same_side e.who who) (is_done (verdict p e.who e.mv)) dropped in
+        let neither = or_parts (is_same_side e.who who) (is_done (verdict p e.who e.mv)) dropped in
         ap (λ line. cons_option line (lines_for who (judge q es))) (no_line p e who neither.0 neither.1)
         ∙ (rest ∙ (ap (λ x. lines_for who (judge x (strip q es who))) (position_kept (verdict p e.who e.mv) p e.mv neither.1)
         ∙ sym (ap (λ b. lines_for who (judge p (cond b (e ∷ strip q es who) (strip q es who)))) dropped)))
 
 pub hears_no_more : HearsNoMore
-hears_no_more d p events who = ap (λ ls. told_line d (line.Opens (opening p)) ∷ map (told_line d) ls) (lines-strip p events who)
+hears_no_more d p events who = ap (λ ls. told_line d (line.Opens (opening p)) ∷ map (told_line d) ls) (lines_strip p events who)
 
 pub ruleset laws = (hears_no_more)

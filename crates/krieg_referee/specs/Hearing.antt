@@ -1,5 +1,5 @@
 -- What a player hears of a game.
-use Rattle.std.specs.Prelude.{◌||◌, List, [], ◌∷◌, Option, Some, None, map, cond}
+use Rattle.std.specs.Prelude.{◌||◌, List, [], ◌∷◌, Option, Some, None, map, if◌then◌else◌}
 use Rattle.std.specs.List.{filter_map}
 use Rattle.krieg_board.specs.Men.{is_same_side}
 use Rattle.krieg_board.specs.Pos.{Pos}
@@ -33,7 +33,7 @@ others_line (verdict.Done w) = Some (line.Heard w)
 
 -- what a player hears of a try that was judged
 abbrev pub line_for : Side → Judged → Option Line
-line_for who j = cond (is_same_side j.event.who who) (Some (own_line j.event.mv j.verdict)) (others_line j.verdict)
+line_for who j = if is_same_side j.event.who who then Some (own_line j.event.mv j.verdict) else others_line j.verdict
 
 -- what a player hears of the tries, in the umpire's words
 abbrev pub lines_for : Side → List Judged → List Line
@@ -47,4 +47,5 @@ heard d p events who = told_line d (line.Opens (opening p)) ∷ map (told_line d
 abbrev pub strip : Pos → List Event → Side → List Event
 strip p [] who = []
 strip p (e ∷ es) who =
-    cond (is_same_side e.who who || is_done (verdict p e.who e.mv)) (e ∷ strip (next p e.who e.mv) es who) (strip (next p e.who e.mv) es who)
+    if is_same_side e.who who || is_done (verdict p e.who e.mv) then e ∷ strip (next p e.who e.mv) es who
+    else strip (next p e.who e.mv) es who

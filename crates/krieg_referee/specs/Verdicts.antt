@@ -1,5 +1,5 @@
 -- How the umpire judges one try.
-use Rattle.std.specs.Prelude.{Bool, true, false, not, cond}
+use Rattle.std.specs.Prelude.{Bool, true, false, not, if◌then◌else◌}
 use Rattle.krieg_board.specs.Men.{is_same_side}
 use Rattle.krieg_board.specs.Pos.{Pos}
 use Rattle.krieg_board.specs.declared.men.Side.{Side}
@@ -14,10 +14,10 @@ use Rattle.krieg_referee.specs.declared.verdict.Verdict.TheVariants.{Over, Early
 -- a try is over where the game has ended, else early where its player is not to move, else illegal where its move is not legal, and otherwise done, with its words
 unfoldable pub verdict : Pos → Side → Move → Verdict
 verdict p who m =
-    cond (is_ended p) Over
-    (cond (not (is_same_side who p.side)) Early
-    (cond (not (is_legal p m)) Illegal
-    (Done (words p m))))
+    if is_ended p then Over
+    else if not (is_same_side who p.side) then Early
+    else if not (is_legal p m) then Illegal
+    else Done (words p m)
 
 -- the try was done
 abbrev pub is_done : Verdict → Bool

@@ -1,9 +1,13 @@
 ghost use Rattle.std.specs.Prelude.{◌≡◌, ◌+◌, ◌<◌, ◌++◌, ◌∷◌, [], max, OnOk, OnErr};
+ghost use Rattle.krieg_moves.specs.Moves.{is_ended};
+ghost use Rattle.krieg_words.specs.WordsText.{has_ended};
 ghost use Rattle.krieg_referee.specs.Verdicts.{verdict, next};
 ghost use Rattle.krieg_referee.specs.Games.{judged};
 
-use crate::verdict::{Event, Judged, Verdict, position_after, verdict_of};
+use crate::verdict::{Event, Judged, Verdict};
 use krieg_board::{NoMemory, Position};
+use krieg_moves::{has_move, is_legal};
+use krieg_words::{End, make_move};
 use std::alloc::Global;
 use std::marker::Model;
 
@@ -13,19 +17,31 @@ use std::marker::Model;
 #[derive(Drop)]
 pub struct Game {
     position: Position,
+    /// Whether the side to move has no legal move. It is found once for each position, and not for each try.
+    over: bool,
     log: Vec<Judged>,
     spare: usize,
 }
 
 impl Model for Game {
-    ghost use Rattle.std.specs.Prelude.{◌+◌, ◌≤◌, vec_len, vec_capacity};
+    ghost use Rattle.std.specs.Prelude.{◌≡◌, ◌+◌, ◌≤◌, vec_len, vec_capacity};
+    ghost use Rattle.krieg_moves.specs.Moves.{is_ended};
     ghost use Rattle.krieg_referee.specs.Games.{GameState};
 
     ghost Value = { GameState };
 
     ghost view = { λ g. record { position = g.position; log = g.log.items; spare = g.spare } };
 
-    ghost invariant = { λ g. vec_len g.log + g.spare ≤ vec_capacity g.log };
+    ghost invariant = { λ g. (g.over ≡ is_ended g.position) × (vec_len g.log + g.spare ≤ vec_capacity g.log) };
+}
+
+fn has_ended(end: End) -> bool
+    ensures { result ≡ has_ended end }
+{
+    match end {
+        End::Goes => false,
+        End::Mate | End::Stalemate => true,
+    }
 }
 
 impl Game {
@@ -37,19 +53,46 @@ impl Game {
     {
         Game {
             position: p,
+            over: !has_move(&p),
             log: Vec::new(alloc),
             spare: 0,
         }
     }
 
-    /// Makes places for at least `n` more tries. The position and the log stay.
+    /// Makes places for at least `n` more tries. The position and the log stay. It takes memory only where
+    /// fewer places are there.
     pub fn reserve(&mut self, n: usize) -> Result<(), NoMemory>
         ensures ok { OnOk result (self.new ≡ record self.old { spare = max self.old.spare n }) }
         ensures err { OnErr result (self.new ≡ self.old) }
+        ensures full { OnErr result (self.old.spare < n) }
     {
-        self.log.reserve(n)?;
-        self.spare = self.spare.max(n);
+        if n <= self.spare {
+            return Ok(());
+        }
+        self.log.reserve_exact(n)?;
+        self.spare = n;
         Ok(())
+    }
+
+    /// Judges a try, and makes its move where it is done.
+    #[tactic(auto, using(crate::proofs::Ends::ends), unfolding(crate::specs::Verdicts::verdict))]
+    fn judge(&mut self, e: &Event) -> Verdict
+        ensures verdict { result ≡ verdict self.old.position e.now.who e.now.mv }
+        ensures state { self.new ≡ record self.old { position = next self.old.position e.now.who e.now.mv } }
+    {
+        if self.over {
+            return Verdict::Over;
+        }
+        if e.who != self.position.side() {
+            return Verdict::Early;
+        }
+        if !is_legal(&self.position, e.mv) {
+            return Verdict::Illegal;
+        }
+        let made = make_move(&self.position, e.mv);
+        self.position = made.position;
+        self.over = has_ended(made.words.end);
+        Verdict::Done(made.words)
     }
 
     /// Judges one try, of which the log has a place left: it takes no memory. The position changes by a
@@ -62,14 +105,13 @@ impl Game {
         ensures spare { self.new.spare + 1 ≡ self.old.spare }
     {
         let event = &e;
-        let verdict = verdict_of(&self.position, event);
-        self.position = position_after(&self.position, event, &verdict);
+        let verdict = &self.judge(event);
         let _ = self.log.push(Judged {
             event: *event,
-            verdict,
+            verdict: *verdict,
         });
         self.spare -= 1;
-        verdict
+        *verdict
     }
 
     /// Where the game stands.

@@ -77,6 +77,26 @@ fn judges_out_of_turn_and_after_the_end(rt: HostRuntime) -> Result<(), Fail> {
     Ok(())
 }
 
+/// A stalemate is no game any more, whoever tries.
+#[test]
+fn is_over_where_it_begins_so(rt: HostRuntime) -> Result<(), Fail> {
+    let tries = [(Side::Black, "h8g8"), (Side::White, "f7f8")];
+    let game = played(&rt, "7k/5Q2/6K1/8/8/8/8/8 b - -", &tries)?;
+    let expected = [Verdict::Over, Verdict::Over];
+    assert!(rt; verdicts_of(&rt, &game)?.as_slice() == expected.as_slice());
+    Ok(())
+}
+
+#[test]
+fn keeps_the_places_that_it_has(rt: HostRuntime) -> Result<(), Fail> {
+    let mut game = Game::start(rt.alloc(), position("4k3/8/8/8/8/8/8/4K3 w - -")?);
+    for (asked, places) in [(0, 0), (3, 3), (2, 3), (4, 4)] {
+        game.reserve(asked)?;
+        assert_eq!(rt; game.spare(), places);
+    }
+    Ok(())
+}
+
 /// Castling over an attacked square is refused, and only the player who tried hears of it.
 #[test]
 fn tells_refusals_to_the_trier_alone(rt: HostRuntime) -> Result<(), Fail> {

@@ -1,5 +1,5 @@
 -- The entries of a player's sheet of a game are in place.
-use Rattle.std.proofs.Common.{◌≡◌, Bool, true, false, not, ◌&&◌, cond, List, [], ◌∷◌, map, Option, Some, None, refl, sym, subst, ◌∙◌}
+use Rattle.std.proofs.Common.{◌≡◌, Bool, true, false, not, cond, List, [], ◌∷◌, map, Option, Some, None, refl, sym, subst, ◌∙◌}
 use Rattle.std.specs.List.{cons_option}
 use Rattle.krieg_board.specs.Men.{other, is_same_side}
 use Rattle.krieg_board.specs.Pos.{Pos}
@@ -11,12 +11,11 @@ use Rattle.krieg_board.specs.declared.men.Move.{Move}
 use Rattle.krieg_moves.specs.Legal.{is_legal}
 use Rattle.krieg_moves.specs.After.{after, after_by}
 use Rattle.krieg_moves.specs.Moves.{in_check, is_ended, is_mate, is_stalemate}
-use Rattle.krieg_moves.proofs.LegalMoves.{legal-own}
+use Rattle.krieg_moves.proofs.LegalMoves.{legal_own}
 use Rattle.krieg_words.specs.Said.{Said}
 use Rattle.krieg_words.specs.Words.{words, opening, end_of}
 use Rattle.krieg_words.specs.WordsText.{has_ended}
 use Rattle.krieg_words.specs.Told.{told, told_line}
-use Rattle.krieg_words.specs.declared.words.End.TheVariants.{Goes, Mate, Stalemate}
 use Rattle.krieg_words.specs.declared.dialects.Dialect.{Dialect}
 use Rattle.krieg_words.specs.declared.dialects.Dialect.TheVariants.{Wild16, Anytry, Plain}
 use Rattle.krieg_words.specs.declared.dialects.Line.{Line}
@@ -27,27 +26,22 @@ use Rattle.krieg_referee.specs.declared.verdict.Verdict.TheVariants.{Over, Early
 use Rattle.krieg_referee.specs.Verdicts.{verdict, next, position_after}
 use Rattle.krieg_referee.specs.Games.{judge, judged}
 use Rattle.krieg_referee.specs.Hearing.{line_for, lines_for, own_line, others_line}
+use Rattle.krieg_referee.proofs.Ends.{ended_so}
 use Rattle.krieg_sheet.specs.Turns.{ends, are_in_place}
 
 -- a legal move passes the turn to the other side
 side_after : (p : Pos) (m : Move) → is_legal p m ≡ true → (after p m).side ≡ other p.side
 unfolding after
-side_after p m h = by_man (man_at p.board m.from) (legal-own p m h)
+side_after p m h = by_man (man_at p.board m.from) (legal_own p m h)
   where
     by_man : (x : Option Man) → is_of p.side x ≡ true → (after_by p x m).side ≡ other p.side
     by_man None h = absurd cc
     by_man (Some man) h = refl
 
 -- words end the game exactly where the position has no legal move
-end_by : (check ended : Bool) → has_ended (cond (check && ended) Mate (cond (not check && ended) Stalemate Goes)) ≡ ended
-end_by true true = refl
-end_by true false = refl
-end_by false true = refl
-end_by false false = refl
-
 end_is : (p : Pos) → has_ended (end_of p) ≡ is_ended p
 unfolding is_mate is_stalemate
-end_is p = end_by (in_check p) (is_ended p)
+end_is p = ended_so (in_check p) (is_ended p)
 
 told_end : (d : Dialect) (w : Said) → ends (told d w) ≡ ends w
 told_end Wild16 w = refl

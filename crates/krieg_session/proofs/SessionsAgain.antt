@@ -18,7 +18,7 @@ use Rattle.krieg_fen.specs.Reading.{Place, place, on, goes_on, stops, taken, who
 use Rattle.krieg_fen.specs.Spelling.{Spells}
 use Rattle.krieg_fen.proofs.CleanTexts.{move_line, position_line}
 use Rattle.krieg_fen.proofs.FormSpellings.{position_read}
-use Rattle.krieg_fen.proofs.LineTexts.{line-append, lines-append, lines_again}
+use Rattle.krieg_fen.proofs.LineTexts.{line_append, lines_append, lines_again}
 use Rattle.krieg_fen.proofs.ListSpellings.{written_spells}
 use Rattle.krieg_fen.proofs.MoveTexts.{move_again}
 use Rattle.krieg_fen.proofs.NameLemmas.{behind_again}
@@ -48,7 +48,7 @@ mark_line Black = refl
 
 event_line : (e : Event) → is_line (event_text e) ≡ true
 unfolding event_text
-event_line e = line-append (side_mark e.who) (move_text e.mv) (mark_line e.who) (move_line e.mv)
+event_line e = line_append (side_mark e.who) (move_text e.mv) (mark_line e.who) (move_line e.mv)
 
 event_lines : (es : List Event) → AreLines (map event_text es)
 event_lines [] = tt
@@ -63,9 +63,9 @@ last_line (Some AsksUsed) = refl
 
 session_are : (s : SessionState) → AreLines (session_lines s)
 session_are s =
-    lines-append (version_lines (codes "krieg session ") s.dialect) _ (version_are (codes "krieg session ") s.dialect refl) (
-      line-append (codes "start ") (position_text s.start) refl (position_line s.start),
-      lines-append (map event_text s.events) (last_text s.stop ∷ []) (event_lines s.events) (last_line s.stop, tt),
+    lines_append (version_lines (codes "krieg session ") s.dialect) _ (version_are (codes "krieg session ") s.dialect refl) (
+      line_append (codes "start ") (position_text s.start) refl (position_line s.start),
+      lines_append (map event_text s.events) (last_text s.stop ∷ []) (event_lines s.events) (last_line s.stop, tt),
     )
 
 -- Each line by its form.

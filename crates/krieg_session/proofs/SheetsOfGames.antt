@@ -1,36 +1,28 @@
 -- A player's sheet of a game is a sheet.
-use Rattle.std.proofs.Common.{◌≡◌, ℕ, ◌<◌, ◌≤◌, Bool, true, false, not, cond, ◌==◌, List, [], ◌∷◌, map, Option, Some, None, refl, ap, subst, ◌∙◌, arith}
+use Rattle.std.proofs.Common.{◌≡◌, Bool, true, false, not, cond, List, [], ◌∷◌, map, Option, Some, None, refl, ap, subst, ◌∙◌}
 use Rattle.std.specs.Prelude.{IfSome}
 use Rattle.std.specs.List.{All, cons_option}
 use Rattle.std.proofs.lemmas.List.Elements.{All-nil, All-cons, All-head, All-tail}
 use Rattle.krieg_board.specs.Men.{is_same_side}
 use Rattle.krieg_board.specs.Pos.{Pos}
-use Rattle.krieg_board.specs.Board.{man_at}
-use Rattle.krieg_board.specs.Squares.{square_at, file_of, rank_of}
-use Rattle.krieg_board.specs.Validity.{IsValid, is_pawn}
+use Rattle.krieg_board.specs.Validity.{IsValid}
 use Rattle.krieg_board.specs.declared.men.Side.{Side}
-use Rattle.krieg_board.specs.declared.men.Man.{Man}
 use Rattle.krieg_board.specs.declared.men.Move.{Move}
 use Rattle.krieg_fen.specs.MoveText.{IsOnBoard}
 use Rattle.krieg_moves.specs.Legal.{is_legal}
-use Rattle.krieg_moves.specs.After.{after, is_en_passant, passed_square}
 use Rattle.krieg_moves.specs.Moves.{is_ended}
 use Rattle.krieg_moves.proofs.LegalMoves.{legal}
-use Rattle.krieg_moves.proofs.Movers.{below_from}
-use Rattle.krieg_moves.proofs.KeepsValid.{valid-after}
-use Rattle.krieg_words.specs.Said.{Said, IsSaid, IsTaken}
+use Rattle.krieg_moves.proofs.KeepsValid.{valid_after}
+use Rattle.krieg_words.specs.Said.{Said, IsSaid}
 use Rattle.krieg_words.specs.Tries.{tries}
-use Rattle.krieg_words.specs.Words.{words, opening, taken, took_by}
-use Rattle.krieg_words.specs.Told.{told, told_line, as_piece}
+use Rattle.krieg_words.specs.Words.{words, opening}
+use Rattle.krieg_words.specs.Told.{told_line}
 use Rattle.krieg_words.specs.LineText.{IsLine}
-use Rattle.krieg_words.specs.declared.words.Took.{Took}
-use Rattle.krieg_words.specs.declared.words.Took.TheVariants.{Nothing, Pawn, Piece}
 use Rattle.krieg_words.specs.declared.dialects.Dialect.{Dialect}
-use Rattle.krieg_words.specs.declared.dialects.Dialect.TheVariants.{Wild16, Anytry, Plain}
 use Rattle.krieg_words.specs.declared.dialects.Line.{Line}
 use Rattle.krieg_words.specs.declared.dialects.Line.TheVariants as line
-use Rattle.krieg_words.proofs.ToldLaws.{told_fits, told_line_fits, some_tries}
-use Rattle.krieg_words.proofs.TriesBound.{tries_le}
+use Rattle.krieg_words.proofs.SaidLaws.{opening_said, words_said}
+use Rattle.krieg_words.proofs.ToldLaws.{told_fits, told_line_fits, told_said}
 use Rattle.krieg_referee.specs.declared.verdict.Event.{Event}
 use Rattle.krieg_referee.specs.declared.verdict.Verdict.{Verdict}
 use Rattle.krieg_referee.specs.declared.verdict.Verdict.TheVariants.{Over, Early, Illegal, Done}
@@ -42,21 +34,7 @@ use Rattle.krieg_sheet.specs.Places.{IsTold}
 use Rattle.krieg_session.specs.Laws.{AreTries, SheetsAreInPlace}
 use Rattle.krieg_session.proofs.InPlace.{opening_ends, entries_in_place}
 
--- what a dialect tells can be said
-as_piece_taken : (t : Took) → IsTaken t → IsTaken (as_piece t)
-as_piece_taken Nothing h = h
-as_piece_taken (Pawn s) h = h
-as_piece_taken (Piece s) h = h
-
-few : (t : Bool) → some_tries t ≤ 16
-few true = omega arith
-few false = omega arith
-
-told_said : (d : Dialect) (w : Said) → IsSaid w → IsSaid (told d w)
-told_said Wild16 w h = h
-told_said Anytry w h = (few (w.tries == 0), h.1)
-told_said Plain w h = (omega arith, as_piece_taken w.took h.1)
-
+-- what a dialect tells of a line is a line
 told_is_line : (d : Dialect) (l : Line) → IsLine l → IsLine (told_line d l)
 told_is_line d (line.Opens w) h = told_said d w h
 told_is_line d (line.Illegal m) h = h
@@ -64,36 +42,6 @@ told_is_line d (line.Done m w) h = (h.0, told_said d w h.1)
 told_is_line d (line.Heard w) h = told_said d w h
 told_is_line d (line.Early m) h = h
 told_is_line d (line.Over m) h = h
-
--- the opening words and the words of a legal move can be said
-opening_said : (p : Pos) → IsValid p → IsSaid (opening p)
-unfolding opening
-opening_said p valid = (tries_le p valid, tt)
-
-passed_in : (f t : ℕ) → f < 64 → square_at (file_of t) (rank_of f) < 64
-passed_in f t h = omega arith
-
-taken_in : (x : Option Man) (s : ℕ) → s < 64 → IsTaken (taken x s)
-taken_in None s h = tt
-taken_in (Some man) s h = by_test (is_pawn (Some man))
-  where
-    by_test : (t : Bool) → IsTaken (cond t (Pawn s) (Piece s))
-    by_test true = h
-    by_test false = h
-
-took_in_board : (p : Pos) (x : Option Man) (m : Move) → m.from < 64 → m.to < 64 → IsTaken (took_by p x m)
-took_in_board p None m f t = tt
-took_in_board p (Some man) m f t = by_test (is_en_passant p.mark man m)
-  where
-    by_test : (passing : Bool) → IsTaken (cond passing (Pawn (passed_square m)) (taken (man_at p.board m.to) m.to))
-    by_test true = passed_in m.from m.to f
-    by_test false = taken_in (man_at p.board m.to) m.to t
-
-words_said : (p : Pos) (m : Move) → IsValid p → is_legal p m ≡ true → IsSaid (words p m)
-unfolding words
-words_said p m valid h =
-    let l = legal p m h in
-    (tries_le (after p m) (valid-after p m valid h), took_in_board p (man_at p.board m.from) m (below_from m.from 64 l.from_in) (below_from m.to 64 l.to_in))
 
 -- a line of a try whose words, where it is done, can be said
 line_by : (own : Bool) (m : Move) (v : Verdict) → IsOnBoard m → ((w : Said) → v ≡ Done w → IsSaid w) → IfSome (cond own (Some (own_line m v)) (others_line v)) IsLine
@@ -117,7 +65,7 @@ sound_by p m valid false false legal h = record { said = λ w e. absurd cc; vali
 sound_by p m valid false true false h = record { said = λ w e. absurd cc; valid = valid }
 sound_by p m valid false true true h = record {
   said = λ w e. let same : words p m ≡ w = cc in subst IsSaid same (words_said p m valid h);
-  valid = valid-after p m valid h;
+  valid = valid_after p m valid h;
 }
 
 sound : (p : Pos) (e : Event) → IsValid p → IsSound p e.mv (verdict p e.who e.mv)

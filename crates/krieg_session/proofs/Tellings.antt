@@ -18,7 +18,7 @@ use Rattle.krieg_referee.specs.declared.verdict.Event.{Event}
 use Rattle.krieg_referee.specs.declared.verdict.Judged.{Judged}
 use Rattle.krieg_referee.specs.Games.{judge}
 use Rattle.krieg_referee.specs.Hearing.{line_for, lines_for, strip}
-use Rattle.krieg_referee.proofs.Stripping.{lines-strip}
+use Rattle.krieg_referee.proofs.Stripping.{lines_strip}
 use Rattle.krieg_sheet.specs.SheetText.{sheet_text, entry_text, listed_text, head_text, end_text, listed_part, entries_part, heard_part, sheet_pieces}
 use Rattle.krieg_sheet.proofs.SheetTexts.{sheet_is}
 use Rattle.krieg_session.specs.Telling.{sheet_of, players_line, both_lines, marked_line, all_text, umpire_text}
@@ -84,6 +84,6 @@ pub writes_stripped : {E : Type 0} (r : Result (Unit {0}) E) (old new : List ℕ
     IfSome who (λ w. Writes r old new (umpire_text d p (strip p events w) who))
 writes_stripped r old new d p events None h = tt
 writes_stripped r old new d p events (Some who) h =
-    subst (λ (ls : List Line). Writes r old new (sheet_text (record { dialect = d; side = who; list = p ∷ []; opens = Some (told d (opening p)); entries = map (told_line d) ls }))) (lines-strip p events who) h
+    subst (λ (ls : List Line). Writes r old new (sheet_text (record { dialect = d; side = who; list = p ∷ []; opens = Some (told d (opening p)); entries = map (told_line d) ls }))) (lines_strip p events who) h
 
 pub ruleset stripping = (writes_stripped)

@@ -1,5 +1,5 @@
 -- What the umpire tells of a session: one player's sheet, and all lines of both players.
-use Rattle.std.specs.Prelude.{ℕ, List, [], ◌∷◌, ◌++◌, codes, Option, Some, None, map, cond}
+use Rattle.std.specs.Prelude.{ℕ, List, [], ◌∷◌, ◌++◌, codes, Option, Some, None, map, if◌then◌else◌}
 use Rattle.std.specs.List.{flat_map, filter_map}
 use Rattle.krieg_board.specs.Men.{is_same_side}
 use Rattle.krieg_board.specs.Pos.{Pos}
@@ -48,7 +48,7 @@ all_lines d p events =
 
 -- the lines of one player, in their order
 abbrev pub if_of : Side → Side × Line → Option Line
-if_of who l = cond (is_same_side l.0 who) (Some l.1) None
+if_of who l = if is_same_side l.0 who then Some l.1 else None
 
 abbrev pub lines_of : Side → List (Side × Line) → List Line
 lines_of who ls = filter_map (if_of who) ls

@@ -109,7 +109,7 @@ fn line_of(text: &[u8]) -> Result<SessionLine, TextKind>
     }
 }
 
-/// Reads the tries up to the last line, and why the game stopped.
+/// Reads the tries up to the last line, and why the game stopped. Memory for more tries is given back.
 fn read_events(
     alloc: Global,
     from: &mut Cursor<'_>,
@@ -122,7 +122,10 @@ fn read_events(
         let line = from.line()?;
         match line_of(line) {
             Err(kind) => return Err(TextFault::At { line: number, kind }),
-            Ok(SessionLine::Last(stop)) => return Ok((events, stop)),
+            Ok(SessionLine::Last(stop)) => {
+                events.shrink_to_fit();
+                return Ok((events, stop));
+            }
             Ok(SessionLine::Try(event)) => events.push(event)?,
         }
     }

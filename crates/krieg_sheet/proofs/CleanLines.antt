@@ -6,7 +6,7 @@ use Rattle.std.proofs.lemmas.List.Elements.{All-tail}
 use Rattle.krieg_board.specs.declared.men.Side.{Side}
 use Rattle.krieg_fen.specs.Lines.{is_line, AreLines}
 use Rattle.krieg_fen.specs.FenText.{position_text}
-use Rattle.krieg_fen.proofs.LineTexts.{line_above, lines-append}
+use Rattle.krieg_fen.proofs.LineTexts.{line_above, lines_append}
 use Rattle.krieg_fen.proofs.CleanTexts.{positions_are, list_head_are}
 use Rattle.krieg_words.specs.declared.dialects.Dialect.{Dialect}
 use Rattle.krieg_words.specs.declared.dialects.Line.{Line}
@@ -33,13 +33,13 @@ opens_are d (Some w) is = (line_line d (Opens w) is, tt)
 
 head_are : (d : Dialect) (who : Side) (n : ℕ) → n < 2 ^ 64 → AreLines (head_lines d who n)
 head_are d who n fits =
-    lines-append (version_lines (codes "krieg sheet ") d) _ (version_are (codes "krieg sheet ") d refl)
+    lines_append (version_lines (codes "krieg sheet ") d) _ (version_are (codes "krieg sheet ") d refl)
     (list_head_are who n fits)
 
 -- every line of a written sheet
 pub sheet_are : (s : SheetState) → IsSheet s → length s.list ≤ 200000 → AreLines (sheet_lines s)
 sheet_are s h le =
-    lines-append (head_lines s.dialect s.side (length s.list)) _ (head_are s.dialect s.side (length s.list) (omega arith))
-    (lines-append (map position_text s.list) _ (positions_are s.list)
-    (lines-append (opens_lines s.dialect s.opens) _ (opens_are s.dialect s.opens h.opening)
-    (lines-append (map (line_text s.dialect) s.entries) (codes "end" ∷ []) (entries_lines s.dialect s.entries h.told) (refl, tt))))
+    lines_append (head_lines s.dialect s.side (length s.list)) _ (head_are s.dialect s.side (length s.list) (omega arith))
+    (lines_append (map position_text s.list) _ (positions_are s.list)
+    (lines_append (opens_lines s.dialect s.opens) _ (opens_are s.dialect s.opens h.opening)
+    (lines_append (map (line_text s.dialect) s.entries) (codes "end" ∷ []) (entries_lines s.dialect s.entries h.told) (refl, tt))))

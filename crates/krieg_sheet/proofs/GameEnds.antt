@@ -2,8 +2,7 @@
 use Rattle.std.proofs.Common.{◌≡◌, Bool, true, false, cond, not, ◌&&◌, List, [], ◌∷◌, Option, Some, None, refl, sym, ap, ◌∙◌}
 use Rattle.std.specs.Prelude.{IfSome}
 use Rattle.std.specs.Ordering.{is_eq}
-use Rattle.std.specs.declared.cmp.Ordering.{Ordering}
-use Rattle.std.specs.declared.cmp.Ordering.TheVariants.{Less, Equal, Greater}
+use Rattle.std.specs.Cmp.{Equal-is}
 use Rattle.std.proofs.lemmas.Bool.{and_parts, and_from, not-true}
 use Rattle.krieg_board.specs.Men.{is_same_side}
 use Rattle.krieg_board.specs.Pos.{Pos}
@@ -19,14 +18,9 @@ use Rattle.krieg_words.specs.Order.{words_cmp}
 use Rattle.krieg_words.specs.declared.dialects.Dialect.{Dialect}
 use Rattle.krieg_words.specs.declared.dialects.Line.{Line}
 use Rattle.krieg_words.specs.declared.dialects.Line.TheVariants.{Opens, Illegal, Done, Heard, Early, Over}
-use Rattle.krieg_words.proofs.OrderLaws.{words_cmp-equal, words_cmp-self}
+use Rattle.krieg_words.proofs.OrderLaws.{words_cmp_equal, words_cmp_self}
 use Rattle.krieg_sheet.specs.Games.{Gives}
 use Rattle.krieg_sheet.specs.Replays.{is_told, game_end}
-
-equal_by : (o : Ordering) → is_eq o ≡ true → o ≡ Equal
-equal_by Less h = absurd cc
-equal_by Equal h = refl
-equal_by Greater h = absurd cc
 
 chosen : {A : Type 0} (t : Bool) (r : Option A) (q : A) → cond t r None ≡ Some q → (t ≡ true) × (r ≡ Some q)
 chosen true r q e = (refl, e)
@@ -35,10 +29,10 @@ chosen false r q e = absurd cc
 told_parts : (d : Dialect) (p : Pos) (m : Move) (w : Said) → is_told d p m w ≡ true → (is_legal p m ≡ true) × (w ≡ told d (words p m))
 told_parts d p m w h =
     let a = and_parts (is_legal p m) (is_eq (words_cmp w (told d (words p m)))) h in
-    (a.0, words_cmp-equal w (told d (words p m)) (equal_by (words_cmp w (told d (words p m))) a.1))
+    (a.0, words_cmp_equal w (told d (words p m)) ((Equal-is (words_cmp w (told d (words p m)))).0 a.1))
 
 told_from : (d : Dialect) (p : Pos) (m : Move) (w : Said) → is_legal p m ≡ true → w ≡ told d (words p m) → is_told d p m w ≡ true
-told_from d p m w legal same = and_from _ _ legal (ap (λ (v : Said). is_eq (words_cmp w v)) (sym same) ∙ ap is_eq (words_cmp-self w))
+told_from d p m w legal same = and_from _ _ legal (ap (λ (v : Said). is_eq (words_cmp w v)) (sym same) ∙ ap is_eq (words_cmp_self w))
 
 pub end_gives : (d : Dialect) (p : Pos) (ls : List Line) (who : Side) (rs : List Move) (q : Pos) → game_end d p ls who rs ≡ Some q → Gives d p ls who rs q
 end_gives d p [] who [] q e = (refl, cc)

@@ -34,7 +34,7 @@ use Rattle.krieg_sheet.specs.Places.{OpeningFits, IsOpening, IsTold, IsSheet}
 use Rattle.krieg_sheet.specs.SheetReading.{may_follow, followed_by, placed, next_form, entries_at, sheet_at, sheet_version_at}
 use Rattle.krieg_sheet.specs.SheetText.{opens_lines, sheet_lines, sheet_text}
 use Rattle.krieg_sheet.specs.SheetSpelling.{told_lines, SpellsSheet}
-use Rattle.krieg_sheet.proofs.Entering.{turn_behind-push, over_behind-push}
+use Rattle.krieg_sheet.proofs.Entering.{turn_behind_push, over_behind_push}
 use Rattle.krieg_sheet.proofs.Entries.{entries_last, entries_more}
 use Rattle.krieg_sheet.proofs.CleanLines.{sheet_are}
 use Rattle.krieg_sheet.proofs.ListedPositions.{list_size, list_written}
@@ -88,8 +88,8 @@ entries_again [] s n told stand = record {
 }
 entries_again (l ∷ ls) s n told stand =
     let p = and_parts (may_stand (is_same_side (turn_of s) s.side) (is_over s) l) (are_in_place s.side (turn_after (turn_of s) l) (over_after (is_over s) l) ls) stand in
-    let turn = turn_behind-push (first_turn s.list) s.entries l in
-    let over = over_behind-push (over_at_first s.opens) s.entries l in
+    let turn = turn_behind_push (first_turn s.list) s.entries l in
+    let over = over_behind_push (over_at_first s.opens) s.entries l in
     let later : are_in_place s.side (turn_of (entered s l)) (is_over (entered s l)) ls ≡ true =
     ap (λ (t : Side). are_in_place s.side t (is_over (entered s l)) ls) turn ∙ ap (λ (o : Bool). are_in_place s.side (turn_after (turn_of s) l) o ls) over ∙ p.1 in
     let more = entries_again ls (entered s l) (n + 1) (All-tail (IsTold s.dialect) l ls told) later in

@@ -1,5 +1,6 @@
 -- What is read as a sheet is spelled so.
 use Rattle.std.proofs.Common.{◌≡◌, ℕ, ◌+◌, Bool, true, false, cond, eqb, List, [], ◌∷◌, ◌++◌, map, length, Option, Some, None, Result, Ok, Err, refl, sym, ap, subst, ◌∙◌, append_assoc, arith, length-append}
+use Rattle.std.proofs.Math.Bool.{and-false}
 use Rattle.std.specs.Prelude.{codes, ◌&&◌, is_none, IfOk}
 use Rattle.std.specs.Str.{bytes_eq}
 use Rattle.std.proofs.lemmas.Bool.{ne_eqb}
@@ -54,14 +55,10 @@ with_more s ls = record { dialect = s.dialect; side = s.side; list = s.list; ope
 abbrev behind_next : SheetState → ℕ → List (List ℕ) → Result (Option Line) TextKind → Result (SheetState × Place) TextFault
 behind_next s n ls r = on n (r >>= λ l. Ok (led s l)) >>= λ step. elim step [ stops x ↦ Ok (x, place (n + 1) ls) | goes_on next ↦ entries_at next (place (n + 1) ls) ]
 
-and_false : (b : Bool) → (b && false) ≡ false
-and_false true = refl
-and_false false = refl
-
 no_more : (b : Bool) (xs : List Line) (x : Line) → (b && eqb (length (xs ++ x ∷ [])) 0) ≡ false
 no_more b xs x =
     let some : eqb (length (xs ++ x ∷ [])) 0 ≡ false = ne_eqb (length (xs ++ x ∷ [])) 0 (λ e. absurd (omega (arith, e, length-append xs (x ∷ [])))) in
-    ap (λ (t : Bool). b && t) some ∙ and_false b
+    ap (λ (t : Bool). b && t) some ∙ and-false b
 
 followed_entered : (s : SheetState) (l : Line) → may_open s ≡ false → may_follow s l ≡ true → followed_by s l ≡ entered s l
 followed_entered s (Opens w) closed may = absurd cc

@@ -9,7 +9,6 @@
 
 #[cfg(test)]
 mod games;
-mod lines;
 mod list;
 mod reading;
 mod sheet;

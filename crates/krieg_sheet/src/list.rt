@@ -5,7 +5,7 @@ ghost use Rattle.krieg_board.specs.Hand as hand;
 ghost use Rattle.krieg_sheet.specs.Lists as spec;
 
 use crate::sheet::SheetFault;
-use krieg_board::{Position, Side, same_hand};
+use krieg_board::{Position, Side, know_valid, same_hand};
 
 /// The most positions that a sheet lists.
 pub(crate) const MOST: usize = 200_000;
@@ -14,7 +14,7 @@ fn has_hand_of(first: &Position, p: &Position, who: Side) -> bool
     ensures value { result ≡ hand.same_hand first.now p.now who }
     ensures valid { IsValid p.now }
 {
-    let _ = p.side();
+    know_valid(p);
     same_hand(first, p, who)
 }
 
@@ -44,7 +44,7 @@ pub(crate) fn list_fault(list: &[Position], who: Side) -> Option<SheetFault>
             if list.len() > MOST {
                 return Some(SheetFault::Count);
             }
-            let _ = first.side();
+            know_valid(first);
             other_hand(&list[1..], first, who).map(SheetFault::Differs)
         }
     }

@@ -9,11 +9,10 @@ ghost use Rattle.krieg_sheet.specs.Places as spec;
 ghost use Rattle.krieg_sheet.specs.SheetReading as reading;
 ghost use Rattle.krieg_sheet.specs.Places.{IsSheet, OpeningFits};
 
-use crate::lines::{know_line, know_opening, know_words};
 use crate::list::list_fault;
 use crate::turns::{ends, first_turn, may_stand, over_after, over_at_first, turn_after};
 use krieg_board::{Position, Side};
-use krieg_words::{Dialect, Line, Words};
+use krieg_words::{Dialect, Line, Words, know_line, know_words};
 use std::alloc::{AllocFailed, Global};
 use std::marker::Model;
 
@@ -28,6 +27,14 @@ pub enum SheetFault {
     OutOfPlace,
     /// Memory was not found.
     NoMemory,
+}
+
+fn know_opening(opens: &Option<Words>)
+    ensures { spec.IsOpening opens.now }
+{
+    if let Some(w) = opens {
+        know_words(w);
+    }
 }
 
 /// One player's sheet: his side, one to 200,000 positions that all have the same hand of that side, the

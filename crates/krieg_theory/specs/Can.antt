@@ -1,5 +1,5 @@
 -- The recursion over sets: a set can be won within j own moves. No trees.
-use Rattle.std.specs.Prelude.{ℕ, zero, suc, Bool, false, cond, not, ◌&&◌, ◌||◌, List, length, find, Option}
+use Rattle.std.specs.Prelude.{ℕ, zero, suc, Bool, false, not, ◌&&◌, ◌||◌, List, length, find, Option, if◌then◌else◌}
 use Rattle.std.specs.List.{list_all, list_any}
 use Rattle.krieg_theory.specs.Sets.{is_nil}
 use Rattle.krieg_theory.specs.Game.{Game}
@@ -34,4 +34,4 @@ module _ (G : Game) where
   -- the least number within which the set can be won, where it can be won within j
   abbrev pub least : ℕ → List G.Position → ℕ
   least zero B = zero
-  least (suc j) B = cond (can j B) (least j B) (suc j)
+  least (suc j) B = if can j B then least j B else suc j

@@ -1,5 +1,5 @@
 -- The canonical node of a set, as it is computed.
-use Rattle.std.specs.Prelude.{ℕ, zero, suc, cond, List, [], ◌∷◌, length, Option, Some, None}
+use Rattle.std.specs.Prelude.{ℕ, zero, suc, List, [], ◌∷◌, length, Option, Some, None, if◌then◌else◌}
 use Rattle.krieg_theory.specs.Sets.{is_nil}
 use Rattle.krieg_theory.specs.Tree.{Try, Maybe, Nothing, Just, Edges, NoEdges, Edge}
 use Rattle.krieg_theory.specs.Game.{Game}
@@ -24,7 +24,7 @@ module _ (G : Game) where
 
   -- the refused part's node: none where it is empty, and else that of its least number
   abbrev pub other_of : ℕ → (List G.Position → Maybe G.Move G.Key) → (List G.Position → Maybe G.Move G.Key) → List G.Position → Maybe G.Move G.Key
-  other_of j less here R = cond (is_nil R) Nothing (cond (can G j R) (less R) (here R))
+  other_of j less here R = if is_nil R then Nothing else if can G j R then less R else here R
 
   -- the node of a set of at most n members that can be won within j + 1 and not within j
   abbrev pub newly : ℕ → (List G.Position → Maybe G.Move G.Key) → ℕ → List G.Position → Maybe G.Move G.Key
@@ -35,4 +35,4 @@ module _ (G : Game) where
   -- the node of a set that can be won within j
   abbrev pub canon : ℕ → List G.Position → Maybe G.Move G.Key
   canon zero B = Nothing
-  canon (suc j) B = cond (can G j B) (canon j B) (newly j (canon j) (length B) B)
+  canon (suc j) B = if can G j B then canon j B else newly j (canon j) (length B) B

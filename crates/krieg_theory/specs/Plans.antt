@@ -1,5 +1,5 @@
 -- Plans: a tree for each thing that the player may hear before the first own turn.
-use Rattle.std.specs.Prelude.{◌≡◌, ℕ, zero, ◌≤◌, Bool, true, false, cond, not, ◌&&◌, max, List, [], ◌∷◌, map, flat_map, ⊤}
+use Rattle.std.specs.Prelude.{◌≡◌, ℕ, zero, ◌≤◌, Bool, true, false, not, ◌&&◌, max, List, [], ◌∷◌, map, flat_map, ⊤, if◌then◌else◌}
 use Rattle.std.specs.List.{list_all, list_any}
 use Rattle.krieg_theory.specs.Sets.{IsOrder, as_set, at_key, keys_in, same, is_nil}
 use Rattle.krieg_theory.specs.Tree.{Tree, Maybe, Nothing, Just}
@@ -52,7 +52,7 @@ module _ (G : Game) (O : Outset G) where
   -- there is a root with the key, and the tree at the first one wins
   abbrev pub wins_root : Plan → O.Root → G.Position → ℕ → Bool
   wins_root [] key p k = false
-  wins_root (r ∷ rs) key p k = cond (same O.root_lt r.0 key) (wins G r.1 p k) (wins_root rs key p k)
+  wins_root (r ∷ rs) key p k = if same O.root_lt r.0 key then wins G r.1 p k else wins_root rs key p k
 
   -- the plan mates from every listed position, however it starts, within k own moves
   abbrev pub mates : Plan → List G.Position → ℕ → Bool

@@ -1,5 +1,5 @@
 -- Sets as lists: each member stands once, and before those that come after it in the order.
-use Rattle.std.specs.Prelude.{◌≡◌, Bool, true, false, cond, not, ◌&&◌, List, [], ◌∷◌, map, ⊤, ◌⊎◌}
+use Rattle.std.specs.Prelude.{◌≡◌, Bool, true, false, not, ◌&&◌, List, [], ◌∷◌, map, ⊤, ◌⊎◌, if◌then◌else◌}
 
 -- x stands in the list
 abbrev pub In : {X : Type 0} → X → List X → Type 0
@@ -29,7 +29,7 @@ Ascending {X} lt (x ∷ xs) = ((y : X) → In y xs → lt x y ≡ true) × Ascen
 -- x put at its place in an ascending list, unless it is there
 abbrev pub insert_once : {X : Type 0} → (X → X → Bool) → X → List X → List X
 insert_once lt x [] = x ∷ []
-insert_once lt x (y ∷ ys) = cond (lt x y) (x ∷ y ∷ ys) (cond (lt y x) (y ∷ insert_once lt x ys) (y ∷ ys))
+insert_once lt x (y ∷ ys) = if lt x y then x ∷ y ∷ ys else if lt y x then y ∷ insert_once lt x ys else y ∷ ys
 
 -- the set of what stands in a list, ascending
 abbrev pub as_set : {X : Type 0} → (X → X → Bool) → List X → List X
@@ -39,7 +39,7 @@ as_set lt (x ∷ xs) = insert_once lt x (as_set lt xs)
 -- what stands in a list under a key
 abbrev pub at_key : {K X : Type 0} → (K → K → Bool) → K → List (K × X) → List X
 at_key lt key [] = []
-at_key lt key (o ∷ os) = cond (same lt o.0 key) (o.1 ∷ at_key lt key os) (at_key lt key os)
+at_key lt key (o ∷ os) = if same lt o.0 key then o.1 ∷ at_key lt key os else at_key lt key os
 
 -- the keys under which anything stands, ascending
 abbrev pub keys_in : {K X : Type 0} → (K → K → Bool) → List (K × X) → List K

@@ -1,5 +1,5 @@
 -- What one try makes of a set of positions, one of which is the true one.
-use Rattle.std.specs.Prelude.{Bool, cond, not, ◌&&◌, List, [], filter, flat_map}
+use Rattle.std.specs.Prelude.{Bool, not, ◌&&◌, List, [], filter, flat_map, if◌then◌else◌}
 use Rattle.std.specs.List.{list_any}
 use Rattle.krieg_theory.specs.Sets.{as_set, at_key, keys_in, is_nil}
 use Rattle.krieg_theory.specs.Game.{Game}
@@ -27,7 +27,7 @@ module _ (G : Game) where
 
   -- what can come of the try in one position: nothing where it is illegal
   abbrev pub given : G.Move → G.Position → List (G.Key × G.Position)
-  given t p = cond (G.legal p t) (G.outcomes p t) []
+  given t p = if G.legal p t then G.outcomes p t else []
 
   -- and in any member
   abbrev pub all_outcomes : List G.Position → G.Move → List (G.Key × G.Position)

@@ -1,6 +1,6 @@
 -- What a player has decided in advance: a tree of tries.
 -- M are the moves. K are the keys: what the player hears between two own turns.
-use Rattle.std.specs.Prelude.{ℕ, ◌+◌, Bool, cond, max}
+use Rattle.std.specs.Prelude.{ℕ, ◌+◌, Bool, max, if◌then◌else◌}
 use Rattle.krieg_theory.specs.Sets.{same}
 
 mutual
@@ -19,7 +19,7 @@ mutual
 -- the node at the first edge with the key, by the order of keys
 abbrev pub first_edge : {M K : Type 0} → (K → K → Bool) → Edges M K → K → Maybe M K
 first_edge lt NoEdges key = Nothing
-first_edge lt (Edge key' n es) key = cond (same lt key' key) (Just n) (first_edge lt es key)
+first_edge lt (Edge key' n es) key = if same lt key' key then Just n else first_edge lt es key
 
 abbrev mutual
   -- how many nodes there are

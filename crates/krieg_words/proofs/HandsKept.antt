@@ -1,5 +1,7 @@
 -- What is told of the opponent's move says what it leaves of a side's men and rights.
 use Rattle.std.proofs.Common.{◌≡◌, ℕ, Bool, true, false, not, ◌&&◌, ◌==◌, cond, refl, sym, ap, ◌∙◌}
+use Rattle.std.proofs.Math.Bool.{and-true}
+use Rattle.std.proofs.lemmas.Bool.{cond-false, cond-true, eqb-true, ne_eqb}
 use Rattle.std.specs.Prelude.{Option, Some, None}
 use Rattle.krieg_board.specs.declared.men.Side.{Side}
 use Rattle.krieg_board.specs.declared.men.Kind.TheVariants as kind
@@ -17,7 +19,6 @@ use Rattle.krieg_moves.specs.declared.wing.Wing.{Wing}
 use Rattle.krieg_moves.proofs.OwnMen.{own, captured_on}
 use Rattle.krieg_moves.proofs.Hands.{Alike, TheirMove, their_move}
 use Rattle.krieg_moves.proofs.Castling.{rook_stands}
-use Rattle.krieg_moves.proofs.Shapes.{cond-at-true, cond-at-false, eq_from, eq_not}
 use Rattle.krieg_words.specs.declared.words.Took.{Took}
 use Rattle.krieg_words.specs.declared.words.Took.TheVariants.{Nothing, Pawn, Piece}
 use Rattle.krieg_words.specs.declared.dialects.Dialect.{Dialect}
@@ -70,18 +71,18 @@ words_men who p m s t =
     x = own who (man_at p.board s)
 
     by_place : (there : Option Man) → man_at p.board m.to ≡ there → cond (is_taken_on (taken there m.to) s) None x ≡ cond (s == m.to) None x
-    by_place None e = cond_same (s == m.to) x (λ h. ap (λ k. own who (man_at p.board k)) (eq_from s m.to h) ∙ ap (own who) e)
+    by_place None e = cond_same (s == m.to) x (λ h. ap (λ k. own who (man_at p.board k)) (eqb-true s m.to h) ∙ ap (own who) e)
     by_place (Some man) e = ap (λ h. cond h None x) (taken_on man m.to s)
 
     by_passing : (passes : Bool) → is_en_passant p.mark t.man m ≡ passes →
         cond (is_taken_on (took_by p (Some t.man) m) s) None x ≡ cond (s == captured_on p.mark t.man m) None x
     by_passing true e =
-        ap (λ k. cond (is_taken_on k s) None x) (cond-at-true (is_en_passant p.mark t.man m) (Pawn (passed_square m)) (taken (man_at p.board m.to) m.to) e)
-        ∙ sym (ap (λ k. cond (s == k) None x) (cond-at-true (is_en_passant p.mark t.man m) (passed_square m) m.to e))
+        ap (λ k. cond (is_taken_on k s) None x) (cond-true (is_en_passant p.mark t.man m) (Pawn (passed_square m)) (taken (man_at p.board m.to) m.to) e)
+        ∙ sym (ap (λ k. cond (s == k) None x) (cond-true (is_en_passant p.mark t.man m) (passed_square m) m.to e))
     by_passing false e =
-        ap (λ k. cond (is_taken_on k s) None x) (cond-at-false (is_en_passant p.mark t.man m) (Pawn (passed_square m)) (taken (man_at p.board m.to) m.to) e)
+        ap (λ k. cond (is_taken_on k s) None x) (cond-false (is_en_passant p.mark t.man m) (Pawn (passed_square m)) (taken (man_at p.board m.to) m.to) e)
         ∙ (by_place (man_at p.board m.to) refl
-        ∙ sym (ap (λ k. cond (s == k) None x) (cond-at-false (is_en_passant p.mark t.man m) (passed_square m) m.to e)))
+        ∙ sym (ap (λ k. cond (s == k) None x) (cond-false (is_en_passant p.mark t.man m) (passed_square m) m.to e)))
 
 -- and of its rights
 words_rights : (who : Side) (p : Pos) (m : Move) (wing : Wing) → IsValid p → TheirMove who p m →
@@ -102,30 +103,26 @@ words_rights who p m wing valid t =
     not_there : man_at p.board m.to ≡ None → held ≡ true → (s == m.to) ≡ false
     not_there e h =
         let rook = rook_stands p.board p.rights wing who (facts p valid).castles h in
-        eq_not s m.to (λ z. no_rook (ap (is_man who kind.Rook) (sym e ∙ ap (man_at p.board) (sym z)) ∙ rook))
+        ne_eqb s m.to (λ z. no_rook (ap (is_man who kind.Rook) (sym e ∙ ap (man_at p.board) (sym z)) ∙ rook))
 
     by_place : (there : Option Man) → man_at p.board m.to ≡ there → held && not (is_taken_on (taken there m.to) s) ≡ held && not (s == m.to)
-    by_place None e = and_nothing held ∙ and_same held (s == m.to) (not_there e)
-      where
-        and_nothing : (h : Bool) → (h && true) ≡ h
-        and_nothing true = refl
-        and_nothing false = refl
+    by_place None e = and-true held ∙ and_same held (s == m.to) (not_there e)
     by_place (Some man) e = ap (λ h. held && not h) (taken_on man m.to s)
 
     by_passing : (passes : Bool) → is_en_passant p.mark t.man m ≡ passes →
         held && not (is_taken_on (took_by p (Some t.man) m) s) ≡ held && not (s == captured_on p.mark t.man m)
     by_passing true e =
-        ap (λ k. held && not (is_taken_on k s)) (cond-at-true (is_en_passant p.mark t.man m) (Pawn (passed_square m)) (taken (man_at p.board m.to) m.to) e)
-        ∙ sym (ap (λ k. held && not (s == k)) (cond-at-true (is_en_passant p.mark t.man m) (passed_square m) m.to e))
+        ap (λ k. held && not (is_taken_on k s)) (cond-true (is_en_passant p.mark t.man m) (Pawn (passed_square m)) (taken (man_at p.board m.to) m.to) e)
+        ∙ sym (ap (λ k. held && not (s == k)) (cond-true (is_en_passant p.mark t.man m) (passed_square m) m.to e))
     by_passing false e =
-        ap (λ k. held && not (is_taken_on k s)) (cond-at-false (is_en_passant p.mark t.man m) (Pawn (passed_square m)) (taken (man_at p.board m.to) m.to) e)
+        ap (λ k. held && not (is_taken_on k s)) (cond-false (is_en_passant p.mark t.man m) (Pawn (passed_square m)) (taken (man_at p.board m.to) m.to) e)
         ∙ (by_place (man_at p.board m.to) refl
-        ∙ sym (ap (λ k. held && not (s == k)) (cond-at-false (is_en_passant p.mark t.man m) (passed_square m) m.to e)))
+        ∙ sym (ap (λ k. held && not (s == k)) (cond-false (is_en_passant p.mark t.man m) (passed_square m) m.to e)))
 
 -- after moves of the opponent of which the same is told, a side that had the same men and rights still has
-pub alike-heard : (d : Dialect) (who : Side) (p q : Pos) (m n : Move) → Alike who p q → IsValid p → IsValid q → p.side ≡ other who →
+pub alike_heard : (d : Dialect) (who : Side) (p q : Pos) (m n : Move) → Alike who p q → IsValid p → IsValid q → p.side ≡ other who →
     is_legal p m ≡ true → is_legal q n ≡ true → told d (words p m) ≡ told d (words q n) → Alike who (after p m) (after q n)
-alike-heard d who p q m n e valid_p valid_q turn legal_p legal_q same =
+alike_heard d who p q m n e valid_p valid_q turn legal_p legal_q same =
     let a = their_move who p m valid_p turn legal_p in
     let b = their_move who q n valid_q (sym e.turn ∙ turn) legal_q in
     let taken_same : (s : ℕ) → is_taken_on (words p m).took s ≡ is_taken_on (words q n).took s =

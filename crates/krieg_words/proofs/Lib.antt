@@ -2,9 +2,10 @@ pub mod OrderLaws
 pub mod RangeSums
 pub mod PawnCaptures
 pub mod TriesBound
+pub mod TriesCount
 pub mod SaidLaws
 pub mod ToldLaws
-pub mod OtherCaptures
+pub mod ToldMoves
 pub mod HandsKept
 pub mod PartLaws
 pub mod NameLaws

@@ -10,7 +10,7 @@ use Rattle.krieg_checks.specs.declared.kinds.Kinds.{Kinds}
 use Rattle.krieg_words.specs.Told.{no_kinds}
 use Rattle.krieg_words.specs.WordsText.{joined, part, kind_names, is_check}
 use Rattle.krieg_words.specs.WordsReading.{front, left_by, is_next, names_of}
-use Rattle.krieg_words.proofs.OrderLaws.{bits_of-same}
+use Rattle.krieg_words.proofs.OrderLaws.{bits_of_same}
 use Rattle.krieg_words.proofs.PartLaws.{Free, left, IsSolid, part_spells}
 
 abbrev pub kinds_with : Bool → Bool → Bool → Bool → Bool → Kinds
@@ -72,7 +72,7 @@ held_of k named = by_test (bits_of k == 0) refl
   where
     by_test : (t : Bool) → (bits_of k == 0) ≡ t → not t ≡ true
     by_test false e = refl
-    by_test true e = absurd (named (ap kind_names (bits_of-same k no_kinds (eqb-true (bits_of k) 0 e))))
+    by_test true e = absurd (named (ap kind_names (bits_of_same k no_kinds (eqb-true (bits_of k) 0 e))))
 
 pub kinds_spells : (names : List ℕ) (k : Kinds) → names_of (Some names) ≡ Some k → (names ≡ joined (codes "+") (kind_names k)) × (is_check k ≡ true)
 kinds_spells names k e =

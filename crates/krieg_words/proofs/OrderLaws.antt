@@ -1,8 +1,7 @@
 -- The derived order of words is the order of their ranks, and it is total.
 use Rattle.std.proofs.Common.{◌≡◌, ℕ, ◌+◌, ◌<◌, Bool, true, false, cond, [], ◌∷◌, refl, sym, ap, ◌∙◌, arith}
-use Rattle.std.specs.Ordering.{nat_cmp, ordering_then, bool_cmp, is_eq, is_lt}
+use Rattle.std.specs.Ordering.{nat_cmp, ordering_then, bool_cmp, is_eq}
 use Rattle.std.specs.Cmp.{IsTotalOrder}
-use Rattle.std.specs.Ordering.{ordering_reverse}
 use Rattle.std.specs.Cmp.Lexicographic.{on_texts}
 use Rattle.std.specs.declared.cmp.Ordering.{Ordering}
 use Rattle.std.specs.declared.cmp.Ordering.TheVariants.{Less, Equal, Greater}
@@ -21,35 +20,35 @@ use Rattle.krieg_words.specs.declared.words.End.TheVariants.{Goes, Mate, Stalema
 use Rattle.krieg_words.specs.declared.words.Took.{Took}
 use Rattle.krieg_words.specs.declared.words.Took.TheVariants.{Nothing, Pawn, Piece}
 use Rattle.krieg_words.specs.Said.{Said}
-use Rattle.krieg_words.specs.Order.{end_rank, took_rank, took_square, ranks, words_cmp, is_before}
+use Rattle.krieg_words.specs.Order.{end_rank, took_rank, took_square, ranks, words_cmp}
 
-end_cmp-is : (a b : End) → end_cmp.it a b ≡ nat_cmp (end_rank a) (end_rank b)
-end_cmp-is Goes Goes = refl
-end_cmp-is Goes Mate = refl
-end_cmp-is Goes Stalemate = refl
-end_cmp-is Mate Goes = refl
-end_cmp-is Mate Mate = refl
-end_cmp-is Mate Stalemate = refl
-end_cmp-is Stalemate Goes = refl
-end_cmp-is Stalemate Mate = refl
-end_cmp-is Stalemate Stalemate = refl
+end_cmp_is : (a b : End) → end_cmp.it a b ≡ nat_cmp (end_rank a) (end_rank b)
+end_cmp_is Goes Goes = refl
+end_cmp_is Goes Mate = refl
+end_cmp_is Goes Stalemate = refl
+end_cmp_is Mate Goes = refl
+end_cmp_is Mate Mate = refl
+end_cmp_is Mate Stalemate = refl
+end_cmp_is Stalemate Goes = refl
+end_cmp_is Stalemate Mate = refl
+end_cmp_is Stalemate Stalemate = refl
 
-took_cmp-is : (a b : Took) → took_cmp.it a b ≡ ordering_then (nat_cmp (took_rank a) (took_rank b)) (nat_cmp (took_square a) (took_square b))
-took_cmp-is Nothing Nothing = refl
-took_cmp-is Nothing (Pawn t) = refl
-took_cmp-is Nothing (Piece t) = refl
-took_cmp-is (Pawn s) Nothing = refl
-took_cmp-is (Pawn s) (Pawn t) = refl
-took_cmp-is (Pawn s) (Piece t) = refl
-took_cmp-is (Piece s) Nothing = refl
-took_cmp-is (Piece s) (Pawn t) = refl
-took_cmp-is (Piece s) (Piece t) = refl
+took_cmp_is : (a b : Took) → took_cmp.it a b ≡ ordering_then (nat_cmp (took_rank a) (took_rank b)) (nat_cmp (took_square a) (took_square b))
+took_cmp_is Nothing Nothing = refl
+took_cmp_is Nothing (Pawn t) = refl
+took_cmp_is Nothing (Piece t) = refl
+took_cmp_is (Pawn s) Nothing = refl
+took_cmp_is (Pawn s) (Pawn t) = refl
+took_cmp_is (Pawn s) (Piece t) = refl
+took_cmp_is (Piece s) Nothing = refl
+took_cmp_is (Piece s) (Pawn t) = refl
+took_cmp_is (Piece s) (Piece t) = refl
 
-bit_cmp-is : (b c : Bool) → bool_cmp b c ≡ nat_cmp (cond b 1 0) (cond c 1 0)
-bit_cmp-is true true = refl
-bit_cmp-is true false = refl
-bit_cmp-is false true = refl
-bit_cmp-is false false = refl
+bit_cmp_is : (b c : Bool) → bool_cmp b c ≡ nat_cmp (cond b 1 0) (cond c 1 0)
+bit_cmp_is true true = refl
+bit_cmp_is true false = refl
+bit_cmp_is false true = refl
+bit_cmp_is false false = refl
 
 -- a higher bit decides before all lower ones
 higher : (w x y : ℕ) (b c : Bool) → x < w → y < w → ordering_then (bool_cmp b c) (nat_cmp x y) ≡ nat_cmp (x + cond b w 0) (y + cond c w 0)
@@ -67,22 +66,22 @@ one_bit : (b : Bool) → cond b 1 0 < 2
 one_bit true = omega arith
 one_bit false = omega arith
 
-bits_cmp-is : (a b c d e f g h i j : Bool) →
+bits_cmp_is : (a b c d e f g h i j : Bool) →
     ordering_then (bool_cmp a b) (ordering_then (bool_cmp c d) (ordering_then (bool_cmp e f) (ordering_then (bool_cmp g h) (bool_cmp i j))))
     ≡ nat_cmp (cond i 1 0 + cond g 2 0 + cond e 4 0 + cond c 8 0 + cond a 16 0) (cond j 1 0 + cond h 2 0 + cond f 4 0 + cond d 8 0 + cond b 16 0)
-bits_cmp-is a b c d e f g h i j =
+bits_cmp_is a b c d e f g h i j =
     let x1 = one_bit i in let y1 = one_bit j in
     let x2 = bits_below 2 (cond i 1 0) g x1 in let y2 = bits_below 2 (cond j 1 0) h y1 in
     let x4 = bits_below 4 (cond i 1 0 + cond g 2 0) e x2 in let y4 = bits_below 4 (cond j 1 0 + cond h 2 0) f y2 in
     let x8 = bits_below 8 (cond i 1 0 + cond g 2 0 + cond e 4 0) c x4 in let y8 = bits_below 8 (cond j 1 0 + cond h 2 0 + cond f 4 0) d y4 in
-    ap (λ o. ordering_then (bool_cmp a b) (ordering_then (bool_cmp c d) (ordering_then (bool_cmp e f) (ordering_then (bool_cmp g h) o)))) (bit_cmp-is i j)
+    ap (λ o. ordering_then (bool_cmp a b) (ordering_then (bool_cmp c d) (ordering_then (bool_cmp e f) (ordering_then (bool_cmp g h) o)))) (bit_cmp_is i j)
     ∙ ap (λ o. ordering_then (bool_cmp a b) (ordering_then (bool_cmp c d) (ordering_then (bool_cmp e f) o))) (higher 2 (cond i 1 0) (cond j 1 0) g h x1 y1)
     ∙ ap (λ o. ordering_then (bool_cmp a b) (ordering_then (bool_cmp c d) o)) (higher 4 (cond i 1 0 + cond g 2 0) (cond j 1 0 + cond h 2 0) e f x2 y2)
     ∙ ap (λ o. ordering_then (bool_cmp a b) o) (higher 8 (cond i 1 0 + cond g 2 0 + cond e 4 0) (cond j 1 0 + cond h 2 0 + cond f 4 0) c d x4 y4)
     ∙ higher 16 (cond i 1 0 + cond g 2 0 + cond e 4 0 + cond c 8 0) (cond j 1 0 + cond h 2 0 + cond f 4 0 + cond d 8 0) a b x8 y8
 
-kinds_cmp-is : (a b : Kinds) → kinds_cmp.it a b ≡ nat_cmp (bits_of a) (bits_of b)
-kinds_cmp-is a b = bits_cmp-is a.knight b.knight a.short b.short a.long b.long a.rank b.rank a.file b.file
+kinds_cmp_is : (a b : Kinds) → kinds_cmp.it a b ≡ nat_cmp (bits_of a) (bits_of b)
+kinds_cmp_is a b = bits_cmp_is a.knight b.knight a.short b.short a.long b.long a.rank b.rank a.file b.file
 
 then_assoc : (a b c : Ordering) → ordering_then (ordering_then a b) c ≡ ordering_then a (ordering_then b c)
 then_assoc Less b c = refl
@@ -104,11 +103,11 @@ joined e e' t t1 t2 k k' n he ht hk =
     ∙ ap (λ o. ordering_then e' o) (then_assoc t1 t2 (ordering_then k' (ordering_then n Equal)))
 
 -- what `cmp` and the comparisons of words answer is the order of words
-pub words_cmp-derived : (a b : Said) → derived_cmp.it a b ≡ words_cmp a b
+pub words_cmp_derived : (a b : Said) → derived_cmp.it a b ≡ words_cmp a b
 unfolding words_cmp
-words_cmp-derived a b =
+words_cmp_derived a b =
     joined (end_cmp.it a.end b.end) _ (took_cmp.it a.took b.took) _ _ (kinds_cmp.it a.checks b.checks) _ (nat_cmp a.tries b.tries)
-    (end_cmp-is a.end b.end) (took_cmp-is a.took b.took) (kinds_cmp-is a.checks b.checks)
+    (end_cmp_is a.end b.end) (took_cmp_is a.took b.took) (kinds_cmp_is a.checks b.checks)
 
 -- the order is total: antisymmetric, transitive, and words that compare equal compare alike with all others
 pub words_cmp_total : IsTotalOrder words_cmp
@@ -131,8 +130,8 @@ one_same true false h = absurd (omega arith)
 one_same false true h = absurd (omega arith)
 one_same false false h = refl
 
-pub bits_of-same : (a b : Kinds) → bits_of a ≡ bits_of b → a ≡ b
-bits_of-same a b h =
+pub bits_of_same : (a b : Kinds) → bits_of a ≡ bits_of b → a ≡ b
+bits_of_same a b h =
     let x1 = one_bit a.file in let y1 = one_bit b.file in
     let x2 = bits_below 2 (cond a.file 1 0) a.rank x1 in let y2 = bits_below 2 (cond b.file 1 0) b.rank y1 in
     let x4 = bits_below 4 (cond a.file 1 0 + cond a.rank 2 0) a.long x2 in let y4 = bits_below 4 (cond b.file 1 0 + cond b.rank 2 0) b.long y2 in
@@ -159,39 +158,18 @@ took_same _ _ h k = absurd (omega arith)
 five_same : (a b c d e a' b' c' d' e' : ℕ) → a ∷ b ∷ c ∷ d ∷ e ∷ [] ≡ a' ∷ b' ∷ c' ∷ d' ∷ e' ∷ [] → (a ≡ a') × (b ≡ b') × (c ≡ c') × (d ≡ d') × (e ≡ e')
 five_same a b c d e a' b' c' d' e' h = (cc, cc, cc, cc, cc)
 
-pub ranks-same : (a b : Said) → ranks a ≡ ranks b → a ≡ b
-ranks-same a b h =
+pub ranks_same : (a b : Said) → ranks a ≡ ranks b → a ≡ b
+ranks_same a b h =
     let r = five_same _ _ _ _ _ _ _ _ _ _ h in
     let e = end_same a.end b.end r.0 in
     let t = took_same a.took b.took r.1 r.2 in
-    let k = bits_of-same a.checks b.checks r.3 in
+    let k = bits_of_same a.checks b.checks r.3 in
     λ i. record { end = e i; took = t i; checks = k i; tries = r.4 i }
 
 -- words that compare equal are the same
-pub words_cmp-equal : (a b : Said) → words_cmp a b ≡ Equal → a ≡ b
+pub words_cmp_equal : (a b : Said) → words_cmp a b ≡ Equal → a ≡ b
 unfolding words_cmp
-words_cmp-equal a b h = ranks-same a b ((bytes_eq-Decides (ranks a) (ranks b)).0 (sym (is_eq-slice_cmp (ranks a) (ranks b)) ∙ ap is_eq h))
+words_cmp_equal a b h = ranks_same a b ((bytes_eq-Decides (ranks a) (ranks b)).0 (sym (is_eq-slice_cmp (ranks a) (ranks b)) ∙ ap is_eq h))
 
-pub words_cmp-self : (a : Said) → words_cmp a a ≡ Equal
-words_cmp-self a = tied_itself words_cmp_total a
-
-less_is : (o : Ordering) → is_lt o ≡ true → o ≡ Less
-less_is Less h = refl
-less_is Equal h = absurd cc
-less_is Greater h = absurd cc
-
-equal_is : (o : Ordering) → is_lt o ≡ false → is_lt (ordering_reverse o) ≡ false → o ≡ Equal
-equal_is Less h k = absurd cc
-equal_is Equal h k = refl
-equal_is Greater h k = absurd cc
-
--- no words stand before themselves
-pub is_before-self : (a : Said) → is_before a a ≡ false
-is_before-self a = ap is_lt (words_cmp-self a)
-
-pub is_before-trans : (a b c : Said) → is_before a b ≡ true → is_before b c ≡ true → is_before a c ≡ true
-is_before-trans a b c h k = ap is_lt (words_cmp_total.trans a b c (less_is (words_cmp a b) h) (less_is (words_cmp b c) k))
-
--- two words of which none stands before the other are the same
-pub is_before-same : (a b : Said) → is_before a b ≡ false → is_before b a ≡ false → a ≡ b
-is_before-same a b h k = words_cmp-equal a b (equal_is (words_cmp a b) h (ap is_lt (sym (words_cmp_total.antisymm b a)) ∙ k))
+pub words_cmp_self : (a : Said) → words_cmp a a ≡ Equal
+words_cmp_self a = tied_itself words_cmp_total a

@@ -1,5 +1,7 @@
 -- A legal move of a pawn to another file is a capture by a pawn of the side to move, to one of the two squares that it attacks.
-use Rattle.std.proofs.Common.{◌≡◌, ℕ, Bool, true, false, not, ◌&&◌, ◌||◌, ◌==◌, nat_lt, refl, ap, ◌∙◌, inl, inr, subst, arith, eqb-true}
+use Rattle.std.proofs.Common.{◌≡◌, ℕ, Bool, true, false, not, ◌&&◌, ◌||◌, ◌==◌, nat_lt, refl, ap, ◌∙◌, inl, inr, subst}
+use Rattle.std.proofs.Math.Bool.{and_comm}
+use Rattle.std.proofs.lemmas.Bool.{and_from, and_parts, not-true, or_cases, both_ways, or_right}
 use Rattle.std.specs.Prelude.{Option, Some, None}
 use Rattle.krieg_board.specs.declared.men.Side.{Side}
 use Rattle.krieg_board.specs.declared.men.Side.TheVariants.{White, Black}
@@ -15,11 +17,11 @@ use Rattle.krieg_board.specs.Board.{Board, man_at, is_man, is_of, is_empty}
 use Rattle.krieg_board.specs.Attacks.{attacks, apart, is_forward, is_clear, can_reach, slides, is_king_attacked}
 use Rattle.krieg_board.specs.Pos.{Pos}
 use Rattle.krieg_board.specs.Validity.{is_pawn}
-use Rattle.krieg_board.proofs.Connectives.{and-both, both-and, or-either, not-false}
-use Rattle.krieg_board.proofs.MenLemmas.{is_pawn-tells, same_side-eq}
+use Rattle.krieg_board.proofs.MenLemmas.{is_pawn_tells, same_side_eq}
 use Rattle.krieg_moves.specs.After.{after, crossed, is_marked}
 use Rattle.krieg_moves.specs.Legal.{is_legal, is_candidate, is_step, is_double_step, is_pawn_capture, is_pawn_move, has_promotion, is_move_of, is_move_of_kind}
-use Rattle.krieg_words.specs.Tries.{is_some_legal, is_try}
+use Rattle.krieg_moves.specs.Moves.{can_go}
+use Rattle.krieg_words.specs.Tries.{is_try}
 
 -- t is one file and one rank forward of f, as that side's pawns capture
 abbrev pub is_aimed : Side → ℕ → ℕ → Bool
@@ -28,15 +30,12 @@ is_aimed side f t = apart (file_of f) (file_of t) == 1 && is_forward side f t
 abbrev pub is_own_pawn : Pos → ℕ → Bool
 is_own_pawn p f = is_man p.side Pawn (man_at p.board f)
 
-clash : (t : Bool) → t ≡ true → t ≡ false → ⊥
-clash t h k = cc
-
 aimed_by : (b : Board) (man : Man) (f t : ℕ) → man_at b f ≡ Some man → man.kind ≡ Pawn → attacks b f t ≡ true → is_aimed man.side f t ≡ true
 unfolding attacks
 aimed_by b man f t stands pawn h =
     let k : (not (f == t) && (can_reach man.kind man.side f t && (not (slides man.kind) || is_clear b f t))) ≡ true = rw stands at h in
-    let c = and-both (not (f == t)) (can_reach man.kind man.side f t && (not (slides man.kind) || is_clear b f t)) k in
-    let d = and-both (can_reach man.kind man.side f t) (not (slides man.kind) || is_clear b f t) c.1 in
+    let c = and_parts (not (f == t)) (can_reach man.kind man.side f t && (not (slides man.kind) || is_clear b f t)) k in
+    let d = and_parts (can_reach man.kind man.side f t) (not (slides man.kind) || is_clear b f t) c.1 in
     subst (λ (k : Kind). can_reach k man.side f t ≡ true) pawn d.0
 
 -- by the man on the from-square
@@ -44,20 +43,20 @@ captures_by : (p : Pos) (m : Move) (x : Option Man) → man_at p.board m.from �
     (is_own_pawn p m.from ≡ true) × (is_aimed p.side m.from m.to ≡ true)
 captures_by p m None stands moves pawn file = absurd cc
 captures_by p m (Some man) stands moves pawn file =
-    let s = and-both (is_same_side man.side p.side) (is_move_of_kind man.kind p m) moves in
-    let kind = is_pawn-tells man pawn in
-    let side = same_side-eq man.side p.side s.0 in
+    let s = and_parts (is_same_side man.side p.side) (is_move_of_kind man.kind p m) moves in
+    let kind = is_pawn_tells man pawn in
+    let side = same_side_eq man.side p.side s.0 in
     let own : is_own_pawn p m.from ≡ true =
-    ap (is_man p.side Pawn) stands ∙ both-and (is_same_side man.side p.side) (is_same_kind man.kind Pawn) s.0 (ap (λ k. is_same_kind k Pawn) kind) in
+    ap (is_man p.side Pawn) stands ∙ and_from (is_same_side man.side p.side) (is_same_kind man.kind Pawn) s.0 (ap (λ k. is_same_kind k Pawn) kind) in
     let goes : is_pawn_move p m ≡ true = subst (λ (k : Kind). is_move_of_kind k p m ≡ true) kind s.1 in
-    let r = and-both (has_promotion p.side m) (is_step p.board p.side m || (is_double_step p.board p.side m || is_pawn_capture p m)) goes in
-    elim (or-either (is_step p.board p.side m) (is_double_step p.board p.side m || is_pawn_capture p m) r.1) [
-      | inl a ↦ absurd (clash (file_of m.from == file_of m.to) (and-both (file_of m.from == file_of m.to) (is_forward p.side m.from m.to && is_empty p.board m.to) a).0 file)
-      | inr b ↦ elim (or-either (is_double_step p.board p.side m) (is_pawn_capture p m) b) [
-        | inl d ↦ absurd (clash (file_of m.from == file_of m.to)
-            (and-both (file_of m.from == file_of m.to) (rank_of m.from == pawn_rank p.side && (rank_of m.to == landing_rank p.side && (is_empty p.board (crossed p.side m.from) && is_empty p.board m.to))) d).0 file)
+    let r = and_parts (has_promotion p.side m) (is_step p.board p.side m || (is_double_step p.board p.side m || is_pawn_capture p m)) goes in
+    elim (or_cases (is_step p.board p.side m) (is_double_step p.board p.side m || is_pawn_capture p m) r.1) [
+      | inl a ↦ absurd (both_ways (file_of m.from == file_of m.to) file (and_parts (file_of m.from == file_of m.to) (is_forward p.side m.from m.to && is_empty p.board m.to) a).0)
+      | inr b ↦ elim (or_cases (is_double_step p.board p.side m) (is_pawn_capture p m) b) [
+        | inl d ↦ absurd (both_ways (file_of m.from == file_of m.to) file
+            (and_parts (file_of m.from == file_of m.to) (rank_of m.from == pawn_rank p.side && (rank_of m.to == landing_rank p.side && (is_empty p.board (crossed p.side m.from) && is_empty p.board m.to))) d).0)
         | inr c ↦
-            let a = and-both (attacks p.board m.from m.to) (is_of (other p.side) (man_at p.board m.to) || is_marked p.mark m.to) c in
+            let a = and_parts (attacks p.board m.from m.to) (is_of (other p.side) (man_at p.board m.to) || is_marked p.mark m.to) c in
             (own, subst (λ (s : Side). is_aimed s m.from m.to ≡ true) side (aimed_by p.board man m.from m.to stands kind a.0))
       ]
     ]
@@ -66,10 +65,10 @@ captures : (p : Pos) (m : Move) → is_pawn (man_at p.board m.from) ≡ true →
     (is_own_pawn p m.from ≡ true) × (is_aimed p.side m.from m.to ≡ true)
 unfolding is_legal is_candidate
 captures p m pawn file h =
-    let c = and-both (is_candidate p m) (not (is_king_attacked (after p m).board p.side)) h in
-    let u = and-both (nat_lt m.from 64) (nat_lt m.to 64 && (not (is_of p.side (man_at p.board m.to)) && is_move_of (man_at p.board m.from) p m)) c.0 in
-    let t = and-both (nat_lt m.to 64) (not (is_of p.side (man_at p.board m.to)) && is_move_of (man_at p.board m.from) p m) u.1 in
-    captures_by p m (man_at p.board m.from) refl (and-both (not (is_of p.side (man_at p.board m.to))) (is_move_of (man_at p.board m.from) p m) t.1).1 pawn file
+    let c = and_parts (is_candidate p m) (not (is_king_attacked (after p m).board p.side)) h in
+    let u = and_parts (nat_lt m.from 64) (nat_lt m.to 64 && (not (is_of p.side (man_at p.board m.to)) && is_move_of (man_at p.board m.from) p m)) c.0 in
+    let t = and_parts (nat_lt m.to 64) (not (is_of p.side (man_at p.board m.to)) && is_move_of (man_at p.board m.from) p m) u.1 in
+    captures_by p m (man_at p.board m.from) refl (and_parts (not (is_of p.side (man_at p.board m.to))) (is_move_of (man_at p.board m.from) p m) t.1).1 pawn file
 
 one_of_five : (a b c d e : Bool) (Q : Type 0) → (a ≡ true → Q) → (b ≡ true → Q) → (c ≡ true → Q) → (d ≡ true → Q) → (e ≡ true → Q) →
     (a || (b || (c || (d || (e || false))))) ≡ true → Q
@@ -81,7 +80,8 @@ one_of_five false false false false true Q fa fb fc fd fe h = fe refl
 one_of_five false false false false false Q fa fb fc fd fe h = absurd cc
 
 -- what each of the five moves tells is told by one of them that is legal
-some_legal : (p : Pos) (f t : ℕ) (Q : Type 0) → ((r : Promo) → is_legal p (record { from = f; to = t; promo = r }) ≡ true → Q) → is_some_legal p f t ≡ true → Q
+some_legal : (p : Pos) (f t : ℕ) (Q : Type 0) → ((r : Promo) → is_legal p (record { from = f; to = t; promo = r }) ≡ true → Q) → can_go p f t ≡ true → Q
+unfolding can_go
 some_legal p f t Q each h =
     let ok : Promo → Bool = λ r. is_legal p (record { from = f; to = t; promo = r }) in
     one_of_five (ok promo.Plain) (ok promo.Queen) (ok promo.Rook) (ok promo.Bishop) (ok promo.Knight) Q
@@ -90,38 +90,17 @@ some_legal p f t Q each h =
 pub try_tells : (p : Pos) (f t : ℕ) → is_try p f t ≡ true → (is_own_pawn p f ≡ true) × (is_aimed p.side f t ≡ true)
 unfolding is_try
 try_tells p f t h =
-    let a = and-both (is_pawn (man_at p.board f)) (not (file_of f == file_of t) && is_some_legal p f t) h in
-    let b = and-both (not (file_of f == file_of t)) (is_some_legal p f t) a.1 in
-    let file = not-false (file_of f == file_of t) b.0 in
+    let a = and_parts (is_pawn (man_at p.board f)) (not (file_of f == file_of t) && can_go p f t) h in
+    let b = and_parts (not (file_of f == file_of t)) (can_go p f t) a.1 in
+    let file = not-true (file_of f == file_of t) b.0 in
     some_legal p f t ((is_own_pawn p f ≡ true) × (is_aimed p.side f t ≡ true)) (λ r l. captures p (record { from = f; to = t; promo = r }) a.0 file l) b.1
 
 pawn_of : (side : Side) (x : Option Man) → is_man side Pawn x ≡ true → is_pawn x ≡ true
 pawn_of White x h = rw h refl
-pawn_of Black x h = or-second (is_man White Pawn x) (is_man Black Pawn x) h
-  where
-    or-second : (a b : Bool) → b ≡ true → (a || b) ≡ true
-    or-second true b h = refl
-    or-second false b h = h
+pawn_of Black x h = or_right (is_man White Pawn x) (is_man Black Pawn x) h
 
-other_file : (f t : ℕ) → (apart (file_of f) (file_of t) == 1) ≡ true → not (file_of f == file_of t) ≡ true
-other_file f t h = differ (file_of f) (file_of t) (eqb-true (apart (file_of f) (file_of t)) 1 h)
-  where
-    differ : (a b : ℕ) → apart a b ≡ 1 → not (a == b) ≡ true
-    differ a b e = by_test (a == b) refl
-      where
-        by_test : (t : Bool) → (a == b) ≡ t → not t ≡ true
-        by_test false k = refl
-        by_test true k = absurd (let same = eqb-true a b k in omega arith)
-
-by_tests : (aim legal try : Bool) → (try ≡ true → aim ≡ true) → (aim ≡ true → try ≡ legal) → try ≡ (aim && legal)
-by_tests true legal try one two = two refl
-by_tests false legal true one two = absurd (let e = one refl in cc)
-by_tests false legal false one two = refl
-
--- from an own pawn a try is a legal move to one of the squares that it attacks
-pub try-aimed : (p : Pos) (f t : ℕ) → is_own_pawn p f ≡ true → is_try p f t ≡ (is_aimed p.side f t && is_some_legal p f t)
+-- from an own pawn a try is a move to another file
+pub try_own : (p : Pos) (f t : ℕ) → is_own_pawn p f ≡ true → is_try p f t ≡ (can_go p f t && not (file_of f == file_of t))
 unfolding is_try
-try-aimed p f t own =
-    let pawn = pawn_of p.side (man_at p.board f) own in
-    by_tests (is_aimed p.side f t) (is_some_legal p f t) (is_try p f t) (λ h. (try_tells p f t h).1)
-    (λ aim. let file = other_file f t (and-both (apart (file_of f) (file_of t) == 1) (is_forward p.side f t) aim).0 in rw (pawn, file) refl)
+try_own p f t own =
+    ap (λ x. x && (not (file_of f == file_of t) && can_go p f t)) (pawn_of p.side (man_at p.board f) own) ∙ and_comm (not (file_of f == file_of t)) (can_go p f t)

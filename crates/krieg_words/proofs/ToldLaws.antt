@@ -64,7 +64,3 @@ pub told_said : (d : Dialect) (w : Said) → IsSaid w → IsSaid (told d w)
 told_said Wild16 w h = h
 told_said Anytry w h = (few_tries (w.tries == 0), h.1)
 told_said Plain w h = (lit≤ tt, taken_piece w.took h.1)
-
--- all words fit wild16
-pub fits_wild16 : (w : Said) → Fits Wild16 w
-fits_wild16 w = refl

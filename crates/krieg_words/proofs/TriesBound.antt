@@ -1,5 +1,6 @@
 -- A side has at most 16 pawn tries, and the sum over its pawns is all of them.
 use Rattle.std.proofs.Common.{◌≡◌, ℕ, zero, suc, ◌+◌, ◌-◌, ◌*◌, ◌≤◌, Bool, true, false, ◌||◌, cond, ◌==◌, nat_le, List, [], ◌∷◌, length, refl, arith, ◌∙◌, sym, ap, subst, ◌≢◌, eqb-true, eq-eqb}
+use Rattle.std.proofs.lemmas.Bool.{and_parts, both_ways}
 use Rattle.std.specs.Prelude.{Option, count_by}
 use Rattle.std.specs.List.{range_with_len, sum_by}
 use Rattle.std.proofs.lemmas.List.Sums.{sum_by-cons}
@@ -14,10 +15,9 @@ use Rattle.krieg_board.specs.Board.{Board, man_at, is_man}
 use Rattle.krieg_board.specs.Attacks.{apart, is_forward}
 use Rattle.krieg_board.specs.Validity.{IsValid, is_small, count_kind, count_side}
 use Rattle.krieg_board.proofs.Facts.{Facts, facts}
-use Rattle.krieg_board.proofs.Connectives.{and-both}
 use Rattle.krieg_words.specs.Tries.{is_try, tries_from, tries}
-use Rattle.krieg_words.proofs.PawnCaptures.{is_aimed, is_own_pawn, try_tells, try-aimed}
-use Rattle.krieg_words.proofs.RangeSums.{sum-range_le, sum-range_same, sum-range_add, sum-range_one, sum-range_more}
+use Rattle.krieg_words.proofs.PawnCaptures.{is_aimed, is_own_pawn, try_tells}
+use Rattle.krieg_words.proofs.RangeSums.{sum_range_le, sum_range_same, sum_range_add, sum_range_one}
 
 -- the two squares that a pawn attacks
 abbrev left_of : Side → ℕ → ℕ
@@ -37,7 +37,7 @@ either t a b h = by_test (t == a) refl
 
 one_of_two : (side : Side) (f t : ℕ) → is_aimed side f t ≡ true → (t == left_of side f || t == right_of side f) ≡ true
 one_of_two side f t h =
-    let a = and-both (apart (file_of f) (file_of t) == 1) (is_forward side f t) h in
+    let a = and_parts (apart (file_of f) (file_of t) == 1) (is_forward side f t) h in
     of_side side a.0 a.1
   where
     of_side : (side : Side) → (apart (file_of f) (file_of t) == 1) ≡ true → is_forward side f t ≡ true → (t == left_of side f || t == right_of side f) ≡ true
@@ -57,7 +57,7 @@ board_sum h (x ∷ xs) lo =
     let f : ℕ → ℕ = λ k. h (man_at (x ∷ xs) (k - lo)) in
     let g : ℕ → ℕ = λ k. h (man_at xs (k - (lo + 1))) in
     let e1 = sum_by-cons f lo (range_with_len (lo + 1) (length xs)) in
-    let e2 = sum-range_same f g (lo + 1) (length xs) (λ k a b. (let up : k - lo ≡ suc (k - (lo + 1)) = omega arith in ap (λ j. h (man_at (x ∷ xs) j)) up)) in
+    let e2 = sum_range_same f g (lo + 1) (length xs) (λ k a b. (let up : k - lo ≡ suc (k - (lo + 1)) = omega arith in ap (λ j. h (man_at (x ∷ xs) j)) up)) in
     let e3 = board_sum h xs (lo + 1) in
     let e4 = sum_by-cons h x xs in
     let e5 : f lo ≡ h x = ap (λ j. h (man_at (x ∷ xs) j)) (let z : lo - lo ≡ 0 = omega arith in z) in
@@ -72,11 +72,11 @@ from_le p f n fs = by_pawn (is_own_pawn p f) refl
   where
     by_pawn : (t : Bool) → is_own_pawn p f ≡ t → count_by (is_try p f) (range_with_len 0 n) ≤ 2 * one t
     by_pawn true own =
-        let a = sum-range_le (λ t. one (is_try p f t)) (λ t. one (t == left_of p.side f) + one (t == right_of p.side f)) 0 n
+        let a = sum_range_le (λ t. one (is_try p f t)) (λ t. one (t == left_of p.side f) + one (t == right_of p.side f)) 0 n
         (λ t l u. below (is_try p f t) (t == left_of p.side f) (t == right_of p.side f) (λ h. one_of_two p.side f t (try_tells p f t h).1)) in
-        let b = sum-range_add (λ t. one (t == left_of p.side f)) (λ t. one (t == right_of p.side f)) 0 n in
-        let c = sum-range_one (left_of p.side f) 0 n in
-        let d = sum-range_one (right_of p.side f) 0 n in
+        let b = sum_range_add (λ t. one (t == left_of p.side f)) (λ t. one (t == right_of p.side f)) 0 n in
+        let c = sum_range_one (left_of p.side f) 0 n in
+        let d = sum_range_one (right_of p.side f) 0 n in
         let e1 = one_le_one (nat_le 0 (left_of p.side f)) in
         let e2 = one_le_one (nat_le 0 (right_of p.side f)) in
         omega (arith, a, b, c, d, e1, e2)
@@ -91,13 +91,10 @@ from_le p f n fs = by_pawn (is_own_pawn p f) refl
         one_le_one true = omega arith
         one_le_one false = omega arith
     by_pawn false other' =
-        let a = sum-range_le (λ t. one (is_try p f t)) (λ t. 0) 0 n (λ t l u. none (is_try p f t) (λ h. clash (is_own_pawn p f) (try_tells p f t h).0 other')) in
+        let a = sum_range_le (λ t. one (is_try p f t)) (λ t. 0) 0 n (λ t l u. none (is_try p f t) (λ h. both_ways (is_own_pawn p f) other' (try_tells p f t h).0)) in
         let b = zero_sum 0 n in
         omega (arith, a, b)
       where
-        clash : (t : Bool) → t ≡ true → t ≡ false → ⊥
-        clash t h k = cc
-
         none : (t : Bool) → (t ≡ true → ⊥) → one t ≤ 0
         none true h = absurd (h refl)
         none false h = omega arith
@@ -110,10 +107,10 @@ pub tries_sum_le : (p : Pos) → Facts p → sum_by (λ f. count_by (is_try p f)
 tries_sum_le p fs =
     let n = length p.board in
     let h : ℕ → ℕ = λ f. one (is_own_pawn p f) in
-    let a = sum-range_le (λ f. count_by (is_try p f) (range_with_len 0 n)) (λ f. h f + h f) 0 n (λ f l u. omega (arith, from_le p f n fs)) in
-    let b = sum-range_add h h 0 n in
+    let a = sum_range_le (λ f. count_by (is_try p f) (range_with_len 0 n)) (λ f. h f + h f) 0 n (λ f l u. omega (arith, from_le p f n fs)) in
+    let b = sum_range_add h h 0 n in
     let c = board_sum (λ x. one (is_man p.side Pawn x)) p.board 0 in
-    let d = sum-range_same h (λ k. one (is_man p.side Pawn (man_at p.board (k - 0)))) 0 n (λ k l u. (let z : k ≡ k - 0 = omega arith in ap h z)) in
+    let d = sum_range_same h (λ k. one (is_man p.side Pawn (man_at p.board (k - 0)))) 0 n (λ k l u. (let z : k ≡ k - 0 = omega arith in ap h z)) in
     let e : count_kind p.board p.side Pawn ≤ 8 = few p.side in
     omega (arith, a, b, c, d, e)
   where
@@ -121,8 +118,8 @@ tries_sum_le p fs =
     le_from a b h = grind (arith, nat_tests)
 
     few : (side : Side) → count_kind p.board side Pawn ≤ 8
-    few White = le_from (count_kind p.board White Pawn) 8 (and-both (nat_le (count_side p.board White) 16) (nat_le (count_kind p.board White Pawn) 8) (and-both (is_small p.board White) (is_small p.board Black) fs.small).0).1
-    few Black = le_from (count_kind p.board Black Pawn) 8 (and-both (nat_le (count_side p.board Black) 16) (nat_le (count_kind p.board Black Pawn) 8) (and-both (is_small p.board White) (is_small p.board Black) fs.small).1).1
+    few White = le_from (count_kind p.board White Pawn) 8 (and_parts (nat_le (count_side p.board White) 16) (nat_le (count_kind p.board White Pawn) 8) (and_parts (is_small p.board White) (is_small p.board Black) fs.small).0).1
+    few Black = le_from (count_kind p.board Black Pawn) 8 (and_parts (nat_le (count_side p.board Black) 16) (nat_le (count_kind p.board Black Pawn) 8) (and_parts (is_small p.board White) (is_small p.board Black) fs.small).1).1
 
 squares_are : (n : ℕ) → n ≡ 64 → squares ≡ range_with_len 0 n
 unfolding squares
@@ -133,21 +130,14 @@ unfolding tries tries_from
 tries_le p v =
     subst (λ (xs : List ℕ). sum_by (λ f. count_by (is_try p f) xs) xs ≤ 16) (sym (squares_are (length p.board) v.squares)) (tries_sum_le p (facts p v))
 
-pub tries-sum : (p : Pos) (n : ℕ) → n ≡ 64 → sum_by (tries_from p) (range_with_len 0 n) ≡ tries p
-unfolding tries
-tries-sum p n e = ap (sum_by (tries_from p)) (sym (squares_are n e))
-
 -- no try begins on a square without an own pawn
-pub tries_from-none : (p : Pos) (f : ℕ) → is_own_pawn p f ≡ false → tries_from p f ≡ 0
+pub tries_from_none : (p : Pos) (f : ℕ) → is_own_pawn p f ≡ false → tries_from p f ≡ 0
 unfolding tries_from squares
-tries_from-none p f none = zero_count 0 64 refl
+tries_from_none p f none = zero_count 0 64 refl
   where
-    clash : (t : Bool) → t ≡ true → t ≡ false → ⊥
-    clash t h k = cc
-
     not_try : (k : ℕ) (t : Bool) → is_try p f k ≡ t → t ≡ false
     not_try k false e = refl
-    not_try k true e = absurd (clash (is_own_pawn p f) (try_tells p f k e).0 none)
+    not_try k true e = absurd (both_ways (is_own_pawn p f) none (try_tells p f k e).0)
 
     zero_count : (lo n : ℕ) → n ≡ n → count_by (is_try p f) (range_with_len lo n) ≡ 0
     zero_count lo zero e = refl
@@ -156,16 +146,3 @@ tries_from-none p f none = zero_count 0 64 refl
         let here = not_try lo (is_try p f lo) refl in
         let first : one (is_try p f lo) ≡ 0 = ap one here in
         omega (arith, sum_by-cons (λ k. cond (is_try p f k) 1 0) lo (range_with_len (lo + 1) n), rest, first)
-
--- the loop over the squares, with and without an own pawn on the next one
-pub tries-more : (p : Pos) (n from : ℕ) → n ≡ sum_by (tries_from p) (range_with_len 0 from) → n + tries_from p from ≡ sum_by (tries_from p) (range_with_len 0 (from + 1))
-tries-more p n from e = omega (arith, e, sum-range_more (tries_from p) from)
-
-pub tries-same : (p : Pos) (n from : ℕ) → is_own_pawn p from ≡ false → n ≡ sum_by (tries_from p) (range_with_len 0 from) → n ≡ sum_by (tries_from p) (range_with_len 0 (from + 1))
-tries-same p n from none e = omega (arith, e, tries_from-none p from none, sum-range_more (tries_from p) from)
-
-pub ruleset tries_bound = (tries_le, tries-sum)
-
-pub ruleset loop_tries = (tries-sum, tries-more, tries-same)
-
-pub ruleset aimed_tries = (try-aimed)

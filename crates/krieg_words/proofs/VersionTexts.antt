@@ -4,7 +4,7 @@ use Rattle.std.specs.Prelude.{codes}
 use Rattle.std.proofs.lemmas.List.{append-nil}
 use Rattle.krieg_fen.specs.Lines.{ended_line, with_ends, is_line, AreLines}
 use Rattle.krieg_fen.specs.Outcomes.{Writes}
-use Rattle.krieg_fen.proofs.LineTexts.{line-append}
+use Rattle.krieg_fen.proofs.LineTexts.{line_append}
 use Rattle.krieg_words.specs.declared.dialects.Dialect.{Dialect}
 use Rattle.krieg_words.specs.declared.dialects.Dialect.TheVariants.{Wild16, Anytry, Plain}
 use Rattle.krieg_words.specs.DialectText.{dialect_text}
@@ -38,9 +38,9 @@ dialect_lines Anytry = (refl, tt)
 dialect_lines Plain = (refl, tt)
 
 second_are : (name : List ℕ) (d : Dialect) → is_line name ≡ true → AreLines (second_version name d)
-second_are name d free = (line-append name (codes "2") free refl, dialect_lines d)
+second_are name d free = (line_append name (codes "2") free refl, dialect_lines d)
 
 pub version_are : (name : List ℕ) (d : Dialect) → is_line name ≡ true → AreLines (version_lines name d)
-version_are name Wild16 free = (line-append name (codes "1") free refl, tt)
+version_are name Wild16 free = (line_append name (codes "1") free refl, tt)
 version_are name Anytry free = second_are name Anytry free
 version_are name Plain free = second_are name Plain free

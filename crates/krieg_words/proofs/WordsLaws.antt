@@ -18,7 +18,7 @@ use Rattle.krieg_words.specs.Said.{Said, IsSaid, IsTaken}
 use Rattle.krieg_words.specs.Told.{no_kinds, Fits}
 use Rattle.krieg_words.specs.WordsText.{part, took_text, is_capture, checks_text, is_check, tries_text, are_tries, end_text, has_ended, words_parts, spelled, words_text}
 use Rattle.krieg_words.specs.WordsReading.{front, left_by, took_in, checks_in, tries_in, end_in, parts_in, silent, words_in}
-use Rattle.krieg_words.proofs.OrderLaws.{bits_of-same}
+use Rattle.krieg_words.proofs.OrderLaws.{bits_of_same}
 use Rattle.krieg_words.proofs.PartLaws.{Free, left, IsSolid, part_again, part_left, part_spells}
 use Rattle.krieg_words.proofs.FormLaws.{FitsTook, FitsChecks, FitsTries, fits_parts, parts_fit, took_free, checks_free, tries_free, end_free, took_takes, checks_take, tries_take, end_takes, took_leaves_checks, took_leaves_tries, took_leaves_end, checks_leave_tries, checks_leave_end, tries_leave_end, took_spells, checks_spell, tries_spell, end_spells}
 
@@ -38,9 +38,9 @@ after_took d took r = after_checks d took (checks_in d (front 44 r)) (left_by 44
 abbrev parts_from : Dialect → Option (List ℕ) → Option Said
 parts_from d r = after_took d (took_in d (front 44 r)) (left_by 44 (codes " ") (is_some (took_in d (front 44 r))) r)
 
-parts_in-from : (d : Dialect) (text : List ℕ) → parts_in d text ≡ parts_from d (Some text)
+parts_in_from : (d : Dialect) (text : List ℕ) → parts_in d text ≡ parts_from d (Some text)
 unfolding parts_in
-parts_in-from d text = refl
+parts_in_from d text = refl
 
 step : {A : Type 0} (form : List ℕ → Option A) (next : Option A → Option (List ℕ) → Option Said) (r r' : Option (List ℕ)) (v : Option A) →
     (form (front 44 r) ≡ v) × (left_by 44 (codes " ") (is_some v) r ≡ r') →
@@ -70,7 +70,7 @@ checks_value k = by_test (bits_of k == 0) refl
   where
     by_test : (t : Bool) → (bits_of k == 0) ≡ t → unwrap_or (value (not t) k) no_kinds ≡ k
     by_test false e = refl
-    by_test true e = sym (bits_of-same k no_kinds (eqb-true (bits_of k) 0 e))
+    by_test true e = sym (bits_of_same k no_kinds (eqb-true (bits_of k) 0 e))
 
 zero_value : (n : ℕ) → unwrap_or (value (not (n == 0)) n) 0 ≡ n
 zero_value n = by_test (n == 0) refl
@@ -141,20 +141,20 @@ silent_from Wild16 = refl
 silent_from Anytry = refl
 silent_from Plain = refl
 
-words_in-parts : (d : Dialect) (text : List ℕ) → bytes_eq text (codes "silent") ≡ false → words_in d text ≡ parts_from d (Some text)
+words_in_parts : (d : Dialect) (text : List ℕ) → bytes_eq text (codes "silent") ≡ false → words_in d text ≡ parts_from d (Some text)
 unfolding words_in
-words_in-parts d text h = rw h (parts_in-from d text)
+words_in_parts d text h = rw h (parts_in_from d text)
 
-words_in-silent : (d : Dialect) → words_in d (codes "silent") ≡ Some silent
+words_in_silent : (d : Dialect) → words_in d (codes "silent") ≡ Some silent
 unfolding words_in
-words_in-silent d = refl
+words_in_silent d = refl
 
 spelled_again : (d : Dialect) (w : Said) (ps : List (List ℕ)) → parts_from d (left 44 (codes " ") ps) ≡ Some w → words_in d (spelled ps) ≡ Some w
-spelled_again d w [] e = words_in-silent d ∙ sym (none_from d) ∙ e
+spelled_again d w [] e = words_in_silent d ∙ sym (none_from d) ∙ e
 spelled_again d w (p ∷ ps) e = by_test (bytes_eq (spelled (p ∷ ps)) (codes "silent")) refl
   where
     by_test : (t : Bool) → bytes_eq (spelled (p ∷ ps)) (codes "silent") ≡ t → words_in d (spelled (p ∷ ps)) ≡ Some w
-    by_test false h = words_in-parts d (spelled (p ∷ ps)) h ∙ e
+    by_test false h = words_in_parts d (spelled (p ∷ ps)) h ∙ e
     by_test true h =
         let same : spelled (p ∷ ps) ≡ codes "silent" = (bytes_eq-Decides (spelled (p ∷ ps)) (codes "silent")).0 h in
         absurd (let k : None ≡ Some w = sym (silent_from d) ∙ ap (λ (x : List ℕ). parts_from d (Some x)) (sym same) ∙ e in cc)
@@ -294,10 +294,10 @@ read_as : (d : Dialect) (text : List ℕ) (w : Said) → words_in d text ≡ Som
 read_as d text w e = by_test (bytes_eq text (codes "silent")) refl
   where
     by_test : (t : Bool) → bytes_eq text (codes "silent") ≡ t → IsRead d text w
-    by_test false h = parts_spell d text w (sym (words_in-parts d text h) ∙ e)
+    by_test false h = parts_spell d text w (sym (words_in_parts d text h) ∙ e)
     by_test true h =
         let same : text ≡ codes "silent" = (bytes_eq-Decides text (codes "silent")).0 h in
-        let is : silent ≡ w = some_said silent w (sym (words_in-silent d) ∙ ap (words_in d) (sym same) ∙ e) in
+        let is : silent ≡ w = some_said silent w (sym (words_in_silent d) ∙ ap (words_in d) (sym same) ∙ e) in
         subst (λ (x : List ℕ). IsRead d x w) (sym same) (subst (IsRead d (codes "silent")) is (silent_read d))
       where
         some_said : (a b : Said) → Some a ≡ Some b → a ≡ b

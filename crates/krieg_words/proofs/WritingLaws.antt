@@ -33,13 +33,13 @@ joined_first separator none p [] = sym (append-nil p)
 joined_first separator none p (q ∷ qs) =
     ap (λ (t : List ℕ). p ++ (separator ++ t)) (joined_first separator none q qs) ∙ ap (λ (t : List ℕ). p ++ t) (sym (append_assoc separator q (following separator none true qs)))
 
-spelled-following : (ps : List (List ℕ)) → spelled ps ≡ following (codes ", ") (codes "silent") false ps
-spelled-following [] = refl
-spelled-following (p ∷ ps) = joined_first (codes ", ") (codes "silent") p ps
+spelled_following : (ps : List (List ℕ)) → spelled ps ≡ following (codes ", ") (codes "silent") false ps
+spelled_following [] = refl
+spelled_following (p ∷ ps) = joined_first (codes ", ") (codes "silent") p ps
 
-joined-following : (separator : List ℕ) (ps : List (List ℕ)) → joined separator ps ≡ following separator [] false ps
-joined-following separator [] = refl
-joined-following separator (p ∷ ps) = joined_first separator [] p ps
+joined_following : (separator : List ℕ) (ps : List (List ℕ)) → joined separator ps ≡ following separator [] false ps
+joined_following separator [] = refl
+joined_following separator (p ∷ ps) = joined_first separator [] p ps
 
 first_took : (d : Dialect) (t : Took) → piece (codes ", ") false (is_capture t) (took_text d t) ≡ took_text d t
 first_took d Nothing = refl
@@ -65,7 +65,7 @@ pub words_pieces : (d : Dialect) (w : Said) → words_text d w ≡
     ++ cond (((is_capture w.took || is_check w.checks) || are_tries d w.tries) || has_ended w.end) [] (codes "silent"))))
 unfolding words_text
 words_pieces d w =
-    spelled-following (words_parts d w)
+    spelled_following (words_parts d w)
     ∙ four_parts (codes ", ") (codes "silent") (took_text d w.took) (checks_text d w.checks) (tries_text d w.tries) (end_text w.end) (is_capture w.took) (is_check w.checks) (are_tries d w.tries) (has_ended w.end)
     ∙ ap (λ (x : List ℕ). x ++ (piece (codes ", ") (is_capture w.took) (is_check w.checks) (checks_text d w.checks)
     ++ (piece (codes ", ") (is_capture w.took || is_check w.checks) (are_tries d w.tries) (tries_text d w.tries)
@@ -81,7 +81,7 @@ five_parts : (separator t1 t2 t3 t4 t5 : List ℕ) (b1 b2 b3 b4 b5 : Bool) →
     ≡ piece separator false b1 t1 ++ (piece separator b1 b2 t2 ++ (piece separator (b1 || b2) b3 t3 ++ (piece separator ((b1 || b2) || b3) b4 t4 ++ piece separator (((b1 || b2) || b3) || b4) b5 t5)))
 five_parts separator t1 t2 t3 t4 t5 b1 b2 b3 b4 b5 =
     ap (λ (x : List (List ℕ)). joined separator (part b1 t1 ++ (part b2 t2 ++ (part b3 t3 ++ (part b4 t4 ++ x))))) (sym (append-nil (part b5 t5)))
-    ∙ joined-following separator (part b1 t1 ++ (part b2 t2 ++ (part b3 t3 ++ (part b4 t4 ++ (part b5 t5 ++ [])))))
+    ∙ joined_following separator (part b1 t1 ++ (part b2 t2 ++ (part b3 t3 ++ (part b4 t4 ++ (part b5 t5 ++ [])))))
     ∙ following_part separator [] false b1 t1 (part b2 t2 ++ (part b3 t3 ++ (part b4 t4 ++ (part b5 t5 ++ []))))
     ∙ ap (λ (x : List ℕ). piece separator false b1 t1 ++ x) (following_part separator [] b1 b2 t2 (part b3 t3 ++ (part b4 t4 ++ (part b5 t5 ++ []))))
     ∙ ap (λ (x : List ℕ). piece separator false b1 t1 ++ (piece separator b1 b2 t2 ++ x)) (following_part separator [] (b1 || b2) b3 t3 (part b4 t4 ++ (part b5 t5 ++ [])))

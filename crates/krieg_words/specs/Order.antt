@@ -1,6 +1,6 @@
 -- The order of words.
-use Rattle.std.specs.Prelude.{Bool, ℕ, List, [], ◌∷◌}
-use Rattle.std.specs.Ordering.{nat_cmp, is_lt}
+use Rattle.std.specs.Prelude.{ℕ, List, [], ◌∷◌}
+use Rattle.std.specs.Ordering.{nat_cmp}
 use Rattle.std.specs.Cmp.Lexicographic.{slice_cmp}
 use Rattle.std.specs.declared.cmp.Ordering.{Ordering}
 use Rattle.krieg_checks.specs.Kinds.{bits_of}
@@ -32,7 +32,3 @@ ranks w = end_rank w.end ∷ took_rank w.took ∷ took_square w.took ∷ bits_of
 -- the order of words: by the first of these numbers that differs
 unfoldable pub words_cmp : Said → Said → Ordering
 words_cmp a b = slice_cmp nat_cmp (ranks a) (ranks b)
-
--- a stands before b
-abbrev pub is_before : Said → Said → Bool
-is_before a b = is_lt (words_cmp a b)

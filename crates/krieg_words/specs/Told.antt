@@ -1,5 +1,5 @@
 -- What is told of words in each dialect.
-use Rattle.std.specs.Prelude.{◌≡◌, ◌==◌, true, false, cond}
+use Rattle.std.specs.Prelude.{◌≡◌, ◌==◌, true, false, if◌then◌else◌}
 use Rattle.krieg_checks.specs.Kinds.{bits_of}
 use Rattle.krieg_checks.specs.declared.kinds.Kinds.{Kinds}
 use Rattle.krieg_words.specs.declared.words.Took.{Took}
@@ -25,12 +25,12 @@ some_kind = record { knight = false; short = false; long = false; rank = false; 
 
 -- that there is a check without its kinds, told as one on a file
 abbrev pub as_check : Kinds → Kinds
-as_check k = cond (bits_of k == 0) no_kinds some_kind
+as_check k = if bits_of k == 0 then no_kinds else some_kind
 
 -- wild16 tells all; anytry tells of tries only whether there are any; plain tells no tries, and of captures and checks only where and whether
 abbrev pub told : Dialect → Said → Said
 told Wild16 w = w
-told Anytry w = record { end = w.end; took = w.took; checks = w.checks; tries = cond (w.tries == 0) 0 1 }
+told Anytry w = record { end = w.end; took = w.took; checks = w.checks; tries = if w.tries == 0 then 0 else 1 }
 told Plain w = record { end = w.end; took = as_piece w.took; checks = as_check w.checks; tries = 0 }
 
 -- words that the dialect can tell

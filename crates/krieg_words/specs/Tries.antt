@@ -1,20 +1,14 @@
 -- Pawn tries: the pawn captures that the side to move has.
 use Rattle.std.specs.Prelude.{ℕ, Bool, ◌&&◌, not, ◌==◌, sum_by, count_by}
-use Rattle.std.specs.List.{list_any}
 use Rattle.krieg_board.specs.Squares.{squares, file_of}
 use Rattle.krieg_board.specs.Board.{man_at}
 use Rattle.krieg_board.specs.Validity.{is_pawn}
 use Rattle.krieg_board.specs.Pos.{Pos}
-use Rattle.krieg_moves.specs.Legal.{is_legal}
-use Rattle.krieg_moves.specs.Moves.{moves_between}
-
--- one of the five moves between the squares is legal: the plain one, or that with one of the four promotions
-abbrev pub is_some_legal : Pos → ℕ → ℕ → Bool
-is_some_legal p f t = list_any (is_legal p) (moves_between f t)
+use Rattle.krieg_moves.specs.Moves.{can_go}
 
 -- a pawn stands on f, t is on another file, and the pawn may go there
 unfoldable pub is_try : Pos → ℕ → ℕ → Bool
-is_try p f t = is_pawn (man_at p.board f) && (not (file_of f == file_of t) && is_some_legal p f t)
+is_try p f t = is_pawn (man_at p.board f) && (not (file_of f == file_of t) && can_go p f t)
 
 -- how many tries begin on f
 unfoldable pub tries_from : Pos → ℕ → ℕ

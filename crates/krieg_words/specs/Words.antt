@@ -1,5 +1,5 @@
 -- What is said after a legal move, and at the start of a game.
-use Rattle.std.specs.Prelude.{ℕ, Option, Some, None, cond}
+use Rattle.std.specs.Prelude.{ℕ, Option, Some, None, if◌then◌else◌}
 use Rattle.krieg_board.specs.Pos.{Pos}
 use Rattle.krieg_board.specs.Board.{man_at}
 use Rattle.krieg_board.specs.Validity.{is_pawn}
@@ -17,17 +17,17 @@ use Rattle.krieg_words.specs.Said.{Said}
 
 -- mate, stalemate, or the game goes on
 abbrev pub end_of : Pos → End
-end_of p = cond (is_mate p) Mate (cond (is_stalemate p) Stalemate Goes)
+end_of p = if is_mate p then Mate else if is_stalemate p then Stalemate else Goes
 
 -- the man on s is captured; one that a pawn was promoted to is a piece
 abbrev pub taken : Option Man → ℕ → Took
 taken None s = Nothing
-taken (Some man) s = cond (is_pawn (Some man)) (Pawn s) (Piece s)
+taken (Some man) s = if is_pawn (Some man) then Pawn s else Piece s
 
 -- what the move of this man captures: in passing a pawn beside it, and otherwise the man on the to-square
 abbrev pub took_by : Pos → Option Man → Move → Took
 took_by p None m = Nothing
-took_by p (Some man) m = cond (is_en_passant p.mark man m) (Pawn (passed_square m)) (taken (man_at p.board m.to) m.to)
+took_by p (Some man) m = if is_en_passant p.mark man m then Pawn (passed_square m) else taken (man_at p.board m.to) m.to
 
 -- what is said of a position before which that was captured
 abbrev pub said : Took → Pos → Said

@@ -1,11 +1,15 @@
-ghost use Rattle.std.specs.Prelude.{◌≡◌, true, IsTrue};
+ghost use Rattle.std.specs.Prelude.{◌≡◌, ◌==◌, ◌&&◌, true, IsTrue};
+ghost use Rattle.krieg_moves.specs.Guarding.{IsGuard};
 ghost use Rattle.krieg_moves.specs.Legal.{is_legal};
 ghost use Rattle.krieg_words.specs.Matching as spec;
 
-use crate::dialects::{Dialect, as_piece, told};
-use crate::umpire::{took_by, words_of};
-use crate::words::{Took, Words, compare};
+use crate::captures::{count_tries, has_tries};
+use crate::dialects::{Dialect, as_piece};
+use crate::umpire::took_by;
+use crate::words::{End, Took, Words};
 use krieg_board::{Move, Position};
+use krieg_checks::{Kinds, kinds_of};
+use krieg_moves::{Guard, after, has_move_by, in_check};
 
 /// What the dialect tells of a capture.
 fn told_took(d: Dialect, took: &Took) -> Took
@@ -29,21 +33,89 @@ fn is_same_took(a: &Took, b: &Took) -> bool
     }
 }
 
-/// Whether that capture is told of the move.
+/// Whether that capture is told of the move. The move is not made for it.
 fn is_took_told(d: Dialect, took: &Took, p: &Position, mv: &Move) -> bool
     ensures { result ≡ spec.is_took_told d took.now p.now mv.now }
 {
     is_same_took(took, &told_took(d, &took_by(p, p.man_at(mv.from), mv)))
 }
 
-/// Whether the dialect tells just these words of the legal move.
+/// The number of the kinds of check that the dialect tells.
+fn told_checks(d: Dialect, checks: Kinds) -> u8
+    ensures { result ≡ spec.told_checks d checks }
+{
+    match d {
+        Dialect::Wild16 | Dialect::Anytry => checks.bits(),
+        Dialect::Plain => { if checks.bits() == 0 { 0 } else { 1 } }
+    }
+}
+
+/// Whether that is how the game stands.
+#[tactic(auto, unfolding(krieg_moves::specs::Moves::is_mate, krieg_moves::specs::Moves::is_stalemate))]
+fn has_end(end: End, p: &Position, guard: &Guard) -> bool
+    requires { IsGuard p.now guard.now }
+    ensures { result ≡ spec.has_end end p.now }
+{
+    match end {
+        End::Goes => has_move_by(p, guard),
+        End::Mate => in_check(p) && !has_move_by(p, guard),
+        End::Stalemate => !in_check(p) && !has_move_by(p, guard),
+    }
+}
+
+/// How many pawn tries the dialect tells. Where it tells none, none are looked for.
+fn told_tries(d: Dialect, p: &Position, guard: &Guard) -> u8
+    requires { IsGuard p.now guard.now }
+    ensures { result ≡ spec.told_tries d p.now }
+{
+    match d {
+        Dialect::Wild16 => count_tries(p, guard),
+        Dialect::Anytry => { if has_tries(p, guard) { 1 } else { 0 } }
+        Dialect::Plain => 0,
+    }
+}
+
+/// Whether the dialect tells this end and these tries of a move after which the position is `p`.
+fn are_moves_told(d: Dialect, w: &Words, p: &Position) -> bool
+    ensures { result ≡ (spec.has_end w.now.end p.now && w.now.tries == spec.told_tries d p.now) }
+{
+    let guard = &Guard::of(p);
+    has_end(w.end, p, guard) && w.tries == told_tries(d, p, guard)
+}
+
+/// Whether the dialect tells these checks, this end and these tries of a move after which the position is `p`.
+fn is_rest_told(d: Dialect, w: &Words, p: &Position) -> bool
+    ensures { result ≡ spec.is_rest_told d w.now p.now }
+{
+    w.checks.bits() == told_checks(d, kinds_of(p)) && are_moves_told(d, w, p)
+}
+
+/// The position after the legal move, where the dialect tells just these words of it, and otherwise `None`.
 ///
-/// It looks at the capture first, which is found without making the move: of many moves that might have been
-/// made, few capture on the square that was heard.
-#[tactic(auto, using(crate::proofs::OtherCaptures::captures))]
+/// It looks at the capture first, for which the move is not made: of many moves that might have been made, few
+/// capture on the square that was heard. Then the move is made once, and the checks, the end and the pawn tries
+/// of the position after it are looked at in turn, each only where those before it are as they were heard.
+#[tactic(auto, using(crate::proofs::ToldMoves::told_moves))]
+pub fn after_told(d: Dialect, w: &Words, p: &Position, mv: Move) -> Option<Position>
+    requires { IsTrue (is_legal p.now mv) }
+    ensures { result ≡ spec.after_told d w.now p.now mv }
+{
+    if !is_took_told(d, &w.took, p, &mv) {
+        return None;
+    }
+    let next = after(p, mv);
+    if is_rest_told(d, w, &next) {
+        Some(next)
+    } else {
+        None
+    }
+}
+
+/// Whether the dialect tells just these words of the legal move.
+#[tactic(auto, using(crate::proofs::ToldMoves::told_moves))]
 pub fn are_told(d: Dialect, w: &Words, p: &Position, mv: Move) -> bool
     requires { IsTrue (is_legal p.now mv) }
     ensures { result ≡ spec.are_told d w.now p.now mv }
 {
-    is_took_told(d, &w.took, p, &mv) && compare(w, &told(d, words_of(p, mv))).is_eq()
+    after_told(d, w, p, mv).is_some()
 }

@@ -3,7 +3,7 @@
 
 use crate::*;
 use krieg_board::{Move, NoMemory, Position};
-use krieg_fen::{Cursor, is_name, read_move, read_position};
+use krieg_fen::{Cursor, is_name, read_move, read_position, write_position};
 use krieg_moves::is_legal;
 use std::alloc::Global;
 
@@ -57,6 +57,41 @@ fn opening_words(rt: HostRuntime) -> Result<(), NoMemory> {
     Ok(())
 }
 
+/// In passing by two pawns, but not where it would open the rank to a rook; four promotions between two
+/// squares are one try; a pinned pawn may capture the man that pins it and no other; in check only the
+/// checker may be captured.
+#[test]
+fn counts_pawn_tries(rt: HostRuntime) {
+    for (name, fen, number) in [
+        (
+            "where a game begins",
+            &b"rnbqkbnr/pppppppp/8/8/8/8/PPPPPPPP/RNBQKBNR w KQkq -"[..],
+            0,
+        ),
+        (
+            "in passing by two pawns",
+            b"4k3/8/8/2PpP3/8/8/8/4K3 w - d6",
+            2,
+        ),
+        ("in passing by Black", b"4k3/8/8/8/3Pp3/8/8/4K3 b - d3", 1),
+        ("the rank is opened", b"8/8/8/K2pP2r/8/8/8/7k w - d6", 0),
+        ("promotions on a8", b"r6k/1P6/8/8/8/8/8/4K3 w - -", 1),
+        (
+            "promotions on a8 and c8",
+            b"r1r4k/1P6/8/8/8/8/8/4K3 w - -",
+            2,
+        ),
+        ("a pinned pawn", b"4r2k/8/8/3p4/4P3/8/8/4K3 w - -", 0),
+        ("the pinning man", b"k7/8/8/8/5p1b/6P1/8/4K3 w - -", 1),
+        ("the checker", b"4k3/8/8/8/2p5/1P3n2/6P1/4K3 w - -", 1),
+    ] {
+        match read_position(fen) {
+            Ok(p) => assert_eq!(rt; tries(&p), number, "{name}"),
+            Err(_) => assert!(rt; false, "{name}"),
+        }
+    }
+}
+
 /// In passing the captured pawn's square is told, and a pawn that became a queen is told as a piece.
 #[test]
 fn words_of_moves(rt: HostRuntime) -> Result<(), NoMemory> {
@@ -87,28 +122,127 @@ fn words_of_moves(rt: HostRuntime) -> Result<(), NoMemory> {
     Ok(())
 }
 
-fn is_made_with(d: Dialect, w: &Words, p: &Position, mv: &Move) -> bool {
-    is_legal(p, *mv) && are_told(d, w, p, *mv)
-}
-
-/// Whether these are the words that the dialect tells of the legal move.
-fn is_heard(d: Dialect, fen: &[u8], mv: &[u8], text: &[u8]) -> bool {
-    match (read_position(fen), read_move(mv), read_words_in(d, text)) {
-        (Ok(p), Ok(mv), Ok(w)) => is_made_with(d, &w, &p, &mv),
-        _ => false,
+/// Appends the words of the move, where it is legal, and the position after it.
+fn make(p: &Position, mv: &Move, words: &mut Vec<u8>, text: &mut Vec<u8>) -> Result<(), NoMemory> {
+    if is_legal(p, *mv) {
+        let made = make_move(p, *mv);
+        write_words(made.words, words)?;
+        write_position(&made.position, text)?;
     }
+    Ok(())
 }
 
+/// Castling, a promotion, a capture in passing, and the mark that an advance of two squares leaves.
 #[test]
-fn finds_words_that_are_told(rt: HostRuntime) {
-    let pawn = b"4k3/8/8/3pP3/8/8/8/4K3 w - d6";
-    assert!(rt; is_heard(Dialect::Wild16, pawn, b"e5d6", b"pawn d5"));
-    assert!(rt; is_heard(Dialect::Plain, pawn, b"e5d6", b"took d5"));
-    assert!(rt; is_heard(Dialect::Anytry, pawn, b"e5e6", b"silent"));
-    assert!(rt; !is_heard(Dialect::Wild16, pawn, b"e5d6", b"piece d5"));
-    assert!(rt; !is_heard(Dialect::Wild16, pawn, b"e5d6", b"pawn d6"));
-    assert!(rt; !is_heard(Dialect::Wild16, pawn, b"e5d6", b"silent"));
-    assert!(rt; !is_heard(Dialect::Wild16, pawn, b"e5e6", b"pawn d5"));
+fn moves_are_made(rt: HostRuntime) -> Result<(), NoMemory> {
+    for (fen, mv, words, after) in [
+        (
+            &b"1k6/8/1K6/8/8/8/8/7R w - -"[..],
+            &b"h1h8"[..],
+            &b"check rank, mate"[..],
+            &b"1k5R/8/1K6/8/8/8/8/8 b - -"[..],
+        ),
+        (
+            b"4k3/8/8/8/8/8/8/4K2R w K -",
+            b"e1g1",
+            b"silent",
+            b"4k3/8/8/8/8/8/8/5RK1 b - -",
+        ),
+        (
+            b"7k/5P2/6K1/8/8/8/8/8 w - -",
+            b"f7f8q",
+            b"check rank, mate",
+            b"5Q1k/8/6K1/8/8/8/8/8 b - -",
+        ),
+        (
+            b"4k3/8/8/3pP3/8/8/8/4K3 w - d6",
+            b"e5d6",
+            b"pawn d5",
+            b"4k3/8/3P4/8/8/8/8/4K3 b - -",
+        ),
+        (
+            b"4k3/3p4/8/4P3/8/8/8/4K3 b - -",
+            b"d7d5",
+            b"tries 1",
+            b"4k3/8/8/3pP3/8/8/8/4K3 w - d6",
+        ),
+        (b"4k3/8/8/8/8/8/8/4K2R w K -", b"e1c1", b"", b""),
+    ] {
+        let (mut said, mut text) = (Vec::new(rt.alloc()), Vec::new(rt.alloc()));
+        match (read_position(fen), read_move(mv)) {
+            (Ok(p), Ok(mv)) => make(&p, &mv, &mut said, &mut text)?,
+            _ => assert!(rt; false),
+        }
+        assert!(rt; is_name(words, &said));
+        assert!(rt; is_name(after, &text));
+    }
+    Ok(())
+}
+
+/// Appends the position after the move, where it is legal and has these words.
+fn make_told(
+    d: Dialect,
+    w: &Words,
+    p: &Position,
+    mv: &Move,
+    text: &mut Vec<u8>,
+) -> Result<(), NoMemory> {
+    if is_legal(p, *mv) {
+        if let Some(next) = after_told(d, w, p, *mv) {
+            write_position(&next, text)?;
+        }
+    }
+    Ok(())
+}
+
+/// Words of every part in each dialect, and words that differ in one part from those that are told, after
+/// which no position is given.
+#[test]
+fn finds_words_that_are_told(rt: HostRuntime) -> Result<(), NoMemory> {
+    use Dialect::{Anytry, Plain, Wild16};
+    let passing = (&b"4k3/8/8/3pP3/8/8/8/4K3 w - d6"[..], &b"e5d6"[..]);
+    let onwards = (passing.0, &b"e5e6"[..]);
+    let passed = &b"4k3/8/3P4/8/8/8/8/4K3 b - -"[..];
+    let fork = (&b"4k3/8/8/8/4N3/8/8/4R1K1 w - -"[..], &b"e4f6"[..]);
+    let forked = &b"4k3/8/5N2/8/8/8/8/4R1K1 b - -"[..];
+    let mate = (&b"1k6/8/1K6/8/8/8/8/7R w - -"[..], &b"h1h8"[..]);
+    let mated = &b"1k5R/8/1K6/8/8/8/8/8 b - -"[..];
+    let three = (&b"4k3/2ppp3/8/8/3P4/8/8/4K3 b - -"[..], &b"c7c5"[..]);
+    let threatened = &b"4k3/3pp3/8/2p5/3P4/8/8/4K3 w - c6"[..];
+    for (d, played, text, after) in [
+        (Wild16, passing, &b"pawn d5"[..], passed),
+        (Plain, passing, b"took d5", passed),
+        (Anytry, onwards, b"silent", b"4k3/8/4P3/3p4/8/8/8/4K3 b - -"),
+        (Wild16, passing, b"piece d5", b""),
+        (Wild16, passing, b"pawn d6", b""),
+        (Wild16, passing, b"silent", b""),
+        (Wild16, onwards, b"pawn d5", b""),
+        (Wild16, fork, b"check file+knight", forked),
+        (Wild16, fork, b"check file", b""),
+        (Plain, fork, b"check", forked),
+        (Plain, fork, b"silent", b""),
+        (Anytry, mate, b"check rank, mate", mated),
+        (Wild16, mate, b"check rank", b""),
+        (Wild16, mate, b"check rank, stalemate", b""),
+        (Wild16, three, b"tries 1", threatened),
+        (Wild16, three, b"tries 2", b""),
+        (Wild16, three, b"silent", b""),
+        (Anytry, three, b"tries some", threatened),
+        (Anytry, three, b"silent", b""),
+        (Plain, three, b"silent", threatened),
+    ] {
+        let mut next = Vec::new(rt.alloc());
+        match (
+            read_position(played.0),
+            read_move(played.1),
+            read_words_in(d, text),
+        ) {
+            (Ok(p), Ok(mv), Ok(w)) => make_told(d, &w, &p, &mv, &mut next)?,
+            _ => assert!(rt; false),
+        }
+        assert!(rt; is_name(after, &next));
+    }
+    Ok(())
 }
 
 #[test]
@@ -238,6 +372,70 @@ fn lines_are_read_and_written(rt: HostRuntime) -> Result<(), NoMemory> {
         b"heard silent ",
     ] {
         assert!(rt; read_line(text).is_err());
+    }
+    Ok(())
+}
+
+#[test]
+fn lines_of_anytry_are_read_and_written(rt: HostRuntime) -> Result<(), NoMemory> {
+    for text in [
+        &b"opens tries some"[..],
+        b"try e5d6 ok pawn d5, tries some",
+        b"heard piece e4, check file+long, tries some",
+        b"try e1g1 illegal",
+    ] {
+        let mut written = Vec::new(rt.alloc());
+        match read_line_in(Dialect::Anytry, text) {
+            Ok(l) => write_line_in(Dialect::Anytry, l, &mut written)?,
+            Err(_) => {}
+        }
+        assert!(rt; is_name(text, &written));
+    }
+    for text in [&b"heard tries 1"[..], b"heard took d5", b"opens check"] {
+        assert!(rt; read_line_in(Dialect::Anytry, text).is_err());
+    }
+    Ok(())
+}
+
+/// A line of the umpire, and what the other dialects tell of it.
+#[test]
+fn lines_are_told(rt: HostRuntime) -> Result<(), NoMemory> {
+    for (line, anytry, plain) in [
+        (
+            &b"opens tries 16"[..],
+            &b"opens tries some"[..],
+            &b"opens silent"[..],
+        ),
+        (
+            b"try d4e5 ok pawn e5, check file+long, tries 2",
+            b"try d4e5 ok pawn e5, check file+long, tries some",
+            b"try d4e5 ok took e5, check",
+        ),
+        (
+            b"heard piece d8, check rank, mate",
+            b"heard piece d8, check rank, mate",
+            b"heard took d8, check, mate",
+        ),
+        (
+            b"try e1g1 illegal",
+            b"try e1g1 illegal",
+            b"try e1g1 illegal",
+        ),
+        (b"try b8a8 early", b"try b8a8 early", b"try b8a8 early"),
+        (b"try b8a8 over", b"try b8a8 over", b"try b8a8 over"),
+    ] {
+        for (d, text) in [
+            (Dialect::Wild16, line),
+            (Dialect::Anytry, anytry),
+            (Dialect::Plain, plain),
+        ] {
+            let mut written = Vec::new(rt.alloc());
+            match read_line(line) {
+                Ok(l) => write_line_in(d, told_line(d, l), &mut written)?,
+                Err(_) => {}
+            }
+            assert!(rt; is_name(text, &written));
+        }
     }
     Ok(())
 }

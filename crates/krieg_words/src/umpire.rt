@@ -1,24 +1,35 @@
 ghost use Rattle.std.specs.Prelude.{◌≡◌, true, ℕ, Some, IsTrue};
 ghost use Rattle.krieg_board.specs.Board.{man_at};
 ghost use Rattle.krieg_moves.specs.Legal.{is_legal};
+ghost use Rattle.krieg_moves.specs.After.{after};
+ghost use Rattle.krieg_moves.specs.Guarding.{IsGuard};
 ghost use Rattle.krieg_words.specs.Said.{IsSaid};
 ghost use Rattle.krieg_words.specs.Words as spec;
 
-use crate::captures::tries;
+use crate::captures::count_tries;
 use crate::words::{End, Took, Words};
-use krieg_board::{Kind, Man, Move, Position, Side, Square, is_man};
+use krieg_board::{Kind, Man, Move, Position, Side, Square, is_man, know_valid};
 use krieg_checks::kinds_of;
-use krieg_moves::{after, is_en_passant, is_mate, is_stalemate, passed_square};
+use krieg_moves::{Guard, after, has_move_by, in_check, is_en_passant, passed_square};
 
-fn end_of(p: &Position) -> End
+/// A legal move that was made: what both players hear of it, and the position after it.
+#[derive(Clone, Copy)]
+pub struct Made {
+    pub words: Words,
+    pub position: Position,
+}
+
+#[tactic(auto, unfolding(krieg_moves::specs::Moves::is_mate, krieg_moves::specs::Moves::is_stalemate))]
+fn end_of(p: &Position, guard: &Guard) -> End
+    requires { IsGuard p.now guard.now }
     ensures { result ≡ spec.end_of p.now }
 {
-    if is_mate(p) {
-        End::Mate
-    } else if is_stalemate(p) {
-        End::Stalemate
-    } else {
+    if has_move_by(p, guard) {
         End::Goes
+    } else if in_check(p) {
+        End::Mate
+    } else {
+        End::Stalemate
     }
 }
 
@@ -53,11 +64,12 @@ pub(crate) fn took_by(p: &Position, man: Option<Man>, mv: &Move) -> Took
 fn said(took: &Took, p: &Position) -> Words
     ensures { result ≡ spec.said took.now p.now }
 {
+    let guard = &Guard::of(p);
     Words {
-        end: end_of(p),
+        end: end_of(p, guard),
         took: *took,
         checks: kinds_of(p),
-        tries: tries(p),
+        tries: count_tries(p, guard),
     }
 }
 
@@ -68,7 +80,7 @@ pub fn opening(p: &Position) -> Words
     ensures value { result ≡ spec.opening p.now }
     ensures said { IsSaid result }
 {
-    let _ = p.side();
+    know_valid(p);
     opening_of(p)
 }
 
@@ -79,23 +91,39 @@ fn opening_of(p: &Position) -> Words
     said(&Took::Nothing, p)
 }
 
+/// Makes a legal move. Both players hear what it captured, and the checks, tries and end of the position
+/// after it.
+#[tactic(auto, using(crate::proofs::SaidLaws::said))]
+pub fn make_move(p: &Position, mv: Move) -> Made
+    requires { IsTrue (is_legal p.now mv) }
+    ensures words { result.words ≡ spec.words p.now mv }
+    ensures position { result.position ≡ after p.now mv }
+    ensures said { IsSaid result.words }
+{
+    know_valid(p);
+    made_move(p, &mv)
+}
+
+#[tactic(auto, unfolding(crate::specs::Words::words))]
+fn made_move(p: &Position, mv: &Move) -> Made
+    requires { IsTrue (is_legal p.now mv.now) }
+    ensures words { result.words ≡ spec.words p.now mv.now }
+    ensures position { result.position ≡ after p.now mv.now }
+{
+    let took = took_by(p, p.man_at(mv.from), mv);
+    let position = after(p, *mv);
+    Made {
+        words: said(&took, &position),
+        position,
+    }
+}
+
 /// What both players hear after a legal move: what it captured, and the checks, tries and end of the
 /// position after it.
-#[tactic(auto, using(crate::proofs::SaidLaws::said))]
 pub fn words_of(p: &Position, mv: Move) -> Words
     requires { IsTrue (is_legal p.now mv) }
     ensures value { result ≡ spec.words p.now mv }
     ensures said { IsSaid result }
 {
-    let _ = p.side();
-    words_after(p, &mv)
-}
-
-#[tactic(auto, unfolding(crate::specs::Words::words))]
-fn words_after(p: &Position, mv: &Move) -> Words
-    requires { IsTrue (is_legal p.now mv.now) }
-    ensures { result ≡ spec.words p.now mv.now }
-{
-    let took = took_by(p, p.man_at(mv.from), mv);
-    said(&took, &after(p, *mv))
+    make_move(p, mv).words
 }

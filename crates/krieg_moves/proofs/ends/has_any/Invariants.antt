@@ -1,8 +1,12 @@
-use Rattle.std.proofs.Common.{◌≡◌, false}
-use Rattle.std.specs.List.{list_any}
+use Rattle.std.proofs.Common.{◌≡◌}
+use Rattle.std.specs.List.{filter}
+use Rattle.krieg_board.proofs.Picked.{picked}
 use Rattle.krieg_moves.specs.Legal.{is_legal}
-use Rattle.krieg_moves.specs.Moves.{gathered, moves_from}
+use Rattle.krieg_moves.specs.Moves.{moves_from}
 use Rattle.krieg_moves.proofs.ends.has_any.Given as goal
 
-abbrev pub invariant-loop-from : goal.invariant-loop-from
-invariant-loop-from l = list_any (is_legal l.p) (gathered moves_from l.from) ≡ false
+abbrev pub decreases-loop-rest : goal.decreases-loop-rest
+decreases-loop-rest l = l.rest
+
+abbrev pub invariant-loop-rest : goal.invariant-loop-rest
+invariant-loop-rest l = picked l.rest (λ k. filter (is_legal l.p) (moves_from k)) ≡ picked l.initial.rest (λ k. filter (is_legal l.p) (moves_from k))

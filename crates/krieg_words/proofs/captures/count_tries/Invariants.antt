@@ -1,7 +1,12 @@
-use Rattle.std.proofs.Common.{◌≡◌, ◌≤◌, ◌*◌}
-use Rattle.std.specs.List.{range_with_len, sum_by}
-use Rattle.krieg_words.specs.Tries.{tries_from}
+use Rattle.std.proofs.Common.{◌≡◌, ◌+◌, ◌<◌, ℕ, true}
+use Rattle.krieg_board.specs.Sets.{has}
+use Rattle.krieg_words.specs.Tries.{tries_from, tries}
+use Rattle.krieg_words.proofs.PawnCaptures.{is_own_pawn}
+use Rattle.krieg_words.proofs.TriesCount.{sum_over}
 use Rattle.krieg_words.proofs.captures.count_tries.Given as goal
 
-abbrev pub invariant-loop-from : goal.invariant-loop-from
-invariant-loop-from l = (l.n ≡ sum_by (tries_from l.p) (range_with_len 0 l.from)) × (l.n ≤ 64 * l.from)
+abbrev pub decreases-loop-rest : goal.decreases-loop-rest
+decreases-loop-rest l = l.rest
+
+abbrev pub invariant-loop-rest : goal.invariant-loop-rest
+invariant-loop-rest l = (l.n + sum_over l.rest (tries_from l.p) ≡ tries l.p) × ((k : ℕ) → k < 64 → has l.rest k ≡ true → is_own_pawn l.p k ≡ true)

@@ -1,0 +1,5 @@
+use Rattle.krieg_board.proofs.Copying.{Copied}
+use Rattle.krieg_board.proofs.bits.Bits.to_board.Given as goal
+
+abbrev pub invariant-loop-s : goal.invariant-loop-s
+invariant-loop-s l = Copied l.s l.board l.self

@@ -1,0 +1,11 @@
+use Rattle.std.proofs.Common.{ℕ, ◌<◌, ◌≡◌, ◌&&◌, ◌||◌, not}
+use Rattle.krieg_board.specs.Attacks.{is_attacked}
+use Rattle.krieg_board.specs.Sets.{has}
+use Rattle.krieg_moves.proofs.guard.safe_squares.Given as goal
+
+abbrev pub decreases-loop-rest : goal.decreases-loop-rest
+decreases-loop-rest l = l.rest
+
+abbrev pub invariant-loop-rest : goal.invariant-loop-rest
+invariant-loop-rest l =
+    (t : ℕ) → t < 64 → (has l.safe t || (has l.rest t && not (is_attacked l.b t l.by))) ≡ (has l.initial.rest t && not (is_attacked l.b t l.by))

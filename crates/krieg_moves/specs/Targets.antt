@@ -1,0 +1,33 @@
+-- Where a king steps, and which men have but one way to go.
+use Rattle.std.specs.Prelude.{ℕ, Bool, true, false, Some, None, ◌&&◌, ◌||◌, not, slice_set}
+use Rattle.krieg_board.specs.Men.{other}
+use Rattle.krieg_board.specs.Pos.{Pos}
+use Rattle.krieg_board.specs.Board.{man_at, is_of}
+use Rattle.krieg_board.specs.Attacks.{attacks, man_attacks, is_attacked}
+use Rattle.krieg_board.specs.declared.men.Kind.{Kind}
+use Rattle.krieg_board.specs.declared.men.Kind.TheVariants.{Pawn, Knight, Bishop, Rook, Queen, King}
+use Rattle.krieg_board.specs.declared.men.Man.{Man}
+use Rattle.krieg_moves.specs.After.{is_marked}
+use Rattle.krieg_moves.specs.Legal.{is_legal}
+use Rattle.krieg_moves.specs.Moves.{plain_move}
+use Rattle.krieg_moves.specs.Guarding.{is_answered}
+
+-- a knight, bishop, rook or queen
+abbrev pub is_officer : Kind → Bool
+is_officer Pawn = false
+is_officer Knight = true
+is_officer Bishop = true
+is_officer Rook = true
+is_officer Queen = true
+is_officer King = false
+
+-- the king on f attacks t, where no own man stands and which no enemy man attacks once the king has left
+abbrev pub is_king_step : Pos → ℕ → Man → ℕ → Bool
+is_king_step p f man t =
+    (man_attacks p.board (Some man) f t && not (is_of p.side (man_at p.board t))) && not (is_attacked (slice_set p.board f None) t (other p.side))
+
+-- a pawn on f captures on t, with its king on k: an enemy man stands there, and the attacks on the king are answered, or it captures in passing
+abbrev pub is_capture : Pos → ℕ → ℕ → ℕ → Bool
+is_capture p f k t =
+    ((attacks p.board f t && is_of (other p.side) (man_at p.board t)) && is_answered (slice_set p.board f None) (other p.side) k t)
+    || (is_marked p.mark t && (attacks p.board f t && is_legal p (plain_move f t)))

@@ -1,0 +1,210 @@
+-- A man is pinned where he alone, of his side, stands between his king and an enemy man that would attack the king along that line.
+use Rattle.std.proofs.Common.{◌≡◌, ℕ, ◌<◌, Bool, true, false, not, ◌&&◌, ◌||◌, ◌==◌, ◌⊎◌, inl, inr, refl, sym, ◌∙◌, ap, set, ◌≢◌}
+use Rattle.std.specs.Prelude.{Option, Some, None, is_some}
+use Rattle.std.proofs.lemmas.Bool.{both_ways, cases_eq, eq-eqb, ne_eqb, not-true}
+use Rattle.std.proofs.lemmas.List.{get_or-set_same, get_or-set_other}
+use Rattle.std.proofs.Math.Bool.{and-true, and-false}
+use Rattle.krieg_board.specs.declared.men.Side.{Side}
+use Rattle.krieg_board.specs.declared.men.Side.TheVariants.{White, Black}
+use Rattle.krieg_board.specs.declared.men.Kind.TheVariants.{Pawn, Knight, Bishop, Rook, Queen, King}
+use Rattle.krieg_board.specs.declared.men.Man.{Man}
+use Rattle.krieg_board.specs.Men.{other, is_same_side}
+use Rattle.krieg_board.specs.Squares.{squares, every_square, some_square}
+use Rattle.krieg_board.specs.Board.{Board, man_at, is_of, is_man}
+use Rattle.krieg_board.specs.Boards.{is_kind}
+use Rattle.krieg_board.specs.Attacks.{attacks, man_attacks, is_between, is_clear}
+use Rattle.krieg_board.specs.Sets.{has}
+use Rattle.krieg_board.specs.Validity.{count_kind}
+use Rattle.krieg_board.proofs.SquareTests.{every_square_at, some_square_none}
+use Rattle.krieg_board.proofs.SameTests.{every_square_both, every_square_same, some_square_same}
+use Rattle.krieg_rays.specs.Rays.{goes}
+use Rattle.krieg_rays.specs.Pinned.{is_pinned, is_pinned_by}
+use Rattle.krieg_rays.specs.Snipers.{is_open_of, is_sniper, is_only}
+use Rattle.krieg_rays.proofs.Kings.{standing, king_search}
+use Rattle.krieg_rays.proofs.Spans.{is_between_turned}
+use Rattle.krieg_rays.proofs.Symmetry.{rook_turned, bishop_turned}
+use Rattle.krieg_rays.proofs.Attacking.{found_attacks}
+
+-- what is asked of no square in particular may be asked before the search
+some_square_and : (u : Bool) (p : ℕ → Bool) → some_square (λ f. u && p f) ≡ (u && some_square p)
+some_square_and true p = some_square_same (λ f. true && p f) p (λ k h. refl)
+some_square_and false p = some_square_none (λ f. false && p f) (λ k h. refl)
+
+-- with one king of the side, on k, a man is pinned to him
+pub pinned_to : (b : Board) (who : Side) (k s : ℕ) → count_kind b who King ≡ 1 → k < 64 → is_man who King (man_at b k) ≡ true →
+    is_pinned b who s ≡ (is_of who (man_at b s) && some_square (λ f. is_pinned_by b (other who) f k s))
+unfolding is_pinned
+pinned_to b who k s one hk is = ap (λ x. is_of who (man_at b s) && x) (king_search b who k one hk is (λ k. some_square (λ f. is_pinned_by b (other who) f k s)))
+
+-- nothing lies between a square and those that a pawn, a knight or a king attacks from there
+unfoldable are_next : (ℕ → ℕ → Bool) → Bool
+are_next near = every_square (λ f. every_square (λ k. not (near f k) || every_square (λ s. not (is_between f k s))))
+
+white_pawns : are_next (goes Pawn White) ≡ true
+unfolding are_next every_square squares goes is_between
+white_pawns = refl
+
+black_pawns : are_next (goes Pawn Black) ≡ true
+unfolding are_next every_square squares goes is_between
+black_pawns = refl
+
+knights : are_next (goes Knight White) ≡ true
+unfolding are_next every_square squares goes is_between
+knights = refl
+
+kings : are_next (goes King White) ≡ true
+unfolding are_next every_square squares goes is_between
+kings = refl
+
+not_near : (near : ℕ → ℕ → Bool) → are_next near ≡ true → (f k s : ℕ) → f < 64 → k < 64 → s < 64 → is_between f k s ≡ true → near f k ≡ false
+unfolding are_next
+not_near near h f k s hf hk hs between =
+    by_test (near f k) (every_square (λ s. not (is_between f k s))) (every_square_at (λ k. not (near f k) || every_square (λ s. not (is_between f k s)))
+    (every_square_at (λ f. every_square (λ k. not (near f k) || every_square (λ s. not (is_between f k s)))) h f hf) k hk)
+    (λ e. both_ways (is_between f k s) (not-true (is_between f k s) (every_square_at (λ s. not (is_between f k s)) e s hs)) between)
+  where
+    by_test : (a c : Bool) → (not a || c) ≡ true → (c ≡ true → ⊥) → a ≡ false
+    by_test true c e none = absurd (none e)
+    by_test false c e none = refl
+
+not_near_pawn : (by : Side) (f k s : ℕ) → f < 64 → k < 64 → s < 64 → is_between f k s ≡ true → goes Pawn by f k ≡ false
+not_near_pawn White = not_near (goes Pawn White) white_pawns
+not_near_pawn Black = not_near (goes Pawn Black) black_pawns
+
+own_end : every_square (λ f. every_square (λ k. not (is_between f k f))) ≡ true
+unfolding every_square squares is_between
+own_end = refl
+
+-- a square between two is neither of them
+apart : (f k s : ℕ) → f < 64 → k < 64 → is_between f k s ≡ true → f ≢ s
+apart f k s hf hk between e =
+    both_ways (is_between f k s)
+    (ap (is_between f k) (sym e) ∙ not-true (is_between f k f) (every_square_at (λ k. not (is_between f k f)) (every_square_at (λ f. every_square (λ k. not (is_between f k f))) own_end f hf) k hk))
+    between
+
+-- of that side's men between the two, only he on s
+abbrev pub is_alone : Board → Side → ℕ → ℕ → ℕ → Bool
+is_alone b who k f s = every_square (λ j. not ((is_between k f j && is_of who (man_at b j)) && not (j == s)))
+
+-- a man of that side stands on s, and of that side's men he alone stands between the two
+abbrev pub shields : Board → Side → ℕ → ℕ → ℕ → Bool
+shields b who k s f = (is_between k f s && is_of who (man_at b s)) && is_alone b who k f s
+
+some_side : (who : Side) (x : Option Man) → is_some x ≡ (is_of (other who) x || is_of who x)
+some_side who None = refl
+some_side who (Some m) = by_sides who m.side
+  where
+    by_sides : (who s : Side) → true ≡ (is_same_side s (other who) || is_same_side s who)
+    by_sides White White = refl
+    by_sides White Black = refl
+    by_sides Black White = refl
+    by_sides Black Black = refl
+
+other_side : (who : Side) (x : Option Man) → is_of who x ≡ true → is_of (other who) x ≡ false
+other_side who None h = refl
+other_side who (Some m) h = by_sides who m.side h
+  where
+    by_sides : (who s : Side) → is_same_side s who ≡ true → is_same_side s (other who) ≡ false
+    by_sides White White h = refl
+    by_sides White Black h = cc
+    by_sides Black White h = cc
+    by_sides Black Black h = refl
+
+-- without the man on s the way is clear, where no enemy man and no other man of his side stands between
+clear_without : (b : Board) (who : Side) (k f s : ℕ) → f < 64 → k < 64 → is_of who (man_at b s) ≡ true →
+    is_clear (set b s None) f k ≡ (is_open_of b (other who) k f && is_alone b who k f s)
+unfolding is_clear is_open_of
+clear_without b who k f s hf hk own =
+    sym (every_square_both free alone ∙ every_square_same (λ j. free j && alone j) (λ j. not (is_between f k j && is_some (man_at (set b s None) j))) (λ j hj.
+    ap (λ t. not (t && is_of (other who) (man_at b j)) && not ((t && is_of who (man_at b j)) && not (j == s))) (is_between_turned k f j hk hf hj) ∙ each j (cases_eq j s)))
+  where
+    free : ℕ → Bool
+    free j = not (is_between k f j && is_of (other who) (man_at b j))
+
+    alone : ℕ → Bool
+    alone j = not ((is_between k f j && is_of who (man_at b j)) && not (j == s))
+
+    here : (t u : Bool) → (not (t && false) && not ((t && u) && false)) ≡ not (t && false)
+    here true true = refl
+    here true false = refl
+    here false u = refl
+
+    there : (t e u : Bool) → (not (t && e) && not ((t && u) && true)) ≡ not (t && (e || u))
+    there true true u = refl
+    there true false true = refl
+    there true false false = refl
+    there false e u = refl
+
+    each : (j : ℕ) → (j ≡ s) ⊎ (j ≢ s) →
+        (not (is_between f k j && is_of (other who) (man_at b j)) && not ((is_between f k j && is_of who (man_at b j)) && not (j == s)))
+        ≡ not (is_between f k j && is_some (man_at (set b s None) j))
+    each j (inl e) =
+        (λ i. not (is_between f k j && (ap (λ k. is_of (other who) (man_at b k)) e ∙ other_side who (man_at b s) own) i)
+        && not ((is_between f k j && is_of who (man_at b j)) && not (eq-eqb j s e i)))
+        ∙ here (is_between f k j) (is_of who (man_at b j))
+        ∙ sym (ap (λ x. not (is_between f k j && is_some x)) (ap (man_at (set b s None)) e ∙ get_or-set_same b s None None (standing (is_of who) refl b s own)))
+    each j (inr p) =
+        (λ i. not (is_between f k j && is_of (other who) (man_at b j)) && not ((is_between f k j && is_of who (man_at b j)) && not (ne_eqb j s p i)))
+        ∙ there (is_between f k j) (is_of (other who) (man_at b j)) (is_of who (man_at b j))
+        ∙ sym (ap (λ x. not (is_between f k j && x)) (ap is_some (get_or-set_other b s j None None p) ∙ some_side who (man_at b j)))
+
+-- an enemy man would attack the king without the man on s, where he is a sniper and that man stands alone
+sniper_attacks : (b : Board) (who : Side) (k f s : ℕ) → f < 64 → k < 64 → s < 64 → is_between f k s ≡ true → is_of who (man_at b s) ≡ true →
+    (is_sniper b (other who) k f && is_alone b who k f s) ≡ (is_of (other who) (man_at b f) && attacks (set b s None) f k)
+unfolding is_sniper attacks
+sniper_attacks b who k f s hf hk hs between own =
+    gathered (goes Rook White k f) (goes Bishop White k f) (is_open_of b (other who) k f) (is_kind Rook x || is_kind Queen x) (is_kind Bishop x || is_kind Queen x)
+    (is_of (other who) x) (is_alone b who k f s)
+    ∙ (λ i. ((((pawn i && is_kind Pawn x) || ((knight i && is_kind Knight x) || (king i && is_kind King x)))
+    || (((rook_turned k f hk hf i && way i) && (is_kind Rook x || is_kind Queen x)) || ((bishop_turned k f hk hf i && way i) && (is_kind Bishop x || is_kind Queen x)))) && is_of (other who) x))
+    ∙ found_attacks (set b s None) (other who) k f x
+    ∙ ap (λ y. is_of (other who) x && man_attacks (set b s None) y f k) (sym (get_or-set_other b s f None None (apart f k s hf hk between)))
+  where
+    x : Option Man
+    x = man_at b f
+
+    pawn : false ≡ goes Pawn (other who) f k
+    pawn = sym (not_near_pawn (other who) f k s hf hk hs between)
+
+    knight : false ≡ goes Knight White f k
+    knight = sym (not_near (goes Knight White) knights f k s hf hk hs between)
+
+    king : false ≡ goes King White f k
+    king = sym (not_near (goes King White) kings f k s hf hk hs between)
+
+    way : (is_open_of b (other who) k f && is_alone b who k f s) ≡ is_clear (set b s None) f k
+    way = sym (clear_without b who k f s hf hk own)
+
+    gathered : (r d o p q e a : Bool) → (((((r && o) && p) || ((d && o) && q)) && e) && a) ≡ ((((r && (o && a)) && p) || ((d && (o && a)) && q)) && e)
+    gathered r d o p q e true = simp and-true
+    gathered r d o p q e false = simp and-false
+
+-- a man is pinned by the snipers before whom he stands alone
+pub sniper_pins : (b : Board) (who : Side) (k f s : ℕ) → f < 64 → k < 64 → s < 64 →
+    (is_sniper b (other who) k f && shields b who k s f) ≡ (is_of who (man_at b s) && is_pinned_by b (other who) f k s)
+sniper_pins b who k f s hf hk hs =
+    ap (λ t. is_sniper b (other who) k f && ((t && is_of who (man_at b s)) && is_alone b who k f s)) (is_between_turned k f s hk hf hs)
+    ∙ joined (is_between f k s) (is_of who (man_at b s)) (is_sniper b (other who) k f) (is_alone b who k f s) (is_of (other who) (man_at b f)) (attacks (set b s None) f k)
+    (sniper_attacks b who k f s hf hk hs)
+  where
+    joined : (t u x a e y : Bool) → (t ≡ true → u ≡ true → (x && a) ≡ (e && y)) → (x && ((t && u) && a)) ≡ (u && (e && (t && y)))
+    joined true true x a e y same = same refl refl
+    joined true false x a e y same = and-false x
+    joined false true x a e y same = and-false x ∙ sym (and-false e)
+    joined false false x a e y same = and-false x
+
+-- the men who stand alone before some sniper are those who are pinned
+pub some_sniper_pins : (b : Board) (who : Side) (k s n : ℕ) → count_kind b who King ≡ 1 → k < 64 → s < 64 → is_man who King (man_at b k) ≡ true →
+    ((f : ℕ) → f < 64 → has n f ≡ is_sniper b (other who) k f) → some_square (λ f. has n f && shields b who k s f) ≡ is_pinned b who s
+some_sniper_pins b who k s n one hk hs is e =
+    some_square_same (λ f. has n f && shields b who k s f) (λ f. is_of who (man_at b s) && is_pinned_by b (other who) f k s)
+    (λ f hf. ap (λ x. x && shields b who k s f) (e f hf) ∙ sniper_pins b who k f s hf hk hs)
+    ∙ some_square_and (is_of who (man_at b s)) (λ f. is_pinned_by b (other who) f k s)
+    ∙ sym (pinned_to b who k s one hk is)
+
+-- the only man of his side between the two shields the king
+pub only_shields : (b : Board) (who : Side) (k f s n : ℕ) → s < 64 → ((j : ℕ) → j < 64 → has n j ≡ (is_between k f j && is_of who (man_at b j))) →
+    is_only n s ≡ shields b who k s f
+unfolding is_only
+only_shields b who k f s n hs e =
+    λ i. e s hs i && every_square_same (λ j. not (has n j && not (j == s))) (λ j. not ((is_between k f j && is_of who (man_at b j)) && not (j == s))) (λ j hj n. not (e j hj n && not (j == s))) i
