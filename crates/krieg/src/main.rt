@@ -6,11 +6,18 @@ use krieg_ports::{Adapter, AdapterOut, write_all};
 use std::process::ExitCode;
 use std::{env, io};
 
-/// The words behind the program's name.
+/// The words after the program's name. Where one of them is not UTF-8 they are the words of no command, as
+/// no words are.
 fn words(rt: &HostRuntime) -> io::Result<Vec<String>> {
     let mut words = Vec::new(rt.alloc());
-    for word in env::args(rt)?.skip(1) {
-        words.push(word)?;
+    match env::args(rt) {
+        Ok(all) => {
+            for word in all.skip(1) {
+                words.push(word)?;
+            }
+        }
+        Err(error) if error.kind() == io::ErrorKind::OutOfMemory => return Err(error),
+        Err(_) => {}
     }
     Ok(words)
 }

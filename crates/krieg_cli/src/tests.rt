@@ -1,6 +1,7 @@
 //! The whole program over streams in memory: each command on worked examples, and every refusal.
 
 mod games;
+mod large;
 mod possible;
 mod refusals;
 mod solving;
@@ -17,6 +18,10 @@ const START: &str = "rnbqkbnr/pppppppp/8/8/8/8/PPPPPPPP/RNBQKBNR w KQkq -";
 const SOLVE: [&str; 4] = ["solve", "1", "64", "1"];
 
 const ROOK: &str = "krieg sheet 1\nside w\nlist 1\n1k6/8/1K6/8/8/8/8/7R w - -\nend\n";
+
+/// The plan that answers it.
+const ROOK_PLAN: &str = "krieg plan 1\nside w\nlist 1\n1k6/8/1K6/8/8/8/8/7R w - -\nworst 1\n\
+    roots 1\non silent\nplay h1h8 0\nend\n";
 
 /// How a run ended, and what it wrote.
 #[derive(Drop)]

@@ -1,10 +1,7 @@
 //! `solve` in one move: the plan files of worked examples.
 
-use super::{ROOK, SOLVE, run_on};
+use super::{ROOK, ROOK_PLAN, SOLVE, run_on};
 use std::alloc::AllocError;
-
-const ROOK_PLAN: &str = "krieg plan 1\nside w\nlist 1\n1k6/8/1K6/8/8/8/8/7R w - -\nworst 1\n\
-    roots 1\non silent\nplay h1h8 0\nend\n";
 
 /// The rook mates on h8; the pawn mates as a queen before it mates as a rook; against a king on c8 no
 /// move mates.

@@ -1,6 +1,6 @@
 //! Reads and writes that fail, and an input that is too long.
 
-use super::{ROOK, SOLVE, run_to, sink, strings};
+use super::{ROOK, ROOK_PLAN, SOLVE, run_to, sink, strings};
 use crate::run;
 use krieg_ports::{MemSink, MemSource};
 use std::alloc::{AllocError, Global};
@@ -50,5 +50,42 @@ fn tells_a_write_fault(rt: HostRuntime) -> Result<(), AllocError> {
     assert!(rt; breaks_off(rt.alloc(), first, b"")?);
     assert!(rt; breaks_off(rt.alloc(), fourth, b"kri")?);
     assert!(rt; breaks_off(rt.alloc(), full, b"kri")?);
+    Ok(())
+}
+
+/// A sink that takes a byte a call has, when any one of its calls fails, just the bytes of those before it.
+#[test]
+fn tells_a_write_fault_at_each_call(rt: HostRuntime) -> Result<(), AllocError> {
+    let mut before = Vec::new(rt.alloc());
+    let mut call = 1u64;
+    for byte in ROOK_PLAN.bytes() {
+        let out = sink(rt.alloc(), 1000, 1, &[call])?;
+        assert!(rt; breaks_off(rt.alloc(), out, &before)?, "call {call}");
+        before.push(byte)?;
+        call = call.saturating_add(1);
+    }
+    Ok(())
+}
+
+/// A run over words that are no command, with this sink for its line: the status, and what the sink got.
+fn usage_to(alloc: Global, mut err: MemSink) -> Result<(u8, Vec<u8>), AllocError> {
+    let mut input = MemSource::new(Vec::new(alloc), 7, Vec::new(alloc));
+    let mut out = sink(alloc, 100, 100, &[])?;
+    let status = run(alloc, &[], &mut input, &mut out, &mut err);
+    Ok((status, err.bytes().to_vec(alloc)?))
+}
+
+/// A refusal ends with its status also where its line cannot be written, or not whole.
+#[test]
+fn ends_as_it_must_without_its_line(rt: HostRuntime) -> Result<(), AllocError> {
+    let alloc = rt.alloc();
+    let whole = usage_to(alloc, sink(alloc, 100, 100, &[])?)?;
+    let none = usage_to(alloc, sink(alloc, 100, 100, &[1])?)?;
+    let front = usage_to(alloc, sink(alloc, 100, 1, &[4])?)?;
+    let full = usage_to(alloc, sink(alloc, 3, 100, &[])?)?;
+    assert!(rt; whole.0 == 1 && whole.1.as_slice() == b"krieg: usage\n".as_slice());
+    assert!(rt; none.0 == 1 && none.1.is_empty());
+    assert!(rt; front.0 == 1 && front.1.as_slice() == b"kri".as_slice());
+    assert!(rt; full.0 == 1 && full.1.as_slice() == b"kri".as_slice());
     Ok(())
 }
