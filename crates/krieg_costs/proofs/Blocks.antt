@@ -7,7 +7,7 @@ use Rattle.krieg_theory.specs.Sets.{In, is_nil}
 use Rattle.krieg_theory.specs.Game.{Game, IsGame}
 use Rattle.krieg_theory.specs.Split.{refused, legal_in_some, stale_in_some, all_outcomes, keys, class, mates_at}
 use Rattle.krieg_theory.specs.Can.{can, begins}
-use Rattle.krieg_theory.proofs.Lists.{all_at, all_from, any_at, any_from, any_none, nil_or_member}
+use Rattle.krieg_theory.proofs.Lists.{all_at, all_from, any_at, any_from, nil_or_member}
 use Rattle.krieg_theory.proofs.Keys.{key_occurs, occurs_at}
 use Rattle.krieg_theory.proofs.Steps.{in_outs, outs_in}
 use Rattle.krieg_costs.specs.Block.{Block, Lives, Stale, LostClass, LostRefused, NoBlock, lives_in_some, by_class, block, pair_of}

@@ -2,7 +2,7 @@
 use Rattle.std.proofs.Common.{◌≡◌, ℕ, zero, suc, ◌≤◌, true, false, not, ◌&&◌, nat_lt, ◌⊎◌, List, [], ◌∷◌, ◌++◌, Option, Some, None, refl, sym, subst, inl, inr, arith}
 use Rattle.std.specs.Prelude.{◌==◌}
 use Rattle.std.specs.List.{list_all, list_any}
-use Rattle.std.proofs.lemmas.Bool.{cases_Bool, both_ways, and_parts, not-true, ltb-false, eqb-true, false_from_ne_true}
+use Rattle.std.proofs.lemmas.Bool.{both_ways, and_parts, not-true, ltb-false, eqb-true, false_from_ne_true}
 use Rattle.krieg_theory.specs.Sets.{In, same, is_nil}
 use Rattle.krieg_theory.specs.Game.{Game, IsGame}
 use Rattle.krieg_theory.specs.Split.{refused, legal_in_some, stale_in_some, tries, keys, class}

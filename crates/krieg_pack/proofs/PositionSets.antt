@@ -1,18 +1,18 @@
 -- The laws of the order of positions and of sets of positions, for the crates that cite them.
-use Rattle.std.proofs.Common.{◌≡◌, ℕ, ◌≤◌, Bool, true, length, filter, List, [], ◌++◌, refl, sym, ap, ◌∙◌}
+use Rattle.std.proofs.Common.{◌≡◌, ℕ, ◌≤◌, Bool, true, length, List, ◌++◌, sym, ap, ◌∙◌}
 use Rattle.std.specs.List.{dedup}
 use Rattle.std.specs.List.Sorted.{IsSorted, IsPermutation, IsBinarySearchResult, IsSearchInRange}
 use Rattle.std.specs.Cmp.Lexicographic.{pointwise}
 use Rattle.std.specs.Prelude.{Result, is_ok}
 use Rattle.krieg_board.specs.Pos.{Pos}
 use Rattle.krieg_theory.specs.Sets.{In, IsOrder}
-use Rattle.krieg_theory.proofs.Ascending.{same_set, as_set_ascending, in_as_set, as_set_in, ascending_filter}
+use Rattle.krieg_theory.proofs.Ascending.{same_set, as_set_ascending, in_as_set, as_set_in}
 use Rattle.krieg_pack.specs.Order.{position_cmp, position_eq, position_lt}
 use Rattle.krieg_pack.specs.Members.{IsAscending, IsSetOf, set_of}
 use Rattle.krieg_pack.specs.OrderLaws.{position_total}
 use Rattle.krieg_pack.specs.SameNumbers.{same_position}
 use Rattle.krieg_pack.proofs.Sorting.{is_order, sorted_set, found, pointwise_same, pointwise_self}
-use Rattle.krieg_pack.proofs.Counts.{as_set_le, part_le, as_set_early}
+use Rattle.krieg_pack.proofs.Counts.{part_le, as_set_early}
 
 -- no position stands before itself, the order is transitive, and of two that differ one stands before the other
 pub position_order : IsOrder position_lt
@@ -39,10 +39,6 @@ set_in p ps i = as_set_in position_lt position_order p ps i
 pub set_is : (ps : List Pos) → IsSetOf (set_of ps) ps
 set_is ps = record { ascending = set_ascending ps; exact = λ p. (λ i. set_in p ps i, λ i. in_set p ps i) }
 
--- the members that ascend are the set, so a list has one
-pub is_set_of : (members ps : List Pos) → IsSetOf members ps → members ≡ set_of ps
-is_set_of members ps s = same_members members (set_of ps) s.ascending (set_ascending ps) (λ p i. in_set p ps ((s.exact p).0 i)) (λ p i. (s.exact p).1 (set_in p ps i))
-
 -- an ascending list is its own set
 pub set_of_ascending : (ps : List Pos) → IsAscending ps → set_of ps ≡ ps
 set_of_ascending ps up = same_members (set_of ps) ps (set_ascending ps) up (λ p i. set_in p ps i) (λ p i. in_set p ps i)
@@ -50,19 +46,10 @@ set_of_ascending ps up = same_members (set_of ps) ps (set_ascending ps) up (λ p
 pub set_of_set : (ps : List Pos) → set_of (set_of ps) ≡ set_of ps
 set_of_set ps = set_of_ascending (set_of ps) (set_ascending ps)
 
-pub set_of_nil : set_of [] ≡ []
-unfolding set_of
-set_of_nil = refl
-
 -- lists with the same members have one set
 pub same_sets : (ps qs : List Pos) → ((p : Pos) → In p ps → In p qs) → ((p : Pos) → In p qs → In p ps) → set_of ps ≡ set_of qs
 same_sets ps qs f g =
     same_members (set_of ps) (set_of qs) (set_ascending ps) (set_ascending qs) (λ p i. in_set p qs (f p (set_in p ps i))) (λ p i. in_set p ps (g p (set_in p qs i)))
-
--- a set has no more members than the list
-pub set_le : (ps : List Pos) → length (set_of ps) ≤ length ps
-unfolding set_of
-set_le ps = as_set_le position_lt ps
 
 -- the set of a part has no more members
 pub set_part_le : (ps qs : List Pos) → ((p : Pos) → In p ps → In p qs) → length (set_of ps) ≤ length (set_of qs)
@@ -80,10 +67,6 @@ set_of_front ps qs rs e = sym (set_of_early ps rs) ∙ ap (λ s. set_of (s ++ rs
 -- a buffer that has the set of what came before, after more came and repeats were dropped
 pub set_of_grown : (now pushed before came more : List Pos) → set_of now ≡ set_of pushed → pushed ≡ before ++ more → set_of before ≡ set_of came → set_of now ≡ set_of (came ++ more)
 set_of_grown now pushed before came more same is e = same ∙ ap set_of is ∙ set_of_front before came more e
-
--- some members of an ascending list, in their order, ascend
-pub filter_ascending : (f : Pos → Bool) (ps : List Pos) → IsAscending ps → IsAscending (filter f ps)
-filter_ascending f ps up = ascending_filter position_lt f ps up
 
 -- what sort_unstable and then dedup leave of a list
 pub sorted_positions : (ps qs : List Pos) → IsPermutation ps qs → IsSorted position_cmp qs → dedup position_eq qs ≡ set_of ps

@@ -1,8 +1,7 @@
 -- Sets as strictly ascending lists.
-use Rattle.std.proofs.Common.{◌≡◌, Bool, true, false, cond, filter, not, List, [], ◌∷◌, ◌⊎◌, inl, inr, refl, sym, subst, ◌∙◌}
+use Rattle.std.proofs.Common.{◌≡◌, Bool, true, false, not, List, [], ◌∷◌, ◌⊎◌, inl, inr, refl, sym, subst, ◌∙◌}
 use Rattle.std.proofs.lemmas.Bool.{cases_Bool, cond-true, cond-false, both_ways, and_parts, and_from, not-true, not_from_false, false_from_ne_true}
 use Rattle.krieg_theory.specs.Sets.{In, Ascending, IsOrder, same, insert_once, as_set}
-use Rattle.krieg_theory.proofs.Lists.{filter_in}
 
 module _ {X : Type 0} (lt : X → X → Bool) (O : IsOrder lt) where
   pub in_insert_here : (x : X) (xs : List X) → In x (insert_once lt x xs)
@@ -112,12 +111,3 @@ module _ {X : Type 0} (lt : X → X → Bool) (O : IsOrder lt) where
   pub same_is : (a b : X) (e : Bool) → (e ≡ true → a ≡ b) → (a ≡ b → e ≡ true) → same lt a b ≡ e
   same_is a b true f g = subst (λ x. same lt a x ≡ true) (f refl) (same_refl a)
   same_is a b false f g = false_from_ne_true _ (λ h. both_ways false refl (g (same_eq a b h)))
-
--- some members of an ascending list, in their order, ascend
-pub ascending_filter : {X : Type 0} (lt : X → X → Bool) (f : X → Bool) (xs : List X) → Ascending lt xs → Ascending lt (filter f xs)
-ascending_filter lt f [] up = tt
-ascending_filter {X = X} lt f (x ∷ xs) up = go (f x) (ascending_filter lt f xs up.1)
-  where
-    go : (b : Bool) → Ascending lt (filter f xs) → Ascending lt (cond b (x ∷ filter f xs) (filter f xs))
-    go true r = (λ y i. up.0 y (filter_in f xs y i).0, r)
-    go false r = r
