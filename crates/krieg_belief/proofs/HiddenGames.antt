@@ -11,12 +11,11 @@ use Rattle.krieg_board.specs.declared.men.Move.{Move}
 use Rattle.krieg_moves.specs.After.{after}
 use Rattle.krieg_moves.specs.Moves.{moves}
 use Rattle.krieg_moves.proofs.Listed.{legal_listed, listed_legal}
-use Rattle.krieg_words.specs.Said.{Said}
-use Rattle.krieg_words.specs.Matching.{are_told}
-use Rattle.krieg_words.specs.Order.{words_cmp}
+use Rattle.krieg_words.specs.Words.{Said, words_cmp}
+use Rattle.krieg_words.specs.ToldMoves.{are_told}
 use Rattle.krieg_words.specs.declared.dialects.Dialect.{Dialect}
-use Rattle.krieg_words.specs.declared.dialects.Line.{Line}
-use Rattle.krieg_words.specs.declared.dialects.Line.TheVariants.{Opens, Illegal, Done, Heard, Early, Over}
+use Rattle.krieg_words.specs.declared.line.Line.{Line}
+use Rattle.krieg_words.specs.declared.line.Line.TheVariants.{Opens, Illegal, Done, Heard, Early, Over}
 use Rattle.krieg_words.proofs.OrderLaws.{words_cmp_equal, words_cmp_self}
 use Rattle.krieg_sheet.specs.Games.{Gives}
 use Rattle.krieg_theory.specs.Sets.{In}

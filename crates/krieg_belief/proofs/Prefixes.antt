@@ -7,12 +7,13 @@ use Rattle.std.proofs.lemmas.List.{take_all}
 use Rattle.krieg_board.specs.Men.{is_same_side}
 use Rattle.krieg_board.specs.Pos.{Pos}
 use Rattle.krieg_board.specs.declared.men.Side.{Side}
-use Rattle.krieg_words.specs.Said.{Said}
-use Rattle.krieg_words.specs.Words.{opening}
-use Rattle.krieg_words.specs.Told.{told}
+use Rattle.krieg_words.specs.Words.{Said}
+use Rattle.krieg_words.specs.WordsOfMoves.{opening}
+use Rattle.krieg_words.specs.ToldWords.{told}
 use Rattle.krieg_words.specs.declared.dialects.Dialect.{Dialect}
-use Rattle.krieg_words.specs.declared.dialects.Line.{Line}
-use Rattle.krieg_words.specs.declared.dialects.Line.TheVariants.{Opens, Illegal, Done, Heard, Early, Over}
+use Rattle.krieg_words.specs.declared.line.Line.{Line}
+use Rattle.krieg_words.specs.declared.line.Line.TheVariants.{Opens, Illegal, Done, Heard, Early, Over}
+use Rattle.krieg_fen.specs.Forms.{most_listed}
 use Rattle.krieg_sheet.specs.Sheets.{SheetState}
 use Rattle.krieg_sheet.specs.Turns.{may_stand, turn_after, over_after, are_in_place}
 use Rattle.krieg_sheet.specs.Lists.{list_fault, differs, other_hand}
@@ -75,7 +76,7 @@ opened_ascending d who (Some w) ps up = set_ascending _
 abbrev pub begun : SheetState → List Pos
 begun s = opened s.dialect s.side s.opens (set_of s.list)
 
--- the set behind the first entries
+-- the set after the first entries
 abbrev pub behind_entries : SheetState → ℕ → List Pos
 behind_entries s n = run s.dialect s.side (take n s.entries) (begun s)
 
@@ -162,12 +163,12 @@ pub all_within : (s : SheetState) (limit : ℕ) → IsSheet s → length (set_of
 all_within s limit sheet fits within zero le = within_list s limit fits
 all_within s limit sheet fits within (suc n) le = (behind_entries s n, possible_behind s sheet n, within n (omega arith))
 
--- a sheet lists 200,000 positions at most
-listed_le : (who : Side) (ps : List Pos) → list_fault who ps ≡ None → length ps ≤ 200000
+-- a sheet lists no more positions than a text may
+listed_le : (who : Side) (ps : List Pos) → list_fault who ps ≡ None → length ps ≤ most_listed
 listed_le who [] h = absurd cc
-listed_le who (p ∷ ps) h = go (nat_le (length (p ∷ ps)) 200000) refl h
+listed_le who (p ∷ ps) h = go (nat_le (length (p ∷ ps)) most_listed) refl h
   where
-    go : (b : Bool) → nat_le (length (p ∷ ps)) 200000 ≡ b → (if b then differs (other_hand who p 1 ps) else Some Count) ≡ None → length (p ∷ ps) ≤ 200000
+    go : (b : Bool) → nat_le (length (p ∷ ps)) most_listed ≡ b → (if b then differs (other_hand who p 1 ps) else Some Count) ≡ None → length (p ∷ ps) ≤ most_listed
     go true e h = grind (arith, nat_tests)
     go false e h = absurd cc
 
@@ -181,7 +182,7 @@ excess_not_within s limit line excess within =
     (λ p i. (more.1.exact p).1 ((few.1.exact p).0 i)) in
     absurd (omega (arith, more.2, few.2, ap (λ (ps : List Pos). length ps) same))
 
-pub sheet_le : (s : SheetState) → IsSheet s → length s.list ≤ 200000
+pub sheet_le : (s : SheetState) → IsSheet s → length s.list ≤ most_listed
 sheet_le s sheet = listed_le s.side s.list sheet.listed
 
 module _ {A E : Type 0} where

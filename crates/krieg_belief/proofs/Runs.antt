@@ -6,7 +6,7 @@ use Rattle.std.proofs.Math.Nat.{eq-or-lt_of_le}
 use Rattle.krieg_board.specs.Pos.{Pos}
 use Rattle.krieg_board.specs.declared.men.Side.{Side}
 use Rattle.krieg_words.specs.declared.dialects.Dialect.{Dialect}
-use Rattle.krieg_words.specs.declared.dialects.Line.{Line}
+use Rattle.krieg_words.specs.declared.line.Line.{Line}
 use Rattle.krieg_theory.proofs.Lists.{take_in, in_flat, flat_in}
 use Rattle.krieg_pack.specs.Members.{IsAscending, set_of}
 use Rattle.krieg_pack.proofs.PositionSets.{set_ascending, set_part_le}

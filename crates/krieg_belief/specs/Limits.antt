@@ -3,7 +3,7 @@ use Rattle.std.specs.Prelude.{◌≡◌, ℕ, suc, ◌+◌, ◌<◌, ◌≤◌, 
 use Rattle.krieg_board.specs.Pos.{Pos}
 use Rattle.krieg_board.specs.declared.men.Side.{Side}
 use Rattle.krieg_words.specs.declared.dialects.Dialect.{Dialect}
-use Rattle.krieg_words.specs.declared.dialects.Line.{Line}
+use Rattle.krieg_words.specs.declared.line.Line.{Line}
 use Rattle.krieg_sheet.specs.Sheets.{SheetState}
 use Rattle.krieg_belief.specs.Steps.{run}
 use Rattle.krieg_belief.specs.Possible.{prefix, line_of, Within, Exceeds}
@@ -31,12 +31,12 @@ AllWithin limit s = (n : ℕ) → n ≤ suc (length s.entries) → Within limit 
 
 -- Of the parts of the work.
 
--- a set that is too large, with the line of what it is behind
+-- a set that is too large, with the line of what it is after
 abbrev pub stopped : StepStop → ℕ → BeliefStop
 stopped step.TooMany line = TooMany line
 stopped step.NoMemory line = NoMemory
 
--- the first entry behind which there are more positions has this line, where the line before the entries is known
+-- the first entry after which there are more positions has this line, where the line before the entries is known
 pub record IsLate (d : Dialect) (who : Side) (ls : List Line) (start : List Pos) (limit behind line : ℕ) : Type 0 where
   pub place : ℕ
   pub in_lines : place ≤ length ls

@@ -1,5 +1,6 @@
 ghost use Rattle.std.specs.Prelude.{◌≡◌, ◌≤◌, ◌<◌, ◌+◌, ◌^◌, ℕ, IfOk, IfErr, OnOk, Err, length, take};
 ghost use Rattle.krieg_board.specs.declared.men.Side.{Side};
+ghost use Rattle.krieg_fen.specs.Forms.{most_listed};
 ghost use Rattle.krieg_words.specs.declared.dialects.Dialect.{Dialect};
 ghost use Rattle.krieg_sheet.specs.SheetText as text;
 ghost use Rattle.krieg_belief.specs.Steps as spec;
@@ -11,14 +12,14 @@ ghost use Rattle.krieg_belief.specs.Limits.{AllWithin, IsStop, IsLateStop};
 use crate::steps::{StepStop, step};
 use krieg_board::Side;
 use krieg_pack::Belief;
-use krieg_sheet::Sheet;
+use krieg_sheet::{Sheet, list_line};
 use krieg_words::{Dialect, Line, Words};
 use std::alloc::Global;
 
 /// Why the possible positions of a sheet are not listed.
 #[derive(Clone, Copy, Debug, PartialEq, Eq)]
 pub enum BeliefStop {
-    /// More positions were possible than the limit allows, first behind this line of the text that
+    /// More positions were possible than the limit allows, first after this line of the text that
     /// `write_sheet` writes. For the list alone it is the line that says how many positions it has.
     TooMany { line: usize },
     /// Memory was not found.
@@ -34,7 +35,7 @@ fn stopped(stop: StepStop, line: usize) -> BeliefStop
     }
 }
 
-/// The set behind all of the lines, where none on the way has more members than the limit allows.
+/// The set after all of the lines, where none on the way has more members than the limit allows.
 fn go_through(
     alloc: Global,
     d: Dialect,
@@ -60,17 +61,6 @@ fn go_through(
     Ok(b)
 }
 
-/// The line of a sheet's text that says how many positions are listed.
-fn list_line(d: Dialect) -> usize
-    ensures value { (who : Side) → (n : ℕ) → result ≡ length (text.head_lines d who n) }
-    ensures small { result ≤ 4 }
-{
-    match d {
-        Dialect::Wild16 => 3,
-        Dialect::Anytry | Dialect::Plain => 4,
-    }
-}
-
 /// How many lines of a sheet's text tell the opening words.
 fn opening_lines(opens: &Option<Words>) -> usize
     ensures value { (d : Dialect) → result ≡ length (text.opens_lines d opens.now) }
@@ -85,7 +75,7 @@ fn opening_lines(opens: &Option<Words>) -> usize
 /// How many positions are listed.
 fn list_len(s: &Sheet) -> usize
     ensures value { result ≡ length s.now.list }
-    ensures small { result ≤ 200000 }
+    ensures small { result ≤ most_listed }
 {
     s.list().len()
 }
@@ -93,7 +83,7 @@ fn list_len(s: &Sheet) -> usize
 /// The last line of a sheet's text before the entries.
 fn line_behind(s: &Sheet) -> usize
     ensures value { result ≡ possible.line_of s.now 1 }
-    ensures small { result ≤ 200005 }
+    ensures small { result ≤ most_listed + 5 }
 {
     list_line(s.dialect()) + list_len(s) + opening_lines(&s.opens())
 }

@@ -1,11 +1,19 @@
 //! The positions that a player must reckon with.
 //!
 //! `beliefs` lists every position that is consistent with a sheet, and tells where they become too many.
-//! `steps` takes such a set behind one line more.
+//! `steps` takes such a set one line further.
 //!
 //! The rules are the definitions of `specs/`: what is possible, and what a sheet was before (`Possible`),
 //! where there is more than a limit allows (`Limits`), and how a line changes a set (`Steps`). Which
 //! positions are consistent with a sheet is said by krieg_sheet, one hidden game at a time.
+//!
+//! ```
+//! // `text` is White's sheet of a game in which 1.e4 was played and `heard tries 1` was told.
+//! let sheet = read_sheet(alloc, text)?;
+//! let belief = believe(alloc, &sheet, 20)?;
+//! let possible = belief.len(); // 2: Black played f7f5 or d7d5
+//! let stop = believe(alloc, &sheet, 1); // Err(BeliefStop::TooMany { line: 7 })
+//! ```
 #![tactic(auto)]
 
 mod beliefs;

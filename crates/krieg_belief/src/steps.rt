@@ -2,7 +2,7 @@ ghost use Rattle.std.specs.Prelude.{◌≡◌, ◌++◌, ◌<◌, ◌≤◌, tru
 ghost use Rattle.std.specs.List.{All, filter};
 ghost use Rattle.krieg_moves.specs.Legal as rule;
 ghost use Rattle.krieg_moves.specs.After as change;
-ghost use Rattle.krieg_words.specs.Matching.{are_told};
+ghost use Rattle.krieg_words.specs.ToldMoves.{are_told};
 ghost use Rattle.krieg_belief.specs.Steps as spec;
 ghost use Rattle.krieg_belief.specs.declared.steps.StepStop.TheVariants as stop;
 
@@ -58,7 +58,7 @@ fn push_heard(
     Ok(())
 }
 
-/// Adds the positions in which a game that stands in `p` may stand behind the line.
+/// Adds the positions in which a game that stands in `p` may stand after the line.
 #[tactic(auto, using(crate::proofs::Runs::listed))]
 fn push_next(
     alloc: Global,
@@ -111,7 +111,7 @@ fn push_next(
     }
 }
 
-/// The set behind one line more. The positions are gathered in a buffer that is never much larger than
+/// The set after one line more. The positions are gathered in a buffer that is never much larger than
 /// twice the limit and the replies to one position.
 pub(crate) fn step(
     alloc: Global,

@@ -1,8 +1,10 @@
 //! Facts from outside: the positions that worked sheets leave possible, and where they are too many.
 
 use crate::*;
+use krieg_board::{NoMemory, Position};
+use krieg_fen::{Text, put_list};
 use krieg_pack::Belief;
-use krieg_sheet::{Sheet, read_sheet, write_answer};
+use krieg_sheet::{Sheet, put_end, put_head, read_sheet};
 use std::alloc::Global;
 
 /// Of the twenty replies to e2e4 the eighteen that leave White no pawn capture.
@@ -38,6 +40,18 @@ const KNIGHTS: &[u8] =
 const MEETING: &[u8] =
     b"krieg sheet 1\nside w\nlist 2\nk7/8/1K6/8/8/8/8/7R w - -\n2k5/8/1K6/8/8/8/8/7R w - -\nopens silent\ntry h1d1 ok silent\nheard silent\nend\n";
 
+/// The same, and White's next try came before the king had moved.
+const MEETING_EARLY: &[u8] =
+    b"krieg sheet 1\nside w\nlist 1\n2k5/8/1K6/8/8/8/8/7R w - -\ntry h1d1 ok silent\ntry d1d8 early\nheard silent\nend\n";
+
+/// A knight that unmasks the rook checks by itself too: from f6 or from d6.
+const UNMASKED: &[u8] =
+    b"krieg sheet 1\nside b\nlist 1\n4k3/8/8/8/4N3/8/8/4R1K1 w - -\nheard check file+knight\nend\n";
+
+/// In plain all eight squares of the knight are told alike.
+const UNMASKED_PLAIN: &[u8] =
+    b"krieg sheet 2\ndialect plain\nside b\nlist 1\n4k3/8/8/8/4N3/8/8/4R1K1 w - -\nheard check\nend\n";
+
 const LADDER: &[u8] =
     b"krieg sheet 1\nside w\nlist 4\nk7/8/8/8/8/8/8/2K3RR w - -\n1k6/8/8/8/8/8/8/2K3RR w - -\n2k5/8/8/8/8/8/8/2K3RR w - -\n3k4/8/8/8/8/8/8/2K3RR w - -\nopens silent\ntry h1h7 ok silent\nheard silent\nend\n";
 
@@ -51,6 +65,13 @@ const NOT_OVER: &[u8] =
 const NOT_OVER_EARLY: &[u8] =
     b"krieg sheet 1\nside w\nlist 2\n7k/5Q2/6K1/8/8/8/P7/8 b - -\n7k/5Q2/6K1/8/8/p7/P7/8 b - -\ntry f7f6 early\nend\n";
 
+/// A sheet that lists these positions and says no more.
+fn put_answer(s: &Sheet, list: &[Position], text: &mut Text) -> Result<(), NoMemory> {
+    put_head(s.dialect(), s.side(), list.len(), text)?;
+    put_list(list, text)?;
+    put_end(text)
+}
+
 fn is_answer(alloc: Global, s: &Sheet, b: &Belief, want: &[u8]) -> bool {
     let mut list = Vec::new(alloc);
     for i in 0..b.len() {
@@ -59,7 +80,9 @@ fn is_answer(alloc: Global, s: &Sheet, b: &Belief, want: &[u8]) -> bool {
         }
     }
     let mut text = Vec::new(alloc);
-    write_answer(s.dialect(), s.side(), &list, &mut text).is_ok() && text.as_slice() == want
+    let mut all = Text::after(&mut text);
+    let done = put_answer(s, &list, &mut all);
+    all.end(done, &mut text).is_ok() && text.as_slice() == want
 }
 
 fn lists(alloc: Global, text: &[u8], limit: usize, want: &[u8]) -> bool {
@@ -88,6 +111,16 @@ fn lists_what_is_possible(rt: HostRuntime) {
             MEETING,
             10,
             b"krieg sheet 1\nside w\nlist 1\n1k6/8/1K6/8/8/8/8/3R4 w - -\nend\n",
+        ),
+        (
+            MEETING_EARLY,
+            10,
+            b"krieg sheet 1\nside w\nlist 1\n1k6/8/1K6/8/8/8/8/3R4 w - -\nend\n",
+        ),
+        (
+            UNMASKED,
+            10,
+            b"krieg sheet 1\nside b\nlist 2\n4k3/8/5N2/8/8/8/8/4R1K1 b - -\n4k3/8/3N4/8/8/8/8/4R1K1 b - -\nend\n",
         ),
         (
             LADDER,
@@ -128,4 +161,5 @@ fn too_many_at_their_line(rt: HostRuntime) {
         assert!(rt; size_of(rt.alloc(), text, limit) == Some(Err(BeliefStop::TooMany { line })));
     }
     assert!(rt; size_of(rt.alloc(), HEARD_PLAIN, 20) == Some(Ok(20)));
+    assert!(rt; size_of(rt.alloc(), UNMASKED_PLAIN, 8) == Some(Ok(8)));
 }

@@ -7,6 +7,11 @@
 //!
 //! It prints one line, a number that tells whether the work was right: it depends on the rules of chess
 //! and on N, and on nothing else.
+//!
+//! ```
+//! krieg_bench perft 3   # 8902, the number of games of three plies from the start
+//! krieg_bench check 1   # 12, the checks among the positions after them
+//! ```
 #![tactic(auto)]
 
 mod games;

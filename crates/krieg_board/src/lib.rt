@@ -2,6 +2,17 @@
 //!
 //! The rules of this crate are the definitions of `specs/`; each function here answers exactly what
 //! the definition of its name says. No call takes memory.
+//!
+//! ```
+//! let mut board: Board = [None; 64];
+//! board[4] = Some(Man { side: Side::White, kind: Kind::King });
+//! board[60] = Some(Man { side: Side::Black, kind: Kind::King });
+//! let rights = Rights::new(0).ok_or("rights")?;
+//! let kings = Position::make(board, Side::White, rights, None); // Ok: the kings on e1 and e8
+//! board[52] = Some(Man { side: Side::White, kind: Kind::Rook });
+//! let rook = Position::make(board, Side::White, rights, None);
+//! // Err(BadPosition::IdleInCheck): the rook on e7 attacks Black's king, and White is to move
+//! ```
 #![tactic(auto)]
 
 mod attack;

@@ -1,5 +1,4 @@
-mod Listing
-mod OtherWords
 mod Pieces
+mod Reports
 mod Solutions
 mod WholeGames

@@ -1,6 +1,11 @@
-pub mod Command
-pub mod Solution
-pub mod Refusals
-pub mod Outcome
+pub mod World
+pub mod Refusal
 pub mod Ending
+pub mod Input
+pub mod Solve
+pub mod Believe
+pub mod Umpire
+pub mod Outcome
+pub mod Top
 pub mod WholeGames
+pub mod Parts

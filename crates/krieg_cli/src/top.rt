@@ -1,70 +1,52 @@
-ghost use Rattle.std.specs.Prelude.{◌≡◌, Option, None, ℕ, map, string_bytes, IfOk, IfErr};
-ghost use Rattle.krieg_cli.specs.Command.{command_of};
-ghost use Rattle.krieg_cli.specs.Refusals.{status};
-ghost use Rattle.krieg_cli.specs.Ending.{stream, WasRead, FailsToRead, Ends, Runs, Reports, refusal_of};
-ghost use Rattle.krieg_cli.specs.WholeGames.{IsTrueToGames};
+ghost use Rattle.std.specs.Prelude.{◌≡◌, false, map, string_bytes};
+ghost use Rattle.krieg_args.specs.Command.{command_of};
+ghost use Rattle.krieg_cli.specs.World.{stream, world};
+ghost use Rattle.krieg_cli.specs.Parts.{ending_of};
+ghost use Rattle.krieg_cli.specs.Top.{Ends, Runs, Reports, EndsSo, reads};
+ghost use Rattle.krieg_cli.specs.WholeGames.{UmpiresGames, BelievesGames};
 
-use crate::command::{Command, command_of};
+use crate::ending::Ending;
+use crate::input::taken;
 use crate::outcome::{is_built, outcome};
-use crate::refusal::Refusal;
 use crate::report::report;
-use krieg_ports::{ReadEnd, Sink, Source, read_all, write_all};
+use krieg_args::{Command, command_of};
+use krieg_ports::{Sink, Source, write_all};
 use std::alloc::Global;
 
-/// The most bytes of input.
-const MOST_INPUT: usize = 67_108_864;
-
-/// The whole input.
-fn read_input<S: Source>(alloc: Global, input: &mut S) -> Result<Vec<u8>, Refusal>
-    ensures read { IfOk result (λ text. WasRead (stream (S.left input.old) (S.faults input.old)) (stream (S.left input.new) (S.faults input.new)) text.items) }
-    ensures fails { IfErr result (λ e. FailsToRead e (stream (S.left input.old) (S.faults input.old)) (stream (S.left input.new) (S.faults input.new))) }
-{
-    match read_all(alloc, input, MOST_INPUT) {
-        Ok(text) => Ok(text),
-        Err(ReadEnd::ReadFault) => Err(Refusal::ReadFault),
-        Err(ReadEnd::TooLong) => Err(Refusal::TooLong),
-        Err(ReadEnd::NoMemory) => Err(Refusal::NoMemory),
-    }
-}
-
-/// Reads the input of the command, and writes its answer to `out`.
+/// Takes the input of the command, and writes its answer to `out`.
 fn answer<S: Source, O: Sink>(
     alloc: Global,
     command: &Command,
     input: &mut S,
     out: &mut O,
-) -> Result<(), Refusal>
-    ensures ends { Ends (refusal_of result) command.now
-        (stream (S.left input.old) (S.faults input.old)) (stream (S.left input.new) (S.faults input.new))
-        (stream (O.got out.old) (O.faults out.old)) (stream (O.got out.new) (O.faults out.new)) }
+) -> Result<(), Ending>
+    ensures { let seen = world S.left S.faults O.got O.faults in
+        Ends (ending_of result) command.now (seen input.old out.old) (seen input.new out.new) }
 {
-    let text = read_input(alloc, input)?;
+    let text = taken(alloc, command, input)?;
     let answer = outcome(alloc, command, text)?;
-    match write_all(out, &answer) {
-        Ok(()) => Ok(()),
-        Err(_) => Err(Refusal::WriteFault),
-    }
+    write_all(out, &answer)?;
+    Ok(())
 }
 
 /// Does what the words ask for.
-fn obey<S: Source, O: Sink>(
-    alloc: Global,
-    words: &[String],
-    input: &mut S,
-    out: &mut O,
-) -> Result<(), Refusal>
-    ensures runs { Runs (refusal_of result) (command_of (map string_bytes words.now))
-        (stream (S.left input.old) (S.faults input.old)) (stream (S.left input.new) (S.faults input.new))
-        (stream (O.got out.old) (O.faults out.old)) (stream (O.got out.new) (O.faults out.new)) }
-    ensures usage { command_of (map string_bytes words.now) ≡ None → input.new ≡ input.old }
+fn obey<S: Source, O: Sink>(alloc: Global, words: &[String], input: &mut S, out: &mut O) -> Ending
+    ensures runs { let asked = command_of (map string_bytes words.now) in
+        let seen = world S.left S.faults O.got O.faults in
+        Runs result asked (seen input.old out.old) (seen input.new out.new) }
+    ensures unread { reads (command_of (map string_bytes words.now)) ≡ false
+        → input.new ≡ input.old }
 {
     let Some(command) = command_of(words) else {
-        return Err(Refusal::Usage);
+        return Ending::Usage;
     };
     if !is_built(&command) {
-        return Err(Refusal::NotBuilt);
+        return Ending::NotBuilt;
     }
-    answer(alloc, &command, input, out)
+    match answer(alloc, &command, input, out) {
+        Ok(()) => Ending::Answered,
+        Err(ending) => ending,
+    }
 }
 
 /// Does all that the program does, over streams, and gives the status with which it ends.
@@ -76,11 +58,12 @@ fn obey<S: Source, O: Sink>(
 /// exactly where no move mates.
 ///
 /// The status is 0 with the answer; 1 exactly where the words are no command, and 15 where the command
-/// is not built (nothing is read then); 2 exactly where the input has more than 67,108,864 bytes; 3 or 4
-/// exactly where it has a first bad line, and 15 where it is not built; 7 exactly where more positions are
-/// possible behind some part of the sheet than the limit allows; 9 where a read failed; 10 where
-/// a write to `out` failed, which has got a front part of the answer then; 11 for want of memory. At
-/// each status but 0 `err` gets one line, and at each but 0 and 10 `out` gets nothing.
+/// is not built (nothing is read then); 2 exactly where one byte more came than the
+/// [`MOST_INPUT`](crate::MOST_INPUT) that an input may have; 3 or 4 exactly where it has a first bad line,
+/// and 15 where it is not built; 7 exactly where more positions are possible after some part of the sheet
+/// than the limit allows; 9 where a read failed, with no more bytes read than an input may have; 10 where
+/// a write to `out` failed, which has got a front part of the answer then; 11 for want of memory. At each
+/// status but 0 `err` gets one line, and at each but 0 and 10 `out` gets nothing.
 pub fn run<S: Source, O: Sink, E: Sink>(
     alloc: Global,
     words: &[String],
@@ -88,23 +71,30 @@ pub fn run<S: Source, O: Sink, E: Sink>(
     out: &mut O,
     err: &mut E,
 ) -> u8
-    ensures ends { (ending : Option Refusal) × (result ≡ status ending)
-        × Runs ending (command_of (map string_bytes words.now))
-        (stream (S.left input.old) (S.faults input.old)) (stream (S.left input.new) (S.faults input.new))
-        (stream (O.got out.old) (O.faults out.old)) (stream (O.got out.new) (O.faults out.new))
-        × Reports ending (stream (E.got err.old) (E.faults err.old)) (stream (E.got err.new) (E.faults err.new)) }
-    ensures usage { command_of (map string_bytes words.now) ≡ None → (result ≡ 1) × (input.new ≡ input.old) }
-    // What `umpire` writes for a player is his sheet of the game; given it, `believe` lists where that game stands.
-    ensures game { (ending : Option Refusal) × (result ≡ status ending)
-        × IsTrueToGames ending (command_of (map string_bytes words.now))
-        (stream (S.left input.old) (S.faults input.old)) (stream (S.left input.new) (S.faults input.new))
-        (stream (O.got out.old) (O.faults out.old)) (stream (O.got out.new) (O.faults out.new)) }
+    ensures ends { let asked = command_of (map string_bytes words.now) in
+        let seen = world S.left S.faults O.got O.faults in
+        let heard = stream E.got E.faults in
+        EndsSo result (λ ending.
+        Runs ending asked (seen input.old out.old) (seen input.new out.new)
+        × Reports ending (heard err.old) (heard err.new)) }
+
+    // Where nothing is read for the words, the input stays as it is.
+    ensures unread { reads (command_of (map string_bytes words.now)) ≡ false
+        → input.new ≡ input.old }
+
+    // What `umpire` writes for a player is his sheet of the game, and it is the same without the other
+    // player's tries that are not done.
+    ensures umpires { let asked = command_of (map string_bytes words.now) in
+        let seen = world S.left S.faults O.got O.faults in
+        UmpiresGames asked result (seen input.old out.old) (seen input.new out.new) }
+
+    // Given what `umpire` wrote, `believe` lists the position in which the game stands.
+    ensures believes { let asked = command_of (map string_bytes words.now) in
+        let seen = world S.left S.faults O.got O.faults in
+        EndsSo result (λ ending.
+        BelievesGames asked ending (seen input.old out.old) (seen input.new out.new)) }
 {
-    match obey(alloc, words, input, out) {
-        Ok(()) => 0,
-        Err(refusal) => {
-            report(&refusal, err);
-            refusal.status()
-        }
-    }
+    let ending = obey(alloc, words, input, out);
+    report(&ending, err);
+    ending.status()
 }

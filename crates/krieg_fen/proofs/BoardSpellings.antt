@@ -27,7 +27,7 @@ eight_parts (Some row) y e =
     let p = cond_some (eqb (length row) 8) row y e in
     (ap Some p.1, ap length (sym p.1) ∙ eqb-true (length row) 8 p.0)
 
--- the rank behind the ranks below it
+-- the rank after the ranks below it
 rank_there : (low row more : Row) (board : Board) (n : ℕ) → length low ≡ 8 * n → length row ≡ 8 → board ≡ low ++ (row ++ more) → row ≡ rank_at board n
 rank_there low row more board n size long is =
     sym (ap (λ (t : Row). take 8 (drop (8 * n) t)) is ∙ ap (take 8) (drop_at low (row ++ more) (8 * n) size) ∙ take_at row more 8 long)

@@ -43,7 +43,7 @@ letter_spells : (c : ℕ) (text : List ℕ) → text ≡ one (letter_at c text).
 letter_spells c [] = refl
 letter_spells c (b ∷ bs) = letter_by c b bs (eqb b c) refl
 
--- the letters, and what stands behind them
+-- the letters, and what stands after them
 letters_spell : (text : List ℕ) → text ≡ held_text (letters_of text).0 ++ (letters_of text).1
 letters_spell text =
     let a = letter_at 75 text in let b = letter_at 81 a.1 in let c = letter_at 107 b.1 in let d = letter_at 113 c.1 in

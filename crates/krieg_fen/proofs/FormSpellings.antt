@@ -1,4 +1,4 @@
--- Which lines have the shared forms: a number behind a name, a side, how many positions are listed, and a position.
+-- Which lines have the shared forms: a number after a name, a side, how many positions are listed, and a position.
 use Rattle.std.proofs.Common.{◌≡◌, ℕ, ◌<◌, ◌≤◌, ◌^◌, Bool, true, false, cond, List, ◌++◌, Option, Some, None, Result, Ok, Err, refl, ap, ◌∙◌, arith}
 use Rattle.std.specs.Prelude.{codes}
 use Rattle.std.specs.Str.{bytes_eq}
@@ -16,12 +16,12 @@ use Rattle.krieg_fen.specs.Names.{behind}
 use Rattle.krieg_fen.specs.Decimals.{number_text, number_between}
 use Rattle.krieg_fen.specs.Fen.{position_of}
 use Rattle.krieg_fen.specs.Spelling.{Spells}
-use Rattle.krieg_fen.specs.Forms.{number_form, number_behind, ranged, side_line, side_form, list_line, list_form, position_kind, position_form}
+use Rattle.krieg_fen.specs.Forms.{number_form, number_behind, ranged, side_line, side_form, list_line, most_listed, list_form, position_kind, position_form}
 use Rattle.krieg_fen.proofs.NameLemmas.{behind_again, behind_spells}
 use Rattle.krieg_fen.proofs.Numbers.{between_spells, between_again}
 use Rattle.krieg_fen.proofs.PositionSpellings.{position_spells, position_reads}
 
--- a number within a range behind a name
+-- a number within a range after a name
 pub number_is : (outside : TextKind) (name : List ℕ) (least most : ℕ) (text : List ℕ) (n : ℕ) → most < 2 ^ 64 → number_form outside name least most text ≡ Ok n →
     (least ≤ n) × (n ≤ most) × (text ≡ name ++ number_text n)
 unfolding number_form
@@ -60,13 +60,13 @@ side_again White = refl
 side_again Black = refl
 
 -- how many positions are listed
-pub count_spells : (text : List ℕ) (n : ℕ) → list_form text ≡ Ok n → (1 ≤ n) × (n ≤ 200000) × (text ≡ list_line n)
+pub count_spells : (text : List ℕ) (n : ℕ) → list_form text ≡ Ok n → (1 ≤ n) × (n ≤ most_listed) × (text ≡ list_line n)
 unfolding list_form
-count_spells text n e = number_is Count (codes "list ") 1 200000 text n (omega arith) e
+count_spells text n e = number_is Count (codes "list ") 1 most_listed text n (omega arith) e
 
-pub count_again : (n : ℕ) → 1 ≤ n → n ≤ 200000 → list_form (list_line n) ≡ Ok n
+pub count_again : (n : ℕ) → 1 ≤ n → n ≤ most_listed → list_form (list_line n) ≡ Ok n
 unfolding list_form
-count_again n low high = number_read Count (codes "list ") 1 200000 n (omega arith) low high
+count_again n low high = number_read Count (codes "list ") 1 most_listed n (omega arith) low high
 
 -- a position
 pub position_is : (text : List ℕ) (p : Pos) → position_form text ≡ Ok p → Spells text p

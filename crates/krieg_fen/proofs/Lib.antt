@@ -3,7 +3,7 @@ pub mod PieceCuts
 pub mod NameLemmas
 pub mod Numbers
 pub mod MoveTexts
-pub mod Fronts
+pub mod Writings
 pub mod RankReading
 pub mod FieldCounts
 pub mod Free
@@ -13,6 +13,8 @@ pub mod RankWriting
 pub mod ReadingLemmas
 pub mod Locality
 pub mod Loops
+pub mod Grammars
+pub mod LoopGrammars
 pub mod FirstBadLine
 pub mod Listing
 pub mod LineTexts
@@ -22,5 +24,8 @@ pub mod FieldSpellings
 pub mod PositionSpellings
 pub mod ListSpellings
 pub mod Takings
+pub mod Formats
 pub mod FormSpellings
 pub mod Listings
+pub mod HandOfItself
+pub mod ListGrammars

@@ -3,7 +3,7 @@ use Rattle.std.proofs.Common.{◌≡◌, inl, inr, ℕ, ◌<◌, ◌≤◌, Bool
 use Rattle.std.proofs.lemmas.Bool.{ne_eqb, and_parts, and_from, not-true}
 use Rattle.std.specs.List.{list_all}
 use Rattle.std.proofs.lemmas.List.Folds.{list_all-append}
-use Rattle.krieg_fen.specs.Lines.{lines, onto_line, with_ends, is_line, AreLines, EndsLines}
+use Rattle.krieg_fen.specs.Lines.{lines, onto_line, with_ends, is_line, AreLines, EndsFull, EndsLines}
 use Rattle.krieg_fen.proofs.Free.{Above}
 
 -- a text of bytes that are all above the line feed is a line
@@ -13,7 +13,7 @@ line_above n (b ∷ l) le above =
     let h : n < b = above.0 in
     and_from _ _ (ap not (ne_eqb b 10 (λ e. absurd (omega arith)))) (line_above n l le above.1)
 
--- two lines one behind the other
+-- two lines one after the other
 pub line_append : (a b : List ℕ) → is_line a ≡ true → is_line b ≡ true → is_line (a ++ b) ≡ true
 line_append a b p q = list_all-append (λ c. not (eqb c 10)) a b ∙ and_from _ _ p q
 
@@ -50,16 +50,24 @@ lines_free (b ∷ bs) = go (lines_free bs) (eqb b 10) refl
     go more true is = (refl, more)
     go more false is = onto_free b (lines bs) is more
 
+full_more : (l : List ℕ) (ls : List (List ℕ)) → EndsFull ls → EndsFull (l ∷ ls)
+full_more l [] full = absurd full
+full_more l (m ∷ ls) full = full
+
+full_longer : (b : ℕ) (l : List ℕ) (ls : List (List ℕ)) → EndsFull (l ∷ ls) → EndsFull ((b ∷ l) ∷ ls)
+full_longer b l [] full = λ e. absurd cc
+full_longer b l (m ∷ ls) full = full
+
 ends_feed : (bs : List ℕ) (ls : List (List ℕ)) → EndsLines bs ls → EndsLines (10 ∷ bs) ([] ∷ ls)
 ends_feed bs ls (inl e) = inl (ap (λ (t : List ℕ). 10 ∷ t) e)
-ends_feed bs ls (inr e) = inr (ap (λ (t : List ℕ). 10 ∷ t) e)
+ends_feed bs ls (inr e) = inr (ap (λ (t : List ℕ). 10 ∷ t) e.0, full_more [] ls e.1)
 
 ends_byte : (b : ℕ) (bs : List ℕ) (ls : List (List ℕ)) → lines bs ≡ ls → EndsLines bs ls → EndsLines (b ∷ bs) (onto_line b ls)
-ends_byte b [] [] is e = inr refl
+ends_byte b [] [] is e = inr (refl, λ k. absurd cc)
 ends_byte b (c ∷ bs) [] is (inl e) = absurd cc
-ends_byte b (c ∷ bs) [] is (inr e) = absurd cc
+ends_byte b (c ∷ bs) [] is (inr e) = absurd e.1
 ends_byte b bs (l ∷ ls) is (inl e) = inl (ap (λ (t : List ℕ). b ∷ t) e)
-ends_byte b bs (l ∷ ls) is (inr e) = inr (ap (λ (t : List ℕ). b ∷ t) e)
+ends_byte b bs (l ∷ ls) is (inr e) = inr (ap (λ (t : List ℕ). b ∷ t) e.0, full_longer b l ls e.1)
 
 -- the lines with their line feeds are the text, but for a last line feed that the text may lack
 pub lines_whole_text : (bs : List ℕ) → EndsLines bs (lines bs)

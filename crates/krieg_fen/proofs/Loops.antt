@@ -6,14 +6,13 @@ use Rattle.krieg_fen.specs.declared.fault.TextKind.{TextKind}
 use Rattle.krieg_fen.specs.declared.fault.TextKind.TheVariants.{Syntax}
 use Rattle.krieg_fen.specs.Outcomes.{◌>>=◌}
 use Rattle.krieg_fen.specs.Reading.{Place, place, LineReader, on, Step, goes_on, stops, up_to_last}
-use Rattle.krieg_fen.specs.FirstBad.{ReadFrom, FaultAt, IsLocal}
-use Rattle.krieg_fen.proofs.Locality.{ok_is}
+use Rattle.krieg_fen.proofs.Locality.{ReadFrom, FaultAt, IsLocal, ok_is}
 
-abbrev loop : {S A : Type 0} → (S → List ℕ → Result (Step S A) TextKind) → S → LineReader A
+abbrev pub loop : {S A : Type 0} → (S → List ℕ → Result (Step S A) TextKind) → S → LineReader A
 loop form s p = up_to_last form s p.number p.left
 
 -- what one line leads to
-abbrev next : {S A : Type 0} → (S → List ℕ → Result (Step S A) TextKind) → ℕ → List (List ℕ) → Result (Step S A) TextKind → Result (A × Place) TextFault
+abbrev pub next : {S A : Type 0} → (S → List ℕ → Result (Step S A) TextKind) → ℕ → List (List ℕ) → Result (Step S A) TextKind → Result (A × Place) TextFault
 next form n ls f = on n f >>= λ step. elim step [ stops x ↦ Ok (x, place (n + 1) ls) | goes_on s ↦ up_to_last form s (n + 1) ls ]
 
 goes_by : {S A : Type 0} (form : S → List ℕ → Result (Step S A) TextKind) (l : List ℕ) (ls : List (List ℕ)) (s : S) (n : ℕ) (x : A) (q : Place) (f : Result (Step S A) TextKind) →
@@ -43,7 +42,7 @@ loop_goes : {S A : Type 0} (form : S → List ℕ → Result (Step S A) TextKind
 loop_goes form [] s n x q e = absurd cc
 loop_goes form (l ∷ ls) s n x q e = goes_by form l ls s n x q (form s l) (λ t. loop_goes form ls t (n + 1) x q) refl e
 
--- a fault of the lines behind the first one
+-- a fault of the lines after the first one
 later : {S A : Type 0} (form : S → List ℕ → Result (Step S A) TextKind) (l : List ℕ) (ls : List (List ℕ)) (s t : S) (n : ℕ) (e : TextFault) →
     ((ms : List (List ℕ)) → loop form s (place n (l ∷ ms)) ≡ loop form t (place (n + 1) ms)) → FaultAt (loop form t) (n + 1) ls e → FaultAt (loop form s) n (l ∷ ls) e
 later form l ls s t n NoMemory same h = h

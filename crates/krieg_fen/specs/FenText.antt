@@ -14,7 +14,7 @@ abbrev pub run : ℕ → List ℕ
 run zero = []
 run (suc n) = (49 + n) ∷ []
 
--- the squares behind a run of n empty ones
+-- the squares after a run of n empty ones
 abbrev pub row_text : ℕ → Row → List ℕ
 row_text n [] = run n
 row_text n (None ∷ row) = row_text (suc n) row
@@ -60,7 +60,7 @@ abbrev pub mark_text : Option ℕ → List ℕ
 mark_text None = 45 ∷ []
 mark_text (Some s) = square_text s
 
--- the fields behind the first, each behind a space, which is byte 32
+-- the fields after the first, each after a space, which is byte 32
 unfoldable pub state_text : Side → Rights → Option ℕ → List ℕ
 state_text side rights mark = 32 ∷ (side_text side ++ (32 ∷ (rights_text rights ++ (32 ∷ mark_text mark))))
 

@@ -1,4 +1,4 @@
--- The fields of a position behind the first: the side to move, the rights, the mark and the two clocks.
+-- The fields of a position after the first: the side to move, the rights, the mark and the two clocks.
 use Rattle.std.specs.Prelude.{ℕ, ◌==◌, Bool, true, false, ◌&&◌, ◌||◌, List, [], ◌∷◌, length, Option, Some, None, nat_le, if◌then◌else◌}
 use Rattle.std.specs.List.{list_all}
 use Rattle.std.specs.Char.{is_ascii_digit}
@@ -12,7 +12,7 @@ abbrev pub side_of : List ℕ → Option Side
 side_of (b ∷ []) = if b == 119 then Some White else (if b == 98 then Some Black else None)
 side_of _ = None
 
--- whether the letter is at the front, and what stands behind it where it is
+-- whether the letter is at the front, and what stands after it where it is
 abbrev pub letter_at : ℕ → List ℕ → Bool × List ℕ
 letter_at c [] = (false, [])
 letter_at c (b ∷ bs) = if b == c then (true, bs) else (false, b ∷ bs)
@@ -20,7 +20,7 @@ letter_at c (b ∷ bs) = if b == c then (true, bs) else (false, b ∷ bs)
 abbrev pub no_rights : Rights
 no_rights = record { white_short = false; white_long = false; black_short = false; black_long = false }
 
--- those of `K` 75, `Q` 81, `k` 107 and `q` 113 that stand at the front in this order, and what stands behind them
+-- those of `K` 75, `Q` 81, `k` 107 and `q` 113 that stand at the front in this order, and what stands after them
 abbrev pub letters_of : List ℕ → Rights × List ℕ
 letters_of text =
     let a = letter_at 75 text in let b = letter_at 81 a.1 in let c = letter_at 107 b.1 in let d = letter_at 113 c.1 in

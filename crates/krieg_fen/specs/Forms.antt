@@ -1,16 +1,19 @@
 -- The forms of lines that several formats have: what each gives, or the kind of its fault.
-use Rattle.std.specs.Prelude.{ℕ, zero, suc, List, [], ◌∷◌, ◌++◌, codes, Option, Some, None, Result, Ok, Err, if◌then◌else◌, unwrap_or}
+use Rattle.std.specs.Prelude.{ℕ, Bool, true, zero, suc, List, [], ◌∷◌, ◌++◌, codes, Option, Some, None, Result, Ok, Err, if◌then◌else◌, unwrap_or}
 use Rattle.std.specs.Str.{bytes_eq}
+use Rattle.krieg_board.specs.Men.{is_same_side}
 use Rattle.krieg_board.specs.Pos.{Pos}
 use Rattle.krieg_board.specs.Hand.{same_hand}
 use Rattle.krieg_board.specs.declared.men.Side.{Side}
 use Rattle.krieg_board.specs.declared.men.Side.TheVariants.{White, Black}
 use Rattle.krieg_fen.specs.declared.fault.TextKind.{TextKind}
-use Rattle.krieg_fen.specs.declared.fault.TextKind.TheVariants.{Version, Syntax, Count, Position, Differs}
+use Rattle.krieg_fen.specs.declared.fault.TextKind.TheVariants.{Version, Syntax, Count, Position, Differs, OutOfPlace}
 use Rattle.krieg_fen.specs.declared.fen.FenFault.{FenFault}
 use Rattle.krieg_fen.specs.declared.fen.FenFault.TheVariants.{Fields, Field, Bad}
 use Rattle.krieg_fen.specs.declared.number.NumberFault.{NumberFault}
 use Rattle.krieg_fen.specs.declared.number.NumberFault.TheVariants.{NotPlain, OutOfRange}
+use Rattle.krieg_fen.specs.declared.forms.Turn.{Turn}
+use Rattle.krieg_fen.specs.declared.forms.Turn.TheVariants.{Either, Own}
 use Rattle.krieg_fen.specs.Names.{behind}
 use Rattle.krieg_fen.specs.Decimals.{number_text, number_between}
 use Rattle.krieg_fen.specs.Fen.{position_of}
@@ -27,7 +30,7 @@ abbrev pub number_behind : TextKind → ℕ → ℕ → Option (List ℕ) → Re
 number_behind outside least most None = Err Syntax
 number_behind outside least most (Some text) = ranged outside (number_between text least most)
 
--- a plain decimal within a range behind a name
+-- a plain decimal within a range after a name
 unfoldable pub number_form : TextKind → List ℕ → ℕ → ℕ → List ℕ → Result ℕ TextKind
 number_form outside name least most text = number_behind outside least most (behind name text)
 
@@ -52,9 +55,13 @@ side_form text = if bytes_eq text (side_line White) then Ok White else (if bytes
 abbrev pub list_line : ℕ → List ℕ
 list_line n = codes "list " ++ number_text n
 
--- the number in such a line, from 1 to 200,000
+-- the most positions that a text may list
+abbrev pub most_listed : ℕ
+most_listed = 200000
+
+-- the number in such a line, from 1 to the most
 unfoldable pub list_form : List ℕ → Result ℕ TextKind
-list_form text = count_form (codes "list ") 1 200000 text
+list_form text = count_form (codes "list ") 1 most_listed text
 
 -- a text that spells no position is syntax, and one whose position is not valid has the fault of it
 abbrev pub position_kind : Result Pos FenFault → Result Pos TextKind
@@ -67,26 +74,32 @@ position_kind (Err (Field n)) = Err Syntax
 unfoldable pub position_form : List ℕ → Result Pos TextKind
 position_form text = position_kind (position_of text)
 
-abbrev pub matching : Side → Option Pos → Pos → Result Pos TextKind
-matching who None p = Ok p
-matching who (Some first) p = if same_hand first p who then Ok p else Err Differs
+-- who may be to move in the first listed position: either side, or the text's own
+abbrev pub has_turn : Turn → Side → Pos → Bool
+has_turn Either who p = true
+has_turn Own who p = is_same_side p.side who
 
--- a listed position: its hand, for that side, is that of the first one
-unfoldable pub listed_form : Side → Option Pos → List ℕ → Result Pos TextKind
-listed_form who first text = position_form text >>= matching who first
+-- the first position has the turn that is asked for, and each other one the hand of the first
+abbrev pub matching : Turn → Side → Option Pos → Pos → Result Pos TextKind
+matching turn who None p = if has_turn turn who p then Ok p else Err OutOfPlace
+matching turn who (Some first) p = if same_hand first p who then Ok p else Err Differs
+
+-- a listed position
+unfoldable pub listed_form : Turn → Side → Option Pos → List ℕ → Result Pos TextKind
+listed_form turn who first text = position_form text >>= matching turn who first
 
 -- n listed positions, where first is the first of all, once there is one
-abbrev pub positions_at : Side → Option Pos → ℕ → LineReader (List Pos)
-positions_at who first zero p = Ok ([], p)
-positions_at who first (suc n) p = do
-  one ← taken (listed_form who first) p
-  others ← positions_at who (Some (unwrap_or first one.0)) n one.1
+abbrev pub positions_at : Turn → Side → Option Pos → ℕ → LineReader (List Pos)
+positions_at turn who first zero p = Ok ([], p)
+positions_at turn who first (suc n) p = do
+  one ← taken (listed_form turn who first) p
+  others ← positions_at turn who (Some (unwrap_or first one.0)) n one.1
   Ok (one.0 ∷ others.0, others.1)
 
 -- whose text it is, how many positions are listed, and these
-unfoldable pub listing_at : LineReader (Side × List Pos)
-listing_at p = do
+unfoldable pub listing_at : Turn → LineReader (Side × List Pos)
+listing_at turn p = do
   side ← taken side_form p
   count ← taken list_form side.1
-  list ← positions_at side.0 None count.0 count.1
+  list ← positions_at turn side.0 None count.0 count.1
   Ok ((side.0, list.0), list.1)

@@ -1,4 +1,5 @@
 pub mod Outcomes
+pub mod Writing
 pub mod Lines
 pub mod Pieces
 pub mod Names
@@ -10,7 +11,10 @@ pub mod Fields
 pub mod Fen
 pub mod FenText
 pub mod Reading
+pub mod Languages
+pub mod Formats
 pub mod FirstBad
 pub mod Forms
 pub mod Spelling
 pub mod Listing
+pub mod ListText

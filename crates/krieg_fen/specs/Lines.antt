@@ -1,5 +1,5 @@
 -- The lines of a text. A line feed is byte 10; a carriage return is a byte like others.
-use Rattle.std.specs.Prelude.{◌≡◌, ◌⊎◌, true, Bool, not, ℕ, ◌==◌, List, [], ◌∷◌, ◌++◌, if◌then◌else◌}
+use Rattle.std.specs.Prelude.{◌≡◌, ◌≢◌, ◌⊎◌, true, Bool, not, ℕ, ◌==◌, List, [], ◌∷◌, ◌++◌, if◌then◌else◌}
 use Rattle.std.specs.List.{flat_map, list_all}
 
 -- the byte at the front of the first line
@@ -28,6 +28,12 @@ abbrev pub AreLines : List (List ℕ) → Type 0
 AreLines [] = Unit {0}
 AreLines (l ∷ ls) = (is_line l ≡ true) × AreLines ls
 
--- the text is these lines with their line feeds, but for the last line feed, which it may lack
+-- there is a last line, and it is not empty
+abbrev pub EndsFull : List (List ℕ) → Type 0
+EndsFull [] = ⊥
+EndsFull (l ∷ []) = l ≢ []
+EndsFull (l ∷ m ∷ ls) = EndsFull (m ∷ ls)
+
+-- the text is these lines with their line feeds, but for the last line feed, which it may lack where the last line is not empty
 abbrev pub EndsLines : List ℕ → List (List ℕ) → Type 0
-EndsLines text ls = (text ≡ with_ends ls) ⊎ (text ++ (10 ∷ []) ≡ with_ends ls)
+EndsLines text ls = (text ≡ with_ends ls) ⊎ ((text ++ (10 ∷ []) ≡ with_ends ls) × EndsFull ls)

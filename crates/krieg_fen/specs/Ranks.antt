@@ -14,7 +14,7 @@ squares_at b =
     if nat_le 49 b && nat_le b 56 then Some (replicate (b - 48) None)
     else (if is_some (man_of b) then Some (man_of b ∷ []) else None)
 
--- the squares before and those behind, where both are there
+-- the squares before and those after, where both are there
 abbrev pub onto_row : Option Row → Option Row → Option Row
 onto_row (Some front) (Some rest) = Some (front ++ rest)
 onto_row _ _ = None
@@ -40,7 +40,7 @@ ranks_of (suc n) (r ∷ rs) = onto_row (ranks_of n rs) (eight (row_of r))
 abbrev pub board_of : List ℕ → Option Row
 board_of field = ranks_of 8 (pieces 47 field)
 
--- the squares of a byte come behind those that are there
+-- the squares of a byte come after those that are there
 abbrev pub AddsSquares : Option Row → Row → Row → Type 0
 AddsSquares None old new = ⊥
 AddsSquares (Some more) old new = new ≡ old ++ more

@@ -1,5 +1,5 @@
 -- Reading a text line by line: where a reader stands, what it takes, and the first line that it refuses.
-use Rattle.std.specs.Prelude.{◌≡◌, ℕ, ◌+◌, List, [], ◌∷◌, ◌++◌, Result, Ok, Err}
+use Rattle.std.specs.Prelude.{◌≡◌, ◌⊎◌, ℕ, ◌+◌, ◌-◌, List, [], ◌∷◌, ◌++◌, length, Result, Ok, Err}
 use Rattle.krieg_fen.specs.declared.fault.TextFault.{TextFault}
 use Rattle.krieg_fen.specs.declared.fault.TextFault.TheVariants.{At, NoMemory}
 use Rattle.krieg_fen.specs.declared.fault.TextKind.{TextKind}
@@ -19,12 +19,21 @@ place number left = record { number = number; left = left }
 abbrev pub begin : List ℕ → Place
 begin text = place 1 (lines text)
 
--- the lines that are left, new, are those behind the lines that were given
-pub record IsRest (old new : List (List ℕ)) : Type 0 where
+-- some lines were given, and the number is that of the next one
+pub record Passed (old new : Place) : Type 0 where
   pub given : List (List ℕ)
-  pub is : old ≡ given ++ new
+  pub is : old.left ≡ given ++ new.left
+  pub number : new.number ≡ old.number + length given
 
--- A reader of lines gives a value and goes on behind the lines that it took, or refuses a line.
+-- where one stands who has the lines new left of the lines old, the first of which has the number line
+abbrev pub reached : ℕ → List (List ℕ) → List (List ℕ) → Place
+reached line old new = place (line + (length old - length new)) new
+
+-- the line with that number was refused, and it is the last that was given, or it is missing and no line is left
+abbrev pub IsRefusedAt : ℕ → Place → Type 0
+IsRefusedAt line new = (new.number ≡ line + 1) ⊎ ((new.number ≡ line) × (new.left ≡ []))
+
+-- A reader of lines gives a value and goes on after the lines that it took, or refuses a line.
 abbrev pub LineReader : Type 0 → Type 0
 LineReader A = Place → Result (A × Place) TextFault
 
@@ -78,7 +87,8 @@ abbrev pub Gives : {X Y : Type 0} → (X → Y) → Result X TextFault → Resul
 Gives view (Ok x) read = read ≡ Ok (view x)
 Gives view (Err e) read = Fails e read
 
--- the same of a reader that stands at the place new behind the lines that it took
+-- the same of a reader that stands at the place new after the lines that it took, the refused one among them
 abbrev pub GivesOn : {X Y : Type 0} → (X → Y) → Result X TextFault → Place → Result (Y × Place) TextFault → Type 0
 GivesOn view (Ok x) new read = read ≡ Ok (view x, new)
-GivesOn view (Err e) new read = Fails e read
+GivesOn view (Err NoMemory) new read = Unit {0}
+GivesOn view (Err (At line kind)) new read = (read ≡ Err (At line kind)) × IsRefusedAt line new

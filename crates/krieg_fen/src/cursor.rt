@@ -1,14 +1,10 @@
 ghost use Rattle.std.specs.Prelude.{◌≡◌, ◌<◌, ◌≤◌, ◌+◌, ◌^◌, ◌≢◌, IfOk, IfErr, OnOk, OnErr, Ok, Err, None, length, slice_get};
 ghost use Rattle.std.specs.Option.{option_copied};
-ghost use Rattle.krieg_fen.specs.Reading.{begin, line_at, ended, IsRest, GivesOn};
-ghost use Rattle.krieg_fen.specs.Forms.{positions_at};
+ghost use Rattle.krieg_fen.specs.Reading.{begin, place, line_at, ended, Passed};
 ghost use Rattle.krieg_fen.specs.declared.fault.TextFault.TheVariants.{NoMemory as OutOfMemory};
 
 use crate::fault::{TextFault, TextKind};
 use crate::lines::{Lines, lines_of};
-use crate::list::list_at;
-use krieg_board::{Position, Side};
-use std::alloc::Global;
 use std::marker::Model;
 
 /// A reader of a text line by line: the lines that are left, and the number of the first of them.
@@ -28,7 +24,7 @@ impl<'a> Model for Cursor<'a> {
 
     ghost view = { λ c. place c.number c.source };
 
-    ghost invariant = { λ c. c.number + length c.source ≤ 2 ^ 63 };
+    ghost invariant = { λ c. c.number + length c.source ≤ 2 ^ 63 + 2 ^ 48 };
 }
 
 impl<'a> Cursor<'a> {
@@ -42,12 +38,32 @@ impl<'a> Cursor<'a> {
         }
     }
 
+    /// Stands before the first of these lines, which has that number.
+    pub(crate) fn starting(line: usize, source: &Lines<'a>) -> Cursor<'a>
+        requires { line < 2 ^ 48 }
+        ensures { result ≡ place line source.now }
+    {
+        Cursor {
+            source: source.again(),
+            number: line,
+        }
+    }
+
+    /// The lines that are left.
+    pub(crate) fn rest(&self) -> Lines<'a>
+        ensures { result ≡ self.now.left }
+    {
+        self.source.again()
+    }
+
     /// The next line. Where none is left, the text is not complete.
+    #[tactic(auto, using(crate::proofs::ReadingLemmas::passed))]
     pub fn line(&mut self) -> Result<&'a [u8], TextFault>
         ensures ok { IfOk result (λ l. line_at self.old ≡ Ok (l.now, self.new)) }
         ensures err { IfErr result (λ e. (line_at self.old ≡ Err e) × (e ≢ OutOfMemory)) }
         ensures fewer { OnOk result (length self.new.left + 1 ≡ length self.old.left) }
         ensures same { OnErr result (self.new ≡ self.old) }
+        ensures rest { Passed self.old self.new }
     {
         match self.source.next() {
             Some(line) => {
@@ -71,24 +87,9 @@ impl<'a> Cursor<'a> {
     /// The number of the next line.
     pub fn number(&self) -> usize
         ensures value { result ≡ self.now.number }
-        ensures bound { result ≤ 2 ^ 63 }
+        ensures bound { result ≤ 2 ^ 63 + 2 ^ 48 }
     {
         self.number
-    }
-
-    /// The next `n` lines as positions that all have the hand of the first one, for the side `who`.
-    pub fn list(&mut self, alloc: Global, n: usize, who: Side) -> Result<Vec<Position>, TextFault>
-        requires { n < 2 ^ 48 }
-        ensures value { GivesOn (λ v. v.items) result self.new (positions_at who None n self.old) }
-        ensures rest { IsRest self.old.left self.new.left }
-    {
-        match list_at(alloc, &mut self.source, n, self.number, who) {
-            Ok(list) => {
-                self.number += n;
-                Ok(list)
-            }
-            Err(fault) => Err(fault),
-        }
     }
 
     /// That no line is left: one that is there is a fault of kind `Syntax`.

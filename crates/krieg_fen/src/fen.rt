@@ -78,7 +78,7 @@ fn checked(parts: &Parts) -> Result<Position, FenFault>
     }
 }
 
-/// The first four fields, and what stands behind them.
+/// The first four fields, and what stands after them.
 #[tactic(auto, using(crate::proofs::FieldCounts::counts))]
 fn four_of(text: &[u8]) -> Option<(&[u8], &[u8], &[u8], &[u8], Option<&[u8]>)>
     ensures some { IfSome result (λ f. pieces 32 text.now

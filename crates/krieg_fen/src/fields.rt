@@ -22,7 +22,7 @@ pub(crate) fn side_of(field: &[u8]) -> Option<Side>
     }
 }
 
-/// Whether the letter is at the front, and what stands behind it.
+/// Whether the letter is at the front, and what stands after it.
 fn letter_at(letter: u8, text: &[u8]) -> (bool, &[u8])
     ensures { (result.0, result.1.now) ≡ spec.letter_at letter text.now }
 {

@@ -1,7 +1,8 @@
-ghost use Rattle.std.specs.Prelude.{◌≡◌, ◌≤◌, IfOk};
+ghost use Rattle.std.specs.Prelude.{◌≡◌, ◌≢◌, ◌≤◌, IfOk, IfErr};
 ghost use Rattle.std.specs.Option.{option_copied};
 ghost use Rattle.krieg_fen.specs.Forms as spec;
-ghost use Rattle.krieg_fen.specs.Reading.{taken, GivesOn};
+ghost use Rattle.krieg_fen.specs.Reading.{taken, Passed, GivesOn};
+ghost use Rattle.krieg_fen.specs.declared.fault.TextFault.TheVariants.{NoMemory as OutOfMemory};
 
 use crate::cursor::Cursor;
 use crate::fault::{TextFault, TextKind};
@@ -9,9 +10,20 @@ use crate::fen::{FenFault, read_position};
 use crate::names::{behind, is_name};
 use crate::number::{NumberFault, read_number_between};
 use krieg_board::{Position, Side, same_hand};
-use std::alloc::Global;
 
-/// The number from `least` to `most` that stands behind the name. A plain decimal outside the range is of
+/// The most positions that a text may list.
+pub const MOST_LISTED: u64 = 200_000;
+
+/// Who may be to move in the first listed position of a text, and so in each.
+#[derive(Clone, Copy, Debug, PartialEq, Eq)]
+pub enum Turn {
+    /// Either side.
+    Either,
+    /// The side whose text it is. Another is of the kind `OutOfPlace`.
+    Own,
+}
+
+/// The number from `least` to `most` that stands after the name. A plain decimal outside the range is of
 /// the kind `outside`, and everything else is `Syntax`.
 #[tactic(auto, unfolding(crate::specs::Forms::number_form))]
 pub fn number_line(
@@ -34,7 +46,7 @@ pub fn number_line(
     }
 }
 
-/// The version, from 1 to `newest`, that stands behind a format's name. Another plain decimal is of the
+/// The version, from 1 to `newest`, that stands after a format's name. Another plain decimal is of the
 /// kind `Version`.
 pub fn version_line(name: &[u8], newest: u64, text: &[u8]) -> Result<u64, TextKind>
     ensures exact { result ≡ spec.version_form name.now newest text.now }
@@ -43,7 +55,7 @@ pub fn version_line(name: &[u8], newest: u64, text: &[u8]) -> Result<u64, TextKi
     number_line(TextKind::Version, name, 1, newest, text)
 }
 
-/// The number from `least` to `most` that stands behind the name. Another plain decimal is of the kind
+/// The number from `least` to `most` that stands after the name. Another plain decimal is of the kind
 /// `Count`.
 pub fn count_line(name: &[u8], least: u64, most: u64, text: &[u8]) -> Result<u64, TextKind>
     ensures exact { result ≡ spec.count_form name.now least most text.now }
@@ -89,37 +101,61 @@ pub fn position_line(text: &[u8]) -> Result<Position, TextKind>
     }
 }
 
-/// The position that the line spells, where its hand is that of the first one, for the side `who`. A hand
-/// that is another is of the kind `Differs`.
-#[tactic(auto, unfolding(crate::specs::Forms::listed_form))]
-pub fn listed_line(who: Side, first: Option<&Position>, text: &[u8]) -> Result<Position, TextKind>
-    ensures { result ≡ spec.listed_form who (option_copied first.entry) text.now }
+fn has_turn(turn: Turn, who: Side, position: &Position) -> bool
+    ensures { result ≡ spec.has_turn turn who position.now }
 {
-    match position_line(text) {
-        Err(kind) => Err(kind),
-        Ok(position) => match first {
-            None => Ok(position),
-            Some(first) => {
-                if same_hand(first, &position, who) {
-                    Ok(position)
-                } else {
-                    Err(TextKind::Differs)
-                }
-            }
-        },
+    match turn {
+        Turn::Either => true,
+        Turn::Own => position.side() == who,
     }
 }
 
+/// The position, where it may stand after the first of its list, or be the first.
+fn matching(
+    turn: Turn,
+    who: Side,
+    first: Option<&Position>,
+    position: Position,
+) -> Result<Position, TextKind>
+    ensures { result ≡ spec.matching turn who (option_copied first.entry) position }
+{
+    match first {
+        None if has_turn(turn, who, &position) => Ok(position),
+        None => Err(TextKind::OutOfPlace),
+        Some(first) if same_hand(first, &position, who) => Ok(position),
+        Some(_) => Err(TextKind::Differs),
+    }
+}
+
+/// The position that the line spells, where its hand is that of the first one, for the side `who`, or the
+/// turn is that which the first one must have. A hand that is another is of the kind `Differs`, and a turn
+/// of the kind `OutOfPlace`.
+#[tactic(auto, unfolding(crate::specs::Forms::listed_form))]
+pub fn listed_line(
+    turn: Turn,
+    who: Side,
+    first: Option<&Position>,
+    text: &[u8],
+) -> Result<Position, TextKind>
+    ensures { result ≡ spec.listed_form turn who (option_copied first.entry) text.now }
+{
+    matching(turn, who, first, position_line(text)?)
+}
+
 /// The next line, as a format's name and its version.
+#[tactic(auto, using(crate::proofs::ReadingLemmas::refused))]
 pub fn read_version(from: &mut Cursor<'_>, name: &[u8], newest: u64) -> Result<u64, TextFault>
     ensures value { GivesOn (λ n. n) result from.new (taken (spec.version_form name.now newest) from.old) }
     ensures range { IfOk result (λ n. (1 ≤ n) × (n ≤ newest)) }
+    ensures rest { Passed from.old from.new }
+    ensures memory { IfErr result (λ e. e ≢ OutOfMemory) }
 {
     let line = from.number();
     version_line(name, newest, from.line()?).map_err(|kind| TextFault::At { line, kind })
 }
 
 /// The next line, as a name and a number from `least` to `most`.
+#[tactic(auto, using(crate::proofs::ReadingLemmas::refused))]
 pub fn read_count(
     from: &mut Cursor<'_>,
     name: &[u8],
@@ -128,41 +164,31 @@ pub fn read_count(
 ) -> Result<u64, TextFault>
     ensures value { GivesOn (λ n. n) result from.new (taken (spec.count_form name.now least most) from.old) }
     ensures range { IfOk result (λ n. (least ≤ n) × (n ≤ most)) }
+    ensures rest { Passed from.old from.new }
+    ensures memory { IfErr result (λ e. e ≢ OutOfMemory) }
 {
     let line = from.number();
     count_line(name, least, most, from.line()?).map_err(|kind| TextFault::At { line, kind })
 }
 
 /// The next line, as the side whose text it is.
+#[tactic(auto, using(crate::proofs::ReadingLemmas::refused))]
 pub fn read_side(from: &mut Cursor<'_>) -> Result<Side, TextFault>
-    ensures { GivesOn (λ s. s) result from.new (taken spec.side_form from.old) }
+    ensures value { GivesOn (λ s. s) result from.new (taken spec.side_form from.old) }
+    ensures rest { Passed from.old from.new }
+    ensures memory { IfErr result (λ e. e ≢ OutOfMemory) }
 {
     let line = from.number();
     side_named(from.line()?).map_err(|kind| TextFault::At { line, kind })
 }
 
-/// The next line, as the number of listed positions, from 1 to 200,000.
+/// The next line, as the number of listed positions, from 1 to `MOST_LISTED`.
 #[tactic(auto, unfolding(crate::specs::Forms::list_form))]
-fn read_list_line(from: &mut Cursor<'_>) -> Result<u64, TextFault>
+pub(crate) fn read_list_line(from: &mut Cursor<'_>) -> Result<u64, TextFault>
     ensures value { GivesOn (λ n. n) result from.new (taken spec.list_form from.old) }
-    ensures range { IfOk result (λ n. (1 ≤ n) × (n ≤ 200000)) }
+    ensures range { IfOk result (λ n. (1 ≤ n) × (n ≤ spec.most_listed)) }
+    ensures rest { Passed from.old from.new }
+    ensures memory { IfErr result (λ e. e ≢ OutOfMemory) }
 {
-    read_count(from, b"list ", 1, 200_000)
-}
-
-/// The next lines, as the side whose text it is, the number of positions that it lists, from 1 to 200,000,
-/// and these, which all have the hand of the first one for that side.
-///
-/// The kinds of its faults are `Syntax`, also where a line is missing, `Count`, `Position` and `Differs`.
-#[tactic(auto, unfolding(crate::specs::Forms::listing_at))]
-pub fn read_listing(
-    alloc: Global,
-    from: &mut Cursor<'_>,
-) -> Result<(Side, Vec<Position>), TextFault>
-    ensures { GivesOn (λ x. (x.0, x.1.items)) result from.new (spec.listing_at from.old) }
-{
-    let side = read_side(from)?;
-    let count = read_list_line(from)?;
-    let list = from.list(alloc, count as usize, side)?;
-    Ok((side, list))
+    read_count(from, b"list ", 1, MOST_LISTED)
 }

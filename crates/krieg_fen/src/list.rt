@@ -1,62 +1,49 @@
 ghost use Rattle.std.specs.Prelude.{◌≡◌, ◌≢◌, ◌<◌, ◌+◌, ◌^◌, ◌++◌, ℕ, List, IfOk, IfErr, OnOk, Ok, None, length, slice_get};
 ghost use Rattle.krieg_board.specs.Pos.{Pos};
 ghost use Rattle.krieg_fen.specs.Forms as spec;
-ghost use Rattle.krieg_fen.specs.Lines.{ended_line};
-ghost use Rattle.krieg_fen.specs.Listing.{SpellList, IsListed, list_head_text, listed_text, positions_text};
-ghost use Rattle.krieg_fen.specs.Outcomes.{Writes};
-ghost use Rattle.krieg_fen.specs.Reading.{place, taken, IsRest, GivesOn};
-ghost use Rattle.krieg_fen.specs.FirstBad.{FaultAt};
+ghost use Rattle.krieg_fen.specs.Listing.{SpellList, IsListed, ListGrammar};
+ghost use Rattle.krieg_fen.specs.Reading.{place, reached, taken, Passed, GivesOn};
+ghost use Rattle.krieg_fen.specs.FirstBad.{FirstBad};
 ghost use Rattle.krieg_fen.specs.declared.fault.TextFault.TheVariants.{NoMemory as OutOfMemory};
+ghost use Rattle.krieg_fen.specs.declared.forms.Turn.TheVariants.{Either};
 
-use crate::fault::{TextFault, TextKind};
-use crate::fen_text::write_position;
-use crate::forms::{listed_line, side_line};
+use crate::cursor::Cursor;
+use crate::fault::TextFault;
+use crate::forms::{Turn, listed_line, read_list_line, read_side};
 use crate::lines::Lines;
-use crate::number::write_number;
-use krieg_board::{NoMemory, Position, Side};
+use krieg_board::{Position, Side};
 use std::alloc::Global;
 
-/// The next line, of that number, as a position with the hand of the first of the list.
-#[tactic(auto, using(crate::proofs::ReadingLemmas::rests))]
+/// The next line, as a position that may stand after those of the list.
+#[tactic(auto, using(crate::proofs::ReadingLemmas::refused))]
 fn next_listed(
-    from: &mut Lines<'_>,
-    line: usize,
+    from: &mut Cursor<'_>,
+    turn: Turn,
     who: Side,
     list: &[Position],
 ) -> Result<Position, TextFault>
-    ensures value { GivesOn (λ p. p) result (place (line + 1) from.new) (taken (spec.listed_form who (slice_get list.now 0)) (place line from.old)) }
-    ensures one { OnOk result (length from.new + 1 ≡ length from.old) }
-    ensures rest { IsRest from.old from.new }
+    ensures value { GivesOn (λ p. p) result from.new (taken (spec.listed_form turn who (slice_get list.now 0)) from.old) }
+    ensures rest { Passed from.old from.new }
 {
-    let Some(text) = from.next() else {
-        return Err(TextFault::At {
-            line,
-            kind: TextKind::Syntax,
-        });
-    };
-    match listed_line(who, list.first(), text) {
-        Ok(position) => Ok(position),
-        Err(kind) => Err(TextFault::At { line, kind }),
-    }
+    let line = from.number();
+    listed_line(turn, who, list.first(), from.line()?).map_err(|kind| TextFault::At { line, kind })
 }
 
 /// The next `n` lines as positions with one hand.
-#[tactic(auto, using(crate::proofs::Listing::listing, crate::proofs::ReadingLemmas::rests))]
-pub(crate) fn list_at(
+#[tactic(auto, using(crate::proofs::Listing::listing, crate::proofs::ReadingLemmas::passed))]
+fn list_at(
     alloc: Global,
-    from: &mut Lines<'_>,
+    from: &mut Cursor<'_>,
+    turn: Turn,
     n: usize,
-    line: usize,
     who: Side,
 ) -> Result<Vec<Position>, TextFault>
-    requires { line + n < 2 ^ 64 }
-    ensures value { GivesOn (λ v. v.items) result (place (line + n) from.new) (spec.positions_at who None n (place line from.old)) }
-    ensures all { OnOk result (length from.new + n ≡ length from.old) }
-    ensures rest { IsRest from.old from.new }
+    ensures value { GivesOn (λ v. v.items) result from.new (spec.positions_at turn who None n from.old) }
+    ensures rest { Passed from.old from.new }
 {
     let mut list: Vec<Position> = Vec::new(alloc);
     for i in 0..n {
-        match next_listed(from, line + i, who, &list) {
+        match next_listed(from, turn, who, &list) {
             Ok(position) => list.push(position)?,
             Err(fault) => return Err(fault),
         }
@@ -65,10 +52,10 @@ pub(crate) fn list_at(
 }
 
 /// Reads `n` lines as positions that all have the hand of the first one, for the side `who`. The first of
-/// these lines has the number `line`.
+/// these lines has the number `line`. A line that is refused is the last that is taken.
 ///
 /// The kinds of its faults are `Syntax`, also where a line is missing, `Position` and `Differs`.
-#[tactic(auto, using(crate::proofs::Listing::faults, crate::proofs::ListSpellings::spellings))]
+#[tactic(auto, using(crate::proofs::ListSpellings::spellings, crate::proofs::ReadingLemmas::reaches))]
 pub fn read_list(
     alloc: Global,
     from: &mut Lines<'_>,
@@ -77,74 +64,38 @@ pub fn read_list(
     who: Side,
 ) -> Result<Vec<Position>, TextFault>
     requires { line + n < 2 ^ 48 }
-    ensures exact { GivesOn (λ v. v.items) result (place (line + n) from.new) (spec.positions_at who None n (place line from.old)) }
-    ensures rest { IsRest from.old from.new }
+    ensures exact { GivesOn (λ v. v.items) result (reached line from.old from.new) (spec.positions_at Either who None n (place line from.old)) }
+    ensures rest { Passed (place line from.old) (reached line from.old from.new) }
     // What is read is spelled so, and what is spelled so is read.
     ensures found { IfOk result (λ v. (length v.items ≡ n) × IsListed who from.old v.items from.new) }
-    ensures only { (listed rest : List (List ℕ)) (ps : List Pos) → length ps ≡ n → SpellList who None listed ps → from.old ≡ listed ++ rest
-        → GivesOn (λ v. v.items) result (place (line + n) from.new) (Ok (ps, place (line + n) rest)) }
-    // A fault stands behind the last line or at the first bad one, and rests on the lines up to it alone.
-    ensures first_bad { IfErr result (λ e. e ≢ OutOfMemory → FaultAt (spec.positions_at who None n) line from.old e) }
+    ensures only { (listed rest : List (List ℕ)) (ps : List Pos) → length ps ≡ n → SpellList Either who None listed ps → from.old ≡ listed ++ rest
+        → GivesOn (λ v. v.items) result (reached line from.old from.new) (Ok (ps, place (line + n) rest)) }
+    // The fault is the first bad line.
+    ensures first_bad { IfErr result (λ e. e ≢ OutOfMemory → FirstBad (λ ls. spec.positions_at Either who None n (place line ls)) (ListGrammar n) line from.old e) }
 {
-    list_at(alloc, from, n, line, who)
+    let mut cursor = Cursor::starting(line, from);
+    let list = list_at(alloc, &mut cursor, Turn::Either, n, who);
+    *from = cursor.rest();
+    list
 }
 
-/// Appends the line of the side.
-#[tactic(auto, using(crate::proofs::Fronts::fronts))]
-fn write_side_line(side: Side, text: &mut Vec<u8>) -> Result<(), NoMemory>
-    ensures { Writes result text.old.items text.new.items (ended_line (spec.side_line side)) }
+/// The next lines, as the side whose text it is, the number of positions that it lists, from 1 to
+/// `MOST_LISTED`, and these, which all have the hand of the first one for that side; `turn` says who may be
+/// to move in it.
+///
+/// The kinds of its faults are `Syntax`, also where a line is missing, `Count`, `Position`, `Differs` and,
+/// where the turn must be the side's own, `OutOfPlace`.
+#[tactic(auto, using(crate::proofs::ReadingLemmas::passed), unfolding(crate::specs::Forms::listing_at))]
+pub fn read_listing(
+    alloc: Global,
+    from: &mut Cursor<'_>,
+    turn: Turn,
+) -> Result<(Side, Vec<Position>), TextFault>
+    ensures value { GivesOn (λ x. (x.0, x.1.items)) result from.new (spec.listing_at turn from.old) }
+    ensures rest { Passed from.old from.new }
 {
-    text.extend_from_slice(side_line(side))?;
-    text.push(b'\n')?;
-    Ok(())
-}
-
-/// Appends the number of positions behind its name.
-#[tactic(auto, using(crate::proofs::Fronts::fronts))]
-fn write_count(n: usize, text: &mut Vec<u8>) -> Result<(), NoMemory>
-    ensures { Writes result text.old.items text.new.items (spec.list_line n) }
-{
-    text.extend_from_slice(b"list ")?;
-    write_number(n as u64, text)
-}
-
-/// Appends the line of the number of positions.
-#[tactic(auto, using(crate::proofs::Fronts::fronts))]
-fn write_list_line(n: usize, text: &mut Vec<u8>) -> Result<(), NoMemory>
-    ensures { Writes result text.old.items text.new.items (ended_line (spec.list_line n)) }
-{
-    write_count(n, text)?;
-    text.push(b'\n')?;
-    Ok(())
-}
-
-/// Appends the lines that stand before `n` positions: whose text it is, and how many are listed. Behind
-/// them `write_list` appends the positions, or `write_listed` each of them.
-#[tactic(auto, using(crate::proofs::Fronts::fronts), unfolding(crate::specs::Listing::list_head_text))]
-pub fn write_list_head(side: Side, n: usize, text: &mut Vec<u8>) -> Result<(), NoMemory>
-    ensures { Writes result text.old.items text.new.items (list_head_text side n) }
-{
-    write_side_line(side, text)?;
-    write_list_line(n, text)
-}
-
-/// Appends the position in its written form, with a line feed behind it.
-#[tactic(auto, using(crate::proofs::Fronts::fronts))]
-pub fn write_listed(p: &Position, text: &mut Vec<u8>) -> Result<(), NoMemory>
-    ensures { Writes result text.old.items text.new.items (listed_text p.now) }
-{
-    write_position(p, text)?;
-    text.push(b'\n')?;
-    Ok(())
-}
-
-/// Appends each position in its written form, with a line feed behind it.
-#[tactic(auto, using(crate::proofs::Fronts::loops))]
-pub fn write_list(list: &[Position], text: &mut Vec<u8>) -> Result<(), NoMemory>
-    ensures { Writes result text.old.items text.new.items (positions_text list.now) }
-{
-    for p in list {
-        write_listed(p, text)?;
-    }
-    Ok(())
+    let side = read_side(from)?;
+    let count = read_list_line(from)?;
+    let list = list_at(alloc, from, turn, count as usize, side)?;
+    Ok((side, list))
 }

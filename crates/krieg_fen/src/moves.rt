@@ -1,9 +1,11 @@
 ghost use Rattle.std.specs.Prelude.{◌≡◌, ◌<◌, ℕ, IfOk, IfSome, Ok, Some};
 ghost use Rattle.krieg_fen.specs.MoveText as spec;
 ghost use Rattle.krieg_fen.specs.MoveText.{move_text, square_text, IsOnBoard};
-ghost use Rattle.krieg_fen.specs.Outcomes.{Reads, Writes};
+ghost use Rattle.krieg_fen.specs.Outcomes.{Reads};
+ghost use Rattle.krieg_fen.specs.Writing.{PutsText, Appends};
 ghost use Rattle.krieg_board.specs.declared.men.Move.{Move as BoardMove};
 
+use crate::writing::Text;
 use krieg_board::{Move, NoMemory, Promo, Square, square_at};
 
 /// The text is no move text.
@@ -91,23 +93,29 @@ fn promo_text(promo: Promo) -> &'static [u8]
     }
 }
 
-/// Appends the name of the square.
-#[tactic(auto, using(crate::proofs::Fronts::fronts))]
-pub fn write_square(square: Square, text: &mut Vec<u8>) -> Result<(), NoMemory>
-    ensures { Writes result text.old.items text.new.items (square_text square) }
+/// Adds the name of the square.
+pub fn put_square(square: Square, text: &mut Text) -> Result<(), NoMemory>
+    ensures { PutsText result text.old text.new (square_text square) }
 {
     let number = square.number();
-    text.extend_from_slice(&[b'a' + number % 8, b'1' + number / 8])?;
-    Ok(())
+    text.put(&[b'a' + number % 8, b'1' + number / 8])
 }
 
-/// Appends the text of the move.
-#[tactic(auto, using(crate::proofs::Fronts::fronts), unfolding(crate::specs::MoveText::move_text))]
-pub fn write_move(mv: Move, text: &mut Vec<u8>) -> Result<(), NoMemory>
-    ensures { Writes result text.old.items text.new.items (move_text mv) }
+/// Adds the text of the move.
+#[tactic(auto, unfolding(crate::specs::MoveText::move_text))]
+pub fn put_move(mv: Move, text: &mut Text) -> Result<(), NoMemory>
+    ensures { PutsText result text.old text.new (move_text mv) }
 {
-    write_square(mv.from, text)?;
-    write_square(mv.to, text)?;
-    text.extend_from_slice(promo_text(mv.promo))?;
-    Ok(())
+    put_square(mv.from, text)?;
+    put_square(mv.to, text)?;
+    text.put(promo_text(mv.promo))
+}
+
+/// Appends the text of the move. Where memory runs out, nothing is appended.
+pub fn write_move(mv: Move, text: &mut Vec<u8>) -> Result<(), NoMemory>
+    ensures { Appends result text.old.items text.new.items (move_text mv) }
+{
+    let mut all = Text::after(text);
+    let done = put_move(mv, &mut all);
+    all.end(done, text)
 }

@@ -3,7 +3,7 @@ ghost use Rattle.std.specs.Str.{bytes_eq};
 ghost use Rattle.std.specs.Option.{option_copied};
 ghost use Rattle.krieg_fen.specs.Names as spec;
 
-/// What stands behind the name, where the text begins with it.
+/// What stands after the name, where the text begins with it.
 #[tactic(auto, unfolding(crate::specs::Names::behind))]
 pub fn behind<'a>(name: &[u8], text: &'a [u8]) -> Option<&'a [u8]>
     ensures { option_copied result ≡ spec.behind name.now text.now }

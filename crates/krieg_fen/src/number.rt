@@ -4,8 +4,9 @@ ghost use Rattle.std.specs.List.{list_all};
 ghost use Rattle.std.specs.Str.Parse.{digits_value};
 ghost use Rattle.krieg_fen.specs.Decimals as spec;
 ghost use Rattle.krieg_fen.specs.Decimals.{number_text};
-ghost use Rattle.krieg_fen.specs.Outcomes.{Writes};
+ghost use Rattle.krieg_fen.specs.Writing.{PutsText, Appends};
 
+use crate::writing::Text;
 use itoa::Buffer;
 use krieg_board::NoMemory;
 
@@ -87,11 +88,9 @@ pub fn read_number(text: &[u8], max: u64) -> Option<u64>
     read_number_between(text, 0, max).ok()
 }
 
-/// Appends the number as a plain decimal.
-#[tactic(auto, using(crate::proofs::Fronts::fronts))]
-pub fn write_number(number: u64, text: &mut Vec<u8>) -> Result<(), NoMemory>
-    ensures { Writes result text.old.items text.new.items (number_text number) }
+/// Adds the number as a plain decimal.
+pub fn put_number(number: u64, text: &mut Text) -> Result<(), NoMemory>
+    ensures { PutsText result text.old text.new (number_text number) }
 {
-    text.extend_from_slice(Buffer::new().format(number).as_bytes())?;
-    Ok(())
+    text.put(Buffer::new().format(number).as_bytes())
 }

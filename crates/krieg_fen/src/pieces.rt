@@ -12,7 +12,7 @@ pub(crate) fn first_of(text: &[u8], separator: u8) -> Option<usize>
     text.iter().position(|b| *b == separator)
 }
 
-/// The text up to the first separator, and what stands behind that one, where there is one.
+/// The text up to the first separator, and what stands after that one, where there is one.
 #[tactic(auto, using(crate::proofs::PieceCuts::cuts, crate::proofs::NameLemmas::cuts))]
 pub fn cut(separator: u8, text: &[u8]) -> (&[u8], Option<&[u8]>)
     ensures exact { (result.0.now, option_copied result.1) ≡ names.cut separator text.now }

@@ -54,7 +54,7 @@ fn man_of(letter: u8) -> Option<Man>
     }
 }
 
-/// Puts what the byte stands for behind the first `file` squares, where there is room, and says how many
+/// Puts what the byte stands for after the first `file` squares, where there is room, and says how many
 /// squares are filled then.
 #[tactic(auto, using(crate::proofs::RankReading::puts))]
 fn put(row: &mut Row, file: usize, b: u8) -> Option<usize>

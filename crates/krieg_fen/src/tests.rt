@@ -4,7 +4,7 @@
 ghost use Rattle.std.specs.Prelude.{◌<◌, ◌^◌};
 
 use crate::*;
-use krieg_board::{BadPosition, Side};
+use krieg_board::{BadPosition, NoMemory, Side};
 use std::alloc::Global;
 
 /// The start position, and the positions after 1.e4, 1...c5 and 2.Nf3.
@@ -96,9 +96,11 @@ fn numbers_are_read(rt: HostRuntime) {
         read_number_between(b"00", 1, 9),
         Err(NumberFault::NotPlain)
     );
-    let mut text = Vec::new(rt.alloc());
-    assert!(rt; write_number(u64::MAX, &mut text).is_ok());
-    assert!(rt; is_name(b"18446744073709551615", &text));
+    let mut written = Vec::new(rt.alloc());
+    let mut text = Text::after(&mut written);
+    let done = put_number(u64::MAX, &mut text);
+    assert!(rt; text.end(done, &mut written).is_ok());
+    assert!(rt; is_name(b"18446744073709551615", &written));
 }
 
 #[test]
@@ -132,6 +134,20 @@ fn moves_are_read_and_written(rt: HostRuntime) {
     }
 }
 
+/// What is written stands after the content, and where the writing failed the content stands alone.
+#[test]
+fn content_is_kept(rt: HostRuntime) {
+    for (done, want) in [(Ok(()), &b"old 18\n"[..]), (Err(NoMemory), b"old ")] {
+        let mut text = Vec::new(rt.alloc());
+        assert!(rt; text.extend_from_slice(b"old ").is_ok());
+        let mut all = Text::after(&mut text);
+        assert!(rt; put_number(18, &mut all).is_ok());
+        assert!(rt; all.end_line().is_ok());
+        assert_eq!(rt; all.end(done, &mut text), done);
+        assert!(rt; is_name(want, &text));
+    }
+}
+
 /// A text is cut at line feeds alone, and the last one may be absent.
 #[test]
 fn lines_are_counted(rt: HostRuntime) {
@@ -156,7 +172,11 @@ fn lists_are_read_and_written(rt: HostRuntime) {
     let mut from = lines_of(LIST);
     let mut written = Vec::new(rt.alloc());
     match read_list(rt.alloc(), &mut from, 3, 7, Side::Black) {
-        Ok(list) => assert!(rt; write_list(&list, &mut written).is_ok()),
+        Ok(list) => {
+            let mut text = Text::after(&mut written);
+            let done = put_list(&list, &mut text);
+            assert!(rt; text.end(done, &mut written).is_ok());
+        }
         Err(_) => {}
     }
     let text =
@@ -170,10 +190,11 @@ const LISTING: &[u8] = b"side b\nlist 2\n4k3/8/8/8/8/8/8/4K2R w K -\n4k3/8/8/8/8
 fn listings_are_read_and_written(rt: HostRuntime) {
     let mut from = Cursor::new(LISTING);
     let mut written = Vec::new(rt.alloc());
-    match read_listing(rt.alloc(), &mut from) {
+    match read_listing(rt.alloc(), &mut from, Turn::Either) {
         Ok((side, list)) => {
-            assert!(rt; write_list_head(side, list.len(), &mut written).is_ok());
-            assert!(rt; write_list(&list, &mut written).is_ok());
+            let mut text = Text::after(&mut written);
+            let done = put_listing(side, &list, &mut text);
+            assert!(rt; text.end(done, &mut written).is_ok());
         }
         Err(_) => {}
     }
@@ -182,7 +203,7 @@ fn listings_are_read_and_written(rt: HostRuntime) {
 }
 
 fn listing_fault(alloc: Global, text: &[u8]) -> Option<TextFault> {
-    read_listing(alloc, &mut Cursor::new(text)).err()
+    read_listing(alloc, &mut Cursor::new(text), Turn::Either).err()
 }
 
 #[test]
@@ -206,6 +227,31 @@ fn other_listings_are_refused(rt: HostRuntime) {
         let fault = TextFault::At { line, kind };
         assert_eq!(rt; listing_fault(rt.alloc(), text), Some(fault));
     }
+}
+
+/// Where the text's own side must be to move, the first position of the other turn is out of place at its
+/// line, before a fault of a later one; a later position of another turn differs.
+#[test]
+fn a_turn_is_asked_of_the_first_position(rt: HostRuntime) {
+    use TextKind::{Differs, OutOfPlace};
+    for (text, line, kind) in [
+        (
+            &b"side w\nlist 2\n4k3/8/8/8/8/8/8/4K3 b - -\nx\n"[..],
+            3,
+            OutOfPlace,
+        ),
+        (
+            b"side b\nlist 2\n4k3/8/8/8/8/8/8/4K3 b - -\n4k3/8/8/8/8/8/8/4K3 w - -\n",
+            4,
+            Differs,
+        ),
+    ] {
+        let fault = TextFault::At { line, kind };
+        let read = read_listing(rt.alloc(), &mut Cursor::new(text), Turn::Own);
+        assert_eq!(rt; read.err(), Some(fault));
+    }
+    let own = b"side b\nlist 1\n4k3/8/8/8/8/8/8/4K3 b - -\n";
+    assert!(rt; read_listing(rt.alloc(), &mut Cursor::new(own), Turn::Own).is_ok());
 }
 
 fn list_fault(alloc: Global, n: usize, who: Side) -> Option<TextFault>

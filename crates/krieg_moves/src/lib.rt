@@ -4,6 +4,17 @@
 //! move changes (`After`), where a king castles (`Wings`), and the list of the legal moves with mate
 //! and stalemate (`Moves`). Each function here answers exactly what the definition of its name says.
 //! `legal_moves` alone takes memory.
+//!
+//! ```
+//! // `start` is the position in which a game begins.
+//! let moves = legal_moves(alloc, &start)?.as_slice().len(); // 20
+//! let e2e4 = Move {
+//!     from: Square::new(12).ok_or("e2")?,
+//!     to: Square::new(28).ok_or("e4")?,
+//!     promo: Promo::Plain,
+//! };
+//! let legal = is_legal(&start, e2e4); // true
+//! ```
 #![tactic(auto)]
 
 mod change;

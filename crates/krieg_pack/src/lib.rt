@@ -10,6 +10,14 @@
 //! positions (`Order`), the 35 bytes (`Bytes`) and sets of positions (`Members`), by what `krieg_theory`
 //! calls a set. In contracts a `Packed` is the position that it stands for, and a `Belief` the list of
 //! its members. `Belief::from_positions` and `Belief::copy` take memory, and no other call does.
+//!
+//! ```
+//! // White's king on b6 and rook on h1 stand against a king on a8 in `a` and on b8 in `b`.
+//! let set = Belief::from_positions(alloc, &[b, a, b])?;
+//! let number = set.len(); // 2: each member once
+//! let held = set.holds(&a); // true
+//! let bytes = pack(&b).bytes(); // 35 bytes: 4, a white rook, for h1 in bytes[3]
+//! ```
 #![tactic(auto)]
 
 mod belief;

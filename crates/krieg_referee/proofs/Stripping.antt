@@ -7,9 +7,9 @@ use Rattle.krieg_board.specs.Men.{is_same_side}
 use Rattle.krieg_board.specs.Pos.{Pos}
 use Rattle.krieg_board.specs.declared.men.Side.{Side}
 use Rattle.krieg_board.specs.declared.men.Move.{Move}
-use Rattle.krieg_words.specs.Words.{opening}
-use Rattle.krieg_words.specs.Told.{told_line}
-use Rattle.krieg_words.specs.declared.dialects.Line.TheVariants as line
+use Rattle.krieg_words.specs.WordsOfMoves.{opening}
+use Rattle.krieg_words.specs.Line.{told_line}
+use Rattle.krieg_words.specs.declared.line.Line.TheVariants as line
 use Rattle.krieg_referee.specs.declared.verdict.Event.{Event}
 use Rattle.krieg_referee.specs.declared.verdict.Verdict.{Verdict}
 use Rattle.krieg_referee.specs.declared.verdict.Verdict.TheVariants.{Over, Early, Illegal, Done}

@@ -7,7 +7,7 @@ use Rattle.krieg_board.specs.declared.men.Move.{Move}
 use Rattle.krieg_moves.specs.Legal.{is_legal}
 use Rattle.krieg_moves.specs.After.{after}
 use Rattle.krieg_moves.specs.Moves.{is_ended}
-use Rattle.krieg_words.specs.Words.{words}
+use Rattle.krieg_words.specs.WordsOfMoves.{words}
 use Rattle.krieg_referee.specs.declared.verdict.Verdict.{Verdict}
 use Rattle.krieg_referee.specs.declared.verdict.Verdict.TheVariants.{Over, Early, Illegal, Done}
 

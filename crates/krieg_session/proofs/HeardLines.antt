@@ -4,11 +4,11 @@ use Rattle.std.specs.List.{flat_map, cons_option}
 use Rattle.std.proofs.lemmas.List.Elements.{filter_map-append}
 use Rattle.krieg_board.specs.declared.men.Side.{Side}
 use Rattle.krieg_board.specs.declared.men.Side.TheVariants.{White, Black}
-use Rattle.krieg_words.specs.Words.{opening}
-use Rattle.krieg_words.specs.Told.{told_line}
+use Rattle.krieg_words.specs.WordsOfMoves.{opening}
+use Rattle.krieg_words.specs.Line.{told_line}
 use Rattle.krieg_words.specs.declared.dialects.Dialect.{Dialect}
-use Rattle.krieg_words.specs.declared.dialects.Line.{Line}
-use Rattle.krieg_words.specs.declared.dialects.Line.TheVariants.{Opens}
+use Rattle.krieg_words.specs.declared.line.Line.{Line}
+use Rattle.krieg_words.specs.declared.line.Line.TheVariants.{Opens}
 use Rattle.krieg_referee.specs.declared.verdict.Judged.{Judged}
 use Rattle.krieg_referee.specs.Games.{judge}
 use Rattle.krieg_referee.specs.Hearing.{line_for, lines_for}

@@ -12,14 +12,15 @@ use Rattle.krieg_moves.specs.Legal.{is_legal}
 use Rattle.krieg_moves.specs.After.{after, after_by}
 use Rattle.krieg_moves.specs.Moves.{in_check, is_ended, is_mate, is_stalemate}
 use Rattle.krieg_moves.proofs.LegalMoves.{legal_own}
-use Rattle.krieg_words.specs.Said.{Said}
-use Rattle.krieg_words.specs.Words.{words, opening, end_of}
+use Rattle.krieg_words.specs.Words.{Said}
+use Rattle.krieg_words.specs.WordsOfMoves.{words, opening, end_of}
 use Rattle.krieg_words.specs.WordsText.{has_ended}
-use Rattle.krieg_words.specs.Told.{told, told_line}
+use Rattle.krieg_words.specs.ToldWords.{told}
+use Rattle.krieg_words.specs.Line.{told_line}
 use Rattle.krieg_words.specs.declared.dialects.Dialect.{Dialect}
 use Rattle.krieg_words.specs.declared.dialects.Dialect.TheVariants.{Wild16, Anytry, Plain}
-use Rattle.krieg_words.specs.declared.dialects.Line.{Line}
-use Rattle.krieg_words.specs.declared.dialects.Line.TheVariants as line
+use Rattle.krieg_words.specs.declared.line.Line.{Line}
+use Rattle.krieg_words.specs.declared.line.Line.TheVariants as line
 use Rattle.krieg_referee.specs.declared.verdict.Event.{Event}
 use Rattle.krieg_referee.specs.declared.verdict.Verdict.{Verdict}
 use Rattle.krieg_referee.specs.declared.verdict.Verdict.TheVariants.{Over, Early, Illegal, Done}
@@ -56,7 +57,7 @@ words_end : (d : Dialect) (p : Pos) (m : Move) → ends (told d (words p m)) ≡
 unfolding words
 words_end d p m = told_end d (words p m) ∙ end_is (after p m)
 
--- One try by its verdict: its line is in place where those behind it are.
+-- One try by its verdict: its line is in place where those after it are.
 over_line : (d : Dialect) (own : Bool) (who turn : Side) (m : Move) (ls : List Line) → are_in_place who turn true (map (told_line d) ls) ≡ true →
     are_in_place who turn true (map (told_line d) (cons_option (cond own (Some (line.Over m)) None) ls)) ≡ true
 over_line d true who turn m ls rest = rest
@@ -107,7 +108,7 @@ step d who p e ls rest = by_tests (is_ended p) (is_same_side e.who p.side) (is_l
     heard_of : Verdict → Option Line
     heard_of x = cond (is_same_side e.who who) (Some (own_line e.mv x)) (others_line x)
 
-    -- the lines are in place behind p, where the game is over or not
+    -- the lines are in place after p, where the game is over or not
     behind : Bool → List Line → Type 0
     behind ended ks = are_in_place who p.side ended (map (told_line d) ks) ≡ true
 

@@ -1,9 +1,6 @@
-pub mod SessionLocality
 pub mod Tellings
 pub mod HeardLines
 pub mod InPlace
 pub mod SheetsOfGames
-pub mod SessionTexts
-pub mod SessionsAgain
+pub mod SessionFormat
 pub mod LastPositions
-pub mod SessionsSpell

@@ -13,14 +13,13 @@ use Rattle.krieg_moves.specs.Legal.{is_legal}
 use Rattle.krieg_moves.specs.Moves.{is_ended}
 use Rattle.krieg_moves.proofs.LegalMoves.{legal}
 use Rattle.krieg_moves.proofs.KeepsValid.{valid_after}
-use Rattle.krieg_words.specs.Said.{Said, IsSaid}
-use Rattle.krieg_words.specs.Tries.{tries}
-use Rattle.krieg_words.specs.Words.{words, opening}
-use Rattle.krieg_words.specs.Told.{told_line}
-use Rattle.krieg_words.specs.LineText.{IsLine}
+use Rattle.krieg_words.specs.Words.{Said, IsSaid}
+use Rattle.krieg_words.specs.PawnTries.{tries}
+use Rattle.krieg_words.specs.WordsOfMoves.{words, opening}
+use Rattle.krieg_words.specs.Line.{told_line, IsLine}
 use Rattle.krieg_words.specs.declared.dialects.Dialect.{Dialect}
-use Rattle.krieg_words.specs.declared.dialects.Line.{Line}
-use Rattle.krieg_words.specs.declared.dialects.Line.TheVariants as line
+use Rattle.krieg_words.specs.declared.line.Line.{Line}
+use Rattle.krieg_words.specs.declared.line.Line.TheVariants as line
 use Rattle.krieg_words.proofs.SaidLaws.{opening_said, words_said}
 use Rattle.krieg_words.proofs.ToldLaws.{told_fits, told_line_fits, told_said}
 use Rattle.krieg_referee.specs.declared.verdict.Event.{Event}

@@ -1,9 +1,9 @@
 -- The one written form of a session.
 use Rattle.std.specs.Prelude.{ℕ, List, [], ◌∷◌, ◌++◌, codes, Option, Some, None, map}
 use Rattle.krieg_board.specs.declared.men.Side.TheVariants.{White, Black}
-use Rattle.krieg_fen.specs.Lines.{with_ends}
 use Rattle.krieg_fen.specs.FenText.{position_text}
 use Rattle.krieg_fen.specs.MoveText.{move_text}
+use Rattle.krieg_fen.specs.Writing.{Pieces, alone, put_lines}
 use Rattle.krieg_words.specs.Versions.{version_lines}
 use Rattle.krieg_referee.specs.declared.verdict.Event.{Event}
 use Rattle.krieg_referee.specs.declared.verdict.Stop.{Stop}
@@ -12,8 +12,8 @@ use Rattle.krieg_session.specs.Sessions.{SessionState}
 use Rattle.krieg_session.specs.Telling.{side_mark}
 
 -- a player's mark and his move
-unfoldable pub event_text : Event → List ℕ
-event_text e = side_mark e.who ++ move_text e.mv
+abbrev pub event_line : Event → Pieces
+event_line e = side_mark e.who ∷ move_text e.mv ∷ []
 
 -- the last line, which says why the game stopped, where that is told
 abbrev pub last_text : Option Stop → List ℕ
@@ -24,12 +24,12 @@ last_text (Some (Left Black)) = codes "end left b"
 last_text (Some AsksUsed) = codes "end asks"
 
 -- version and dialect, start, a line for each try, the last line
-abbrev pub session_lines : SessionState → List (List ℕ)
+abbrev pub session_lines : SessionState → List Pieces
 session_lines s =
-    version_lines (codes "krieg session ") s.dialect
-    ++ ((codes "start " ++ position_text s.start)
-    ∷ (map event_text s.events ++ (last_text s.stop ∷ [])))
+    map alone (version_lines (codes "krieg session ") s.dialect)
+    ++ ((codes "start " ∷ position_text s.start ∷ [])
+    ∷ (map event_line s.events ++ (alone (last_text s.stop) ∷ [])))
 
--- a line feed stands behind every line
+-- a line feed stands after every line
 unfoldable pub session_text : SessionState → List ℕ
-session_text s = with_ends (session_lines s)
+session_text s = put_lines [] (session_lines s)

@@ -5,30 +5,38 @@ use Rattle.krieg_board.specs.Men.{is_same_side}
 use Rattle.krieg_board.specs.Pos.{Pos}
 use Rattle.krieg_board.specs.declared.men.Side.{Side}
 use Rattle.krieg_board.specs.declared.men.Side.TheVariants.{White, Black}
-use Rattle.krieg_fen.specs.Lines.{ended_line}
-use Rattle.krieg_words.specs.Words.{opening}
-use Rattle.krieg_words.specs.Told.{told, told_line}
-use Rattle.krieg_words.specs.LineText.{line_text}
+use Rattle.krieg_fen.specs.Writing.{Pieces, put_lines}
+use Rattle.krieg_words.specs.WordsOfMoves.{opening}
+use Rattle.krieg_words.specs.ToldWords.{told}
+use Rattle.krieg_words.specs.Line.{told_line, line_text}
 use Rattle.krieg_words.specs.declared.dialects.Dialect.{Dialect}
-use Rattle.krieg_words.specs.declared.dialects.Line.{Line}
-use Rattle.krieg_words.specs.declared.dialects.Line.TheVariants.{Opens}
+use Rattle.krieg_words.specs.declared.line.Line.{Line}
+use Rattle.krieg_words.specs.declared.line.Line.TheVariants.{Opens}
 use Rattle.krieg_referee.specs.declared.verdict.Event.{Event}
 use Rattle.krieg_referee.specs.declared.verdict.Judged.{Judged}
 use Rattle.krieg_referee.specs.Games.{judge}
 use Rattle.krieg_referee.specs.Hearing.{line_for, lines_for}
 use Rattle.krieg_sheet.specs.Sheets.{SheetState}
-use Rattle.krieg_sheet.specs.SheetText.{sheet_text}
+use Rattle.krieg_sheet.specs.SheetText.{entry_line, sheet_text}
 
--- A player's sheet of a game: it lists the position in which the game began, and has the opening words and
--- the lines that he hears, as the dialect tells them.
-abbrev pub sheet_of : Dialect → Pos → List Event → Side → SheetState
-sheet_of d p events who = record {
+-- A player's sheet of tries that were judged: it lists the position in which the game began, and has the
+-- opening words and the lines that he hears, as the dialect tells them.
+abbrev pub sheet_of_log : Dialect → Pos → List Judged → Side → SheetState
+sheet_of_log d p log who = record {
   dialect = d;
   side = who;
   list = p ∷ [];
   opens = Some (told d (opening p));
-  entries = map (told_line d) (lines_for who (judge p events));
+  entries = map (told_line d) (lines_for who log);
 }
+
+-- a player's sheet of a game
+abbrev pub sheet_of : Dialect → Pos → List Event → Side → SheetState
+sheet_of d p events who = sheet_of_log d p (judge p events) who
+
+-- the lines of a sheet on which he hears of them
+unfoldable pub heard_lines : Dialect → Side → List Judged → List Pieces
+heard_lines d who log = map (entry_line d) (map (told_line d) (lines_for who log))
 
 -- a player's line, where he has one, as the dialect tells it
 abbrev pub players_line : Dialect → Side → Option Line → List (Side × Line)
@@ -39,12 +47,16 @@ players_line d who (Some l) = (who, told_line d l) ∷ []
 abbrev pub both_lines : Dialect → Judged → List (Side × Line)
 both_lines d j = players_line d White (line_for White j) ++ players_line d Black (line_for Black j)
 
--- the opening words, told to White and to Black, and then for each try White's line and Black's
-abbrev pub all_lines : Dialect → Pos → List Event → List (Side × Line)
-all_lines d p events =
+-- the opening words, told to White and to Black, and then for each try that was judged White's line and Black's
+abbrev pub lines_of_log : Dialect → Pos → List Judged → List (Side × Line)
+lines_of_log d p log =
     players_line d White (Some (Opens (opening p)))
     ++ (players_line d Black (Some (Opens (opening p)))
-    ++ flat_map (both_lines d) (judge p events))
+    ++ flat_map (both_lines d) log)
+
+-- all that both players are told of a game
+abbrev pub all_lines : Dialect → Pos → List Event → List (Side × Line)
+all_lines d p events = lines_of_log d p (judge p events)
 
 -- the lines of one player, in their order
 abbrev pub if_of : Side → Side × Line → Option Line
@@ -58,13 +70,17 @@ abbrev pub side_mark : Side → List ℕ
 side_mark White = codes "w "
 side_mark Black = codes "b "
 
--- a player's line with its mark and a line feed
-abbrev pub marked_line : Dialect → Side × Line → List ℕ
-marked_line d l = side_mark l.0 ++ ended_line (line_text d l.1)
+-- a player's line with its mark
+abbrev pub marked_line : Dialect → Side × Line → Pieces
+marked_line d l = side_mark l.0 ∷ line_text d l.1 ∷ []
 
--- all lines of both players
+-- all lines of both players, of tries that were judged
+unfoldable pub marked_lines : Dialect → Pos → List Judged → List Pieces
+marked_lines d p log = map (marked_line d) (lines_of_log d p log)
+
+-- the text of all of them
 unfoldable pub all_text : Dialect → Pos → List Event → List ℕ
-all_text d p events = flat_map (marked_line d) (all_lines d p events)
+all_text d p events = put_lines [] (marked_lines d p (judge p events))
 
 -- what the umpire writes: the sheet of one player, or all lines of both
 abbrev pub umpire_text : Dialect → Pos → List Event → Option Side → List ℕ

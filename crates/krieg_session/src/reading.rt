@@ -1,14 +1,12 @@
-ghost use Rattle.std.specs.Prelude.{◌≡◌, ◌≢◌, IfOk, IfErr, Ok, Err};
-ghost use Rattle.std.specs.Option.{option_copied};
-ghost use Rattle.krieg_board.specs.Pos.{Pos};
+ghost use Rattle.std.specs.Prelude.{◌≡◌, ◌≢◌, IfOk, IfErr};
 ghost use Rattle.krieg_fen.specs.Lines.{lines};
 ghost use Rattle.krieg_fen.specs.MoveText.{move_of};
-ghost use Rattle.krieg_fen.specs.Reading.{taken, whole, Gives, GivesOn};
-ghost use Rattle.krieg_fen.specs.FirstBad.{FirstBad};
+ghost use Rattle.krieg_fen.specs.Formats.{Always, IsReading};
+ghost use Rattle.krieg_fen.specs.Reading.{taken, whole, Gives, GivesOn, Passed};
 ghost use Rattle.krieg_fen.specs.declared.fault.TextFault.TheVariants.{NoMemory as OutOfMemory};
 ghost use Rattle.krieg_session.specs.Laws.{IsGame};
-ghost use Rattle.krieg_session.specs.Sessions.{SessionState};
-ghost use Rattle.krieg_session.specs.SessionSpelling.{SpellsSession, SpellsStart};
+ghost use Rattle.krieg_session.specs.Sessions.{state_of};
+ghost use Rattle.krieg_session.specs.SessionSpelling.{SpellsSession, SessionGrammar, SpellsStart, StartGrammar};
 ghost use Rattle.krieg_session.specs.SessionReading as spec;
 
 use crate::session::Session;
@@ -18,7 +16,7 @@ use krieg_referee::{Event, Stop};
 use krieg_words::{Dialect, read_version_lines};
 use std::alloc::Global;
 
-/// A line behind the start.
+/// A line after the start.
 enum SessionLine {
     /// One try.
     Try(Event),
@@ -29,12 +27,13 @@ enum SessionLine {
 /// The dialect, by the lines of the version.
 #[tactic(auto, unfolding(crate::specs::SessionReading::session_version_at))]
 fn read_session_version(from: &mut Cursor<'_>) -> Result<Dialect, TextFault>
-    ensures { GivesOn (λ d. d) result from.new (spec.session_version_at from.old) }
+    ensures value { GivesOn (λ d. d) result from.new (spec.session_version_at from.old) }
+    ensures rest { Passed from.old from.new }
 {
     read_version_lines(from, b"krieg session ")
 }
 
-/// The position behind the word `start`.
+/// The position after the word `start`.
 #[tactic(auto, unfolding(crate::specs::SessionReading::start_form))]
 fn start_line(text: &[u8]) -> Result<Position, TextKind>
     ensures { result ≡ spec.start_form text.now }
@@ -45,8 +44,10 @@ fn start_line(text: &[u8]) -> Result<Position, TextKind>
     }
 }
 
+#[tactic(auto, using(krieg_fen::proofs::ReadingLemmas::refused))]
 fn read_start_line(from: &mut Cursor<'_>) -> Result<Position, TextFault>
-    ensures { GivesOn (λ p. p) result from.new (taken spec.start_form from.old) }
+    ensures value { GivesOn (λ p. p) result from.new (taken spec.start_form from.old) }
+    ensures rest { Passed from.old from.new }
 {
     let line = from.number();
     start_line(from.line()?).map_err(|kind| TextFault::At { line, kind })
@@ -133,7 +134,7 @@ fn read_events(
 
 #[tactic(auto, unfolding(crate::specs::SessionReading::session_at))]
 fn read_lines(alloc: Global, text: &[u8]) -> Result<Session, TextFault>
-    ensures { Gives (λ s. record { dialect = s.dialect; start = s.start; events = s.events.items; stop = s.stop }) result (whole spec.session_at (lines text.now)) }
+    ensures { Gives (λ s. state_of s) result (whole spec.session_at (lines text.now)) }
 {
     let mut from = Cursor::new(text);
     let dialect = read_session_version(&mut from)?;
@@ -152,29 +153,27 @@ fn read_lines(alloc: Global, text: &[u8]) -> Result<Session, TextFault>
 ///
 /// The fault is the first line that is not accepted, or, where all lines are and the text is not
 /// complete, the number of lines plus 1 with `Syntax`. Its kinds are `Version`, `Syntax` and `Position`.
-#[tactic(auto, using(crate::proofs::SessionLocality::sessions, crate::proofs::SessionsSpell::spelled))]
+#[tactic(auto, using(crate::proofs::SessionFormat::sessions))]
 pub fn read_session(alloc: Global, text: &[u8]) -> Result<Session, TextFault>
-    ensures exact { Gives (λ s. record { dialect = s.dialect; start = s.start; events = s.events.items; stop = s.stop }) result (whole spec.session_at (lines text.now)) }
-    // A fault stands behind the last line or at the first bad one, and rests on the lines up to it alone.
-    ensures first_bad { IfErr result (λ e. e ≢ OutOfMemory → FirstBad (whole spec.session_at) (lines text.now) e) }
-    // What is read is spelled so, and what spells a session is read as that session.
-    ensures found { IfOk result (λ s. SpellsSession (lines text.now) (record { dialect = s.dialect; start = s.start; events = s.events.items; stop = s.stop })) }
-    ensures only { (s : SessionState) → IsGame s → SpellsSession (lines text.now) s → Gives (λ s. record { dialect = s.dialect; start = s.start; events = s.events.items; stop = s.stop }) result (Ok s) }
-    ensures game { IfOk result (λ s. IsGame (record { dialect = s.dialect; start = s.start; events = s.events.items; stop = s.stop })) }
+    ensures reading { IsReading (λ s. state_of s) spec.session_at Always SpellsSession SessionGrammar (lines text.now) result }
+    // It begins in a valid position, and each try is a move between two squares of the board.
+    ensures game { IfOk result (λ s. IsGame (state_of s)) }
 {
     read_lines(alloc, text)
 }
 
+#[tactic(auto, using(krieg_fen::proofs::ReadingLemmas::refused))]
 fn read_position_line(from: &mut Cursor<'_>) -> Result<Position, TextFault>
-    ensures ok { IfOk result (λ p. spec.start_at from.old ≡ Ok (p, from.new)) }
-    ensures err { IfErr result (λ e. spec.start_at from.old ≡ Err e) }
+    ensures value { GivesOn (λ p. p) result from.new (spec.start_at from.old) }
+    ensures memory { IfErr result (λ e. e ≢ OutOfMemory) }
 {
     let line = from.number();
     position_line(from.line()?).map_err(|kind| TextFault::At { line, kind })
 }
 
 fn read_one_line(text: &[u8]) -> Result<Position, TextFault>
-    ensures { result ≡ whole spec.start_at (lines text.now) }
+    ensures value { Gives (λ p. p) result (whole spec.start_at (lines text.now)) }
+    ensures memory { IfErr result (λ e. e ≢ OutOfMemory) }
 {
     let mut from = Cursor::new(text);
     let start = read_position_line(&mut from)?;
@@ -186,14 +185,10 @@ fn read_one_line(text: &[u8]) -> Result<Position, TextFault>
 ///
 /// The fault is of the kind `Position` or `Syntax` at line 1, also where there is no line, or `Syntax` at
 /// line 2, where there is a second one.
-#[tactic(auto, using(crate::proofs::SessionLocality::starts, crate::proofs::SessionsSpell::spelled_starts))]
+#[tactic(auto, using(crate::proofs::SessionFormat::starts))]
 pub fn read_start(text: &[u8]) -> Result<Position, TextFault>
-    ensures exact { result ≡ whole spec.start_at (lines text.now) }
-    // A fault stands behind the last line or at the first bad one, and rests on the lines up to it alone.
-    ensures first_bad { IfErr result (λ e. FirstBad (whole spec.start_at) (lines text.now) e) }
-    // What is read is spelled so, and what spells a start is read as that position.
-    ensures found { IfOk result (λ p. SpellsStart (lines text.now) p) }
-    ensures only { (p : Pos) → SpellsStart (lines text.now) p → result ≡ Ok p }
+    ensures reading { IsReading (λ p. p) spec.start_at Always SpellsStart StartGrammar (lines text.now) result }
+    ensures memory { IfErr result (λ e. e ≢ OutOfMemory) }
 {
     read_one_line(text)
 }

@@ -1,4 +1,7 @@
-use krieg_board::Position;
+ghost use Rattle.krieg_session.specs.Laws.{AreTries, IsGame};
+ghost use Rattle.krieg_session.specs.Sessions.{state_of};
+
+use krieg_board::{Position, know_squares, know_valid};
 use krieg_referee::{Event, Stop};
 use krieg_words::Dialect;
 
@@ -12,4 +15,20 @@ pub struct Session {
     pub start: Position,
     pub events: Vec<Event>,
     pub stop: Option<Stop>,
+}
+
+fn know_tries(events: &[Event])
+    ensures { AreTries events.now }
+{
+    for event in events {
+        know_squares(&event.mv);
+    }
+}
+
+/// Tells a proof that the start is valid, and that each try is a move between two squares of the board.
+pub(crate) fn know_game(s: &Session)
+    ensures { IsGame (state_of s.now) }
+{
+    know_valid(&s.start);
+    know_tries(&s.events);
 }

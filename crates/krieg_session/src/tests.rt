@@ -1,9 +1,10 @@
 //! Games from the rules' examples as texts: what the umpire writes of them, and which texts are no session.
 
 use crate::*;
-use krieg_board::{BadPosition, Side};
-use krieg_fen::{TextFault, TextKind};
-use krieg_referee::Stop;
+use krieg_board::{BadPosition, NoMemory, Side};
+use krieg_fen::{TextFault, TextKind, is_name, read_move};
+use krieg_referee::{Event, Stop};
+use krieg_words::Dialect;
 use std::test::Fail;
 
 const START: &str = "rnbqkbnr/pppppppp/8/8/8/8/PPPPPPPP/RNBQKBNR w KQkq -";
@@ -196,6 +197,48 @@ fn reads_and_writes_each_stop(rt: HostRuntime) -> Result<(), Fail> {
         let mut written = Vec::new(rt.alloc());
         write_session(&session, &mut written)?;
         assert!(rt; written.as_slice() == text.as_slice());
+    }
+    Ok(())
+}
+
+/// A session that was not read is written after what stands in the text, and is read again.
+#[test]
+fn a_session_by_hand_is_written(rt: HostRuntime) -> Result<(), Fail> {
+    let session = Session {
+        dialect: Dialect::Plain,
+        start: read_start(START.as_bytes())?,
+        events: vec![in rt.alloc();
+            Event {
+                who: Side::Black,
+                mv: read_move(b"e2e4")?
+            },
+        ]?,
+        stop: Some(Stop::AsksUsed),
+    };
+    let lines = "krieg session 2
+dialect plain
+start rnbqkbnr/pppppppp/8/8/8/8/PPPPPPPP/RNBQKBNR w KQkq -
+b e2e4
+end asks
+";
+    let mut text = vec![in rt.alloc(); b'\n']?;
+    let mut expected = vec![in rt.alloc(); b'\n']?;
+    expected.extend_from_slice(lines.as_bytes())?;
+    write_session(&session, &mut text)?;
+    assert!(rt; text.as_slice() == expected.as_slice());
+    let again = read_session(rt.alloc(), lines.as_bytes())?;
+    assert!(rt; again.events == session.events && again.stop == session.stop);
+    Ok(())
+}
+
+/// Where memory runs out, what stood in the text stands there still.
+#[test]
+fn the_old_content_is_kept(rt: HostRuntime) -> Result<(), Fail> {
+    let session = read_session(rt.alloc(), TWO_CHECKS.as_bytes())?;
+    let mut text = vec![in rt.alloc(); b'\n']?;
+    match write_session(&session, &mut text) {
+        Ok(()) => assert!(rt; text.len() == 1 + TWO_CHECKS.len()),
+        Err(NoMemory) => assert!(rt; is_name(b"\n", &text)),
     }
     Ok(())
 }

@@ -1,122 +1,77 @@
-ghost use Rattle.std.specs.Prelude.{◌≡◌, ◌++◌};
-ghost use Rattle.std.specs.List.{flat_map};
-ghost use Rattle.krieg_fen.specs.Lines.{ended_line};
-ghost use Rattle.krieg_fen.specs.Outcomes.{Writes};
-ghost use Rattle.krieg_session.specs.SessionPieces as pieces;
+ghost use Rattle.std.specs.Prelude.{◌≡◌, Ok};
+ghost use Rattle.krieg_fen.specs.Lines.{lines};
+ghost use Rattle.krieg_fen.specs.Reading.{whole};
+ghost use Rattle.krieg_fen.specs.Writing.{PutsPieces, PutsLines, Appends};
+ghost use Rattle.krieg_session.specs.Laws.{IsGame};
+ghost use Rattle.krieg_session.specs.SessionReading.{session_at};
+ghost use Rattle.krieg_session.specs.SessionSpelling.{SpellsSession};
+ghost use Rattle.krieg_session.specs.Sessions.{state_of};
 ghost use Rattle.krieg_session.specs.SessionText as spec;
 
-use crate::session::Session;
+use crate::session::{Session, know_game};
 use crate::telling::side_mark;
-use krieg_board::{Move, NoMemory, Position, Side};
-use krieg_fen::write_move;
+use krieg_board::{NoMemory, Side};
+use krieg_fen::{Text, put_move, put_position};
 use krieg_referee::{Event, Stop};
-use krieg_sheet::write_listed;
-use krieg_words::{Dialect, write_version_lines};
+use krieg_words::put_version_lines;
 
-#[tactic(auto, using(krieg_fen::proofs::Fronts::fronts))]
-fn write_move_line(mv: Move, text: &mut Vec<u8>) -> Result<(), NoMemory>
-    ensures { Writes result text.old.items text.new.items (pieces.moved_text mv) }
+fn put_event(event: &Event, text: &mut Text) -> Result<(), NoMemory>
+    ensures { PutsPieces result text.old text.new (spec.event_line event.now) }
 {
-    write_move(mv, text)?;
-    text.push(b'\n')?;
-    Ok(())
-}
-
-#[tactic(auto, unfolding(crate::specs::SessionPieces::try_text))]
-fn write_event(event: &Event, text: &mut Vec<u8>) -> Result<(), NoMemory>
-    ensures { Writes result text.old.items text.new.items (pieces.try_text event.now) }
-{
-    text.extend_from_slice(side_mark(event.who))?;
-    write_move_line(event.mv, text)
-}
-
-#[tactic(auto, using(krieg_fen::proofs::Fronts::loops))]
-fn write_events(events: &[Event], text: &mut Vec<u8>) -> Result<(), NoMemory>
-    ensures { Writes result text.old.items text.new.items (flat_map pieces.try_text events.now) }
-{
-    for event in events {
-        write_event(event, text)?;
-    }
-    Ok(())
+    text.put(side_mark(event.who))?;
+    put_move(event.mv, text)
 }
 
 fn last_line(stop: &Option<Stop>) -> &'static [u8]
-    ensures { result.now ≡ ended_line (spec.last_text stop.now) }
+    ensures { result.now ≡ spec.last_text stop.now }
 {
     match stop {
-        None => b"end\n",
-        Some(Stop::Ended) => b"end over\n",
-        Some(Stop::Left(Side::White)) => b"end left w\n",
-        Some(Stop::Left(Side::Black)) => b"end left b\n",
-        Some(Stop::AsksUsed) => b"end asks\n",
+        None => b"end",
+        Some(Stop::Ended) => b"end over",
+        Some(Stop::Left(Side::White)) => b"end left w",
+        Some(Stop::Left(Side::Black)) => b"end left b",
+        Some(Stop::AsksUsed) => b"end asks",
     }
 }
 
-#[tactic(auto, using(krieg_fen::proofs::Fronts::fronts))]
-fn write_last(stop: &Option<Stop>, text: &mut Vec<u8>) -> Result<(), NoMemory>
-    ensures { Writes result text.old.items text.new.items (ended_line (spec.last_text stop.now)) }
+/// Adds the lines of the session.
+#[tactic(auto, using(krieg_fen::proofs::Writings::writings))]
+pub fn put_session(s: &Session, text: &mut Text) -> Result<(), NoMemory>
+    ensures { PutsLines result text.old text.new (spec.session_lines (state_of s.now)) }
 {
-    text.extend_from_slice(last_line(stop))?;
-    Ok(())
+    put_version_lines(b"krieg session ", s.dialect, text)?;
+    text.put(b"start ")?;
+    put_position(&s.start, text)?;
+    text.end_line()?;
+    for event in &s.events {
+        put_event(event, text)?;
+        text.end_line()?;
+    }
+    text.line(last_line(&s.stop))
 }
 
-#[tactic(auto, unfolding(crate::specs::SessionPieces::events_part))]
-fn write_events_part(
-    events: &[Event],
-    stop: &Option<Stop>,
-    text: &mut Vec<u8>,
-) -> Result<(), NoMemory>
-    ensures { Writes result text.old.items text.new.items (pieces.events_part events.now stop.now) }
+/// Tells a proof that the session is a game, and that its text spells it and is read as it again.
+#[tactic(auto, using(crate::proofs::SessionFormat::writes))]
+fn know_text(s: &Session)
+    ensures spelled { SpellsSession (state_of s.now) (lines (spec.session_text (state_of s.now))) }
+    ensures again { whole session_at (lines (spec.session_text (state_of s.now))) ≡ Ok (state_of s.now) }
+    ensures game { IsGame (state_of s.now) }
 {
-    write_events(events, text)?;
-    write_last(stop, text)
-}
-
-#[tactic(auto, unfolding(crate::specs::SessionPieces::start_line_part))]
-fn write_start_line(
-    start: &Position,
-    events: &[Event],
-    stop: &Option<Stop>,
-    text: &mut Vec<u8>,
-) -> Result<(), NoMemory>
-    ensures { Writes result text.old.items text.new.items (pieces.start_line_part start.now events.now stop.now) }
-{
-    write_listed(start, text)?;
-    write_events_part(events, stop, text)
-}
-
-#[tactic(auto, unfolding(crate::specs::SessionPieces::start_word_part))]
-fn write_start_word(
-    start: &Position,
-    events: &[Event],
-    stop: &Option<Stop>,
-    text: &mut Vec<u8>,
-) -> Result<(), NoMemory>
-    ensures { Writes result text.old.items text.new.items (pieces.start_word_part start.now events.now stop.now) }
-{
-    text.extend_from_slice(b"start ")?;
-    write_start_line(start, events, stop, text)
-}
-
-#[tactic(auto, unfolding(crate::specs::SessionPieces::session_pieces))]
-fn write_pieces(
-    d: Dialect,
-    start: &Position,
-    events: &[Event],
-    stop: &Option<Stop>,
-    text: &mut Vec<u8>,
-) -> Result<(), NoMemory>
-    ensures { Writes result text.old.items text.new.items (pieces.session_pieces (record { dialect = d; start = start.now; events = events.now; stop = stop.now })) }
-{
-    write_version_lines(b"krieg session ", d, text)?;
-    write_start_word(start, events, stop, text)
+    know_game(s);
 }
 
 /// Appends the text of the session in its one written form: version 1 where the dialect is wild16, and
-/// otherwise version 2. Where memory is not found, a front of the text was appended.
-#[tactic(auto, using(crate::proofs::SessionTexts::texts))]
+/// otherwise version 2. Where memory runs out, nothing is appended.
+#[tactic(auto, unfolding(crate::specs::SessionText::session_text))]
 pub fn write_session(s: &Session, text: &mut Vec<u8>) -> Result<(), NoMemory>
-    ensures { Writes result text.old.items text.new.items (spec.session_text (record { dialect = s.now.dialect; start = s.now.start; events = s.now.events.items; stop = s.now.stop })) }
+    ensures value { Appends result text.old.items text.new.items (spec.session_text (state_of s.now)) }
+    // The text spells the session, and is read as it again.
+    ensures spelled { SpellsSession (state_of s.now) (lines (spec.session_text (state_of s.now))) }
+    ensures again { whole session_at (lines (spec.session_text (state_of s.now))) ≡ Ok (state_of s.now) }
+    ensures game { IsGame (state_of s.now) }
 {
-    write_pieces(s.dialect, &s.start, &s.events, &s.stop, text)
+    know_text(s);
+    let mut all = Text::after(text);
+    let done = put_session(s, &mut all);
+    all.end(done, text)
 }

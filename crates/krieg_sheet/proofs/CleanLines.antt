@@ -1,24 +1,26 @@
 -- Which lines of a sheet are written: none has a line feed.
-use Rattle.std.proofs.Common.{◌≡◌, ℕ, ◌≤◌, ◌<◌, ◌^◌, true, List, [], ◌∷◌, map, length, Option, Some, None, refl, arith}
+use Rattle.std.proofs.Common.{◌≡◌, ◌≤◌, true, List, [], ◌∷◌, map, length, Option, Some, None, refl, arith}
 use Rattle.std.specs.Prelude.{codes}
 use Rattle.std.specs.List.{All}
 use Rattle.std.proofs.lemmas.List.Elements.{All-tail}
-use Rattle.krieg_board.specs.declared.men.Side.{Side}
+use Rattle.krieg_fen.specs.Forms.{most_listed}
 use Rattle.krieg_fen.specs.Lines.{is_line, AreLines}
 use Rattle.krieg_fen.specs.FenText.{position_text}
+use Rattle.krieg_fen.specs.Listing.{list_head}
 use Rattle.krieg_fen.proofs.LineTexts.{line_above, lines_append}
 use Rattle.krieg_fen.proofs.CleanTexts.{positions_are, list_head_are}
 use Rattle.krieg_words.specs.declared.dialects.Dialect.{Dialect}
-use Rattle.krieg_words.specs.declared.dialects.Line.{Line}
-use Rattle.krieg_words.specs.declared.dialects.Line.TheVariants.{Opens}
-use Rattle.krieg_words.specs.Said.{Said}
-use Rattle.krieg_words.specs.LineText.{line_text, IsLine}
+use Rattle.krieg_words.specs.declared.line.Line.{Line}
+use Rattle.krieg_words.specs.declared.line.Line.TheVariants.{Opens}
+use Rattle.krieg_words.specs.Words.{Said}
+use Rattle.krieg_words.specs.Line.{line_text, IsLine}
 use Rattle.krieg_words.specs.Versions.{version_lines}
 use Rattle.krieg_words.proofs.CleanWords as words
 use Rattle.krieg_words.proofs.VersionTexts.{version_are}
 use Rattle.krieg_sheet.specs.Sheets.{SheetState}
 use Rattle.krieg_sheet.specs.Places.{IsTold, IsOpening, IsSheet}
-use Rattle.krieg_sheet.specs.SheetText.{head_lines, opens_lines, sheet_lines}
+use Rattle.krieg_sheet.specs.SheetText.{opens_lines}
+use Rattle.krieg_sheet.proofs.SheetTexts.{written_lines}
 
 line_line : (d : Dialect) (l : Line) → IsLine l → is_line (line_text d l) ≡ true
 line_line d l is = line_above 31 (line_text d l) (omega arith) (words.line_above d l is)
@@ -31,15 +33,11 @@ opens_are : (d : Dialect) (opens : Option Said) → IsOpening opens → AreLines
 opens_are d None is = tt
 opens_are d (Some w) is = (line_line d (Opens w) is, tt)
 
-head_are : (d : Dialect) (who : Side) (n : ℕ) → n < 2 ^ 64 → AreLines (head_lines d who n)
-head_are d who n fits =
-    lines_append (version_lines (codes "krieg sheet ") d) _ (version_are (codes "krieg sheet ") d refl)
-    (list_head_are who n fits)
-
 -- every line of a written sheet
-pub sheet_are : (s : SheetState) → IsSheet s → length s.list ≤ 200000 → AreLines (sheet_lines s)
+pub sheet_are : (s : SheetState) → IsSheet s → length s.list ≤ most_listed → AreLines (written_lines s)
 sheet_are s h le =
-    lines_append (head_lines s.dialect s.side (length s.list)) _ (head_are s.dialect s.side (length s.list) (omega arith))
+    lines_append (version_lines (codes "krieg sheet ") s.dialect) _ (version_are (codes "krieg sheet ") s.dialect refl)
+    (lines_append (list_head s.side (length s.list)) _ (list_head_are s.side (length s.list) (omega arith))
     (lines_append (map position_text s.list) _ (positions_are s.list)
     (lines_append (opens_lines s.dialect s.opens) _ (opens_are s.dialect s.opens h.opening)
-    (lines_append (map (line_text s.dialect) s.entries) (codes "end" ∷ []) (entries_lines s.dialect s.entries h.told) (refl, tt))))
+    (lines_append (map (line_text s.dialect) s.entries) (codes "end" ∷ []) (entries_lines s.dialect s.entries h.told) (refl, tt)))))

@@ -4,7 +4,7 @@ use Rattle.std.proofs.lemmas.Bool.{and_parts, and_from}
 use Rattle.std.proofs.lemmas.List.Elements.{All-push}
 use Rattle.krieg_board.specs.Men.{is_same_side}
 use Rattle.krieg_board.specs.declared.men.Side.{Side}
-use Rattle.krieg_words.specs.declared.dialects.Line.{Line}
+use Rattle.krieg_words.specs.declared.line.Line.{Line}
 use Rattle.krieg_sheet.specs.Sheets.{SheetState, entered}
 use Rattle.krieg_sheet.specs.Turns.{turn_after, over_after, turn_behind, over_behind, may_stand, are_in_place, is_in_place, first_turn, over_at_first}
 use Rattle.krieg_sheet.specs.Places.{IsTold, IsSheet, IsKept}

@@ -6,7 +6,7 @@ use Rattle.krieg_fen.specs.declared.fault.TextKind.{TextKind}
 use Rattle.krieg_fen.specs.Outcomes.{◌>>=◌}
 use Rattle.krieg_fen.specs.Reading.{Place, place, on, goes_on, stops, line_at}
 use Rattle.krieg_fen.proofs.Locality.{ok_is}
-use Rattle.krieg_words.specs.declared.dialects.Line.{Line}
+use Rattle.krieg_words.specs.declared.line.Line.{Line}
 use Rattle.krieg_sheet.specs.Sheets.{SheetState}
 use Rattle.krieg_sheet.specs.SheetReading.{next_form, led, followed_by, entries_at}
 

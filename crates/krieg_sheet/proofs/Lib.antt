@@ -2,10 +2,9 @@ pub mod Hands
 pub mod Entering
 pub mod Entries
 pub mod ListedPositions
-pub mod SheetLocality
+pub mod SheetGrammars
 pub mod SheetTexts
 pub mod CleanLines
 pub mod SheetsAgain
 pub mod SheetsSpell
-pub mod GameEnds
 pub mod OneHand

@@ -10,52 +10,53 @@ use Rattle.krieg_board.specs.declared.men.Side.{Side}
 use Rattle.krieg_fen.specs.FenText.{position_text}
 use Rattle.krieg_fen.specs.Listing.{SpellList, SpellsListing, list_head}
 use Rattle.krieg_fen.specs.Reading.{Place}
-use Rattle.krieg_fen.specs.Forms.{listing_at}
+use Rattle.krieg_fen.specs.declared.forms.Turn.TheVariants.{Either}
+use Rattle.krieg_fen.specs.Forms.{most_listed, listing_at}
 use Rattle.krieg_fen.proofs.ListSpellings.{written_spells, spelled_valid}
 use Rattle.krieg_fen.proofs.Listings.{listing_spells}
 use Rattle.krieg_sheet.specs.Lists.{other_hand, differs, list_fault}
 use Rattle.krieg_sheet.specs.declared.sheet.SheetFault.TheVariants.{Count}
 
 -- What is read with one hand.
-same_hands : (ts : List (List ℕ)) (ps : List Pos) (who : Side) (f : Pos) (k : ℕ) → SpellList who (Some f) ts ps → other_hand who f k ps ≡ None
+same_hands : (ts : List (List ℕ)) (ps : List Pos) (who : Side) (f : Pos) (k : ℕ) → SpellList Either who (Some f) ts ps → other_hand who f k ps ≡ None
 same_hands [] [] who f k s = refl
 same_hands [] (p ∷ ps) who f k s = absurd s
 same_hands (t ∷ ts) [] who f k s = absurd s
 same_hands (t ∷ ts) (p ∷ ps) who f k s = ap (λ (t : Bool). cond t (other_hand who f (k + 1) ps) (Some k)) s.1 ∙ same_hands ts ps who f (k + 1) s.2
 
-no_fault : (ts : List (List ℕ)) (ps : List Pos) (who : Side) → 1 ≤ length ps → length ps ≤ 200000 → SpellList who None ts ps → list_fault who ps ≡ None
+no_fault : (ts : List (List ℕ)) (ps : List Pos) (who : Side) → 1 ≤ length ps → length ps ≤ most_listed → SpellList Either who None ts ps → list_fault who ps ≡ None
 no_fault ts [] who low high s = absurd (omega arith)
 no_fault [] (p ∷ ps) who low high s = absurd s
 no_fault (t ∷ ts) (p ∷ ps) who low high s =
-    ap (λ (t : Bool). cond t (differs (other_hand who p 1 ps)) (Some Count)) (le-leb (length (p ∷ ps)) 200000 high) ∙ ap differs (same_hands ts ps who p 1 s.2)
+    ap (λ (t : Bool). cond t (differs (other_hand who p 1 ps)) (Some Count)) (le-leb (length (p ∷ ps)) most_listed high) ∙ ap differs (same_hands ts ps who p 1 s.2)
 
 -- a list that was read is one of a sheet
 pub record IsSheetList (who : Side) (ps : List Pos) : Type 0 where
   pub no_fault : list_fault who ps ≡ None
   pub valid : All IsValid ps
 
-pub list_read : (who : Side) (ps : List Pos) (p q : Place) → listing_at p ≡ Ok ((who, ps), q) → IsSheetList who ps
+pub list_read : (who : Side) (ps : List Pos) (p q : Place) → listing_at Either p ≡ Ok ((who, ps), q) → IsSheetList who ps
 list_read who ps p q e =
-    let s = (listing_spells p q (who, ps) e).spelled in
-    record { no_fault = no_fault s.positions ps who s.some s.few s.spelled; valid = spelled_valid s.positions ps who None s.spelled }
+    let s = (listing_spells Either p q (who, ps) e).spelled in
+    record { no_fault = no_fault s.positions ps who s.some s.few s.spelled; valid = spelled_valid s.positions ps Either who None s.spelled }
 
 -- What has no fault.
 pub record IsListable (who : Side) (f : Pos) (ps : List Pos) : Type 0 where
-  pub few : length (f ∷ ps) ≤ 200000
+  pub few : length (f ∷ ps) ≤ most_listed
   pub same : other_hand who f 1 ps ≡ None
 
 pub listable : (who : Side) (f : Pos) (ps : List Pos) → list_fault who (f ∷ ps) ≡ None → IsListable who f ps
-listable who f ps e = go (leb (length (f ∷ ps)) 200000) refl e
+listable who f ps e = go (leb (length (f ∷ ps)) most_listed) refl e
   where
     by_other : (o : Option ℕ) → differs o ≡ None → o ≡ None
     by_other None h = refl
     by_other (Some i) h = absurd cc
 
-    go : (t : Bool) → leb (length (f ∷ ps)) 200000 ≡ t → cond t (differs (other_hand who f 1 ps)) (Some Count) ≡ None → IsListable who f ps
-    go true is h = record { few = leb-true (length (f ∷ ps)) 200000 is; same = by_other (other_hand who f 1 ps) h }
+    go : (t : Bool) → leb (length (f ∷ ps)) most_listed ≡ t → cond t (differs (other_hand who f 1 ps)) (Some Count) ≡ None → IsListable who f ps
+    go true is h = record { few = leb-true (length (f ∷ ps)) most_listed is; same = by_other (other_hand who f 1 ps) h }
     go false is h = absurd cc
 
-pub list_size : (who : Side) (list : List Pos) → list_fault who list ≡ None → (1 ≤ length list) × (length list ≤ 200000)
+pub list_size : (who : Side) (list : List Pos) → list_fault who list ≡ None → (1 ≤ length list) × (length list ≤ most_listed)
 list_size who [] e = absurd cc
 list_size who (f ∷ ps) e = (omega arith, (listable who f ps e).few)
 
@@ -66,14 +67,14 @@ next_hand who f k p ps e = go (same_hand f p who) refl e
     go true is h = (is, h)
     go false is h = absurd cc
 
-others_written : (who : Side) (f : Pos) (k : ℕ) (ps : List Pos) → other_hand who f k ps ≡ None → All IsValid ps → SpellList who (Some f) (map position_text ps) ps
+others_written : (who : Side) (f : Pos) (k : ℕ) (ps : List Pos) → other_hand who f k ps ≡ None → All IsValid ps → SpellList Either who (Some f) (map position_text ps) ps
 others_written who f k [] e valid = tt
 others_written who f k (p ∷ ps) e valid =
     let h = next_hand who f k p ps e in
     (written_spells p (valid 0 p (omega arith)), h.0, others_written who f (k + 1) ps h.1 (All-tail IsValid p ps valid))
 
 -- the written lines of such a list spell it with one hand
-pub list_written : (who : Side) (list : List Pos) → list_fault who list ≡ None → All IsValid list → SpellsListing (list_head who (length list) ++ map position_text list) who list
+pub list_written : (who : Side) (list : List Pos) → list_fault who list ≡ None → All IsValid list → SpellsListing Either (list_head who (length list) ++ map position_text list) who list
 list_written who [] e valid = absurd cc
 list_written who (f ∷ ps) e valid =
     let fine = listable who f ps e in
@@ -82,5 +83,5 @@ list_written who (f ∷ ps) e valid =
       is = refl;
       some = omega arith;
       few = fine.few;
-      spelled = (written_spells f (valid 0 f (omega arith)), tt, others_written who f 1 ps fine.same (All-tail IsValid f ps valid));
+      spelled = (written_spells f (valid 0 f (omega arith)), refl, others_written who f 1 ps fine.same (All-tail IsValid f ps valid));
     }

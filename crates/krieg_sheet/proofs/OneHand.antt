@@ -15,8 +15,8 @@ use Rattle.krieg_moves.specs.After.{after}
 use Rattle.krieg_moves.proofs.Hands.{Alike, same_hand_alike, alike_same_hand, alike_same, alike_back, alike_through, alike_own}
 use Rattle.krieg_moves.proofs.KeepsValid.{valid_after}
 use Rattle.krieg_words.specs.declared.dialects.Dialect.{Dialect}
-use Rattle.krieg_words.specs.declared.dialects.Line.{Line}
-use Rattle.krieg_words.specs.declared.dialects.Line.TheVariants.{Opens, Illegal, Done, Heard, Early, Over}
+use Rattle.krieg_words.specs.declared.line.Line.{Line}
+use Rattle.krieg_words.specs.declared.line.Line.TheVariants.{Opens, Illegal, Done, Heard, Early, Over}
 use Rattle.krieg_words.proofs.HandsKept.{alike_heard}
 use Rattle.krieg_sheet.specs.Sheets.{SheetState}
 use Rattle.krieg_sheet.specs.Lists.{other_hand, list_fault}

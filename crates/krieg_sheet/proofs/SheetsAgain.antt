@@ -14,17 +14,19 @@ use Rattle.krieg_fen.specs.declared.fault.TextKind.TheVariants.{OutOfPlace}
 use Rattle.krieg_fen.specs.Outcomes.{◌>>=◌}
 use Rattle.krieg_fen.specs.FenText.{position_text}
 use Rattle.krieg_fen.specs.Lines.{lines}
-use Rattle.krieg_fen.specs.Reading.{Place, place, whole, Gives}
+use Rattle.krieg_fen.specs.Reading.{Place, place, whole}
+use Rattle.krieg_fen.specs.declared.forms.Turn.TheVariants.{Either}
 use Rattle.krieg_fen.specs.Forms.{listing_at}
 use Rattle.krieg_fen.specs.Listing.{list_head}
 use Rattle.krieg_fen.proofs.Listings.{listing_reads}
 use Rattle.krieg_fen.proofs.Takings.{Read, read_whole}
 use Rattle.krieg_fen.proofs.LineTexts.{lines_again}
-use Rattle.krieg_words.specs.Said.{Said}
-use Rattle.krieg_words.specs.LineText.{line_text, line_in}
+use Rattle.krieg_words.specs.Words.{Said}
+use Rattle.krieg_words.specs.Line.{line_text}
+use Rattle.krieg_words.specs.LineReading.{line_in}
 use Rattle.krieg_words.specs.declared.dialects.Dialect.{Dialect}
-use Rattle.krieg_words.specs.declared.dialects.Line.{Line}
-use Rattle.krieg_words.specs.declared.dialects.Line.TheVariants.{Opens, Illegal, Done, Heard, Early, Over}
+use Rattle.krieg_words.specs.declared.line.Line.{Line}
+use Rattle.krieg_words.specs.declared.line.Line.TheVariants.{Opens, Illegal, Done, Heard, Early, Over}
 use Rattle.krieg_words.specs.Versions.{version_lines}
 use Rattle.krieg_words.proofs.VersionSpellings.{version_reads}
 use Rattle.krieg_words.proofs.LineLaws.{line_again}
@@ -32,14 +34,15 @@ use Rattle.krieg_sheet.specs.Sheets.{SheetState, fresh, entered}
 use Rattle.krieg_sheet.specs.Turns.{first_turn, over_at_first, turn_after, over_after, may_stand, are_in_place, turn_of, is_over, is_in_place}
 use Rattle.krieg_sheet.specs.Places.{OpeningFits, IsOpening, IsTold, IsSheet}
 use Rattle.krieg_sheet.specs.SheetReading.{may_follow, followed_by, placed, next_form, entries_at, sheet_at, sheet_version_at}
-use Rattle.krieg_sheet.specs.SheetText.{opens_lines, sheet_lines, sheet_text}
+use Rattle.krieg_sheet.specs.SheetText.{opens_lines, sheet_text}
 use Rattle.krieg_sheet.specs.SheetSpelling.{told_lines, SpellsSheet}
 use Rattle.krieg_sheet.proofs.Entering.{turn_behind_push, over_behind_push}
 use Rattle.krieg_sheet.proofs.Entries.{entries_last, entries_more}
 use Rattle.krieg_sheet.proofs.CleanLines.{sheet_are}
 use Rattle.krieg_sheet.proofs.ListedPositions.{list_size, list_written}
+use Rattle.krieg_sheet.proofs.SheetTexts.{text_is, written_lines}
 
--- the lines behind the list
+-- the lines after the list
 
 not_end : (d : Dialect) (l : Line) → bytes_eq (line_text d l) (codes "end") ≡ false
 unfolding line_text
@@ -119,46 +122,44 @@ abbrev behind_listing : Dialect → (Side × List Pos) × Place → Result (Shee
 behind_listing d listing = entries_at (fresh d listing.0.0 listing.0.1 None) listing.1
 
 abbrev behind_dialect : Dialect × Place → Result (SheetState × Place) TextFault
-behind_dialect d = listing_at d.1 >>= behind_listing d.0
+behind_dialect d = listing_at Either d.1 >>= behind_listing d.0
 
-all_again : (ls : List (List ℕ)) (s : SheetState) → IsSheet s → SpellsSheet ls s → Read (sheet_at (place 1 ls)) s []
+all_again : (ls : List (List ℕ)) (s : SheetState) → IsSheet s → SpellsSheet s ls → Read (sheet_at (place 1 ls)) s []
 unfolding sheet_at sheet_version_at
 all_again ls s h spelled =
-    let v = version_reads (codes "krieg sheet ") spelled.header s.dialect 1 (spelled.listing ++ told_lines s) spelled.version in
-    let listed = listing_reads spelled.listing s.side s.list v.number (told_lines s) spelled.listed in
+    let v = version_reads (codes "krieg sheet ") spelled.front s.dialect 1 (spelled.second.front ++ told_lines s) spelled.first in
+    let listed = listing_reads Either spelled.second.front s.side s.list v.number (told_lines s) spelled.second.first in
     let body = body_again s.dialect s.side s.list s.opens s.entries listed.number h.fits h.opening h.told h.in_place in
     record {
       number = body.number;
-      is = ap (λ (ls : List (List ℕ)). sheet_at (place 1 ls)) spelled.is
+      is = ap (λ (ls : List (List ℕ)). sheet_at (place 1 ls)) (spelled.is ∙ ap (λ (ls : List (List ℕ)). spelled.front ++ ls) (spelled.second.is ∙ ap (λ (ls : List (List ℕ)). spelled.second.front ++ ls) spelled.second.second))
           ∙ ap (λ (r : Result (Dialect × Place) TextFault). r >>= behind_dialect) v.is
           ∙ ap (λ (r : Result ((Side × List Pos) × Place) TextFault). r >>= behind_listing s.dialect) listed.is
           ∙ body.is;
     }
 
 -- what spells a sheet is read as that sheet
-pub spelled_again : (ls : List (List ℕ)) (s : SheetState) → IsSheet s → SpellsSheet ls s → whole sheet_at ls ≡ Ok s
+pub spelled_again : (ls : List (List ℕ)) (s : SheetState) → IsSheet s → SpellsSheet s ls → whole sheet_at ls ≡ Ok s
 spelled_again ls s h spelled = read_whole sheet_at ls s (all_again ls s h spelled)
 
 -- the written lines of a sheet spell it
-pub lines_spell : (s : SheetState) → IsSheet s → SpellsSheet (sheet_lines s) s
+pub lines_spell : (s : SheetState) → IsSheet s → SpellsSheet s (written_lines s)
 lines_spell s h = record {
-  header = version_lines (codes "krieg sheet ") s.dialect;
-  listing = list_head s.side (length s.list) ++ map position_text s.list;
-  is = append_assoc (version_lines (codes "krieg sheet ") s.dialect) (list_head s.side (length s.list)) (map position_text s.list ++ told_lines s);
-  version = inl refl;
-  listed = list_written s.side s.list h.listed h.valid;
+  front = version_lines (codes "krieg sheet ") s.dialect;
+  back = (list_head s.side (length s.list) ++ map position_text s.list) ++ told_lines s;
+  is = refl;
+  first = inl refl;
+  second = record { front = list_head s.side (length s.list) ++ map position_text s.list; back = told_lines s; is = refl; first = list_written s.side s.list h.listed h.valid; second = refl };
 }
 
 -- the written text of a sheet spells it
-pub text_spells : (s : SheetState) → IsSheet s → SpellsSheet (lines (sheet_text s)) s
-unfolding sheet_text
-text_spells s h = subst (λ (ls : List (List ℕ)). SpellsSheet ls s) (sym (lines_again (sheet_lines s) (sheet_are s h (list_size s.side s.list h.listed).1))) (lines_spell s h)
+pub text_spells : (s : SheetState) → IsSheet s → SpellsSheet s (lines (sheet_text s))
+text_spells s h =
+    subst (SpellsSheet s)
+    (sym (ap lines (text_is s) ∙ lines_again (written_lines s) (sheet_are s h (list_size s.side s.list h.listed).1)))
+    (lines_spell s h)
 
 pub sheet_again : (s : SheetState) → IsSheet s → whole sheet_at (lines (sheet_text s)) ≡ Ok s
 sheet_again s h = spelled_again (lines (sheet_text s)) s h (text_spells s h)
 
--- so the reader gives the sheet that the text spells
-pub read_again : (r : Result SheetState TextFault) (ls : List (List ℕ)) (s : SheetState) → Gives (λ t. t) r (whole sheet_at ls) → IsSheet s → SpellsSheet ls s → Gives (λ t. t) r (Ok s)
-read_again r ls s given h spelled = subst (Gives (λ t. t) r) (spelled_again ls s h spelled) given
-
-pub ruleset again = (text_spells, sheet_again, read_again)
+pub ruleset again = (text_spells, sheet_again)

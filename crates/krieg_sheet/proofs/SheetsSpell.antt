@@ -1,7 +1,7 @@
 -- What is read as a sheet is spelled so.
 use Rattle.std.proofs.Common.{◌≡◌, ℕ, ◌+◌, Bool, true, false, cond, eqb, List, [], ◌∷◌, ◌++◌, map, length, Option, Some, None, Result, Ok, Err, refl, sym, ap, subst, ◌∙◌, append_assoc, arith, length-append}
 use Rattle.std.proofs.Math.Bool.{and-false}
-use Rattle.std.specs.Prelude.{codes, ◌&&◌, is_none, IfOk}
+use Rattle.std.specs.Prelude.{codes, ◌&&◌, is_none}
 use Rattle.std.specs.Str.{bytes_eq}
 use Rattle.std.proofs.lemmas.Bool.{ne_eqb}
 use Rattle.std.proofs.lemmas.List.{append-nil}
@@ -12,18 +12,20 @@ use Rattle.krieg_fen.specs.declared.fault.TextFault.{TextFault}
 use Rattle.krieg_fen.specs.declared.fault.TextKind.{TextKind}
 use Rattle.krieg_fen.specs.declared.fault.TextKind.TheVariants.{OutOfPlace}
 use Rattle.krieg_fen.specs.Outcomes.{◌>>=◌}
-use Rattle.krieg_fen.specs.Reading.{Place, place, on, goes_on, stops, whole, Gives}
+use Rattle.krieg_fen.specs.Reading.{Place, place, on, goes_on, stops, whole}
+use Rattle.krieg_fen.specs.declared.forms.Turn.TheVariants.{Either}
 use Rattle.krieg_fen.specs.Forms.{listing_at}
 use Rattle.krieg_fen.proofs.Locality.{ok_is}
 use Rattle.krieg_fen.specs.Listing.{SpellsListing}
 use Rattle.krieg_fen.proofs.Listings.{listing_spells}
 use Rattle.krieg_fen.proofs.Takings.{steps, whole_read}
-use Rattle.krieg_words.specs.Said.{Said}
-use Rattle.krieg_words.specs.LineText.{line_text, line_in}
+use Rattle.krieg_words.specs.Words.{Said}
+use Rattle.krieg_words.specs.Line.{line_text}
+use Rattle.krieg_words.specs.LineReading.{line_in}
 use Rattle.krieg_words.specs.Versions.{SpellVersion, version_at}
 use Rattle.krieg_words.specs.declared.dialects.Dialect.{Dialect}
-use Rattle.krieg_words.specs.declared.dialects.Line.{Line}
-use Rattle.krieg_words.specs.declared.dialects.Line.TheVariants.{Opens, Illegal, Done, Heard, Early, Over}
+use Rattle.krieg_words.specs.declared.line.Line.{Line}
+use Rattle.krieg_words.specs.declared.line.Line.TheVariants.{Opens, Illegal, Done, Heard, Early, Over}
 use Rattle.krieg_words.proofs.LineLaws.{line_spells}
 use Rattle.krieg_words.proofs.VersionSpellings.{version_spells}
 use Rattle.krieg_sheet.specs.Sheets.{SheetState, fresh, entered}
@@ -31,7 +33,7 @@ use Rattle.krieg_sheet.specs.SheetReading.{may_open, may_follow, opened, followe
 use Rattle.krieg_sheet.specs.SheetText.{opens_lines}
 use Rattle.krieg_sheet.specs.SheetSpelling.{SpellsSheet}
 
--- the lines behind the positions
+-- the lines after the positions
 abbrev NextIs : SheetState → List ℕ → Option Line → Type 0
 NextIs s l None = l ≡ codes "end"
 NextIs s l (Some line) = (l ≡ line_text s.dialect line) × (may_follow s line ≡ true)
@@ -138,22 +140,22 @@ abbrev by_listing : Dialect → (Side × List Pos) × Place → Result (SheetSta
 by_listing d listing = entries_at (fresh d listing.0.0 listing.0.1 None) listing.1
 
 abbrev by_dialect : Dialect × Place → Result (SheetState × Place) TextFault
-by_dialect d = listing_at d.1 >>= by_listing d.0
+by_dialect d = listing_at Either d.1 >>= by_listing d.0
 
 record AllAt (p q : Place) (t : SheetState) : Type 0 where
   header : List (List ℕ)
   listing : List (List ℕ)
   version : SpellVersion (codes "krieg sheet ") header t.dialect
-  listed : SpellsListing listing t.side t.list
+  listed : SpellsListing Either listing t.side t.list
   left : p.left ≡ header ++ (listing ++ (opens_lines t.dialect t.opens ++ (map (line_text t.dialect) t.entries ++ (codes "end" ∷ q.left))))
 
 all_spell : (p q : Place) (t : SheetState) → sheet_at p ≡ Ok (t, q) → AllAt p q t
 unfolding sheet_at sheet_version_at
 all_spell p q t e =
     let d = steps (version_at (codes "krieg sheet ") p) by_dialect (t, q) e in
-    let listing = steps (listing_at d.mid.1) (by_listing d.mid.0) (t, q) d.second in
+    let listing = steps (listing_at Either d.mid.1) (by_listing d.mid.0) (t, q) d.second in
     let header = version_spells (codes "krieg sheet ") p d.mid.1 d.mid.0 d.first in
-    let listed = listing_spells d.mid.1 listing.mid.1 listing.mid.0 listing.first in
+    let listed = listing_spells Either d.mid.1 listing.mid.1 listing.mid.0 listing.first in
     let body = body_spells d.mid.0 listing.mid.0.0 listing.mid.0.1 listing.mid.1.left t listing.mid.1.number q listing.second in
     subst (AllAt p q) body.is (record {
       header = header.lines;
@@ -164,15 +166,8 @@ all_spell p q t e =
     })
 
 -- what is read is spelled so
-pub sheet_spells : (ls : List (List ℕ)) (s : SheetState) → whole sheet_at ls ≡ Ok s → SpellsSheet ls s
+pub sheet_spells : (ls : List (List ℕ)) (s : SheetState) → whole sheet_at ls ≡ Ok s → SpellsSheet s ls
 sheet_spells ls s e =
     let r = whole_read sheet_at ls s e in
     let a = all_spell (place 1 ls) (place r.number []) s r.is in
-    record { header = a.header; listing = a.listing; is = a.left; version = a.version; listed = a.listed }
-
--- the same of what the code answered
-pub code_spells : (r : Result SheetState TextFault) (ls : List (List ℕ)) → Gives (λ t. t) r (whole sheet_at ls) → IfOk r (λ s. SpellsSheet ls s)
-code_spells (Ok s) ls given = sheet_spells ls s given
-code_spells (Err e) ls given = tt
-
-pub ruleset spelled = (code_spells)
+    record { front = a.header; back = _; is = a.left; first = a.version; second = record { front = a.listing; back = _; is = refl; first = a.listed; second = refl } }

@@ -8,12 +8,12 @@ use Rattle.krieg_board.specs.declared.men.Move.{Move}
 use Rattle.krieg_moves.specs.Legal.{is_legal}
 use Rattle.krieg_moves.specs.After.{after}
 use Rattle.krieg_moves.specs.Moves.{is_ended}
-use Rattle.krieg_words.specs.Said.{Said}
-use Rattle.krieg_words.specs.Words.{words, opening}
-use Rattle.krieg_words.specs.Told.{told}
+use Rattle.krieg_words.specs.Words.{Said}
+use Rattle.krieg_words.specs.WordsOfMoves.{words, opening}
+use Rattle.krieg_words.specs.ToldWords.{told}
 use Rattle.krieg_words.specs.declared.dialects.Dialect.{Dialect}
-use Rattle.krieg_words.specs.declared.dialects.Line.{Line}
-use Rattle.krieg_words.specs.declared.dialects.Line.TheVariants.{Opens, Illegal, Done, Heard, Early, Over}
+use Rattle.krieg_words.specs.declared.line.Line.{Line}
+use Rattle.krieg_words.specs.declared.line.Line.TheVariants.{Opens, Illegal, Done, Heard, Early, Over}
 use Rattle.krieg_sheet.specs.Sheets.{SheetState}
 
 -- A hidden game from p gives the entries to the side who, the opponent's moves in it are rs, and it ends in q.

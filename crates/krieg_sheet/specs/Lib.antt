@@ -6,4 +6,3 @@ pub mod SheetReading
 pub mod SheetText
 pub mod SheetSpelling
 pub mod Games
-pub mod Replays

@@ -4,11 +4,11 @@ use Rattle.std.specs.List.{All}
 use Rattle.krieg_board.specs.Pos.{Pos}
 use Rattle.krieg_board.specs.Validity.{IsValid}
 use Rattle.krieg_board.specs.declared.men.Side.{Side}
-use Rattle.krieg_words.specs.Said.{Said, IsSaid}
-use Rattle.krieg_words.specs.Told.{Fits, LineFits}
-use Rattle.krieg_words.specs.LineText.{IsLine}
+use Rattle.krieg_words.specs.Words.{Said, IsSaid}
+use Rattle.krieg_words.specs.ToldWords.{Fits}
+use Rattle.krieg_words.specs.Line.{LineFits, IsLine}
 use Rattle.krieg_words.specs.declared.dialects.Dialect.{Dialect}
-use Rattle.krieg_words.specs.declared.dialects.Line.{Line}
+use Rattle.krieg_words.specs.declared.line.Line.{Line}
 use Rattle.krieg_sheet.specs.declared.sheet.SheetFault.{SheetFault}
 use Rattle.krieg_sheet.specs.Sheets.{SheetState, fresh}
 use Rattle.krieg_sheet.specs.Turns.{first_turn, over_at_first, are_in_place, turn_of, is_over}
@@ -37,7 +37,7 @@ pub record IsSheet (s : SheetState) : Type 0 where
   pub told : All (IsTold s.dialect) s.entries
   pub in_place : are_in_place s.side (first_turn s.list) (over_at_first s.opens) s.entries ≡ true
 
--- a sheet, with whose turn it is behind it and whether the game is over
+-- a sheet, with whose turn it is after it and whether the game is over
 pub record IsKept (s : SheetState) (turn : Side) (over : Bool) : Type 0 where
   pub sheet : IsSheet s
   pub turn_is : turn ≡ turn_of s

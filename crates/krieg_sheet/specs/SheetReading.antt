@@ -2,16 +2,17 @@
 use Rattle.std.specs.Prelude.{ℕ, ◌==◌, Bool, ◌&&◌, List, codes, Option, Some, None, is_none, length, Result, Ok, Err, if◌then◌else◌}
 use Rattle.std.specs.Str.{bytes_eq}
 use Rattle.krieg_fen.specs.declared.fault.TextKind.{TextKind}
+use Rattle.krieg_fen.specs.declared.forms.Turn.TheVariants.{Either}
 use Rattle.krieg_fen.specs.declared.fault.TextKind.TheVariants.{Syntax, OutOfPlace}
 use Rattle.krieg_fen.specs.Outcomes.{◌>>=◌}
 use Rattle.krieg_fen.specs.Reading.{LineReader, Step, goes_on, stops, up_to_last}
 use Rattle.krieg_fen.specs.Forms.{listing_at}
-use Rattle.krieg_words.specs.Said.{Said}
-use Rattle.krieg_words.specs.LineText.{line_in}
+use Rattle.krieg_words.specs.Words.{Said}
+use Rattle.krieg_words.specs.LineReading.{line_in}
 use Rattle.krieg_words.specs.declared.dialects.Dialect.{Dialect}
 use Rattle.krieg_words.specs.Versions.{version_at}
-use Rattle.krieg_words.specs.declared.dialects.Line.{Line}
-use Rattle.krieg_words.specs.declared.dialects.Line.TheVariants.{Opens}
+use Rattle.krieg_words.specs.declared.line.Line.{Line}
+use Rattle.krieg_words.specs.declared.line.Line.TheVariants.{Opens}
 use Rattle.krieg_sheet.specs.Sheets.{SheetState, fresh, entered}
 use Rattle.krieg_sheet.specs.Turns.{is_in_place}
 
@@ -19,11 +20,11 @@ use Rattle.krieg_sheet.specs.Turns.{is_in_place}
 unfoldable pub sheet_version_at : LineReader Dialect
 sheet_version_at p = version_at (codes "krieg sheet ") p
 
--- opening words stand right behind the list, once
+-- opening words stand right after the list, once
 abbrev pub may_open : SheetState → Bool
 may_open s = is_none s.opens && length s.entries == 0
 
--- which line of a text may stand behind those that were read
+-- which line of a text may stand after those that were read
 abbrev pub may_follow : SheetState → Line → Bool
 may_follow s (Opens w) = may_open s
 may_follow s l = is_in_place s l
@@ -51,7 +52,7 @@ abbrev pub led : SheetState → Option Line → Step SheetState SheetState
 led s None = stops s
 led s (Some l) = goes_on (followed_by s l)
 
--- the form of a line behind the list
+-- the form of a line after the list
 abbrev pub entry_form : SheetState → List ℕ → Result (Step SheetState SheetState) TextKind
 entry_form s text = next_form s text >>= λ l. Ok (led s l)
 
@@ -63,5 +64,5 @@ entries_at s p = up_to_last entry_form s p.number p.left
 unfoldable pub sheet_at : LineReader SheetState
 sheet_at p = do
   dialect ← sheet_version_at p
-  listing ← listing_at dialect.1
+  listing ← listing_at Either dialect.1
   entries_at (fresh dialect.0 listing.0.0 listing.0.1 None) listing.1

@@ -4,10 +4,10 @@ use Rattle.krieg_board.specs.Pos.{Pos}
 use Rattle.krieg_board.specs.Men.{other, is_same_side}
 use Rattle.krieg_board.specs.declared.men.Side.{Side}
 use Rattle.krieg_board.specs.declared.men.Side.TheVariants.{White}
-use Rattle.krieg_words.specs.Said.{Said}
+use Rattle.krieg_words.specs.Words.{Said}
 use Rattle.krieg_words.specs.WordsText.{has_ended}
-use Rattle.krieg_words.specs.declared.dialects.Line.{Line}
-use Rattle.krieg_words.specs.declared.dialects.Line.TheVariants.{Opens, Illegal, Done, Heard, Early, Over}
+use Rattle.krieg_words.specs.declared.line.Line.{Line}
+use Rattle.krieg_words.specs.declared.line.Line.TheVariants.{Opens, Illegal, Done, Heard, Early, Over}
 use Rattle.krieg_sheet.specs.Sheets.{SheetState}
 
 -- words after which no move is made
@@ -42,12 +42,12 @@ over_after over (Heard w) = over || ends w
 over_after over (Early m) = over
 over_after over (Over m) = over
 
--- whose turn it is behind all of the lines
+-- whose turn it is after all of the lines
 abbrev pub turn_behind : Side → List Line → Side
 turn_behind turn [] = turn
 turn_behind turn (l ∷ ls) = turn_behind (turn_after turn l) ls
 
--- whether the game is over behind all of the lines
+-- whether the game is over after all of the lines
 abbrev pub over_behind : Bool → List Line → Bool
 over_behind over [] = over
 over_behind over (l ∷ ls) = over_behind (over_after over l) ls
@@ -61,12 +61,12 @@ may_stand mine over (Heard w) = not over && not mine
 may_stand mine over (Early m) = not over && not mine
 may_stand mine over (Over m) = over
 
--- each entry may stand behind those before it
+-- each entry may stand after those before it
 abbrev pub are_in_place : Side → Side → Bool → List Line → Bool
 are_in_place who turn over [] = true
 are_in_place who turn over (l ∷ ls) = may_stand (is_same_side turn who) over l && are_in_place who (turn_after turn l) (over_after over l) ls
 
--- whose turn it is behind the last entry of a sheet
+-- whose turn it is after the last entry of a sheet
 abbrev pub turn_of : SheetState → Side
 turn_of s = turn_behind (first_turn s.list) s.entries
 

@@ -6,9 +6,7 @@ ghost use Rattle.krieg_sheet.specs.Lists as spec;
 
 use crate::sheet::SheetFault;
 use krieg_board::{Position, Side, know_valid, same_hand};
-
-/// The most positions that a sheet lists.
-pub(crate) const MOST: usize = 200_000;
+use krieg_fen::MOST_LISTED;
 
 fn has_hand_of(first: &Position, p: &Position, who: Side) -> bool
     ensures value { result ≡ hand.same_hand first.now p.now who }
@@ -18,7 +16,7 @@ fn has_hand_of(first: &Position, p: &Position, who: Side) -> bool
     same_hand(first, p, who)
 }
 
-/// Of the positions behind the first one, the first whose hand differs from that of the first one. They
+/// Of the positions after the first one, the first whose hand differs from that of the first one. They
 /// are numbered from 1 on.
 #[tactic(auto, using(crate::proofs::Hands::hands))]
 fn other_hand(behind: &[Position], first: &Position, who: Side) -> Option<usize>
@@ -41,7 +39,7 @@ pub(crate) fn list_fault(list: &[Position], who: Side) -> Option<SheetFault>
     match list {
         [] => Some(SheetFault::Count),
         [first, ..] => {
-            if list.len() > MOST {
+            if list.len() as u64 > MOST_LISTED {
                 return Some(SheetFault::Count);
             }
             know_valid(first);

@@ -1,23 +1,22 @@
-ghost use Rattle.std.specs.Prelude.{◌≡◌, ◌≢◌, true, IfSome, IfOk, IfErr, Ok};
+ghost use Rattle.std.specs.Prelude.{◌≡◌, true, IfSome, IfOk};
 ghost use Rattle.krieg_fen.specs.Lines.{lines};
-ghost use Rattle.krieg_fen.specs.Reading.{whole, Gives, GivesOn};
-ghost use Rattle.krieg_fen.specs.FirstBad.{FirstBad};
-ghost use Rattle.krieg_fen.specs.declared.fault.TextFault.TheVariants.{NoMemory as OutOfMemory};
-ghost use Rattle.krieg_words.specs.Told.{LineFits};
+ghost use Rattle.krieg_fen.specs.Formats.{IsReading};
+ghost use Rattle.krieg_fen.specs.Reading.{whole, Gives, GivesOn, Passed};
+ghost use Rattle.krieg_words.specs.Line.{LineFits};
 ghost use Rattle.krieg_sheet.specs.Places.{IsSheet};
-ghost use Rattle.krieg_sheet.specs.Sheets.{SheetState};
 ghost use Rattle.krieg_sheet.specs.SheetReading as spec;
-ghost use Rattle.krieg_sheet.specs.SheetSpelling.{SpellsSheet};
+ghost use Rattle.krieg_sheet.specs.SheetSpelling.{SpellsSheet, SheetGrammar};
 
 use crate::sheet::Sheet;
-use krieg_fen::{Cursor, TextFault, TextKind, is_name, read_listing};
+use krieg_fen::{Cursor, TextFault, TextKind, Turn, is_name, read_listing};
 use krieg_words::{Dialect, Line, read_line_in, read_version_lines};
 use std::alloc::Global;
 
 /// The dialect, by the lines of the version.
 #[tactic(auto, unfolding(crate::specs::SheetReading::sheet_version_at))]
 fn read_sheet_version(from: &mut Cursor<'_>) -> Result<Dialect, TextFault>
-    ensures { GivesOn (λ d. d) result from.new (spec.sheet_version_at from.old) }
+    ensures value { GivesOn (λ d. d) result from.new (spec.sheet_version_at from.old) }
+    ensures rest { Passed from.old from.new }
 {
     read_version_lines(from, b"krieg sheet ")
 }
@@ -66,7 +65,7 @@ fn read_lines(alloc: Global, text: &[u8]) -> Result<Sheet, TextFault>
 {
     let mut from = Cursor::new(text);
     let dialect = read_sheet_version(&mut from)?;
-    let (side, list) = read_listing(alloc, &mut from)?;
+    let (side, list) = read_listing(alloc, &mut from, Turn::Either)?;
     let mut sheet = Sheet::listed(alloc, dialect, side, list, None);
     read_entries(&mut from, &mut sheet)?;
     from.end()?;
@@ -78,15 +77,11 @@ fn read_lines(alloc: Global, text: &[u8]) -> Result<Sheet, TextFault>
 /// The fault is the first line that is not accepted, or, where all lines are and the text is not
 /// complete, the number of lines plus 1 with `Syntax`. Its kinds are `Version`, `Syntax`, `Count`,
 /// `Position`, `Differs` and `OutOfPlace`.
-#[tactic(auto, using(crate::proofs::SheetLocality::local, crate::proofs::SheetsAgain::again, crate::proofs::SheetsSpell::spelled))]
+#[tactic(auto, using(crate::proofs::SheetGrammars::reading))]
 pub fn read_sheet(alloc: Global, text: &[u8]) -> Result<Sheet, TextFault>
-    ensures exact { Gives (λ s. s) result (whole spec.sheet_at (lines text.now)) }
-    // A fault stands behind the last line or at the first bad one, and rests on the lines up to it alone.
-    ensures first_bad { IfErr result (λ e. e ≢ OutOfMemory → FirstBad (whole spec.sheet_at) (lines text.now) e) }
-    // What is read is a sheet that is spelled so, and what spells a sheet is read as that sheet.
+    ensures reading { IsReading (λ s. s) spec.sheet_at IsSheet SpellsSheet SheetGrammar (lines text.now) result }
+    // What is read is a sheet: its positions have one hand, its words can be told, its entries are in place.
     ensures sheet { IfOk result (λ s. IsSheet s) }
-    ensures found { IfOk result (λ s. SpellsSheet (lines text.now) s) }
-    ensures only { (s : SheetState) → IsSheet s → SpellsSheet (lines text.now) s → Gives (λ t. t) result (Ok s) }
 {
     read_lines(alloc, text)
 }

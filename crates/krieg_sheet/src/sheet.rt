@@ -1,7 +1,8 @@
 ghost use Rattle.std.specs.Prelude.{◌≡◌, ◌↔◌, ◌≢◌, ℕ, IfOk, OnOk, OnErr, Err, true, false, None};
 ghost use Rattle.std.specs.List.{All};
 ghost use Rattle.krieg_board.specs.Validity.{IsValid};
-ghost use Rattle.krieg_words.specs.Told.{Fits, LineFits};
+ghost use Rattle.krieg_words.specs.ToldWords.{Fits};
+ghost use Rattle.krieg_words.specs.Line.{LineFits};
 ghost use Rattle.krieg_sheet.specs.Sheets.{fresh, entered};
 ghost use Rattle.krieg_sheet.specs.Turns as turns;
 ghost use Rattle.krieg_sheet.specs.Lists as lists;
@@ -23,7 +24,7 @@ pub enum SheetFault {
     Count,
     /// The position with this number, from 0, is the first whose hand differs from that of the first one.
     Differs(usize),
-    /// The line may not stand behind the last entry.
+    /// The line may not stand after the last entry.
     OutOfPlace,
     /// Memory was not found.
     NoMemory,
@@ -155,7 +156,7 @@ impl Sheet {
         &self.entries
     }
 
-    /// Whether it is the player's turn behind the last entry.
+    /// Whether it is the player's turn after the last entry.
     pub fn my_turn(&self) -> bool
         ensures value { result ≡ turns.is_my_turn self.now }
         ensures sheet { IsSheet self.now }
@@ -163,7 +164,7 @@ impl Sheet {
         self.turn == self.side
     }
 
-    /// Whether the game is over behind the last entry.
+    /// Whether the game is over after the last entry.
     pub fn is_over(&self) -> bool
         ensures value { result ≡ turns.is_over self.now }
         ensures sheet { IsSheet self.now }
@@ -194,14 +195,14 @@ impl Sheet {
         Ok(())
     }
 
-    /// Whether opening words may come: right behind the list, once.
+    /// Whether opening words may come: right after the list, once.
     fn may_open(&self) -> bool
         ensures { result ≡ reading.may_open self.now }
     {
         self.opens.is_none() && self.entries.is_empty()
     }
 
-    /// Whether the line of a text may stand behind those that were read.
+    /// Whether the line of a text may stand after those that were read.
     pub(crate) fn may_follow(&self, line: &Line) -> bool
         ensures { result ≡ reading.may_follow self.now line.now }
     {
@@ -211,7 +212,7 @@ impl Sheet {
         }
     }
 
-    /// Takes the opening words, right behind the list.
+    /// Takes the opening words, right after the list.
     fn open(&mut self, w: Words)
         requires fits { Fits self.old.dialect w }
         requires may { reading.may_open self.old ≡ true }

@@ -1,8 +1,8 @@
 //! Facts from outside: sheets as the format has them, and the texts that it refuses, each at its line.
 
 use crate::*;
-use krieg_board::{BadPosition, Move, Position, Side};
-use krieg_fen::{TextFault, TextKind, is_name, read_move, read_position};
+use krieg_board::{BadPosition, Move, NoMemory, Position, Side};
+use krieg_fen::{Text, TextFault, TextKind, is_name, put_list, read_move, read_position};
 use krieg_words::{Dialect, Line, read_words};
 use std::alloc::{AllocError, Global};
 
@@ -121,7 +121,7 @@ const ONE: &[u8] = b"krieg sheet 1\nside w\nlist 1\n1k6/8/1K6/8/8/8/8/7R w - -\n
 const ONE_PLAIN: &[u8] =
     b"krieg sheet 2\ndialect plain\nside w\nlist 1\n1k6/8/1K6/8/8/8/8/7R w - -\n";
 
-/// What stands behind one listed position, in which White is to move: the first bad line and its kind.
+/// What stands after one listed position, in which White is to move: the first bad line and its kind.
 const BAD_TAILS: [(&[u8], &[u8], usize, TextKind); 12] = [
     (ONE, b"heard silent\nend\n", 5, TextKind::OutOfPlace),
     (ONE, b"try a1a1 over\nend\n", 5, TextKind::OutOfPlace),
@@ -214,12 +214,21 @@ fn lists_have_one_hand(rt: HostRuntime) {
     assert!(rt; matches!(began(alloc, &[H1, OTHER_KING, H1]), Some(Ok(_))));
 }
 
+/// A list alone.
+fn put_answer(list: &[Position], text: &mut Text) -> Result<(), NoMemory> {
+    put_head(Dialect::Plain, Side::Black, list.len(), text)?;
+    put_list(list, text)?;
+    put_end(text)
+}
+
 fn is_answer(alloc: Global, texts: &[&[u8]], want: &[u8]) -> bool {
     let Some(list) = listed(alloc, texts) else {
         return false;
     };
     let mut text = Vec::new(alloc);
-    write_answer(Dialect::Plain, Side::Black, &list, &mut text).is_ok() && is_name(want, &text)
+    let mut all = Text::after(&mut text);
+    let done = put_answer(&list, &mut all);
+    all.end(done, &mut text).is_ok() && is_name(want, &text)
 }
 
 #[test]

@@ -35,7 +35,7 @@ pub(crate) fn over_at_first(opens: &Option<Words>) -> bool
     }
 }
 
-/// Whose turn it is behind the line.
+/// Whose turn it is after the line.
 pub(crate) fn turn_after(turn: Side, line: &Line) -> Side
     ensures { result ≡ spec.turn_after turn line.now }
 {
@@ -45,7 +45,7 @@ pub(crate) fn turn_after(turn: Side, line: &Line) -> Side
     }
 }
 
-/// Whether the game is over behind the line.
+/// Whether the game is over after the line.
 pub(crate) fn over_after(over: bool, line: &Line) -> bool
     ensures { result ≡ spec.over_after over line.now }
 {

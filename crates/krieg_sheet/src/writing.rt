@@ -1,156 +1,93 @@
-ghost use Rattle.std.specs.Prelude.{◌≡◌, Ok};
-ghost use Rattle.std.specs.List.{All, flat_map};
+ghost use Rattle.std.specs.Prelude.{◌≡◌, ◌≤◌, ◌∷◌, [], ℕ, Ok, map, length};
+ghost use Rattle.krieg_board.specs.declared.men.Side.{Side as BoardSide};
 ghost use Rattle.krieg_fen.specs.Lines.{lines};
-ghost use Rattle.krieg_fen.specs.Outcomes.{Writes};
 ghost use Rattle.krieg_fen.specs.Reading.{whole};
-ghost use Rattle.krieg_words.specs.Told.{LineFits};
-ghost use Rattle.krieg_sheet.specs.Places.{OpeningFits, IsTold, IsSheet};
+ghost use Rattle.krieg_fen.specs.Writing.{PutsLines, alone, Appends};
+ghost use Rattle.krieg_words.specs.Line.{LineFits};
+ghost use Rattle.krieg_sheet.specs.Places.{OpeningFits, IsSheet};
 ghost use Rattle.krieg_sheet.specs.SheetReading.{sheet_at};
 ghost use Rattle.krieg_sheet.specs.SheetSpelling.{SpellsSheet};
 ghost use Rattle.krieg_sheet.specs.SheetText as spec;
 
 use crate::sheet::Sheet;
-use krieg_board::{NoMemory, Position, Side};
-use krieg_fen::{write_list, write_list_head};
-use krieg_words::{Dialect, Line, Words, write_line_in, write_version_lines};
+use krieg_board::{NoMemory, Side};
+use krieg_fen::{Text, put_list, put_list_head};
+use krieg_words::{Dialect, Line, Words, put_line_in, put_version_lines, version_line_count};
 
-/// Appends the lines of a sheet that stand before `n` positions: the version and the dialect, the side,
-/// and the number of positions. Behind them `write_listed` appends each position, and `write_end` the
-/// last line.
-#[tactic(auto, using(krieg_fen::proofs::Fronts::fronts), unfolding(crate::specs::SheetText::head_text))]
-pub fn write_head(d: Dialect, side: Side, n: usize, text: &mut Vec<u8>) -> Result<(), NoMemory>
-    ensures { Writes result text.old.items text.new.items (spec.head_text d side n) }
+/// Adds the lines of a sheet that stand before `n` positions: the version and the dialect, the side, and
+/// the number of positions. After them `put_listed` adds each position, and `put_end` the last line.
+#[tactic(auto, using(krieg_fen::proofs::Writings::writings))]
+pub fn put_head(d: Dialect, side: Side, n: usize, text: &mut Text) -> Result<(), NoMemory>
+    ensures { PutsLines result text.old text.new (spec.head_lines d side n) }
 {
-    write_version_lines(b"krieg sheet ", d, text)?;
-    write_list_head(side, n, text)
+    put_version_lines(b"krieg sheet ", d, text)?;
+    put_list_head(side, n, text)
 }
 
-/// Appends the last line.
-#[tactic(auto, using(krieg_fen::proofs::Fronts::fronts), unfolding(crate::specs::SheetText::end_text))]
-pub fn write_end(text: &mut Vec<u8>) -> Result<(), NoMemory>
-    ensures { Writes result text.old.items text.new.items spec.end_text }
+/// The number of the line of a written sheet that says how many positions are listed.
+pub fn list_line(d: Dialect) -> usize
+    ensures value { (who : BoardSide) (n : ℕ) → result ≡ length (spec.head_lines d who n) }
+    ensures small { result ≤ 4 }
 {
-    text.extend_from_slice(b"end\n")?;
-    Ok(())
+    version_line_count(d) + 2
 }
 
-/// Appends the line of an entry.
-#[tactic(auto, using(krieg_fen::proofs::Fronts::fronts))]
-fn write_entry(d: Dialect, line: Line, text: &mut Vec<u8>) -> Result<(), NoMemory>
+/// Adds the line of an entry, or of opening words.
+pub fn put_entry(d: Dialect, line: Line, text: &mut Text) -> Result<(), NoMemory>
     requires { LineFits d line }
-    ensures { Writes result text.old.items text.new.items (spec.entry_text d line) }
+    ensures { PutsLines result text.old text.new (spec.entry_line d line ∷ []) }
 {
-    write_line_in(d, line, text)?;
-    text.push(b'\n')?;
-    Ok(())
+    put_line_in(d, line, text)?;
+    text.end_line()
 }
 
-#[tactic(auto, using(krieg_fen::proofs::Fronts::loops))]
-fn write_entries(d: Dialect, entries: &[Line], text: &mut Vec<u8>) -> Result<(), NoMemory>
-    requires { All (IsTold d) entries.now }
-    ensures { Writes result text.old.items text.new.items (flat_map (spec.entry_text d) entries.now) }
+/// Adds the last line.
+pub fn put_end(text: &mut Text) -> Result<(), NoMemory>
+    ensures { PutsLines result text.old text.new (spec.end_line ∷ []) }
 {
-    for line in entries {
-        write_entry(d, *line, text)?;
-    }
-    Ok(())
+    text.line(b"end")
 }
 
-fn write_opens(d: Dialect, opens: &Option<Words>, text: &mut Vec<u8>) -> Result<(), NoMemory>
+/// Adds the line of the opening words, where there are any.
+fn put_opens(d: Dialect, opens: &Option<Words>, text: &mut Text) -> Result<(), NoMemory>
     requires { OpeningFits d opens.now }
-    ensures { Writes result text.old.items text.new.items (spec.opens_text d opens.now) }
+    ensures { PutsLines result text.old text.new (map alone (spec.opens_lines d opens.now)) }
 {
     match opens {
         None => Ok(()),
-        Some(w) => write_entry(d, Line::Opens(*w), text),
+        Some(w) => put_entry(d, Line::Opens(*w), text),
     }
 }
 
-/// Appends everything up to the last position.
-#[tactic(auto, using(krieg_fen::proofs::Fronts::fronts), unfolding(crate::specs::SheetText::listed_part))]
-fn write_listed_part(
-    d: Dialect,
-    side: Side,
-    list: &[Position],
-    text: &mut Vec<u8>,
-) -> Result<(), NoMemory>
-    ensures { Writes result text.old.items text.new.items (spec.listed_part d side list.now) }
-{
-    write_head(d, side, list.len(), text)?;
-    write_list(list, text)
-}
-
-/// Appends the entries and the last line.
-#[tactic(auto, using(krieg_fen::proofs::Fronts::fronts), unfolding(crate::specs::SheetText::entries_part))]
-fn write_entries_part(d: Dialect, entries: &[Line], text: &mut Vec<u8>) -> Result<(), NoMemory>
-    requires { All (IsTold d) entries.now }
-    ensures { Writes result text.old.items text.new.items (spec.entries_part d entries.now) }
-{
-    write_entries(d, entries, text)?;
-    write_end(text)
-}
-
-/// Appends everything behind the last position.
-#[tactic(auto, using(krieg_fen::proofs::Fronts::fronts), unfolding(crate::specs::SheetText::heard_part))]
-fn write_heard_part(
-    d: Dialect,
-    opens: &Option<Words>,
-    entries: &[Line],
-    text: &mut Vec<u8>,
-) -> Result<(), NoMemory>
-    requires opening { OpeningFits d opens.now }
-    requires told { All (IsTold d) entries.now }
-    ensures { Writes result text.old.items text.new.items (spec.heard_part d opens.now entries.now) }
-{
-    write_opens(d, opens, text)?;
-    write_entries_part(d, entries, text)
-}
-
-#[tactic(auto, using(krieg_fen::proofs::Fronts::fronts), unfolding(crate::specs::SheetText::sheet_pieces))]
-fn write_pieces(s: &Sheet, text: &mut Vec<u8>) -> Result<(), NoMemory>
+/// Adds the lines of the sheet.
+#[tactic(auto, using(krieg_fen::proofs::Writings::writings))]
+pub fn put_sheet(s: &Sheet, text: &mut Text) -> Result<(), NoMemory>
+    ensures value { PutsLines result text.old text.new (spec.sheet_lines s.now) }
     ensures sheet { IsSheet s.now }
-    ensures value { Writes result text.old.items text.new.items (spec.sheet_pieces s.now) }
 {
     let d = s.dialect();
-    write_listed_part(d, s.side(), s.list(), text)?;
-    write_heard_part(d, &s.opens(), s.entries(), text)
+    let list = s.list();
+    let entries = s.entries();
+    put_head(d, s.side(), list.len(), text)?;
+    put_list(list, text)?;
+    put_opens(d, &s.opens(), text)?;
+    for line in entries {
+        put_entry(d, *line, text)?;
+    }
+    put_end(text)
 }
 
 /// Appends the text of the sheet in its one written form: version 1 where the dialect is wild16, and
-/// otherwise version 2.
-#[tactic(auto, using(crate::proofs::SheetTexts::texts, crate::proofs::SheetsAgain::again))]
+/// otherwise version 2. Where memory runs out, nothing is appended.
+#[tactic(auto, using(crate::proofs::SheetsAgain::again), unfolding(crate::specs::SheetText::sheet_text))]
 pub fn write_sheet(s: &Sheet, text: &mut Vec<u8>) -> Result<(), NoMemory>
-    ensures value { Writes result text.old.items text.new.items (spec.sheet_text s.now) }
+    ensures value { Appends result text.old.items text.new.items (spec.sheet_text s.now) }
     // The text spells the sheet, and is read as it again.
-    ensures spelled { SpellsSheet (lines (spec.sheet_text s.now)) s.now }
+    ensures spelled { SpellsSheet s.now (lines (spec.sheet_text s.now)) }
     ensures again { whole sheet_at (lines (spec.sheet_text s.now)) ≡ Ok s.now }
     ensures sheet { IsSheet s.now }
 {
-    write_pieces(s, text)
-}
-
-#[tactic(auto, using(krieg_fen::proofs::Fronts::fronts), unfolding(crate::specs::SheetText::answer_pieces))]
-fn write_answer_pieces(
-    d: Dialect,
-    side: Side,
-    list: &[Position],
-    text: &mut Vec<u8>,
-) -> Result<(), NoMemory>
-    ensures { Writes result text.old.items text.new.items (spec.answer_pieces d side list.now) }
-{
-    write_listed_part(d, side, list, text)?;
-    write_end(text)
-}
-
-/// Appends the text of a sheet that lists these positions, of any number, and says no more.
-#[tactic(auto, using(crate::proofs::SheetTexts::texts))]
-pub fn write_answer(
-    d: Dialect,
-    side: Side,
-    list: &[Position],
-    text: &mut Vec<u8>,
-) -> Result<(), NoMemory>
-    ensures { Writes result text.old.items text.new.items (spec.answer_text d side list.now) }
-{
-    write_answer_pieces(d, side, list, text)
+    let mut all = Text::after(text);
+    let done = put_sheet(s, &mut all);
+    all.end(done, text)
 }

@@ -5,6 +5,17 @@
 //! possible, and by which recursion over sets of positions the best one is found. It knows no chess: the game is
 //! any that meets a few laws. `specs/` has the definitions, in the order of its `Lib.antt`, and `laws` what is
 //! proved of them.
+//!
+//! ```
+//! impl HiddenGame for Toy {
+//!     ghost game = { toy };
+//!     ghost outset = { toy_start };
+//!     ghost lawful = { lawful };
+//!     ghost outset_lawful = { start_lawful };
+//! }
+//! least_is_least::<Toy>(); // of each set of that game the least number is the least over all trees
+//! recursion(); // `least toy 3 (1 ∷ 2 ∷ [])` is 2, among others
+//! ```
 #![tactic(auto)]
 
 mod game;

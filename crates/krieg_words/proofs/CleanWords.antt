@@ -1,187 +1,158 @@
--- The bytes of the texts of words and lines: small letters, digits, spaces, commas and `+` alone. So a text is one line, and has no slash.
-use Rattle.std.proofs.Common.{◌≡◌, ℕ, ◌+◌, ◌<◌, ◌≤◌, ◌%◌, ◌/◌, ◌^◌, Bool, true, false, not, ◌&&◌, ◌||◌, eqb, leb, List, [], ◌∷◌, ◌++◌, refl, ap, ◌∙◌, arith, eqb-true, inl, inr}
+-- The bytes of the texts of words and lines: none is below a space, and no part of words has a comma.
+use Rattle.std.proofs.Common.{◌≡◌, ℕ, ◌<◌, ◌≤◌, ◌^◌, Bool, true, false, not, ◌&&◌, eqb, leb, List, [], ◌∷◌, ◌++◌, refl, arith}
 use Rattle.std.specs.Prelude.{codes}
-use Rattle.std.specs.Char.{is_ascii_digit}
 use Rattle.std.specs.List.{list_all}
-use Rattle.std.proofs.lemmas.Bool.{and_parts, leb-true, le-leb, and_from, or_cases}
+use Rattle.std.proofs.lemmas.Bool.{and_parts, and_from, leb-true, le-leb, ne_eqb}
 use Rattle.krieg_board.specs.declared.men.Move.{Move}
-use Rattle.krieg_board.specs.declared.men.Promo.{Promo}
-use Rattle.krieg_board.specs.declared.men.Promo.TheVariants as promo
 use Rattle.krieg_checks.specs.declared.kinds.Kinds.{Kinds}
 use Rattle.krieg_fen.specs.Decimals.{number_text}
-use Rattle.krieg_fen.specs.MoveText.{square_text, promo_text, move_text, IsOnBoard}
-use Rattle.krieg_fen.proofs.Free.{Above}
-use Rattle.krieg_fen.proofs.Numbers.{digits_again}
+use Rattle.krieg_fen.specs.MoveText.{square_text, move_text}
+use Rattle.krieg_fen.proofs.Free.{Above, above_less}
+use Rattle.krieg_fen.proofs.CleanTexts.{number_above, square_above, move_above}
 use Rattle.krieg_words.specs.declared.words.End.{End}
 use Rattle.krieg_words.specs.declared.words.End.TheVariants.{Goes, Mate, Stalemate}
 use Rattle.krieg_words.specs.declared.words.Took.{Took}
 use Rattle.krieg_words.specs.declared.words.Took.TheVariants.{Nothing, Pawn, Piece}
 use Rattle.krieg_words.specs.declared.dialects.Dialect.{Dialect}
-use Rattle.krieg_words.specs.declared.dialects.Dialect.TheVariants.{Wild16, Anytry, Plain}
-use Rattle.krieg_words.specs.declared.dialects.Line.{Line}
-use Rattle.krieg_words.specs.declared.dialects.Line.TheVariants.{Opens, Illegal, Done, Heard, Early, Over}
-use Rattle.krieg_words.specs.Said.{Said, IsSaid, IsTaken}
-use Rattle.krieg_words.specs.WordsText.{joined, part, took_text, is_capture, kind_names, checks_text, is_check, tries_text, are_tries, end_text, has_ended, words_parts, spelled, words_text}
-use Rattle.krieg_words.specs.LineText.{line_text, IsLine}
+use Rattle.krieg_words.specs.declared.dialects.MenTold.{MenTold}
+use Rattle.krieg_words.specs.declared.dialects.MenTold.TheVariants.{Apart, Alike}
+use Rattle.krieg_words.specs.declared.dialects.ChecksTold.{ChecksTold}
+use Rattle.krieg_words.specs.declared.dialects.ChecksTold.TheVariants.{ByKind, Bare}
+use Rattle.krieg_words.specs.declared.dialects.TriesTold.{TriesTold}
+use Rattle.krieg_words.specs.declared.dialects.TriesTold.TheVariants.{Number, Any, Untold}
+use Rattle.krieg_words.specs.declared.line.Line.{Line}
+use Rattle.krieg_words.specs.declared.line.Line.TheVariants.{Opens, Illegal, Done, Heard, Early, Over}
+use Rattle.krieg_words.specs.Words.{Said, most_tries, IsSaid}
+use Rattle.krieg_words.specs.Dialects.{dialect_rules}
+use Rattle.krieg_words.specs.Parts.{Part, text_if, texts, joined}
+use Rattle.krieg_words.specs.WordsText.{took_text, kind_names, checks_text, tries_text, end_text, words_parts, spelled, words_text}
+use Rattle.krieg_words.specs.Line.{line_text, IsLine}
 use Rattle.krieg_words.proofs.PartLaws.{Free}
 
--- a small letter, a digit, a space, `+` or a comma
+-- every byte passes
+abbrev pub Has : (ℕ → Bool) → List ℕ → Type 0
+Has test text = list_all test text ≡ true
+
+append_has : (test : ℕ → Bool) (xs ys : List ℕ) → Has test xs → Has test ys → Has test (xs ++ ys)
+append_has test [] ys h k = k
+append_has test (x ∷ xs) ys h k =
+    let p = and_parts (test x) (list_all test xs) h in
+    and_from (test x) (list_all test (xs ++ ys)) p.0 (append_has test xs ys p.1 k)
+
+weaker : (test other : ℕ → Bool) → ((b : ℕ) → test b ≡ true → other b ≡ true) → (text : List ℕ) → Has test text → Has other text
+weaker test other also [] h = refl
+weaker test other also (b ∷ text) h =
+    let p = and_parts (test b) (list_all test text) h in
+    and_from (other b) (list_all other text) (also b p.0) (weaker test other also text p.1)
+
+-- texts that pass, and the texts of parts that do
+abbrev AllHold : (ℕ → Bool) → List (List ℕ) → Type 0
+AllHold test [] = Unit {0}
+AllHold test (t ∷ ts) = Has test t × AllHold test ts
+
+abbrev AllHave : (ℕ → Bool) → List Part → Type 0
+AllHave test [] = Unit {0}
+AllHave test (p ∷ ps) = Has test p.1 × AllHave test ps
+
+joined_has : (test : ℕ → Bool) (separator : List ℕ) (ts : List (List ℕ)) → Has test separator → AllHold test ts → Has test (joined separator ts)
+joined_has test separator [] h k = refl
+joined_has test separator (t ∷ []) h k = k.0
+joined_has test separator (t ∷ u ∷ ts) h k = append_has test t (separator ++ joined separator (u ∷ ts)) k.0 (append_has test separator (joined separator (u ∷ ts)) h (joined_has test separator (u ∷ ts) h k.1))
+
+texts_have : (test : ℕ → Bool) (ps : List Part) → AllHave test ps → AllHold test (texts ps)
+texts_have test [] h = tt
+texts_have test (p ∷ ps) h = by_test p.0 (texts_have test ps h.1)
+  where
+    by_test : (t : Bool) → AllHold test (texts ps) → AllHold test (text_if t p.1 ++ texts ps)
+    by_test true rest = (h.0, rest)
+    by_test false rest = rest
+
+-- no byte below a space
 abbrev pub is_words_byte : ℕ → Bool
-is_words_byte b = (leb 97 b && leb b 122) || (is_ascii_digit b || (eqb b 32 || (eqb b 43 || eqb b 44)))
+is_words_byte b = leb 32 b
 
-abbrev pub Clean : List ℕ → Type 0
-Clean text = list_all is_words_byte text ≡ true
+-- nor a comma
+abbrev pub is_part_byte : ℕ → Bool
+is_part_byte b = is_words_byte b && not (eqb b 44)
 
-clean_append : (xs ys : List ℕ) → Clean xs → Clean ys → Clean (xs ++ ys)
-clean_append [] ys h k = k
-clean_append (x ∷ xs) ys h k =
-    let p = and_parts (is_words_byte x) (list_all is_words_byte xs) h in
-    and_from (is_words_byte x) (list_all is_words_byte (xs ++ ys)) p.0 (clean_append xs ys p.1 k)
+-- such a text has no comma
+pub part_free : (text : List ℕ) → Has is_part_byte text → Free 44 text
+part_free text h = weaker is_part_byte (λ b. not (eqb b 44)) (λ b k. (and_parts (is_words_byte b) (not (eqb b 44)) k).1) text h
 
-abbrev AllClean : List (List ℕ) → Type 0
-AllClean [] = Unit {0}
-AllClean (p ∷ ps) = Clean p × AllClean ps
+above_has : (text : List ℕ) → Above 44 text → Has is_part_byte text
+above_has [] h = refl
+above_has (b ∷ text) h =
+    let above : 44 < b = h.0 in
+    rw (le-leb 32 b (omega arith), ne_eqb b 44 (λ e. absurd (omega arith))) (above_has text h.1)
 
-clean_part : (there : Bool) (text : List ℕ) (ps : List (List ℕ)) → (there ≡ true → Clean text) → AllClean ps → AllClean (part there text ++ ps)
-clean_part true text ps h k = (h refl, k)
-clean_part false text ps h k = k
+square_has : (s : ℕ) → Has is_part_byte (square_text s)
+square_has s = above_has (square_text s) (above_less 44 48 (square_text s) (omega arith) (square_above s))
 
-clean_joined : (separator : List ℕ) (ps : List (List ℕ)) → Clean separator → AllClean ps → Clean (joined separator ps)
-clean_joined separator [] h k = refl
-clean_joined separator (p ∷ []) h k = k.0
-clean_joined separator (p ∷ q ∷ ps) h k = clean_append p (separator ++ joined separator (q ∷ ps)) k.0 (clean_append separator (joined separator (q ∷ ps)) h (clean_joined separator (q ∷ ps) h k.1))
+pub took_has : (men : MenTold) (t : Took) → Has is_part_byte (took_text men t)
+took_has men Nothing = refl
+took_has Apart (Pawn s) = square_has s
+took_has Apart (Piece s) = square_has s
+took_has Alike (Pawn s) = square_has s
+took_has Alike (Piece s) = square_has s
 
-letter_clean : (b : ℕ) → 97 ≤ b → b ≤ 122 → is_words_byte b ≡ true
-letter_clean b low high = rw (le-leb _ _ low, le-leb _ _ high) refl
+pub checks_have : (checks : ChecksTold) (k : Kinds) → Has is_part_byte (checks_text checks k)
+checks_have ByKind k =
+    joined_has is_part_byte (codes "+") (kind_names k) refl
+    (texts_have is_part_byte ((k.file, codes "file") ∷ (k.rank, codes "rank") ∷ (k.long, codes "long") ∷ (k.short, codes "short") ∷ (k.knight, codes "knight") ∷ []) (refl, (refl, (refl, (refl, (refl, tt))))))
+checks_have Bare k = refl
 
-digit_clean : (b : ℕ) → is_ascii_digit b ≡ true → is_words_byte b ≡ true
-digit_clean b h = by_letter (leb 97 b && leb b 122)
-  where
-    by_letter : (t : Bool) → (t || (is_ascii_digit b || (eqb b 32 || (eqb b 43 || eqb b 44)))) ≡ true
-    by_letter true = refl
-    by_letter false = rw h refl
+pub tries_have : (tries : TriesTold) (n : ℕ) → n ≤ most_tries → Has is_part_byte (tries_text tries n)
+tries_have Number n few = let small : n < 2 ^ 64 = omega arith in above_has (number_text n) (above_less 44 47 (number_text n) (omega arith) (number_above n small))
+tries_have Any n few = refl
+tries_have Untold n few = refl
 
-digits_clean : (text : List ℕ) → list_all is_ascii_digit text ≡ true → Clean text
-digits_clean [] h = refl
-digits_clean (b ∷ text) h =
-    let p = and_parts (is_ascii_digit b) (list_all is_ascii_digit text) h in
-    and_from (is_words_byte b) (list_all is_words_byte text) (digit_clean b p.0) (digits_clean text p.1)
+pub end_has : (e : End) → Has is_part_byte (end_text e)
+end_has Goes = refl
+end_has Mate = refl
+end_has Stalemate = refl
 
-square_clean : (s : ℕ) → s < 64 → Clean (square_text s)
-square_clean s lt =
-    let file = letter_clean (97 + s % 8) (omega arith) (omega arith) in
-    let digit : is_ascii_digit (49 + s / 8) ≡ true = rw (le-leb 48 (49 + s / 8) (omega arith), le-leb (49 + s / 8) 57 (omega arith)) refl in
-    and_from (is_words_byte (97 + s % 8)) (list_all is_words_byte ((49 + s / 8) ∷ [])) file (and_from (is_words_byte (49 + s / 8)) true (digit_clean (49 + s / 8) digit) refl)
+as_words : (text : List ℕ) → Has is_part_byte text → Has is_words_byte text
+as_words text h = weaker is_part_byte is_words_byte (λ b k. (and_parts (is_words_byte b) (not (eqb b 44)) k).0) text h
 
-took_clean : (d : Dialect) (t : Took) → IsTaken t → Clean (took_text d t)
-took_clean d Nothing h = refl
-took_clean Wild16 (Pawn s) h = clean_append (codes "pawn ") (square_text s) refl (square_clean s h)
-took_clean Wild16 (Piece s) h = clean_append (codes "piece ") (square_text s) refl (square_clean s h)
-took_clean Anytry (Pawn s) h = clean_append (codes "pawn ") (square_text s) refl (square_clean s h)
-took_clean Anytry (Piece s) h = clean_append (codes "piece ") (square_text s) refl (square_clean s h)
-took_clean Plain (Pawn s) h = clean_append (codes "took ") (square_text s) refl (square_clean s h)
-took_clean Plain (Piece s) h = clean_append (codes "took ") (square_text s) refl (square_clean s h)
+spelled_has : (ts : List (List ℕ)) → AllHold is_words_byte ts → Has is_words_byte (spelled ts)
+spelled_has [] h = refl
+spelled_has (t ∷ ts) h = joined_has is_words_byte (codes ", ") (t ∷ ts) refl h
 
-last_part : (there : Bool) (text : List ℕ) → (there ≡ true → Clean text) → AllClean (part there text)
-last_part true text h = (h refl, tt)
-last_part false text h = tt
-
-names_clean : (k : Kinds) → Clean (joined (codes "+") (kind_names k))
-names_clean k =
-    clean_joined (codes "+") (kind_names k) refl
-    (clean_part k.file (codes "file") (part k.rank (codes "rank") ++ (part k.long (codes "long") ++ (part k.short (codes "short") ++ part k.knight (codes "knight")))) (λ h. refl)
-    (clean_part k.rank (codes "rank") (part k.long (codes "long") ++ (part k.short (codes "short") ++ part k.knight (codes "knight"))) (λ h. refl)
-    (clean_part k.long (codes "long") (part k.short (codes "short") ++ part k.knight (codes "knight")) (λ h. refl)
-    (clean_part k.short (codes "short") (part k.knight (codes "knight")) (λ h. refl) (last_part k.knight (codes "knight") (λ h. refl))))))
-
-checks_clean : (d : Dialect) (k : Kinds) → Clean (checks_text d k)
-checks_clean Wild16 k = clean_append (codes "check ") (joined (codes "+") (kind_names k)) refl (names_clean k)
-checks_clean Anytry k = clean_append (codes "check ") (joined (codes "+") (kind_names k)) refl (names_clean k)
-checks_clean Plain k = refl
-
-small : (n : ℕ) → n ≤ 16 → n < 2 ^ 64
-small n h = omega arith
-
-tries_clean : (d : Dialect) (n : ℕ) → n ≤ 16 → Clean (tries_text d n)
-tries_clean Wild16 n few = clean_append (codes "tries ") (number_text n) refl (digits_clean (number_text n) (digits_again n (small n few)))
-tries_clean Anytry n few = refl
-tries_clean Plain n few = refl
-
-end_clean : (e : End) → Clean (end_text e)
-end_clean Goes = refl
-end_clean Mate = refl
-end_clean Stalemate = refl
-
-spelled_clean : (ps : List (List ℕ)) → AllClean ps → Clean (spelled ps)
-spelled_clean [] h = refl
-spelled_clean (p ∷ ps) h = clean_joined (codes ", ") (p ∷ ps) refl h
-
-pub words_clean : (d : Dialect) (w : Said) → IsSaid w → Clean (words_text d w)
+words_have : (d : Dialect) (w : Said) → IsSaid w → Has is_words_byte (words_text d w)
 unfolding words_text
-words_clean d w said =
-    spelled_clean (words_parts d w)
-    (clean_part (is_capture w.took) (took_text d w.took) (part (is_check w.checks) (checks_text d w.checks) ++ (part (are_tries d w.tries) (tries_text d w.tries) ++ part (has_ended w.end) (end_text w.end))) (λ h. took_clean d w.took said.1)
-    (clean_part (is_check w.checks) (checks_text d w.checks) (part (are_tries d w.tries) (tries_text d w.tries) ++ part (has_ended w.end) (end_text w.end)) (λ h. checks_clean d w.checks)
-    (clean_part (are_tries d w.tries) (tries_text d w.tries) (part (has_ended w.end) (end_text w.end)) (λ h. tries_clean d w.tries said.0)
-    (last_part (has_ended w.end) (end_text w.end) (λ h. end_clean w.end)))))
+words_have d w said =
+    let r = dialect_rules d in
+    spelled_has (texts (words_parts d w)) (texts_have is_words_byte (words_parts d w) (
+      as_words (took_text r.men w.took) (took_has r.men w.took),
+      (as_words (checks_text r.checks w.checks) (checks_have r.checks w.checks), (as_words (tries_text r.tries w.tries) (tries_have r.tries w.tries said.0), (as_words (end_text w.end) (end_has w.end), tt))),
+    ))
 
-promo_clean : (p : Promo) → Clean (promo_text p)
-promo_clean promo.Plain = refl
-promo_clean promo.Queen = refl
-promo_clean promo.Rook = refl
-promo_clean promo.Bishop = refl
-promo_clean promo.Knight = refl
+move_has : (m : Move) (verdict : List ℕ) → Has is_words_byte verdict → Has is_words_byte (move_text m ++ verdict)
+move_has m verdict h = append_has is_words_byte (move_text m) verdict (as_words (move_text m) (above_has (move_text m) (above_less 44 48 (move_text m) (omega arith) (move_above m)))) h
 
-move_clean : (m : Move) → IsOnBoard m → Clean (move_text m)
-unfolding move_text
-move_clean m there =
-    clean_append (square_text m.from) (square_text m.to ++ promo_text m.promo) (square_clean m.from there.0)
-    (clean_append (square_text m.to) (promo_text m.promo) (square_clean m.to there.1) (promo_clean m.promo))
-
-try_clean : (m : Move) (verdict : List ℕ) → IsOnBoard m → Clean verdict → Clean (codes "try " ++ (move_text m ++ verdict))
-try_clean m verdict there h = clean_append (codes "try ") (move_text m ++ verdict) refl (clean_append (move_text m) verdict (move_clean m there) h)
-
-pub line_clean : (d : Dialect) (l : Line) → IsLine l → Clean (line_text d l)
+line_has : (d : Dialect) (l : Line) → IsLine l → Has is_words_byte (line_text d l)
 unfolding line_text
-line_clean d (Opens w) h = clean_append (codes "opens ") (words_text d w) refl (words_clean d w h)
-line_clean d (Heard w) h = clean_append (codes "heard ") (words_text d w) refl (words_clean d w h)
-line_clean d (Illegal m) h = try_clean m (codes " illegal") h refl
-line_clean d (Early m) h = try_clean m (codes " early") h refl
-line_clean d (Over m) h = try_clean m (codes " over") h refl
-line_clean d (Done m w) h = try_clean m (codes " ok " ++ words_text d w) h.0 (clean_append (codes " ok ") (words_text d w) refl (words_clean d w h.1))
+line_has d (Opens w) h = words_have d w h
+line_has d (Heard w) h = words_have d w h
+line_has d (Illegal m) h = move_has m (codes " illegal") refl
+line_has d (Early m) h = move_has m (codes " early") refl
+line_has d (Over m) h = move_has m (codes " over") refl
+line_has d (Done m w) h = move_has m (codes " ok " ++ words_text d w) (words_have d w h.1)
 
--- a byte of such a text is above 31
-byte_above : (b : ℕ) → is_words_byte b ≡ true → 31 < b
-byte_above b h = elim (or_cases (leb 97 b && leb b 122) (is_ascii_digit b || (eqb b 32 || (eqb b 43 || eqb b 44))) h) [
-  | inl a ↦ (let low : 97 ≤ b = leb-true _ _ (and_parts (leb 97 b) (leb b 122) a).0 in omega arith)
-  | inr r ↦ elim (or_cases (is_ascii_digit b) (eqb b 32 || (eqb b 43 || eqb b 44)) r) [
-    | inl a ↦ (let low : 48 ≤ b = leb-true _ _ (and_parts (leb 48 b) (leb b 57) a).0 in omega arith)
-    | inr s ↦ elim (or_cases (eqb b 32) (eqb b 43 || eqb b 44) s) [
-      | inl a ↦ (let is = eqb-true b 32 a in omega arith)
-      | inr t ↦ elim (or_cases (eqb b 43) (eqb b 44) t) [ inl a ↦ (let is = eqb-true b 43 a in omega arith) | inr a ↦ (let is = eqb-true b 44 a in omega arith) ]
-    ]
-  ]
-]
-
-pub clean_above : (text : List ℕ) → Clean text → Above 31 text
-clean_above [] h = tt
-clean_above (b ∷ text) h = let p = and_parts (is_words_byte b) (list_all is_words_byte text) h in (byte_above b p.0, clean_above text p.1)
-
--- a byte that such a text never has, as a slash 47
-pub clean_free : (mark : ℕ) (text : List ℕ) → is_words_byte mark ≡ false → Clean text → Free mark text
-clean_free mark [] h k = refl
-clean_free mark (b ∷ text) h k =
-    let p = and_parts (is_words_byte b) (list_all is_words_byte text) k in
-    and_from (not (eqb b mark)) (list_all (λ b. not (eqb b mark)) text) (differs (eqb b mark) refl p.0) (clean_free mark text h p.1)
-  where
-    differs : (t : Bool) → eqb b mark ≡ t → is_words_byte b ≡ true → not t ≡ true
-    differs false e x = refl
-    differs true e x = absurd (let y : is_words_byte b ≡ false = ap is_words_byte (eqb-true b mark e) ∙ h in cc)
+has_above : (text : List ℕ) → Has is_words_byte text → Above 31 text
+has_above [] h = tt
+has_above (b ∷ text) h =
+    let p = and_parts (is_words_byte b) (list_all is_words_byte text) h in
+    let low : 32 ≤ b = leb-true 32 b p.0 in
+    (omega arith, has_above text p.1)
 
 -- texts of lines are one line each
 pub line_above : (d : Dialect) (l : Line) → IsLine l → Above 31 (line_text d l)
-line_above d l valid = clean_above (line_text d l) (line_clean d l valid)
+line_above d l valid = has_above (line_text d l) (line_has d l valid)
 
--- texts of words have no slash
-pub words_no_slash : (d : Dialect) (w : Said) → IsSaid w → Free 47 (words_text d w)
-words_no_slash d w said = clean_free 47 (words_text d w) refl (words_clean d w said)
+-- a byte that all bytes are above does not occur
+pub above_free : (mark : ℕ) (text : List ℕ) → Above mark text → Free mark text
+above_free mark [] h = refl
+above_free mark (b ∷ text) h =
+    let above : mark < b = h.0 in
+    rw (ne_eqb b mark (λ e. absurd (omega arith))) (above_free mark text h.1)

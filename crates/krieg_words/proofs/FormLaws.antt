@@ -1,304 +1,259 @@
--- Each part of words: its text is read as what it tells, no other part's text is, and nothing else is read so.
-use Rattle.std.proofs.Common.{◌≡◌, ℕ, ◌+◌, ◌<◌, ◌≤◌, ◌%◌, ◌/◌, ◌^◌, Bool, true, false, not, ◌==◌, leb, cond, List, [], ◌∷◌, ◌++◌, Option, Some, None, Result, Ok, Err, refl, ap, ◌∙◌, arith, zero, suc, subst, lit<, lit≤}
+-- The four parts of words: what each tells is read from its text and from no other part's, and is spelled so.
+use Rattle.std.proofs.Common.{◌≡◌, ◌≢◌, ℕ, ◌<◌, ◌≤◌, true, false, not, ◌==◌, cond, List, [], ◌∷◌, ◌++◌, Option, Some, None, Result, Ok, Err, refl, sym, ap, ◌∙◌, arith, zero, suc, eqb-true, lit<, lit≤}
 use Rattle.std.specs.Prelude.{codes}
-use Rattle.std.specs.Char.{is_ascii_digit}
-use Rattle.std.specs.List.{list_all}
 use Rattle.std.specs.Str.{bytes_eq}
-use Rattle.std.proofs.lemmas.Bool.{and_parts, leb-true, ne_eqb}
-use Rattle.std.proofs.lemmas.Slice.Eq.{bytes_eq-Decides}
-use Rattle.std.proofs.lemmas.Option.{cond_some}
 use Rattle.krieg_fen.specs.Names.{behind}
 use Rattle.krieg_fen.specs.Decimals.{number_text, number_between}
 use Rattle.krieg_fen.specs.MoveText.{square_text}
 use Rattle.krieg_fen.specs.declared.number.NumberFault.{NumberFault}
-use Rattle.krieg_fen.proofs.NameLemmas.{behind_again, behind_spells}
+use Rattle.krieg_fen.proofs.NameLemmas.{behind_again}
 use Rattle.krieg_fen.proofs.MoveTexts.{named_spells, named_again}
-use Rattle.krieg_fen.proofs.Numbers.{digits_again, between_spells, between_again}
+use Rattle.krieg_fen.proofs.Numbers.{between_spells, between_again}
 use Rattle.krieg_checks.specs.Kinds.{bits_of}
 use Rattle.krieg_checks.specs.declared.kinds.Kinds.{Kinds}
 use Rattle.krieg_words.specs.declared.words.End.{End}
 use Rattle.krieg_words.specs.declared.words.End.TheVariants.{Goes, Mate, Stalemate}
 use Rattle.krieg_words.specs.declared.words.Took.{Took}
 use Rattle.krieg_words.specs.declared.words.Took.TheVariants.{Nothing, Pawn, Piece}
-use Rattle.krieg_words.specs.declared.dialects.Dialect.{Dialect}
-use Rattle.krieg_words.specs.declared.dialects.Dialect.TheVariants.{Wild16, Anytry, Plain}
-use Rattle.krieg_words.specs.Said.{Said, IsTaken}
-use Rattle.krieg_words.specs.Told.{as_piece, as_check, no_kinds, some_kind, Fits}
-use Rattle.krieg_words.specs.WordsText.{joined, kind_names, took_text, is_capture, checks_text, is_check, tries_text, are_tries, end_text, has_ended}
-use Rattle.krieg_words.specs.WordsReading.{square_in, pawn_or_piece, took_in, names_of, checks_in, number_in, count_in, tries_in, end_in}
-use Rattle.krieg_words.proofs.ToldLaws.{some_tries}
-use Rattle.krieg_words.proofs.PartLaws.{Free}
-use Rattle.krieg_words.proofs.NameLaws.{kinds_again, kinds_spells}
+use Rattle.krieg_words.specs.declared.dialects.MenTold.{MenTold}
+use Rattle.krieg_words.specs.declared.dialects.MenTold.TheVariants.{Apart, Alike}
+use Rattle.krieg_words.specs.declared.dialects.ChecksTold.{ChecksTold}
+use Rattle.krieg_words.specs.declared.dialects.ChecksTold.TheVariants.{ByKind, Bare}
+use Rattle.krieg_words.specs.declared.dialects.TriesTold.{TriesTold}
+use Rattle.krieg_words.specs.declared.dialects.TriesTold.TheVariants.{Number, Any, Untold}
+use Rattle.krieg_words.specs.Words.{most_tries, IsTaken}
+use Rattle.krieg_words.specs.ToldWords.{took_told, checks_told, tries_told, no_kinds, some_kind}
+use Rattle.krieg_words.specs.Parts.{joined}
+use Rattle.krieg_words.specs.WordsText.{kind_names, took_text, is_capture, checks_text, is_check, tries_text, are_tries, end_text, has_ended}
+use Rattle.krieg_words.specs.WordsReading.{square_in, pawn_or_piece, took_in, checks_named, checks_in, number_in, count_in, tries_in, end_in, read_parts}
+use Rattle.krieg_words.proofs.OrderLaws.{bits_of_same}
+use Rattle.krieg_words.proofs.Cases.{by_test, by_name, by_front}
+use Rattle.krieg_words.proofs.PartLaws.{IsPart, AreParts, no_parts, parts_then}
+use Rattle.krieg_words.proofs.NameLaws.{named_again as kinds_again, named_spells as kinds_spell}
+use Rattle.krieg_words.proofs.CleanWords.{part_free, took_has, checks_have, tries_have, end_has}
 
--- what the dialect can tell, part by part
-abbrev pub FitsTook : Dialect → Took → Type 0
-FitsTook Wild16 t = Unit {0}
-FitsTook Anytry t = Unit {0}
-FitsTook Plain t = as_piece t ≡ t
-
-abbrev pub FitsChecks : Dialect → Kinds → Type 0
-FitsChecks Wild16 k = Unit {0}
-FitsChecks Anytry k = Unit {0}
-FitsChecks Plain k = as_check k ≡ k
-
-abbrev pub FitsTries : Dialect → ℕ → Type 0
-FitsTries Wild16 n = Unit {0}
-FitsTries Anytry n = some_tries (n == 0) ≡ n
-FitsTries Plain n = 0 ≡ n
-
-pub record FitsParts (d : Dialect) (w : Said) : Type 0 where
-  pub took : FitsTook d w.took
-  pub checks : FitsChecks d w.checks
-  pub tries : FitsTries d w.tries
-
-pub fits_parts : (d : Dialect) (w : Said) → Fits d w → FitsParts d w
-fits_parts Wild16 w h = record { took = tt; checks = tt; tries = tt }
-fits_parts Anytry w h = record { took = tt; checks = tt; tries = ap (λ (x : Said). x.tries) h }
-fits_parts Plain w h = record { took = ap (λ (x : Said). x.took) h; checks = ap (λ (x : Said). x.checks) h; tries = ap (λ (x : Said). x.tries) h }
-
-pub parts_fit : (d : Dialect) (w : Said) → FitsParts d w → Fits d w
-parts_fit Wild16 w h = refl
-parts_fit Anytry w h = λ i. record { end = w.end; took = w.took; checks = w.checks; tries = h.tries i }
-parts_fit Plain w h = λ i. record { end = w.end; took = h.took i; checks = h.checks i; tries = h.tries i }
-
--- no text of a part has a comma
-free_square : (s : ℕ) → Free 44 (square_text s)
-free_square s = rw (ne_eqb (97 + s % 8) 44 (λ e. absurd (omega arith)), ne_eqb (49 + s / 8) 44 (λ e. absurd (omega arith))) refl
-
-free_digits : (text : List ℕ) → list_all is_ascii_digit text ≡ true → Free 44 text
-free_digits [] h = refl
-free_digits (b ∷ text) h =
-    let p = and_parts (is_ascii_digit b) (list_all is_ascii_digit text) h in
-    let q = and_parts (leb 48 b) (leb b 57) p.0 in
-    let low : 48 ≤ b = leb-true _ _ q.0 in
-    rw (ne_eqb b 44 (λ e. absurd (omega arith))) (free_digits text p.1)
-
-pub took_free : (d : Dialect) (t : Took) → Free 44 (took_text d t)
-took_free d Nothing = refl
-took_free Wild16 (Pawn s) = free_square s
-took_free Wild16 (Piece s) = free_square s
-took_free Anytry (Pawn s) = free_square s
-took_free Anytry (Piece s) = free_square s
-took_free Plain (Pawn s) = free_square s
-took_free Plain (Piece s) = free_square s
-
-pub checks_free : (d : Dialect) (k : Kinds) → is_check k ≡ true → Free 44 (checks_text d k)
-checks_free Wild16 k held = (kinds_again k held).1
-checks_free Anytry k held = (kinds_again k held).1
-checks_free Plain k held = refl
-
-small : (n : ℕ) → n ≤ 16 → n < 2 ^ 64
-small n h = omega arith
-
-pub tries_free : (d : Dialect) (n : ℕ) → n ≤ 16 → Free 44 (tries_text d n)
-tries_free Wild16 n few = free_digits (number_text n) (digits_again n (small n few))
-tries_free Anytry n few = refl
-tries_free Plain n few = refl
-
-pub end_free : (e : End) → Free 44 (end_text e)
-end_free Goes = refl
-end_free Mate = refl
-end_free Stalemate = refl
-
--- each form takes its own part's text
+-- What was captured.
 square_again : (name : List ℕ) (s : ℕ) → s < 64 → square_in (behind name (name ++ square_text s)) ≡ Some s
 square_again name s lt = ap square_in (behind_again name (square_text s)) ∙ named_again s lt
 
-pub took_takes : (d : Dialect) (t : Took) → IsTaken t → FitsTook d t → is_capture t ≡ true → took_in d (took_text d t) ≡ Some t
+square_spells : (name s : List ℕ) (x : ℕ) → square_in (behind name s) ≡ Some x → (x < 64) × (s ≡ name ++ square_text x)
+square_spells name s x e =
+    by_front (λ y. square_in y ≡ Some x → (x < 64) × (s ≡ name ++ square_text x)) name s
+    (λ rest is h. (let n = named_spells rest x h in (n.0, is ∙ ap (λ (t : List ℕ). name ++ t) n.1))) (λ h. absurd cc) e
+
+abbrev pub TellsTook : MenTold → Took → Type 0
+TellsTook men t = IsTaken t × (took_told men t ≡ t)
+
+took_takes : (men : MenTold) (t : Took) → TellsTook men t → is_capture t ≡ true → took_in men (took_text men t) ≡ t
 unfolding behind
-took_takes d Nothing lt fits there = absurd cc
-took_takes Wild16 (Pawn s) lt fits there = ap (λ (x : Option ℕ). pawn_or_piece x None) (square_again (codes "pawn ") s lt)
-took_takes Wild16 (Piece s) lt fits there = ap (λ (x : Option ℕ). pawn_or_piece None x) (square_again (codes "piece ") s lt)
-took_takes Anytry (Pawn s) lt fits there = ap (λ (x : Option ℕ). pawn_or_piece x None) (square_again (codes "pawn ") s lt)
-took_takes Anytry (Piece s) lt fits there = ap (λ (x : Option ℕ). pawn_or_piece None x) (square_again (codes "piece ") s lt)
-took_takes Plain (Pawn s) lt fits there = absurd cc
-took_takes Plain (Piece s) lt fits there = ap (λ (x : Option ℕ). pawn_or_piece None x) (square_again (codes "took ") s lt)
+took_takes men Nothing k there = absurd cc
+took_takes Apart (Pawn s) k there = ap (λ (x : Option ℕ). pawn_or_piece x None) (square_again (codes "pawn ") s k.0)
+took_takes Apart (Piece s) k there = ap (λ (x : Option ℕ). pawn_or_piece None x) (square_again (codes "piece ") s k.0)
+took_takes Alike (Pawn s) k there = absurd (let e : Piece s ≡ Pawn s = k.1 in cc)
+took_takes Alike (Piece s) k there = ap (λ (x : Option ℕ). pawn_or_piece None x) (square_again (codes "took ") s k.0)
 
-check_kinds : (k : Kinds) → as_check k ≡ k → is_check k ≡ true → some_kind ≡ k
-check_kinds k fits held = by_test (bits_of k == 0) held fits
-  where
-    by_test : (t : Bool) → not t ≡ true → cond t no_kinds some_kind ≡ k → some_kind ≡ k
-    by_test true h e = absurd cc
-    by_test false h e = e
+record TookIs (men : MenTold) (s : List ℕ) (t : Took) : Type 0 where
+  tells : TellsTook men t
+  text : is_capture t ≡ true → (s ≡ took_text men t) × (took_text men t ≢ [])
 
-pub checks_take : (d : Dialect) (k : Kinds) → FitsChecks d k → is_check k ≡ true → checks_in d (checks_text d k) ≡ Some k
-checks_take Wild16 k fits held = ap names_of (behind_again (codes "check ") (joined (codes "+") (kind_names k))) ∙ (kinds_again k held).0
-checks_take Anytry k fits held = ap names_of (behind_again (codes "check ") (joined (codes "+") (kind_names k))) ∙ (kinds_again k held).0
-checks_take Plain k fits held = ap (λ (x : Kinds). Some x) (check_kinds k fits held)
+took_cases : (P : Took → Type 0) (a b : Option ℕ) → ((x : ℕ) → a ≡ Some x → P (Pawn x)) → ((x : ℕ) → b ≡ Some x → P (Piece x)) → P Nothing → P (pawn_or_piece a b)
+took_cases P (Some x) b pawn piece none = pawn x refl
+took_cases P None (Some x) pawn piece none = piece x refl
+took_cases P None None pawn piece none = none
+
+took_is : (men : MenTold) (s : List ℕ) → TookIs men s (took_in men s)
+took_is Apart s =
+    took_cases (TookIs Apart s) (square_in (behind (codes "pawn ") s)) (square_in (behind (codes "piece ") s))
+    (λ x h. (let p = square_spells (codes "pawn ") s x h in record { tells = (p.0, refl); text = λ _. (p.1, λ e. cc) }))
+    (λ x h. (let p = square_spells (codes "piece ") s x h in record { tells = (p.0, refl); text = λ _. (p.1, λ e. cc) }))
+    (record { tells = (tt, refl); text = λ there. absurd cc })
+took_is Alike s =
+    took_cases (TookIs Alike s) None (square_in (behind (codes "took ") s))
+    (λ x h. absurd cc)
+    (λ x h. (let p = square_spells (codes "took ") s x h in record { tells = (p.0, refl); text = λ _. (p.1, λ e. cc) }))
+    (record { tells = (tt, refl); text = λ there. absurd cc })
+
+no_capture : (t : Took) → is_capture t ≡ false → Nothing ≡ t
+no_capture Nothing h = refl
+no_capture _ h = absurd cc
+
+pub took_part : (men : MenTold) → IsPart 44 (took_in men) is_capture (took_text men) (TellsTook men) Nothing
+took_part men = record {
+  takes = λ t k there. (took_takes men t k there, part_free (took_text men t) (took_has men t));
+  absent = λ t k none. no_capture t none;
+  tells = λ s. (took_is men s).tells;
+  spells = λ s there. (took_is men s).text there;
+}
+
+-- The kinds of check.
+abbrev pub TellsChecks : ChecksTold → Kinds → Type 0
+TellsChecks checks k = checks_told checks k ≡ k
+
+no_check : (k : Kinds) → is_check k ≡ false → no_kinds ≡ k
+no_check k h = by_test (λ t. not t ≡ false → no_kinds ≡ k) (bits_of k == 0) (λ e h. sym (bits_of_same k no_kinds (eqb-true (bits_of k) 0 e))) (λ e h. absurd cc) h
+
+checks_take : (checks : ChecksTold) (k : Kinds) → TellsChecks checks k → is_check k ≡ true → checks_in checks (checks_text checks k) ≡ k
+checks_take ByKind k fits held = ap checks_named (behind_again (codes "check ") (joined (codes "+") (kind_names k))) ∙ kinds_again k
+checks_take Bare k fits held = by_test (λ t. not t ≡ true → cond t no_kinds some_kind ≡ k → some_kind ≡ k) (bits_of k == 0) (λ z h e. absurd cc) (λ z h e. e) held fits
+
+checks_tell : (checks : ChecksTold) (s : List ℕ) → TellsChecks checks (checks_in checks s)
+checks_tell ByKind s = refl
+checks_tell Bare s = by_name (λ t. TellsChecks Bare (cond t some_kind no_kinds)) s (codes "check") (λ is. refl) refl
+
+checks_spell : (checks : ChecksTold) (s : List ℕ) → is_check (checks_in checks s) ≡ true → (s ≡ checks_text checks (checks_in checks s)) × (checks_text checks (checks_in checks s) ≢ [])
+checks_spell ByKind s held =
+    by_front (λ y. is_check (checks_named y) ≡ true → (s ≡ checks_text ByKind (checks_named y)) × (checks_text ByKind (checks_named y) ≢ [])) (codes "check ") s
+    (λ rest is h. (is ∙ ap (λ (t : List ℕ). codes "check " ++ t) (kinds_spell rest h), λ e. cc)) (λ h. absurd cc) held
+checks_spell Bare s held =
+    by_name (λ t. is_check (cond t some_kind no_kinds) ≡ true → (s ≡ codes "check") × (codes "check" ≢ [])) s (codes "check") (λ is h. (is, λ e. cc)) (λ h. absurd cc) held
+
+pub checks_part : (checks : ChecksTold) → IsPart 44 (checks_in checks) is_check (checks_text checks) (TellsChecks checks) no_kinds
+checks_part checks = record {
+  takes = λ k fits held. (checks_take checks k fits held, part_free (checks_text checks k) (checks_have checks k));
+  absent = λ k fits none. no_check k none;
+  tells = checks_tell checks;
+  spells = checks_spell checks;
+}
+
+-- The pawn tries.
+abbrev pub TellsTries : TriesTold → ℕ → Type 0
+TellsTries tries n = (n ≤ most_tries) × (tries_told tries n ≡ n)
 
 not_zero : (n : ℕ) → not (n == 0) ≡ true → 1 ≤ n
 not_zero zero h = absurd cc
 not_zero (suc n) h = omega arith
 
-one_tries : (n : ℕ) → some_tries (n == 0) ≡ n → not (n == 0) ≡ true → 1 ≡ n
-one_tries n fits there = by_test (n == 0) there fits
+is_zero : (n : ℕ) → not (n == 0) ≡ false → 0 ≡ n
+is_zero n h = by_test (λ t. not t ≡ false → 0 ≡ n) (n == 0) (λ e h. sym (eqb-true n 0 e)) (λ e h. absurd cc) h
+
+no_tries : (tries : TriesTold) (n : ℕ) → TellsTries tries n → are_tries tries n ≡ false → 0 ≡ n
+no_tries Number n k h = is_zero n h
+no_tries Any n k h = is_zero n h
+no_tries Untold n k h = k.1
+
+tries_take : (tries : TriesTold) (n : ℕ) → TellsTries tries n → are_tries tries n ≡ true → tries_in tries (tries_text tries n) ≡ n
+tries_take Number n k there =
+    ap count_in (behind_again (codes "tries ") (number_text n)) ∙ ap number_in (between_again 1 most_tries n (not_zero n there) k.0 (lit< tt))
+tries_take Any n k there = by_test (λ t. not t ≡ true → cond t 0 1 ≡ n → 1 ≡ n) (n == 0) (λ z h e. absurd cc) (λ z h e. e) there k.1
+tries_take Untold n k there = absurd cc
+
+record TriesAre (tries : TriesTold) (s : List ℕ) (n : ℕ) : Type 0 where
+  tells : TellsTries tries n
+  text : are_tries tries n ≡ true → (s ≡ tries_text tries n) × (tries_text tries n ≢ [])
+
+number_is : (s rest : List ℕ) (r : Result ℕ NumberFault) → s ≡ codes "tries " ++ rest → number_between rest 1 most_tries ≡ r → TriesAre Number s (number_in r)
+number_is s rest (Err fault) is e = record { tells = (lit≤ tt, refl); text = λ there. absurd cc }
+number_is s rest (Ok n) is e =
+    let b = between_spells rest 1 most_tries n (lit< tt) e in
+    record { tells = (b.1, refl); text = λ there. (is ∙ ap (λ (t : List ℕ). codes "tries " ++ t) b.2, λ e. cc) }
+
+tries_are : (tries : TriesTold) (s : List ℕ) → TriesAre tries s (tries_in tries s)
+tries_are Number s =
+    by_front (λ y. TriesAre Number s (count_in y)) (codes "tries ") s
+    (λ rest is. number_is s rest (number_between rest 1 most_tries) is refl) (record { tells = (lit≤ tt, refl); text = λ there. absurd cc })
+tries_are Any s =
+    by_name (λ t. TriesAre Any s (cond t 1 0)) s (codes "tries some")
+    (λ is. record { tells = (lit≤ tt, refl); text = λ there. (is, λ e. cc) }) (record { tells = (lit≤ tt, refl); text = λ there. absurd cc })
+tries_are Untold s = record { tells = (lit≤ tt, refl); text = λ there. absurd cc }
+
+pub tries_part : (tries : TriesTold) → IsPart 44 (tries_in tries) (are_tries tries) (tries_text tries) (TellsTries tries) 0
+tries_part tries = record {
+  takes = λ n k there. (tries_take tries n k there, part_free (tries_text tries n) (tries_have tries n k.0));
+  absent = no_tries tries;
+  tells = λ s. (tries_are tries s).tells;
+  spells = λ s there. (tries_are tries s).text there;
+}
+
+-- The end.
+no_end : (e : End) → has_ended e ≡ false → Goes ≡ e
+no_end Goes h = refl
+no_end _ h = absurd cc
+
+end_takes : (e : End) → has_ended e ≡ true → end_in (end_text e) ≡ e
+end_takes Goes h = absurd cc
+end_takes Mate h = refl
+end_takes Stalemate h = refl
+
+end_spells : (s : List ℕ) → has_ended (end_in s) ≡ true → (s ≡ end_text (end_in s)) × (end_text (end_in s) ≢ [])
+end_spells s there =
+    by_name (λ a. has_ended (cond a Mate (cond (bytes_eq s (codes "stalemate")) Stalemate Goes)) ≡ true → Spelled (cond a Mate (cond (bytes_eq s (codes "stalemate")) Stalemate Goes))) s (codes "mate")
+    (λ is h. (is, λ e. cc))
+    (by_name (λ b. has_ended (cond b Stalemate Goes) ≡ true → Spelled (cond b Stalemate Goes)) s (codes "stalemate") (λ is h. (is, λ e. cc)) (λ h. absurd cc)) there
   where
-    by_test : (t : Bool) → not t ≡ true → some_tries t ≡ n → 1 ≡ n
-    by_test true h e = absurd cc
-    by_test false h e = e
+    Spelled : End → Type 0
+    Spelled e = (s ≡ end_text e) × (end_text e ≢ [])
 
-pub tries_take : (d : Dialect) (n : ℕ) → n ≤ 16 → FitsTries d n → are_tries d n ≡ true → tries_in d (tries_text d n) ≡ Some n
-tries_take Wild16 n few fits there =
-    ap count_in (behind_again (codes "tries ") (number_text n)) ∙ ap number_in (between_again 1 16 n (not_zero n there) few (lit< tt))
-tries_take Anytry n few fits there = ap (λ (x : ℕ). Some x) (one_tries n fits there)
-tries_take Plain n few fits there = absurd cc
+pub end_part : IsPart 44 end_in has_ended end_text (λ e. Unit {0}) Goes
+end_part = record {
+  takes = λ e k there. (end_takes e there, part_free (end_text e) (end_has e));
+  absent = λ e k none. no_end e none;
+  tells = λ s. tt;
+  spells = end_spells;
+}
 
-pub end_takes : (e : End) → has_ended e ≡ true → end_in (end_text e) ≡ Some e
-end_takes Goes there = absurd cc
-end_takes Mate there = refl
-end_takes Stalemate there = refl
-
--- no form takes the text of a part that stands behind its own, or an empty text
-pub took_leaves_checks : (d : Dialect) (k : Kinds) → took_in d (checks_text d k) ≡ None
+-- No form finds anything in the text of a part after its own, nor in an empty text.
+took_leaves_checks : (men : MenTold) (checks : ChecksTold) (k : Kinds) → took_in men (checks_text checks k) ≡ Nothing
 unfolding behind
-took_leaves_checks Wild16 k = refl
-took_leaves_checks Anytry k = refl
-took_leaves_checks Plain k = refl
+took_leaves_checks Apart ByKind k = refl
+took_leaves_checks Alike ByKind k = refl
+took_leaves_checks _ _ k = refl
 
-pub took_leaves_tries : (d : Dialect) (n : ℕ) → took_in d (tries_text d n) ≡ None
+took_leaves_tries : (men : MenTold) (tries : TriesTold) (n : ℕ) → took_in men (tries_text tries n) ≡ Nothing
 unfolding behind
-took_leaves_tries Wild16 n = refl
-took_leaves_tries Anytry n = refl
-took_leaves_tries Plain n = refl
+took_leaves_tries Apart Number n = refl
+took_leaves_tries Alike Number n = refl
+took_leaves_tries _ _ n = refl
 
-pub took_leaves_end : (d : Dialect) (e : End) → took_in d (end_text e) ≡ None
+took_leaves_end : (men : MenTold) (e : End) → took_in men (end_text e) ≡ Nothing
 unfolding behind
-took_leaves_end Wild16 Goes = refl
-took_leaves_end Wild16 Mate = refl
-took_leaves_end Wild16 Stalemate = refl
-took_leaves_end Anytry Goes = refl
-took_leaves_end Anytry Mate = refl
-took_leaves_end Anytry Stalemate = refl
-took_leaves_end Plain Goes = refl
-took_leaves_end Plain Mate = refl
-took_leaves_end Plain Stalemate = refl
+took_leaves_end Apart Goes = refl
+took_leaves_end Alike Goes = refl
+took_leaves_end _ _ = refl
 
-pub checks_leave_tries : (d : Dialect) (n : ℕ) → checks_in d (tries_text d n) ≡ None
+checks_leave_tries : (checks : ChecksTold) (tries : TriesTold) (n : ℕ) → checks_in checks (tries_text tries n) ≡ no_kinds
 unfolding behind
-checks_leave_tries Wild16 n = refl
-checks_leave_tries Anytry n = refl
-checks_leave_tries Plain n = refl
+checks_leave_tries ByKind Number n = refl
+checks_leave_tries Bare Number n = refl
+checks_leave_tries _ _ n = refl
 
-pub checks_leave_end : (d : Dialect) (e : End) → checks_in d (end_text e) ≡ None
+checks_leave_end : (checks : ChecksTold) (e : End) → checks_in checks (end_text e) ≡ no_kinds
 unfolding behind
-checks_leave_end Wild16 Goes = refl
-checks_leave_end Wild16 Mate = refl
-checks_leave_end Wild16 Stalemate = refl
-checks_leave_end Anytry Goes = refl
-checks_leave_end Anytry Mate = refl
-checks_leave_end Anytry Stalemate = refl
-checks_leave_end Plain Goes = refl
-checks_leave_end Plain Mate = refl
-checks_leave_end Plain Stalemate = refl
+checks_leave_end ByKind Goes = refl
+checks_leave_end Bare Goes = refl
+checks_leave_end _ _ = refl
 
-pub tries_leave_end : (d : Dialect) (e : End) → tries_in d (end_text e) ≡ None
+tries_leave_end : (tries : TriesTold) (e : End) → tries_in tries (end_text e) ≡ 0
 unfolding behind
-tries_leave_end Wild16 Goes = refl
-tries_leave_end Wild16 Mate = refl
-tries_leave_end Wild16 Stalemate = refl
-tries_leave_end Anytry Goes = refl
-tries_leave_end Anytry Mate = refl
-tries_leave_end Anytry Stalemate = refl
-tries_leave_end Plain e = refl
+tries_leave_end Number Goes = refl
+tries_leave_end Any Goes = refl
+tries_leave_end _ _ = refl
 
--- what a form takes is spelled so
-square_spells : (name s : List ℕ) (x : ℕ) → square_in (behind name s) ≡ Some x → (x < 64) × (s ≡ name ++ square_text x)
-square_spells name s x e = by_rest (behind name s) refl e
-  where
-    by_rest : (y : Option (List ℕ)) → behind name s ≡ y → square_in y ≡ Some x → (x < 64) × (s ≡ name ++ square_text x)
-    by_rest None is h = absurd cc
-    by_rest (Some rest) is h =
-        let n = named_spells rest x h in
-        (n.0, behind_spells name s rest is ∙ ap (λ (t : List ℕ). name ++ t) n.1)
+leave_nothing : (men : MenTold) (checks : ChecksTold) (tries : TriesTold) → (took_in men [] ≡ Nothing) × (checks_in checks [] ≡ no_kinds) × (tries_in tries [] ≡ 0)
+leave_nothing men checks tries = (took_leaves_end men Goes, checks_leave_end checks Goes, tries_leave_end tries Goes)
 
-pub record TookSpelled (d : Dialect) (s : List ℕ) (t : Took) : Type 0 where
-  pub text : s ≡ took_text d t
-  pub there : is_capture t ≡ true
-  pub on_board : IsTaken t
-  pub fits : FitsTook d t
+abbrev pub Told : Type 0
+Told = Took × (Kinds × (ℕ × (End × Unit {0})))
 
-took_is : (x y : Took) → Some x ≡ Some y → x ≡ y
-took_is x y e = cc
-
-took_cases : (d : Dialect) (s : List ℕ) (a b : Option ℕ) (t : Took) → pawn_or_piece a b ≡ Some t → ((x : ℕ) → a ≡ Some x → TookSpelled d s (Pawn x)) → ((x : ℕ) → b ≡ Some x → TookSpelled d s (Piece x)) → TookSpelled d s t
-took_cases d s (Some x) b t e pawn piece = subst (TookSpelled d s) (took_is (Pawn x) t e) (pawn x refl)
-took_cases d s None (Some x) t e pawn piece = subst (TookSpelled d s) (took_is (Piece x) t e) (piece x refl)
-took_cases d s None None t e pawn piece = absurd cc
-
-pub took_spells : (d : Dialect) (s : List ℕ) (t : Took) → took_in d s ≡ Some t → TookSpelled d s t
-took_spells Wild16 s t e =
-    took_cases Wild16 s (square_in (behind (codes "pawn ") s)) (square_in (behind (codes "piece ") s)) t e
-    (λ x h. (let p = square_spells (codes "pawn ") s x h in record { text = p.1; there = refl; on_board = p.0; fits = tt }))
-    (λ x h. (let p = square_spells (codes "piece ") s x h in record { text = p.1; there = refl; on_board = p.0; fits = tt }))
-took_spells Anytry s t e =
-    took_cases Anytry s (square_in (behind (codes "pawn ") s)) (square_in (behind (codes "piece ") s)) t e
-    (λ x h. (let p = square_spells (codes "pawn ") s x h in record { text = p.1; there = refl; on_board = p.0; fits = tt }))
-    (λ x h. (let p = square_spells (codes "piece ") s x h in record { text = p.1; there = refl; on_board = p.0; fits = tt }))
-took_spells Plain s t e =
-    took_cases Plain s None (square_in (behind (codes "took ") s)) t e
-    (λ x h. absurd cc)
-    (λ x h. (let p = square_spells (codes "took ") s x h in record { text = p.1; there = refl; on_board = p.0; fits = refl }))
-
-pub record ChecksSpelled (d : Dialect) (s : List ℕ) (k : Kinds) : Type 0 where
-  pub text : s ≡ checks_text d k
-  pub there : is_check k ≡ true
-  pub fits : FitsChecks d k
-
-checks_named : (s : List ℕ) (k : Kinds) → names_of (behind (codes "check ") s) ≡ Some k → (s ≡ codes "check " ++ joined (codes "+") (kind_names k)) × (is_check k ≡ true)
-checks_named s k e = by_rest (behind (codes "check ") s) refl e
-  where
-    by_rest : (y : Option (List ℕ)) → behind (codes "check ") s ≡ y → names_of y ≡ Some k → (s ≡ codes "check " ++ joined (codes "+") (kind_names k)) × (is_check k ≡ true)
-    by_rest None is h = absurd cc
-    by_rest (Some rest) is h =
-        let n = kinds_spells rest k h in
-        (behind_spells (codes "check ") s rest is ∙ ap (λ (t : List ℕ). codes "check " ++ t) n.0, n.1)
-
-pub checks_spell : (d : Dialect) (s : List ℕ) (k : Kinds) → checks_in d s ≡ Some k → ChecksSpelled d s k
-checks_spell Wild16 s k e = let n = checks_named s k e in record { text = n.0; there = n.1; fits = tt }
-checks_spell Anytry s k e = let n = checks_named s k e in record { text = n.0; there = n.1; fits = tt }
-checks_spell Plain s k e =
-    let p = cond_some (bytes_eq s (codes "check")) some_kind k e in
-    subst (ChecksSpelled Plain s) p.1 (record { text = (bytes_eq-Decides s (codes "check")).0 p.0; there = refl; fits = refl })
-
-pub record TriesSpelled (d : Dialect) (s : List ℕ) (n : ℕ) : Type 0 where
-  pub text : s ≡ tries_text d n
-  pub there : are_tries d n ≡ true
-  pub few : n ≤ 16
-  pub fits : FitsTries d n
-
-number_spells : (r : Result ℕ NumberFault) (n : ℕ) → number_in r ≡ Some n → r ≡ Ok n
-number_spells (Ok m) n e = let same : m ≡ n = cc in ap (λ (x : ℕ). Ok x) same
-number_spells (Err fault) n e = absurd cc
-
-from_one : (n : ℕ) → 1 ≤ n → not (n == 0) ≡ true
-from_one zero h = absurd (omega arith)
-from_one (suc n) h = rw (ne_eqb (suc n) 0 (λ e. absurd (omega arith))) refl
-
-tries_counted : (s : List ℕ) (n : ℕ) → count_in (behind (codes "tries ") s) ≡ Some n → TriesSpelled Wild16 s n
-tries_counted s n e = by_rest (behind (codes "tries ") s) refl e
-  where
-    by_rest : (y : Option (List ℕ)) → behind (codes "tries ") s ≡ y → count_in y ≡ Some n → TriesSpelled Wild16 s n
-    by_rest None is h = absurd cc
-    by_rest (Some rest) is h =
-        let b = between_spells rest 1 16 n (lit< tt) (number_spells (number_between rest 1 16) n h) in
-        record { text = behind_spells (codes "tries ") s rest is ∙ ap (λ (t : List ℕ). codes "tries " ++ t) b.2; there = from_one n b.0; few = b.1; fits = tt }
-
-pub tries_spell : (d : Dialect) (s : List ℕ) (n : ℕ) → tries_in d s ≡ Some n → TriesSpelled d s n
-tries_spell Wild16 s n e = tries_counted s n e
-tries_spell Anytry s n e =
-    let p = cond_some (bytes_eq s (codes "tries some")) 1 n e in
-    subst (TriesSpelled Anytry s) p.1 (record { text = (bytes_eq-Decides s (codes "tries some")).0 p.0; there = refl; few = lit≤ tt; fits = refl })
-tries_spell Plain s n e = absurd cc
-
-pub record EndSpelled (s : List ℕ) (e : End) : Type 0 where
-  pub text : s ≡ end_text e
-  pub there : has_ended e ≡ true
-
-end_cases : (s : List ℕ) (a b : Bool) (e : End) → (a ≡ true → s ≡ codes "mate") → (b ≡ true → s ≡ codes "stalemate") → cond a (Some Mate) (cond b (Some Stalemate) None) ≡ Some e → EndSpelled s e
-end_cases s true b e mate stalemate h = subst (EndSpelled s) (let same : Mate ≡ e = cc in same) (record { text = mate refl; there = refl })
-end_cases s false true e mate stalemate h = subst (EndSpelled s) (let same : Stalemate ≡ e = cc in same) (record { text = stalemate refl; there = refl })
-end_cases s false false e mate stalemate h = absurd cc
-
-pub end_spells : (s : List ℕ) (e : End) → end_in s ≡ Some e → EndSpelled s e
-end_spells s e h =
-    end_cases s (bytes_eq s (codes "mate")) (bytes_eq s (codes "stalemate")) e (bytes_eq-Decides s (codes "mate")).0 (bytes_eq-Decides s (codes "stalemate")).0 h
+-- the parts of words are read where they are written
+pub four_parts : (men : MenTold) (checks : ChecksTold) (tries : TriesTold) →
+    AreParts 44 (codes " ") (read_parts men checks tries)
+    (λ (x : Told). (is_capture x.0, took_text men x.0) ∷ (is_check x.1.0, checks_text checks x.1.0) ∷ (are_tries tries x.1.1.0, tries_text tries x.1.1.0) ∷ (has_ended x.1.1.1.0, end_text x.1.1.1.0) ∷ [])
+    (λ (x : Told). TellsTook men x.0 × (TellsChecks checks x.1.0 × (TellsTries tries x.1.1.0 × (Unit {0} × Unit {0}))))
+four_parts men checks tries =
+    let none = leave_nothing men checks tries in
+    parts_then 44 (codes " ") (took_in men) is_capture (took_text men) Nothing (TellsTook men) _ _ _ (took_part men)
+    (parts_then 44 (codes " ") (checks_in checks) is_check (checks_text checks) no_kinds (TellsChecks checks) _ _ _ (checks_part checks)
+    (parts_then 44 (codes " ") (tries_in tries) (are_tries tries) (tries_text tries) 0 (TellsTries tries) _ _ _ (tries_part tries)
+    (parts_then 44 (codes " ") end_in has_ended end_text Goes (λ e. Unit {0}) _ _ _ end_part (no_parts 44 (codes " ")) (λ y k. refl))
+    (λ y k. ((λ h. (tries_leave_end tries y.0, part_free (end_text y.0) (end_has y.0))), none.2)))
+    (λ y k. (
+      (λ h. (checks_leave_tries checks tries y.0, part_free (tries_text tries y.0) (tries_have tries y.0 k.0.0))),
+      ((λ h. (checks_leave_end checks y.1.0, part_free (end_text y.1.0) (end_has y.1.0))), none.1),
+    )))
+    (λ y k. (
+      (λ h. (took_leaves_checks men checks y.0, part_free (checks_text checks y.0) (checks_have checks y.0))),
+      (
+        (λ h. (took_leaves_tries men tries y.1.0, part_free (tries_text tries y.1.0) (tries_have tries y.1.0 k.1.0.0))),
+        ((λ h. (took_leaves_end men y.1.1.0, part_free (end_text y.1.1.0) (end_has y.1.1.0))), none.0),
+      ),
+    ))

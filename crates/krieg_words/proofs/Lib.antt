@@ -1,3 +1,4 @@
+pub mod Cases
 pub mod OrderLaws
 pub mod RangeSums
 pub mod PawnCaptures
@@ -9,11 +10,12 @@ pub mod ToldMoves
 pub mod HandsKept
 pub mod PartLaws
 pub mod NameLaws
+pub mod CleanWords
 pub mod FormLaws
 pub mod WordsLaws
 pub mod LineLaws
-pub mod WritingLaws
-pub mod CleanWords
+pub mod WordsWritten
 pub mod DialectNames
 pub mod VersionTexts
 pub mod VersionSpellings
+pub mod VersionFormats

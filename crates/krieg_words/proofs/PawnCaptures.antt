@@ -1,5 +1,5 @@
 -- A legal move of a pawn to another file is a capture by a pawn of the side to move, to one of the two squares that it attacks.
-use Rattle.std.proofs.Common.{◌≡◌, ℕ, Bool, true, false, not, ◌&&◌, ◌||◌, ◌==◌, nat_lt, refl, ap, ◌∙◌, inl, inr, subst}
+use Rattle.std.proofs.Common.{◌≡◌, ℕ, Bool, true, false, not, ◌&&◌, ◌||◌, ◌==◌, refl, sym, ap, ◌∙◌, inl, inr, subst}
 use Rattle.std.proofs.Math.Bool.{and_comm}
 use Rattle.std.proofs.lemmas.Bool.{and_from, and_parts, not-true, or_cases, both_ways, or_right}
 use Rattle.std.specs.Prelude.{Option, Some, None}
@@ -12,16 +12,19 @@ use Rattle.krieg_board.specs.declared.men.Move.{Move}
 use Rattle.krieg_board.specs.declared.men.Promo.{Promo}
 use Rattle.krieg_board.specs.declared.men.Promo.TheVariants as promo
 use Rattle.krieg_board.specs.Men.{other, is_same_side, is_same_kind}
-use Rattle.krieg_board.specs.Squares.{file_of, rank_of, pawn_rank, landing_rank}
-use Rattle.krieg_board.specs.Board.{Board, man_at, is_man, is_of, is_empty}
-use Rattle.krieg_board.specs.Attacks.{attacks, apart, is_forward, is_clear, can_reach, slides, is_king_attacked}
+use Rattle.krieg_board.specs.Squares.{file_of}
+use Rattle.krieg_board.specs.Board.{man_at, is_man, is_of}
+use Rattle.krieg_board.specs.Attacks.{attacks, apart, is_forward, can_reach}
 use Rattle.krieg_board.specs.Pos.{Pos}
 use Rattle.krieg_board.specs.Validity.{is_pawn}
 use Rattle.krieg_board.proofs.MenLemmas.{is_pawn_tells, same_side_eq}
-use Rattle.krieg_moves.specs.After.{after, crossed, is_marked}
-use Rattle.krieg_moves.specs.Legal.{is_legal, is_candidate, is_step, is_double_step, is_pawn_capture, is_pawn_move, has_promotion, is_move_of, is_move_of_kind}
+use Rattle.krieg_moves.specs.After.{is_marked}
+use Rattle.krieg_moves.specs.Legal.{is_legal, is_step, is_double_step, is_pawn_capture, is_pawn_move, has_promotion, is_move_of, is_move_of_kind}
 use Rattle.krieg_moves.specs.Moves.{can_go}
-use Rattle.krieg_words.specs.Tries.{is_try}
+use Rattle.krieg_moves.proofs.LegalMoves.{legal}
+use Rattle.krieg_moves.proofs.Pawns.{step, double_step}
+use Rattle.krieg_moves.proofs.Shapes.{attack_reaches}
+use Rattle.krieg_words.specs.PawnTries.{is_try}
 
 -- t is one file and one rank forward of f, as that side's pawns capture
 abbrev pub is_aimed : Side → ℕ → ℕ → Bool
@@ -29,14 +32,6 @@ is_aimed side f t = apart (file_of f) (file_of t) == 1 && is_forward side f t
 
 abbrev pub is_own_pawn : Pos → ℕ → Bool
 is_own_pawn p f = is_man p.side Pawn (man_at p.board f)
-
-aimed_by : (b : Board) (man : Man) (f t : ℕ) → man_at b f ≡ Some man → man.kind ≡ Pawn → attacks b f t ≡ true → is_aimed man.side f t ≡ true
-unfolding attacks
-aimed_by b man f t stands pawn h =
-    let k : (not (f == t) && (can_reach man.kind man.side f t && (not (slides man.kind) || is_clear b f t))) ≡ true = rw stands at h in
-    let c = and_parts (not (f == t)) (can_reach man.kind man.side f t && (not (slides man.kind) || is_clear b f t)) k in
-    let d = and_parts (can_reach man.kind man.side f t) (not (slides man.kind) || is_clear b f t) c.1 in
-    subst (λ (k : Kind). can_reach k man.side f t ≡ true) pawn d.0
 
 -- by the man on the from-square
 captures_by : (p : Pos) (m : Move) (x : Option Man) → man_at p.board m.from ≡ x → is_move_of x p m ≡ true → is_pawn x ≡ true → (file_of m.from == file_of m.to) ≡ false →
@@ -51,24 +46,18 @@ captures_by p m (Some man) stands moves pawn file =
     let goes : is_pawn_move p m ≡ true = subst (λ (k : Kind). is_move_of_kind k p m ≡ true) kind s.1 in
     let r = and_parts (has_promotion p.side m) (is_step p.board p.side m || (is_double_step p.board p.side m || is_pawn_capture p m)) goes in
     elim (or_cases (is_step p.board p.side m) (is_double_step p.board p.side m || is_pawn_capture p m) r.1) [
-      | inl a ↦ absurd (both_ways (file_of m.from == file_of m.to) file (and_parts (file_of m.from == file_of m.to) (is_forward p.side m.from m.to && is_empty p.board m.to) a).0)
+      | inl a ↦ absurd (both_ways (file_of m.from == file_of m.to) file (step p m a).straight.same_file)
       | inr b ↦ elim (or_cases (is_double_step p.board p.side m) (is_pawn_capture p m) b) [
-        | inl d ↦ absurd (both_ways (file_of m.from == file_of m.to) file
-            (and_parts (file_of m.from == file_of m.to) (rank_of m.from == pawn_rank p.side && (rank_of m.to == landing_rank p.side && (is_empty p.board (crossed p.side m.from) && is_empty p.board m.to))) d).0)
+        | inl d ↦ absurd (both_ways (file_of m.from == file_of m.to) file (double_step p m d).straight.same_file)
         | inr c ↦
-            let a = and_parts (attacks p.board m.from m.to) (is_of (other p.side) (man_at p.board m.to) || is_marked p.mark m.to) c in
-            (own, subst (λ (s : Side). is_aimed s m.from m.to ≡ true) side (aimed_by p.board man m.from m.to stands kind a.0))
+            let hits = (and_parts (attacks p.board m.from m.to) (is_of (other p.side) (man_at p.board m.to) || is_marked p.mark m.to) c).0 in
+            (own, sym (λ i. can_reach (kind i) (side i) m.from m.to) ∙ attack_reaches p.board man m.from m.to stands hits)
       ]
     ]
 
 captures : (p : Pos) (m : Move) → is_pawn (man_at p.board m.from) ≡ true → (file_of m.from == file_of m.to) ≡ false → is_legal p m ≡ true →
     (is_own_pawn p m.from ≡ true) × (is_aimed p.side m.from m.to ≡ true)
-unfolding is_legal is_candidate
-captures p m pawn file h =
-    let c = and_parts (is_candidate p m) (not (is_king_attacked (after p m).board p.side)) h in
-    let u = and_parts (nat_lt m.from 64) (nat_lt m.to 64 && (not (is_of p.side (man_at p.board m.to)) && is_move_of (man_at p.board m.from) p m)) c.0 in
-    let t = and_parts (nat_lt m.to 64) (not (is_of p.side (man_at p.board m.to)) && is_move_of (man_at p.board m.from) p m) u.1 in
-    captures_by p m (man_at p.board m.from) refl (and_parts (not (is_of p.side (man_at p.board m.to))) (is_move_of (man_at p.board m.from) p m) t.1).1 pawn file
+captures p m pawn file h = captures_by p m (man_at p.board m.from) refl (legal p m h).moves pawn file
 
 one_of_five : (a b c d e : Bool) (Q : Type 0) → (a ≡ true → Q) → (b ≡ true → Q) → (c ≡ true → Q) → (d ≡ true → Q) → (e ≡ true → Q) →
     (a || (b || (c || (d || (e || false))))) ≡ true → Q

@@ -12,8 +12,8 @@ use Rattle.krieg_moves.proofs.Movers.{below_from}
 use Rattle.krieg_moves.proofs.KeepsValid.{valid_after}
 use Rattle.krieg_words.specs.declared.words.Took.{Took}
 use Rattle.krieg_words.specs.declared.words.Took.TheVariants.{Pawn, Piece}
-use Rattle.krieg_words.specs.Said.{IsSaid, IsTaken}
-use Rattle.krieg_words.specs.Words.{taken, took_by, opening, words}
+use Rattle.krieg_words.specs.Words.{IsSaid, IsTaken}
+use Rattle.krieg_words.specs.WordsOfMoves.{taken, took_by, opening, words}
 use Rattle.krieg_words.proofs.TriesBound.{tries_le}
 
 either_taken : (t : Bool) (a b : Took) → IsTaken a → IsTaken b → IsTaken (cond t a b)

@@ -1,9 +1,9 @@
--- A side has at most 16 pawn tries, and the sum over its pawns is all of them.
-use Rattle.std.proofs.Common.{◌≡◌, ℕ, zero, suc, ◌+◌, ◌-◌, ◌*◌, ◌≤◌, Bool, true, false, ◌||◌, cond, ◌==◌, nat_le, List, [], ◌∷◌, length, refl, arith, ◌∙◌, sym, ap, subst, ◌≢◌, eqb-true, eq-eqb}
+-- A side has no more pawn tries than the most, and the sum over its pawns is all of them.
+use Rattle.std.proofs.Common.{◌≡◌, ℕ, suc, ◌+◌, ◌-◌, ◌*◌, ◌≤◌, Bool, true, false, ◌||◌, cond, ◌==◌, nat_le, List, [], ◌∷◌, length, refl, arith, ◌∙◌, sym, ap, subst, ◌≢◌, eqb-true, eq-eqb}
 use Rattle.std.proofs.lemmas.Bool.{and_parts, both_ways}
 use Rattle.std.specs.Prelude.{Option, count_by}
 use Rattle.std.specs.List.{range_with_len, sum_by}
-use Rattle.std.proofs.lemmas.List.Sums.{sum_by-cons}
+use Rattle.std.proofs.lemmas.List.Sums.{sum_by-cons, sum_by-le-sum_by}
 use Rattle.std.proofs.lemmas.Bool.Decides.{nat_tests}
 use Rattle.krieg_board.specs.declared.men.Side.{Side}
 use Rattle.krieg_board.specs.declared.men.Side.TheVariants.{White, Black}
@@ -15,9 +15,10 @@ use Rattle.krieg_board.specs.Board.{Board, man_at, is_man}
 use Rattle.krieg_board.specs.Attacks.{apart, is_forward}
 use Rattle.krieg_board.specs.Validity.{IsValid, is_small, count_kind, count_side}
 use Rattle.krieg_board.proofs.Facts.{Facts, facts}
-use Rattle.krieg_words.specs.Tries.{is_try, tries_from, tries}
+use Rattle.krieg_words.specs.Words.{most_tries}
+use Rattle.krieg_words.specs.PawnTries.{is_try, tries_from, tries}
 use Rattle.krieg_words.proofs.PawnCaptures.{is_aimed, is_own_pawn, try_tells}
-use Rattle.krieg_words.proofs.RangeSums.{sum_range_le, sum_range_same, sum_range_add, sum_range_one}
+use Rattle.krieg_words.proofs.RangeSums.{sum_range_same, sum_range_add, sum_range_one}
 
 -- the two squares that a pawn attacks
 abbrev left_of : Side → ℕ → ℕ
@@ -66,48 +67,50 @@ board_sum h (x ∷ xs) lo =
 abbrev one : Bool → ℕ
 one t = cond t 1 0
 
+-- no try begins on a square without an own pawn
+none_from : (p : Pos) (f : ℕ) (ts : List ℕ) → is_own_pawn p f ≡ false → count_by (is_try p f) ts ≡ 0
+none_from p f [] none = refl
+none_from p f (t ∷ ts) none = omega (arith, sum_by-cons (λ k. one (is_try p f k)) t ts, none_from p f ts none, not_try (is_try p f t) refl)
+  where
+    not_try : (x : Bool) → is_try p f t ≡ x → one x ≡ 0
+    not_try false e = refl
+    not_try true e = absurd (both_ways (is_own_pawn p f) none (try_tells p f t e).0)
+
+pub tries_from_none : (p : Pos) (f : ℕ) → is_own_pawn p f ≡ false → tries_from p f ≡ 0
+unfolding tries_from
+tries_from_none p f none = none_from p f squares none
+
+one_below : (t a b : Bool) → (t ≡ true → (a || b) ≡ true) → one t ≤ one a + one b
+one_below false a b h = omega arith
+one_below true true b h = omega arith
+one_below true false true h = omega arith
+one_below true false false h = absurd (let e = h refl in cc)
+
+one_at_most : (t : Bool) → one t ≤ 1
+one_at_most true = omega arith
+one_at_most false = omega arith
+
 -- from one square there are two tries at most, and none where no own pawn stands
-from_le : (p : Pos) (f n : ℕ) → Facts p → count_by (is_try p f) (range_with_len 0 n) ≤ 2 * one (is_own_pawn p f)
-from_le p f n fs = by_pawn (is_own_pawn p f) refl
+from_le : (p : Pos) (f n : ℕ) → count_by (is_try p f) (range_with_len 0 n) ≤ 2 * one (is_own_pawn p f)
+from_le p f n = by_pawn (is_own_pawn p f) refl
   where
     by_pawn : (t : Bool) → is_own_pawn p f ≡ t → count_by (is_try p f) (range_with_len 0 n) ≤ 2 * one t
     by_pawn true own =
-        let a = sum_range_le (λ t. one (is_try p f t)) (λ t. one (t == left_of p.side f) + one (t == right_of p.side f)) 0 n
-        (λ t l u. below (is_try p f t) (t == left_of p.side f) (t == right_of p.side f) (λ h. one_of_two p.side f t (try_tells p f t h).1)) in
+        let a = sum_by-le-sum_by (λ t. one (is_try p f t)) (λ t. one (t == left_of p.side f) + one (t == right_of p.side f)) (range_with_len 0 n)
+        (λ t. one_below (is_try p f t) (t == left_of p.side f) (t == right_of p.side f) (λ h. one_of_two p.side f t (try_tells p f t h).1)) in
         let b = sum_range_add (λ t. one (t == left_of p.side f)) (λ t. one (t == right_of p.side f)) 0 n in
         let c = sum_range_one (left_of p.side f) 0 n in
         let d = sum_range_one (right_of p.side f) 0 n in
-        let e1 = one_le_one (nat_le 0 (left_of p.side f)) in
-        let e2 = one_le_one (nat_le 0 (right_of p.side f)) in
+        let e1 = one_at_most (nat_le 0 (left_of p.side f)) in
+        let e2 = one_at_most (nat_le 0 (right_of p.side f)) in
         omega (arith, a, b, c, d, e1, e2)
-      where
-        below : (t a b : Bool) → (t ≡ true → (a || b) ≡ true) → one t ≤ one a + one b
-        below false a b h = omega arith
-        below true true b h = omega arith
-        below true false true h = omega arith
-        below true false false h = absurd (let e = h refl in cc)
+    by_pawn false none = omega (arith, none_from p f (range_with_len 0 n) none)
 
-        one_le_one : (t : Bool) → one t ≤ 1
-        one_le_one true = omega arith
-        one_le_one false = omega arith
-    by_pawn false other' =
-        let a = sum_range_le (λ t. one (is_try p f t)) (λ t. 0) 0 n (λ t l u. none (is_try p f t) (λ h. both_ways (is_own_pawn p f) other' (try_tells p f t h).0)) in
-        let b = zero_sum 0 n in
-        omega (arith, a, b)
-      where
-        none : (t : Bool) → (t ≡ true → ⊥) → one t ≤ 0
-        none true h = absurd (h refl)
-        none false h = omega arith
-
-        zero_sum : (lo n : ℕ) → sum_by (λ t. 0) (range_with_len lo n) ≡ 0
-        zero_sum lo zero = refl
-        zero_sum lo (suc n) = omega (arith, sum_by-cons (λ t. 0) lo (range_with_len (lo + 1) n), zero_sum (lo + 1) n)
-
-pub tries_sum_le : (p : Pos) → Facts p → sum_by (λ f. count_by (is_try p f) (range_with_len 0 (length p.board))) (range_with_len 0 (length p.board)) ≤ 16
+pub tries_sum_le : (p : Pos) → Facts p → sum_by (λ f. count_by (is_try p f) (range_with_len 0 (length p.board))) (range_with_len 0 (length p.board)) ≤ most_tries
 tries_sum_le p fs =
     let n = length p.board in
     let h : ℕ → ℕ = λ f. one (is_own_pawn p f) in
-    let a = sum_range_le (λ f. count_by (is_try p f) (range_with_len 0 n)) (λ f. h f + h f) 0 n (λ f l u. omega (arith, from_le p f n fs)) in
+    let a = sum_by-le-sum_by (λ f. count_by (is_try p f) (range_with_len 0 n)) (λ f. h f + h f) (range_with_len 0 n) (λ f. omega (arith, from_le p f n)) in
     let b = sum_range_add h h 0 n in
     let c = board_sum (λ x. one (is_man p.side Pawn x)) p.board 0 in
     let d = sum_range_same h (λ k. one (is_man p.side Pawn (man_at p.board (k - 0)))) 0 n (λ k l u. (let z : k ≡ k - 0 = omega arith in ap h z)) in
@@ -125,24 +128,7 @@ squares_are : (n : ℕ) → n ≡ 64 → squares ≡ range_with_len 0 n
 unfolding squares
 squares_are n e = ap (range_with_len 0) (sym e)
 
-pub tries_le : (p : Pos) → IsValid p → tries p ≤ 16
+pub tries_le : (p : Pos) → IsValid p → tries p ≤ most_tries
 unfolding tries tries_from
 tries_le p v =
-    subst (λ (xs : List ℕ). sum_by (λ f. count_by (is_try p f) xs) xs ≤ 16) (sym (squares_are (length p.board) v.squares)) (tries_sum_le p (facts p v))
-
--- no try begins on a square without an own pawn
-pub tries_from_none : (p : Pos) (f : ℕ) → is_own_pawn p f ≡ false → tries_from p f ≡ 0
-unfolding tries_from squares
-tries_from_none p f none = zero_count 0 64 refl
-  where
-    not_try : (k : ℕ) (t : Bool) → is_try p f k ≡ t → t ≡ false
-    not_try k false e = refl
-    not_try k true e = absurd (both_ways (is_own_pawn p f) none (try_tells p f k e).0)
-
-    zero_count : (lo n : ℕ) → n ≡ n → count_by (is_try p f) (range_with_len lo n) ≡ 0
-    zero_count lo zero e = refl
-    zero_count lo (suc n) e =
-        let rest = zero_count (lo + 1) n refl in
-        let here = not_try lo (is_try p f lo) refl in
-        let first : one (is_try p f lo) ≡ 0 = ap one here in
-        omega (arith, sum_by-cons (λ k. cond (is_try p f k) 1 0) lo (range_with_len (lo + 1) n), rest, first)
+    subst (λ (xs : List ℕ). sum_by (λ f. count_by (is_try p f) xs) xs ≤ most_tries) (sym (squares_are (length p.board) v.squares)) (tries_sum_le p (facts p v))

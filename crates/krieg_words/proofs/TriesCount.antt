@@ -1,48 +1,40 @@
 -- The tries are counted pawn by pawn: those of one pawn are the squares of a set.
-use Rattle.std.proofs.Common.{◌≢◌, ◌≡◌, ℕ, zero, suc, ◌+◌, ◌^◌, ◌<◌, ◌≤◌, Bool, true, false, not, ◌&&◌, ◌==◌, cond, map, length, count_ones, refl, sym, ◌∙◌, ap, subst, arith}
-use Rattle.std.proofs.Math.Bool.{and-true}
+use Rattle.std.proofs.Common.{◌≢◌, ◌≡◌, ℕ, zero, suc, ◌+◌, ◌^◌, ◌<◌, ◌≤◌, Bool, true, false, not, ◌&&◌, ◌==◌, cond, List, map, length, replicate, count_ones, refl, sym, ◌∙◌, ap, subst, arith}
 use Rattle.std.specs.Prelude.{count_by}
 use Rattle.std.specs.List.{range_with_len, sum_by}
 use Rattle.std.specs.Simd.Lanes.{mask_l}
-use Rattle.std.proofs.lemmas.Bool.{eq-eqb, ne_eqb, and_right}
-use Rattle.std.proofs.lemmas.List.{get_or-map, length-map}
+use Rattle.std.proofs.lemmas.Bool.{ne_eqb}
+use Rattle.std.proofs.lemmas.List.{get_or-map, length-map, length-append, length-replicate}
 use Rattle.std.proofs.lemmas.Nat.{zero_from_ones, ones_le_self}
 use Rattle.std.proofs.lemmas.Simd.{ones-mask_l, bit_mask_l, mask_l-lt}
-use Rattle.std.proofs.lemmas.List.Sums.{sum_by-cons}
-use Rattle.krieg_board.specs.Squares.{squares, file_of}
+use Rattle.krieg_board.specs.Squares.{squares, file_of, gathered}
 use Rattle.krieg_board.specs.Sets.{has, IsLowest}
 use Rattle.krieg_board.specs.Pos.{Pos}
 use Rattle.krieg_board.specs.Validity.{IsValid}
-use Rattle.krieg_board.proofs.SetLemmas.{has_zero, same_sets}
+use Rattle.krieg_board.proofs.SetLemmas.{same_sets}
+use Rattle.krieg_board.proofs.Picked.{picked, picked_zero, picked_step, picked_all}
 use Rattle.krieg_board.proofs.SquareTests.{length_squares, get_or_squares}
 use Rattle.krieg_moves.specs.Moves.{can_go}
-use Rattle.krieg_words.specs.Tries.{is_try, tries_from, tries}
+use Rattle.krieg_words.specs.Words.{most_tries}
+use Rattle.krieg_words.specs.PawnTries.{is_try, tries_from, tries}
 use Rattle.krieg_words.proofs.PawnCaptures.{is_own_pawn, try_own}
-use Rattle.krieg_words.proofs.RangeSums.{sum_range_same, sum_range_differs}
+use Rattle.krieg_words.proofs.RangeSums.{sum_range_more}
 use Rattle.krieg_words.proofs.TriesBound.{tries_from_none, tries_le}
+
+abbrev copies : (ℕ → ℕ) → ℕ → List (Unit {0})
+copies g k = replicate (g k) tt
 
 -- the sum over the squares of a set
 unfoldable pub sum_over : ℕ → (ℕ → ℕ) → ℕ
-sum_over set g = sum_by (λ k. cond (has set k) (g k) 0) squares
-
-sum_over_zero : (g : ℕ → ℕ) (lo n : ℕ) → sum_by (λ k. cond (has 0 k) (g k) 0) (range_with_len lo n) ≡ 0
-sum_over_zero g lo zero = refl
-sum_over_zero g lo (suc n) =
-    let here : cond (has 0 lo) (g lo) 0 ≡ 0 = ap (λ t. cond t (g lo) 0) (has_zero lo) in
-    let rest = sum_over_zero g (lo + 1) n in
-    let whole = sum_by-cons (λ k. cond (has 0 k) (g k) 0) lo (range_with_len (lo + 1) n) in
-    omega (arith, here, rest, whole)
+sum_over set g = length (picked set (copies g))
 
 -- the lowest square is taken out of the set
-pub sum_over_step : (g : ℕ → ℕ) (set t rest : ℕ) → IsLowest set t → ((k : ℕ) → k < 64 → has rest k ≡ (has set k && not (k == t))) →
+sum_over_step : (g : ℕ → ℕ) (set t rest : ℕ) → IsLowest set t → ((k : ℕ) → k < 64 → has rest k ≡ (has set k && not (k == t))) →
     sum_over set g ≡ g t + sum_over rest g
-unfolding sum_over squares
+unfolding sum_over
 sum_over_step g set t rest l others =
-    let differs = sum_range_differs (λ k. cond (has set k) (g k) 0) (λ k. cond (has rest k) (g k) 0) t 64 l.below
-    (λ k m p. ap (λ x. cond x (g k) 0) (sym (others k m ∙ ap (λ x. has set k && not x) (ne_eqb k t p) ∙ and-true (has set k)))) in
-    let gone : cond (has rest t) (g t) 0 ≡ 0 = ap (λ x. cond x (g t) 0) (others t l.below ∙ ap (λ x. has set t && not x) (eq-eqb t t refl) ∙ and_right (has set t) false refl) in
-    let there : cond (has set t) (g t) 0 ≡ g t = ap (λ x. cond x (g t) 0) l.member in
-    omega (arith, differs, gone, there)
+    ap length (picked_step (copies g) set t rest l others) ∙ length-append (copies g t) (picked rest (copies g))
+    ∙ ap (λ n. n + length (picked rest (copies g))) (length-replicate (g t) tt)
 
 -- the loop: the tries of one pawn more are counted
 pub counted_step : (p : Pos) (n c set t rest : ℕ) → IsLowest set t → ((k : ℕ) → k < 64 → has rest k ≡ (has set k && not (k == t))) → c ≡ tries_from p t →
@@ -51,8 +43,8 @@ counted_step p n c set t rest l others e h = omega (arith, sum_over_step (tries_
 
 -- nothing is left in the empty set
 pub sum_over_none : (p : Pos) (set : ℕ) → set ≡ 0 → sum_over set (tries_from p) ≡ 0
-unfolding sum_over squares
-sum_over_none p set e = ap (λ s. sum_over s (tries_from p)) e ∙ sum_over_zero (tries_from p) 0 64
+unfolding sum_over
+sum_over_none p set e = ap (λ s. length (picked s (copies (tries_from p)))) e ∙ ap length (picked_zero (copies (tries_from p)))
 
 pub counted_end : (p : Pos) (n set : ℕ) → set ≡ 0 → n + sum_over set (tries_from p) ≡ tries p → n ≡ tries p
 counted_end p n set e h = omega (arith, sum_over_none p set e, h)
@@ -69,21 +61,24 @@ pub some_tries : (p : Pos) (captures set t rest : ℕ) → captures ≢ 0 → Is
     count_ones captures ≡ tries_from p t → sum_over set (tries_from p) ≡ tries p → not (tries p == 0) ≡ true
 some_tries p captures set t rest some l others e h = ap not (ne_eqb (tries p) 0 (λ z. some (zero_from_ones captures (omega (arith, sum_over_step (tries_from p) set t rest l others, e, h, z)))))
 
--- what was counted and the tries of the next pawn are 16 at most
+-- what was counted and the tries of the next pawn are not too many
 pub counted_below : (p : Pos) (n c set t rest : ℕ) → IsValid p → IsLowest set t → ((k : ℕ) → k < 64 → has rest k ≡ (has set k && not (k == t))) → c ≡ tries_from p t →
-    n + sum_over set (tries_from p) ≡ tries p → n + c ≤ 16
+    n + sum_over set (tries_from p) ≡ tries p → n + c ≤ most_tries
 counted_below p n c set t rest v l others e h = omega (arith, counted_step p n c set t rest l others e h, tries_le p v)
+
+gathered_sum : (g : ℕ → ℕ) (n : ℕ) → length (gathered (copies g) n) ≡ sum_by g (range_with_len 0 n)
+gathered_sum g zero = refl
+gathered_sum g (suc n) =
+    let whole = length-append (gathered (copies g) n) (copies g n) in
+    let last : length (copies g n) ≡ g n = length-replicate (g n) (tt {0}) in
+    omega (arith, whole, last, gathered_sum g n, sum_range_more g n)
 
 -- all tries are those of the own pawns
 pub tries_are : (p : Pos) (set : ℕ) → ((k : ℕ) → k < 64 → has set k ≡ is_own_pawn p k) → sum_over set (tries_from p) ≡ tries p
 unfolding sum_over tries squares
 tries_are p set own =
-    sum_range_same (λ k. cond (has set k) (tries_from p k) 0) (tries_from p) 0 64
-    (λ k a b. ap (λ x. cond x (tries_from p k) 0) (own k b) ∙ by_test (is_own_pawn p k) refl (tries_from_none p k))
-  where
-    by_test : (t : Bool) {n : ℕ} → t ≡ t → (t ≡ false → n ≡ 0) → cond t n 0 ≡ n
-    by_test true e none = refl
-    by_test false e none = sym (none refl)
+    ap length (picked_all (copies (tries_from p)) set (λ k h off. ap (λ (n : ℕ). replicate n (tt {0})) (tries_from_none p k (sym (own k h) ∙ off))))
+    ∙ gathered_sum (tries_from p) 64
 
 -- the set of the squares that pass has as many squares
 pub ones_of_set : (set : ℕ) (test : ℕ → Bool) → set < 2 ^ 64 → ((k : ℕ) → k < 64 → has set k ≡ test k) → count_ones set ≡ count_by test squares

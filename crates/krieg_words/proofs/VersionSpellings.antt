@@ -4,36 +4,33 @@ use Rattle.std.specs.Prelude.{codes}
 use Rattle.std.proofs.lemmas.Fmt.{decimal_digit}
 use Rattle.krieg_fen.specs.declared.fault.TextFault.{TextFault}
 use Rattle.krieg_fen.specs.declared.fault.TextKind.TheVariants.{Version}
-use Rattle.krieg_fen.specs.Names.{behind}
 use Rattle.krieg_fen.specs.Decimals.{number_text}
 use Rattle.krieg_fen.specs.Outcomes.{◌>>=◌}
 use Rattle.krieg_fen.specs.Forms.{version_form}
 use Rattle.krieg_fen.specs.Reading.{Place, place, taken}
-use Rattle.krieg_fen.specs.FirstBad.{IsLocal}
-use Rattle.krieg_fen.proofs.Locality.{ok_is, local_pure, local_taken, local_cond, local_bind}
-use Rattle.krieg_fen.proofs.NameLemmas.{behind_again, behind_spells}
+use Rattle.krieg_fen.proofs.Locality.{IsLocal, ok_is, local_pure, local_taken, local_cond, local_bind}
+use Rattle.krieg_fen.proofs.NameLemmas.{behind_again}
 use Rattle.krieg_fen.proofs.FormSpellings.{number_is, number_read}
 use Rattle.krieg_fen.proofs.Takings.{steps, TakenAt, taken_at, taken_again, Read}
 use Rattle.krieg_words.specs.declared.dialects.Dialect.{Dialect}
 use Rattle.krieg_words.specs.declared.dialects.Dialect.TheVariants.{Wild16, Anytry, Plain}
-use Rattle.krieg_words.specs.DialectText.{dialect_text, dialect_of}
+use Rattle.krieg_words.specs.Dialects.{dialect_text, dialect_of}
 use Rattle.krieg_words.specs.Versions.{dialect_line, second_version, version_lines, SpellVersion, dialect_or_syntax, dialect_behind, dialect_form, dialect_at, version_at}
+use Rattle.krieg_words.proofs.Cases.{by_front}
 use Rattle.krieg_words.proofs.DialectNames.{dialect_spells, dialect_read}
 
 -- The line of the dialect.
 line_is : (line : List ℕ) (d : Dialect) → dialect_form line ≡ Ok d → line ≡ dialect_line d
 unfolding dialect_form
-line_is line d e = go (behind (codes "dialect ") line) refl e
+line_is line d e =
+    by_front (λ o. dialect_behind o ≡ Ok d → line ≡ dialect_line d) (codes "dialect ") line
+    (λ name is h. is ∙ ap (λ (t : List ℕ). codes "dialect " ++ t) (named name (dialect_of name) refl h)) (λ h. absurd cc) e
   where
-    by_name : (name : List ℕ) (o : Option Dialect) → dialect_of name ≡ o → dialect_or_syntax o ≡ Ok d → name ≡ dialect_text d
-    by_name name None is h = absurd cc
-    by_name name (Some x) is h = dialect_spells name d (is ∙ cc)
+    named : (name : List ℕ) (o : Option Dialect) → dialect_of name ≡ o → dialect_or_syntax o ≡ Ok d → name ≡ dialect_text d
+    named name None is h = absurd cc
+    named name (Some x) is h = dialect_spells name d (is ∙ cc)
 
-    go : (o : Option (List ℕ)) → behind (codes "dialect ") line ≡ o → dialect_behind o ≡ Ok d → line ≡ dialect_line d
-    go None is h = absurd cc
-    go (Some name) is h = behind_spells (codes "dialect ") line name is ∙ ap (λ (t : List ℕ). codes "dialect " ++ t) (by_name name (dialect_of name) refl h)
-
-line_read : (d : Dialect) → dialect_form (dialect_line d) ≡ Ok d
+pub line_read : (d : Dialect) → dialect_form (dialect_line d) ≡ Ok d
 unfolding dialect_form
 line_read d = ap dialect_behind (behind_again (codes "dialect ") (dialect_text d)) ∙ ap dialect_or_syntax (dialect_read (dialect_text d) d refl)
 
@@ -85,7 +82,7 @@ version_spells name p q d e =
             }
 
 -- What is spelled so is read.
-form_read : (name : List ℕ) (v : ℕ) → 1 ≤ v → v ≤ 2 → number_text v ≡ (48 + v) ∷ [] → version_form name 2 (name ++ ((48 + v) ∷ [])) ≡ Ok v
+pub form_read : (name : List ℕ) (v : ℕ) → 1 ≤ v → v ≤ 2 → number_text v ≡ (48 + v) ∷ [] → version_form name 2 (name ++ ((48 + v) ∷ [])) ≡ Ok v
 form_read name v low high text = ap (λ (t : List ℕ). version_form name 2 (name ++ t)) (sym text) ∙ number_read Version name 1 2 v (omega arith) low high
 
 first_read : (name : List ℕ) (n : ℕ) (rest : List (List ℕ)) → version_at name (place n ((name ++ codes "1") ∷ rest)) ≡ Ok (Wild16, place (n + 1) rest)

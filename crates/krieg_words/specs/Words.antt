@@ -1,42 +1,55 @@
--- What is said after a legal move, and at the start of a game.
-use Rattle.std.specs.Prelude.{ℕ, Option, Some, None, if◌then◌else◌}
-use Rattle.krieg_board.specs.Pos.{Pos}
-use Rattle.krieg_board.specs.Board.{man_at}
-use Rattle.krieg_board.specs.Validity.{is_pawn}
-use Rattle.krieg_board.specs.declared.men.Man.{Man}
-use Rattle.krieg_board.specs.declared.men.Move.{Move}
-use Rattle.krieg_moves.specs.After.{after, is_en_passant, passed_square}
-use Rattle.krieg_moves.specs.Moves.{is_mate, is_stalemate}
-use Rattle.krieg_checks.specs.Kinds.{kinds}
-use Rattle.krieg_words.specs.Tries.{tries}
+-- Words as contracts see them, and their order.
+use Rattle.std.specs.Prelude.{ℕ, ◌<◌, ◌≤◌, List, [], ◌∷◌}
+use Rattle.std.specs.Ordering.{nat_cmp}
+use Rattle.std.specs.Cmp.Lexicographic.{slice_cmp}
+use Rattle.std.specs.declared.cmp.Ordering.{Ordering}
+use Rattle.krieg_checks.specs.Kinds.{bits_of}
+use Rattle.krieg_checks.specs.declared.kinds.Kinds.{Kinds}
 use Rattle.krieg_words.specs.declared.words.End.{End}
 use Rattle.krieg_words.specs.declared.words.End.TheVariants.{Goes, Mate, Stalemate}
 use Rattle.krieg_words.specs.declared.words.Took.{Took}
 use Rattle.krieg_words.specs.declared.words.Took.TheVariants.{Nothing, Pawn, Piece}
-use Rattle.krieg_words.specs.Said.{Said}
 
--- mate, stalemate, or the game goes on
-abbrev pub end_of : Pos → End
-end_of p = if is_mate p then Mate else if is_stalemate p then Stalemate else Goes
+-- how the game stands, what was captured, the kinds of check and the number of pawn tries
+pub record Said : Type 0 where
+  pub end : End
+  pub took : Took
+  pub checks : Kinds
+  pub tries : ℕ
 
--- the man on s is captured; one that a pawn was promoted to is a piece
-abbrev pub taken : Option Man → ℕ → Took
-taken None s = Nothing
-taken (Some man) s = if is_pawn (Some man) then Pawn s else Piece s
+-- eight pawns have two pawn tries each at most
+abbrev pub most_tries : ℕ
+most_tries = 16
 
--- what the move of this man captures: in passing a pawn beside it, and otherwise the man on the to-square
-abbrev pub took_by : Pos → Option Man → Move → Took
-took_by p None m = Nothing
-took_by p (Some man) m = if is_en_passant p.mark man m then Pawn (passed_square m) else taken (man_at p.board m.to) m.to
+-- the square is one of the board
+abbrev pub IsTaken : Took → Type 0
+IsTaken Nothing = Unit {0}
+IsTaken (Pawn s) = s < 64
+IsTaken (Piece s) = s < 64
 
--- what is said of a position before which that was captured
-abbrev pub said : Took → Pos → Said
-said took p = record { end = end_of p; took = took; checks = kinds p; tries = tries p }
+-- words that can be said
+abbrev pub IsSaid : Said → Type 0
+IsSaid w = (w.tries ≤ most_tries) × IsTaken w.took
 
--- the opening words: nothing was captured
-unfoldable pub opening : Pos → Said
-opening p = said Nothing p
+abbrev pub end_rank : End → ℕ
+end_rank Goes = 0
+end_rank Mate = 1
+end_rank Stalemate = 2
 
--- the words of a legal move: what it captured, and what holds in the position after it
-unfoldable pub words : Pos → Move → Said
-words p m = said (took_by p (man_at p.board m.from) m) (after p m)
+abbrev pub took_rank : Took → ℕ
+took_rank Nothing = 0
+took_rank (Pawn s) = 1
+took_rank (Piece s) = 2
+
+abbrev pub took_square : Took → ℕ
+took_square Nothing = 0
+took_square (Pawn s) = s
+took_square (Piece s) = s
+
+-- what words are compared by, one number after another: the end, what was taken, its square, the kinds of check, the tries
+abbrev pub ranks : Said → List ℕ
+ranks w = end_rank w.end ∷ took_rank w.took ∷ took_square w.took ∷ bits_of w.checks ∷ w.tries ∷ []
+
+-- the order of words: by the first of these numbers that differs
+unfoldable pub words_cmp : Said → Said → Ordering
+words_cmp a b = slice_cmp nat_cmp (ranks a) (ranks b)

@@ -1,7 +1,8 @@
 -- The words that a text spells in a dialect, part by part. A comma is byte 44, `+` is 43.
-use Rattle.std.specs.Prelude.{ℕ, Bool, true, false, List, [], codes, Option, Some, None, Result, Ok, Err, is_some, is_none, unwrap_or, if◌then◌else◌}
+use Rattle.std.specs.Prelude.{ℕ, Bool, List, [], codes, Option, Some, None, Result, Ok, Err, unwrap_or, if◌then◌else◌}
 use Rattle.std.specs.Str.{bytes_eq}
-use Rattle.krieg_fen.specs.Names.{behind, cut}
+use Rattle.std.specs.Option.{option_map}
+use Rattle.krieg_fen.specs.Names.{behind}
 use Rattle.krieg_fen.specs.Decimals.{number_between}
 use Rattle.krieg_fen.specs.MoveText.{square_named}
 use Rattle.krieg_fen.specs.declared.number.NumberFault.{NumberFault}
@@ -11,92 +12,84 @@ use Rattle.krieg_words.specs.declared.words.End.TheVariants.{Goes, Mate, Stalema
 use Rattle.krieg_words.specs.declared.words.Took.{Took}
 use Rattle.krieg_words.specs.declared.words.Took.TheVariants.{Nothing, Pawn, Piece}
 use Rattle.krieg_words.specs.declared.dialects.Dialect.{Dialect}
-use Rattle.krieg_words.specs.declared.dialects.Dialect.TheVariants.{Wild16, Anytry, Plain}
-use Rattle.krieg_words.specs.Said.{Said}
-use Rattle.krieg_words.specs.Told.{no_kinds, some_kind}
+use Rattle.krieg_words.specs.declared.dialects.MenTold.{MenTold}
+use Rattle.krieg_words.specs.declared.dialects.MenTold.TheVariants.{Apart, Alike}
+use Rattle.krieg_words.specs.declared.dialects.ChecksTold.{ChecksTold}
+use Rattle.krieg_words.specs.declared.dialects.ChecksTold.TheVariants.{ByKind, Bare}
+use Rattle.krieg_words.specs.declared.dialects.TriesTold.{TriesTold}
+use Rattle.krieg_words.specs.declared.dialects.TriesTold.TheVariants.{Number, Any, Untold}
+use Rattle.krieg_words.specs.Words.{Said, most_tries}
+use Rattle.krieg_words.specs.Dialects.{dialect_rules}
+use Rattle.krieg_words.specs.ToldWords.{no_kinds, some_kind}
+use Rattle.krieg_words.specs.Parts.{PartsReader, no_more, part_then}
+use Rattle.krieg_words.specs.WordsText.{is_capture, is_check, are_tries, has_ended}
 
--- the part at the front of what is left, up to the mark
-abbrev pub front : ℕ → Option (List ℕ) → List ℕ
-front mark None = []
-front mark (Some text) = (cut mark text).0
+-- What each part tells: nothing where the text is not of its form.
 
--- without the gap that is due behind a mark; where it is missing an empty text is left, which is no part
-abbrev pub behind_gap : List ℕ → Option (List ℕ) → Option (List ℕ)
-behind_gap gap None = None
-behind_gap gap (Some text) = Some (unwrap_or (behind gap text) [])
-
--- what is left behind the part at the front, its mark and the gap
-abbrev pub past : ℕ → List ℕ → Option (List ℕ) → Option (List ℕ)
-past mark gap None = None
-past mark gap (Some text) = behind_gap gap (cut mark text).1
-
--- what is left where the part at the front was taken, and where it was not
-abbrev pub left_by : ℕ → List ℕ → Bool → Option (List ℕ) → Option (List ℕ)
-left_by mark gap true rest = past mark gap rest
-left_by mark gap false rest = rest
-
--- the square behind the name
+-- the square after the name
 abbrev pub square_in : Option (List ℕ) → Option ℕ
 square_in None = None
 square_in (Some text) = square_named text
 
-abbrev pub pawn_or_piece : Option ℕ → Option ℕ → Option Took
-pawn_or_piece (Some s) piece = Some (Pawn s)
-pawn_or_piece None (Some s) = Some (Piece s)
-pawn_or_piece None None = None
+abbrev pub pawn_or_piece : Option ℕ → Option ℕ → Took
+pawn_or_piece (Some s) piece = Pawn s
+pawn_or_piece None (Some s) = Piece s
+pawn_or_piece None None = Nothing
 
-abbrev pub told_took_of : List ℕ → Option Took
-told_took_of part = pawn_or_piece (square_in (behind (codes "pawn ") part)) (square_in (behind (codes "piece ") part))
+abbrev pub took_in : MenTold → List ℕ → Took
+took_in Apart part = pawn_or_piece (square_in (behind (codes "pawn ") part)) (square_in (behind (codes "piece ") part))
+took_in Alike part = pawn_or_piece None (square_in (behind (codes "took ") part))
 
-abbrev pub took_in : Dialect → List ℕ → Option Took
-took_in Wild16 part = told_took_of part
-took_in Anytry part = told_took_of part
-took_in Plain part = pawn_or_piece None (square_in (behind (codes "took ") part))
+-- the name, and the names after it, which are joined by `+`
+abbrev pub name_then : {B : Type 0} → List ℕ → PartsReader B → PartsReader (Bool × B)
+name_then name others rest = part_then 43 [] (λ part. bytes_eq part name) (λ here. here) others rest
 
--- the name is the next one of those that are joined by `+`
-abbrev pub is_next : List ℕ → Option (List ℕ) → Bool
-is_next name rest = bytes_eq (front 43 rest) name
+abbrev pub kinds_of : Bool × (Bool × (Bool × (Bool × (Bool × Unit {0})))) → Kinds
+kinds_of x = record { file = x.0; rank = x.1.0; long = x.1.1.0; short = x.1.1.1.0; knight = x.1.1.1.1.0 }
 
-abbrev pub names_of : Option (List ℕ) → Option Kinds
-names_of None = None
-names_of (Some names) =
-    let file = is_next (codes "file") (Some names) in let r1 = left_by 43 [] file (Some names) in
-    let rank = is_next (codes "rank") r1 in let r2 = left_by 43 [] rank r1 in
-    let long = is_next (codes "long") r2 in let r3 = left_by 43 [] long r2 in
-    let short = is_next (codes "short") r3 in let r4 = left_by 43 [] short r3 in
-    let knight = is_next (codes "knight") r4 in let r5 = left_by 43 [] knight r4 in
-    if is_none r5 then Some (record { knight = knight; short = short; long = long; rank = rank; file = file }) else None
+-- the kinds of check in their order
+abbrev pub names_in : Option (List ℕ) → Option Kinds
+names_in names = option_map kinds_of
+    (name_then (codes "file") (name_then (codes "rank") (name_then (codes "long") (name_then (codes "short") (name_then (codes "knight") no_more)))) names)
 
-abbrev pub checks_in : Dialect → List ℕ → Option Kinds
-checks_in Wild16 part = names_of (behind (codes "check ") part)
-checks_in Anytry part = names_of (behind (codes "check ") part)
-checks_in Plain part = if bytes_eq part (codes "check") then Some some_kind else None
+abbrev pub checks_named : Option (List ℕ) → Kinds
+checks_named None = no_kinds
+checks_named (Some names) = unwrap_or (names_in (Some names)) no_kinds
 
-abbrev pub number_in : Result ℕ NumberFault → Option ℕ
-number_in (Ok n) = Some n
-number_in (Err fault) = None
+abbrev pub checks_in : ChecksTold → List ℕ → Kinds
+checks_in ByKind part = checks_named (behind (codes "check ") part)
+checks_in Bare part = if bytes_eq part (codes "check") then some_kind else no_kinds
 
--- a number from 1 to 16 behind the name
-abbrev pub count_in : Option (List ℕ) → Option ℕ
-count_in None = None
-count_in (Some text) = number_in (number_between text 1 16)
+abbrev pub number_in : Result ℕ NumberFault → ℕ
+number_in (Ok n) = n
+number_in (Err fault) = 0
 
-abbrev pub tries_in : Dialect → List ℕ → Option ℕ
-tries_in Wild16 part = count_in (behind (codes "tries ") part)
-tries_in Anytry part = if bytes_eq part (codes "tries some") then Some 1 else None
-tries_in Plain part = None
+-- a number from 1 to the most tries
+abbrev pub count_in : Option (List ℕ) → ℕ
+count_in None = 0
+count_in (Some text) = number_in (number_between text 1 most_tries)
 
-abbrev pub end_in : List ℕ → Option End
-end_in part = if bytes_eq part (codes "mate") then Some Mate else (if bytes_eq part (codes "stalemate") then Some Stalemate else None)
+abbrev pub tries_in : TriesTold → List ℕ → ℕ
+tries_in Number part = count_in (behind (codes "tries ") part)
+tries_in Any part = if bytes_eq part (codes "tries some") then 1 else 0
+tries_in Untold part = 0
 
--- each part in its place, where it is there, and nothing behind them
+abbrev pub end_in : List ℕ → End
+end_in part = if bytes_eq part (codes "mate") then Mate else (if bytes_eq part (codes "stalemate") then Stalemate else Goes)
+
+-- each part in its place, where it is there
+abbrev pub read_parts : MenTold → ChecksTold → TriesTold → PartsReader (Took × (Kinds × (ℕ × (End × Unit {0}))))
+read_parts men checks tries rest =
+    part_then 44 (codes " ") (took_in men) is_capture
+    (part_then 44 (codes " ") (checks_in checks) is_check
+    (part_then 44 (codes " ") (tries_in tries) (are_tries tries)
+    (part_then 44 (codes " ") end_in has_ended no_more))) rest
+
+abbrev pub said_of : Took × (Kinds × (ℕ × (End × Unit {0}))) → Said
+said_of x = record { took = x.0; checks = x.1.0; tries = x.1.1.0; end = x.1.1.1.0 }
+
 unfoldable pub parts_in : Dialect → List ℕ → Option Said
-parts_in d text =
-    let took = took_in d (front 44 (Some text)) in let r1 = left_by 44 (codes " ") (is_some took) (Some text) in
-    let checks = checks_in d (front 44 r1) in let r2 = left_by 44 (codes " ") (is_some checks) r1 in
-    let tries = tries_in d (front 44 r2) in let r3 = left_by 44 (codes " ") (is_some tries) r2 in
-    let end = end_in (front 44 r3) in let r4 = left_by 44 (codes " ") (is_some end) r3 in
-    if is_none r4 then Some (record { end = unwrap_or end Goes; took = unwrap_or took Nothing; checks = unwrap_or checks no_kinds; tries = unwrap_or tries 0 }) else None
+parts_in d text = option_map said_of (read_parts (dialect_rules d).men (dialect_rules d).checks (dialect_rules d).tries (Some text))
 
 -- the words of `silent`
 abbrev pub silent : Said

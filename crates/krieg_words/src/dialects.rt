@@ -1,10 +1,8 @@
-ghost use Rattle.std.specs.Prelude.{◌≡◌, ◌==◌};
-ghost use Rattle.krieg_checks.specs.Kinds.{bits_of};
-ghost use Rattle.krieg_words.specs.Told as spec;
+ghost use Rattle.std.specs.Prelude.{◌≡◌, IfSome, Some};
+ghost use Rattle.krieg_words.specs.Dialects.{dialect_rules, dialect_text, dialect_of};
+ghost use Rattle.krieg_words.specs.declared.dialects.Dialect.{Dialect as SomeDialect};
 
-use crate::words::{Took, Words};
-use krieg_board::Move;
-use krieg_checks::Kinds;
+use krieg_fen::is_name;
 
 /// How much the umpire tells.
 #[derive(Clone, Copy, Debug, PartialEq, Eq)]
@@ -17,91 +15,108 @@ pub enum Dialect {
     Plain,
 }
 
-/// One line of what a player hears.
+/// How the man that was captured is told.
 #[derive(Clone, Copy, Debug, PartialEq, Eq)]
-pub enum Line {
-    /// The opening words.
-    Opens(Words),
-    /// His try was not legal.
-    Illegal(Move),
-    /// His try was made, with its words.
-    Done(Move, Words),
-    /// The opponent made a move, with its words.
-    Heard(Words),
-    /// His try came when the opponent was to move.
-    Early(Move),
-    /// His try came after the end of the game.
-    Over(Move),
+pub enum MenTold {
+    /// A pawn is told apart from a piece.
+    Apart,
+    /// Every man is told alike.
+    Alike,
 }
 
-/// The square of a capture, told as of a piece.
-pub(crate) fn as_piece(took: &Took) -> Took
-    ensures { result ≡ spec.as_piece took.now }
-{
-    match took {
-        Took::Nothing => Took::Nothing,
-        Took::Pawn(s) | Took::Piece(s) => Took::Piece(*s),
-    }
+/// How checks are told.
+#[derive(Clone, Copy, Debug, PartialEq, Eq)]
+pub enum ChecksTold {
+    /// With their kinds.
+    ByKind,
+    /// Only that there is one.
+    Bare,
 }
 
-/// That there is a check, told as one on a file.
-fn as_check(kinds: Kinds) -> Kinds
-    ensures { result ≡ spec.as_check kinds }
-{
-    Kinds {
-        knight: false,
-        short: false,
-        long: false,
-        rank: false,
-        file: kinds.bits() != 0,
-    }
+/// What is told of pawn tries.
+#[derive(Clone, Copy, Debug, PartialEq, Eq)]
+pub enum TriesTold {
+    /// Their number.
+    Number,
+    /// Only that there are any.
+    Any,
+    /// Nothing.
+    Untold,
 }
 
-/// The words as the dialect tells them. Words fit a dialect where this leaves them as they are.
-#[tactic(auto, using(crate::proofs::ToldLaws::fitting))]
-pub fn told(d: Dialect, w: Words) -> Words
-    ensures value { result ≡ spec.told d w }
-    ensures fits { spec.Fits d result }
-{
-    words_told(d, w)
+/// The version of the texts in a dialect.
+#[derive(Clone, Copy, Debug, PartialEq, Eq)]
+pub enum TextVersion {
+    /// Version 1, which names no dialect.
+    First,
+    /// Version 2, which names the dialect in its second line.
+    Second,
 }
 
-fn words_told(d: Dialect, w: Words) -> Words
-    ensures { result ≡ spec.told d w }
+/// What a dialect tells, and how it is written.
+#[derive(Clone, Copy, Debug, PartialEq, Eq)]
+pub struct DialectRules {
+    pub men: MenTold,
+    pub checks: ChecksTold,
+    pub tries: TriesTold,
+    pub version: TextVersion,
+}
+
+/// The dialect of a text of version 1, which names none.
+pub(crate) const UNNAMED_DIALECT: Dialect = Dialect::Wild16;
+
+/// What the dialect tells, and how it is written.
+pub(crate) fn dialect_rules(d: Dialect) -> DialectRules
+    ensures { result ≡ dialect_rules d }
 {
     match d {
-        Dialect::Wild16 => w,
-        Dialect::Anytry => Words {
-            tries: if w.tries == 0 { 0 } else { 1 },
-            ..w
+        Dialect::Wild16 => DialectRules {
+            men: MenTold::Apart,
+            checks: ChecksTold::ByKind,
+            tries: TriesTold::Number,
+            version: TextVersion::First,
         },
-        Dialect::Plain => Words {
-            end: w.end,
-            took: as_piece(&w.took),
-            checks: as_check(w.checks),
-            tries: 0,
+        Dialect::Anytry => DialectRules {
+            men: MenTold::Apart,
+            checks: ChecksTold::ByKind,
+            tries: TriesTold::Any,
+            version: TextVersion::Second,
+        },
+        Dialect::Plain => DialectRules {
+            men: MenTold::Alike,
+            checks: ChecksTold::Bare,
+            tries: TriesTold::Untold,
+            version: TextVersion::Second,
         },
     }
 }
 
-fn line_told(d: Dialect, l: Line) -> Line
-    ensures { result ≡ spec.told_line d l }
+/// The name of the dialect: `wild16`, `anytry` or `plain`.
+pub fn dialect_name(d: Dialect) -> &'static [u8]
+    ensures { result.now ≡ dialect_text d }
 {
-    match l {
-        Line::Opens(w) => Line::Opens(told(d, w)),
-        Line::Illegal(mv) => Line::Illegal(mv),
-        Line::Done(mv, w) => Line::Done(mv, told(d, w)),
-        Line::Heard(w) => Line::Heard(told(d, w)),
-        Line::Early(mv) => Line::Early(mv),
-        Line::Over(mv) => Line::Over(mv),
+    match d {
+        Dialect::Wild16 => b"wild16",
+        Dialect::Anytry => b"anytry",
+        Dialect::Plain => b"plain",
     }
 }
 
-/// The line with its words as the dialect tells them.
-#[tactic(auto, using(crate::proofs::ToldLaws::fitting))]
-pub fn told_line(d: Dialect, l: Line) -> Line
-    ensures value { result ≡ spec.told_line d l }
-    ensures fits { spec.LineFits d result }
+/// The dialect of that name. `None` exactly where the text is no dialect's name.
+#[tactic(auto, using(crate::proofs::DialectNames::dialects))]
+pub fn read_dialect(text: &[u8]) -> Option<Dialect>
+    ensures exact { result ≡ dialect_of text.now }
+    // What is read is spelled so, and what is spelled so is read.
+    ensures found { IfSome result (λ d. text.now ≡ dialect_text d) }
+    ensures only { (d : SomeDialect) → text.now ≡ dialect_text d → result ≡ Some d }
 {
-    line_told(d, l)
+    if is_name(b"wild16", text) {
+        Some(Dialect::Wild16)
+    } else if is_name(b"anytry", text) {
+        Some(Dialect::Anytry)
+    } else if is_name(b"plain", text) {
+        Some(Dialect::Plain)
+    } else {
+        None
+    }
 }

@@ -1,34 +1,51 @@
 //! What the umpire says after each legal move and at the start of a game, in three dialects, and the
 //! texts of it.
 //!
-//! The rules of this crate are the definitions of `specs/`: what words are (`Said`), their order
-//! (`Order`), pawn tries (`Tries`), the words of a move and of a position (`Words`), what a dialect
-//! tells (`Told`), whether words are told of a move (`Matching`), the texts (`WordsText`, `LineText`,
-//! `DialectText`; `WordsReading` reads words part by part), and the first lines of a text, which tell its
-//! dialect (`Versions`). Only the writers take memory.
+//! What a dialect tells, and how it is written, is one record a dialect (`Dialects` in `specs/`, `dialects`
+//! here): how men are told, how checks, what of pawn tries, and which version its texts have. All else asks
+//! that record.
+//!
+//! The rules of this crate are the definitions of `specs/`: what words are and their order (`Words`), pawn
+//! tries (`PawnTries`), the words of a move and of a position (`WordsOfMoves`), the dialects (`Dialects`), what
+//! they tell of words (`ToldWords`) and of a move (`ToldMoves`), texts of parts (`Parts`), the text of words (`WordsText`) and the words
+//! of a text (`WordsReading`), a player's line and its text (`Line`) and the line of a text (`LineReading`),
+//! and the first lines of a text, which tell its dialect (`Versions`). Only the writers take memory.
+//!
+//! ```
+//! let p = read_position(b"1k6/8/1K6/8/8/8/8/7R w - -")?;
+//! let h1h8 = read_move(b"h1h8")?;
+//! if is_legal(&p, h1h8) {
+//!     let words = words_of(&p, h1h8);
+//!     write_words(words, &mut text)?; // "check rank, mate"
+//!     let plain = told(Dialect::Plain, words);
+//!     write_words_in(Dialect::Plain, plain, &mut other)?; // "check, mate"
+//! }
+//! ```
 #![tactic(auto)]
 
-mod captures;
 mod dialects;
-mod known;
-mod matching;
-mod names;
+mod line;
+mod line_reading;
 mod parts;
-mod reading;
+mod pawn_tries;
 #[cfg(test)]
 mod tests;
-mod umpire;
+mod told_moves;
+mod told_words;
 mod versions;
 mod words;
-mod writing;
+mod words_of_moves;
+mod words_reading;
+mod words_text;
 
-pub use captures::tries;
-pub use dialects::{Dialect, Line, told, told_line};
-pub use known::{know_line, know_words};
-pub use matching::{after_told, are_told};
-pub use names::{dialect_name, read_dialect};
-pub use reading::{LineFault, WordsFault, read_line, read_line_in, read_words, read_words_in};
-pub use umpire::{Made, make_move, opening, words_of};
-pub use versions::{read_dialect_line, read_version_lines, write_version_lines};
-pub use words::{End, Took, Words, compare};
-pub use writing::{write_line, write_line_in, write_words, write_words_in};
+pub use dialects::{Dialect, dialect_name, read_dialect};
+pub use line::{Line, know_line, put_line, put_line_in, told_line, write_line, write_line_in};
+pub use line_reading::{LineFault, read_line, read_line_in};
+pub use pawn_tries::tries;
+pub use told_moves::{after_told, are_told};
+pub use told_words::told;
+pub use versions::{put_version_lines, read_dialect_line, read_version_lines, version_line_count};
+pub use words::{End, Took, Words, compare, know_words};
+pub use words_of_moves::{Made, make_move, opening, words_of};
+pub use words_reading::{WordsFault, read_words, read_words_in};
+pub use words_text::{put_words, put_words_in, write_words, write_words_in};

@@ -3,7 +3,7 @@
 
 use crate::*;
 use krieg_board::{Move, NoMemory, Position};
-use krieg_fen::{Cursor, is_name, read_move, read_position, write_position};
+use krieg_fen::{Cursor, Text, is_name, read_move, read_position, write_position};
 use krieg_moves::is_legal;
 use std::alloc::Global;
 
@@ -491,7 +491,9 @@ fn first_lines_tell_the_dialect(rt: HostRuntime) -> Result<(), NoMemory> {
         (Dialect::Plain, b"krieg sheet 2\ndialect plain\n"),
     ] {
         let mut written = Vec::new(rt.alloc());
-        write_version_lines(b"krieg sheet ", d, &mut written)?;
+        let mut all = Text::after(&mut written);
+        let done = put_version_lines(b"krieg sheet ", d, &mut all);
+        all.end(done, &mut written)?;
         assert!(rt; is_name(text, &written));
         assert_eq!(rt; told_by(text), Some(d));
     }

@@ -1,10 +1,13 @@
 ghost use Rattle.std.specs.Prelude.{◌≡◌};
-ghost use Rattle.krieg_words.specs.Order.{words_cmp};
+ghost use Rattle.krieg_words.specs.Words.{IsSaid, IsTaken, words_cmp};
 
 use krieg_board::Square;
 use krieg_checks::Kinds;
 use std::cmp::Ordering;
 use std::marker::Model;
+
+/// Eight pawns have two pawn tries each at most.
+pub(crate) const MOST_TRIES: u8 = 16;
 
 /// Whether the game goes on, and how it has ended otherwise.
 #[derive(Clone, Copy, Debug, PartialEq, Eq, PartialOrd, Ord)]
@@ -37,19 +40,19 @@ pub struct Words {
     pub end: End,
     pub took: Took,
     pub checks: Kinds,
-    /// How many pawn captures the side to move has: from 0 to 16.
+    /// How many pawn captures the side to move has: 16 at most.
     pub tries: u8,
 }
 
 impl Model for Words {
     ghost use Rattle.std.specs.Prelude.{◌≤◌};
-    ghost use Rattle.krieg_words.specs.Said.{Said};
+    ghost use Rattle.krieg_words.specs.Words.{Said, most_tries};
 
     ghost Value = { Said };
 
     ghost view = { λ w. record { end = w.end; took = w.took; checks = w.checks; tries = w.tries } };
 
-    ghost invariant = { λ w. w.tries ≤ 16 };
+    ghost invariant = { λ w. w.tries ≤ most_tries };
 
     ghost inverse = { λ s. record { end = s.end; took = s.took; checks = s.checks; tries = s.tries } };
 }
@@ -59,4 +62,23 @@ pub fn compare(a: &Words, b: &Words) -> Ordering
     ensures { result ≡ words_cmp a.now b.now }
 {
     a.cmp(b)
+}
+
+fn know_took(took: &Took)
+    ensures { IsTaken took.now }
+{
+    match took {
+        Took::Nothing => {}
+        Took::Pawn(square) | Took::Piece(square) => {
+            let _number = square.number();
+        }
+    }
+}
+
+/// Tells a proof that words are what an umpire can say: not too many tries, and a capture on the board.
+pub fn know_words(w: &Words)
+    ensures { IsSaid w.now }
+{
+    let _tries = w.tries;
+    know_took(&w.took);
 }

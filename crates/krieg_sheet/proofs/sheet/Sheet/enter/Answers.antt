@@ -1,5 +1,5 @@
 use Rattle.std.proofs.Common.{◌≡◌, true, sym, subst}
-use Rattle.krieg_words.specs.Told.{LineFits}
+use Rattle.krieg_words.specs.Line.{LineFits}
 use Rattle.krieg_sheet.specs.Sheets.{SheetState}
 use Rattle.krieg_sheet.specs.Turns.{is_in_place}
 use Rattle.krieg_sheet.specs.Places.{IsTold}

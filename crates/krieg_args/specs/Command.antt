@@ -1,0 +1,99 @@
+-- The commands: the words after the program's name.
+use Rattle.std.specs.Prelude.{ℕ, Bool, true, false, ◌&&◌, List, [], ◌∷◌, length, nat_lt, Option, Some, None, option_map, option_and_then, codes, if◌then◌else◌}
+use Rattle.std.specs.Result.{result_ok}
+use Rattle.std.specs.Str.{bytes_eq}
+use Rattle.krieg_board.specs.declared.men.Side.{Side}
+use Rattle.krieg_board.specs.declared.men.Side.TheVariants.{White, Black}
+use Rattle.krieg_fen.specs.Decimals.{number_between}
+use Rattle.krieg_fen.specs.Forms.{most_listed}
+use Rattle.krieg_args.specs.declared.command.Command.{Command}
+use Rattle.krieg_args.specs.declared.command.Command.TheVariants.{Solve, Check, Believe, Umpire, Play, Make, Job}
+use Rattle.krieg_args.specs.declared.command.Made.{Made}
+use Rattle.krieg_args.specs.declared.command.Made.TheVariants.{Session, Sheet}
+
+-- A number: a plain decimal in a range.
+
+abbrev pub number : ℕ → ℕ → List ℕ → Option ℕ
+number least most word = result_ok (number_between word least most)
+
+-- MOVES: the moves of a plan
+abbrev pub moves_of : List ℕ → Option ℕ
+moves_of word = number 1 6 word
+
+-- BUDGET: units of work
+abbrev pub budget_of : List ℕ → Option ℕ
+budget_of word = number 1 50000000 word
+
+-- LIMIT: the positions of a set, which a text can list
+abbrev pub limit_of : List ℕ → Option ℕ
+limit_of word = number 1 most_listed word
+
+-- ASKS: how often the players of a game are asked
+abbrev pub asks_of : List ℕ → Option ℕ
+asks_of word = number 1 4096 word
+
+-- NUMBER: that of a made input, of 32 bits
+abbrev pub seed_of : List ℕ → Option ℕ
+seed_of word = number 0 4294967295 word
+
+-- Other words.
+
+-- whose sheet the umpire writes, or what both players hear
+abbrev pub whose : List ℕ → Option (Option Side)
+whose word =
+    if bytes_eq word (codes "w") then Some (Some White)
+    else (if bytes_eq word (codes "b") then Some (Some Black)
+    else (if bytes_eq word (codes "all") then Some None else None))
+
+-- what a made input is
+abbrev pub made_input : List ℕ → Option Made
+made_input word = if bytes_eq word (codes "session") then Some Session else (if bytes_eq word (codes "sheet") then Some Sheet else None)
+
+-- the name of a file
+abbrev pub is_file : List ℕ → Bool
+is_file word = nat_lt 0 (length word)
+
+-- What a command makes of the words after its name.
+
+infixl 10 ◌>>=◌
+abbrev pub ◌>>=◌ : {A B : Type 0} → Option A → (A → Option B) → Option B
+x >>= f = option_and_then f x
+
+abbrev pub solve : List ℕ → List ℕ → List ℕ → Option Command
+solve moves budget limit = do
+  m ← moves_of moves
+  b ← budget_of budget
+  l ← limit_of limit
+  Some (Solve m b l)
+
+abbrev pub make : List ℕ → List ℕ → Option Command
+make what seed = do
+  w ← made_input what
+  s ← seed_of seed
+  Some (Make w s)
+
+-- each player has a file for what he says and one for what he hears
+abbrev pub play : List ℕ → List ℕ → List ℕ → List ℕ → List ℕ → Option Command
+play asks win wout bin bout = if is_file win && is_file wout && is_file bin && is_file bout then option_map Play (asks_of asks) else None
+
+-- the command of a name with one word
+abbrev pub command_of_one : List ℕ → List ℕ → Option Command
+command_of_one name word =
+    if bytes_eq name (codes "check") then option_map Check (budget_of word)
+    else (if bytes_eq name (codes "believe") then option_map Believe (limit_of word)
+    else (if bytes_eq name (codes "umpire") then option_map Umpire (whose word)
+    else (if bytes_eq name (codes "job") then option_map Job (seed_of word) else None)))
+
+-- the command of these words, where they are the form of one: a name, and after it as many words as the name asks for
+abbrev pub command_of : List (List ℕ) → Option Command
+command_of (name ∷ word ∷ []) = command_of_one name word
+command_of (name ∷ what ∷ seed ∷ []) = if bytes_eq name (codes "make") then make what seed else None
+command_of (name ∷ moves ∷ budget ∷ limit ∷ []) = if bytes_eq name (codes "solve") then solve moves budget limit else None
+command_of (name ∷ asks ∷ win ∷ wout ∷ bin ∷ bout ∷ []) = if bytes_eq name (codes "play") then play asks win wout bin bout else None
+command_of _ = None
+
+-- whether the command reads an input
+abbrev pub takes_input : Command → Bool
+takes_input (Make what seed) = false
+takes_input (Job seed) = false
+takes_input _ = true

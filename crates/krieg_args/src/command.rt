@@ -1,0 +1,172 @@
+ghost use Rattle.std.specs.Prelude.{◌≡◌, map, string_bytes};
+ghost use Rattle.krieg_args.specs.Command as spec;
+
+use krieg_board::Side;
+use krieg_fen::{MOST_LISTED, is_name, read_number_between};
+
+/// What a made input is.
+#[derive(Clone, Copy, Debug, PartialEq, Eq)]
+pub enum Made {
+    /// A session.
+    Session,
+    /// A sheet.
+    Sheet,
+}
+
+/// What the words after the program's name ask for.
+#[derive(Clone, Copy, Debug, PartialEq, Eq)]
+pub enum Command {
+    /// `solve MOVES BUDGET LIMIT`: a plan for a sheet within so many moves, with so many units of work
+    /// and sets of so many positions at most.
+    Solve(u64, u64, u64),
+    /// `check BUDGET`: the check of a plan file, with so many units.
+    Check(u64),
+    /// `believe LIMIT`: the positions that a sheet leaves possible, of which there may be so many.
+    Believe(u64),
+    /// `umpire w`, `umpire b`, `umpire all`: what one player hears of a session, as a sheet, or what both
+    /// hear.
+    Umpire(Option<Side>),
+    /// `play ASKS WIN WOUT BIN BOUT`: a game from a position between the players of four files, with so
+    /// many asks at most.
+    Play(u64),
+    /// `make session NUMBER`, `make sheet NUMBER`: a made input with that number.
+    Make(Made, u64),
+    /// `job NUMBER`: the summary of the made job with that number.
+    Job(u64),
+}
+
+impl Command {
+    /// Whether the command reads an input. A made input is not read.
+    pub fn takes_input(&self) -> bool
+        ensures { result ≡ spec.takes_input self.now }
+    {
+        !matches!(self, Command::Make(_, _) | Command::Job(_))
+    }
+}
+
+fn number(least: u64, most: u64, word: &str) -> Option<u64>
+    ensures { result ≡ spec.number least most word.now }
+{
+    read_number_between(word.as_bytes(), least, most).ok()
+}
+
+fn moves_of(word: &str) -> Option<u64>
+    ensures { result ≡ spec.moves_of word.now }
+{
+    number(1, 6, word)
+}
+
+fn budget_of(word: &str) -> Option<u64>
+    ensures { result ≡ spec.budget_of word.now }
+{
+    number(1, 50_000_000, word)
+}
+
+fn limit_of(word: &str) -> Option<u64>
+    ensures { result ≡ spec.limit_of word.now }
+{
+    number(1, MOST_LISTED, word)
+}
+
+fn asks_of(word: &str) -> Option<u64>
+    ensures { result ≡ spec.asks_of word.now }
+{
+    number(1, 4_096, word)
+}
+
+fn seed_of(word: &str) -> Option<u64>
+    ensures { result ≡ spec.seed_of word.now }
+{
+    number(0, 4_294_967_295, word)
+}
+
+fn whose(word: &str) -> Option<Option<Side>>
+    ensures { result ≡ spec.whose word.now }
+{
+    let word = word.as_bytes();
+    if is_name(b"w", word) {
+        Some(Some(Side::White))
+    } else if is_name(b"b", word) {
+        Some(Some(Side::Black))
+    } else if is_name(b"all", word) {
+        Some(None)
+    } else {
+        None
+    }
+}
+
+fn made_input(word: &str) -> Option<Made>
+    ensures { result ≡ spec.made_input word.now }
+{
+    let word = word.as_bytes();
+    if is_name(b"session", word) {
+        Some(Made::Session)
+    } else if is_name(b"sheet", word) {
+        Some(Made::Sheet)
+    } else {
+        None
+    }
+}
+
+fn is_file(word: &str) -> bool
+    ensures { result ≡ spec.is_file word.now }
+{
+    !word.is_empty()
+}
+
+fn solve(moves: &str, budget: &str, limit: &str) -> Option<Command>
+    ensures { result ≡ spec.solve moves.now budget.now limit.now }
+{
+    Some(Command::Solve(moves_of(moves)?, budget_of(budget)?, limit_of(limit)?))
+}
+
+fn make(what: &str, seed: &str) -> Option<Command>
+    ensures { result ≡ spec.make what.now seed.now }
+{
+    Some(Command::Make(made_input(what)?, seed_of(seed)?))
+}
+
+fn play(asks: &str, win: &str, wout: &str, bin: &str, bout: &str) -> Option<Command>
+    ensures { result ≡ spec.play asks.now win.now wout.now bin.now bout.now }
+{
+    if is_file(win) && is_file(wout) && is_file(bin) && is_file(bout) {
+        Some(Command::Play(asks_of(asks)?))
+    } else {
+        None
+    }
+}
+
+fn command_of_one(name: &str, word: &str) -> Option<Command>
+    ensures { result ≡ spec.command_of_one name.now word.now }
+{
+    let name = name.as_bytes();
+    if is_name(b"check", name) {
+        Some(Command::Check(budget_of(word)?))
+    } else if is_name(b"believe", name) {
+        Some(Command::Believe(limit_of(word)?))
+    } else if is_name(b"umpire", name) {
+        Some(Command::Umpire(whose(word)?))
+    } else if is_name(b"job", name) {
+        Some(Command::Job(seed_of(word)?))
+    } else {
+        None
+    }
+}
+
+/// The command of these words, where they are the form of one and their numbers are in their ranges.
+#[tactic(auto, using(crate::proofs::OtherWords::other_words))]
+pub fn command_of(words: &[String]) -> Option<Command>
+    ensures { result ≡ spec.command_of (map string_bytes words.now) }
+{
+    match words {
+        [name, word] => command_of_one(name, word),
+        [name, what, seed] if is_name(b"make", name.as_bytes()) => make(what, seed),
+        [name, moves, budget, limit] if is_name(b"solve", name.as_bytes()) => {
+            solve(moves, budget, limit)
+        }
+        [name, asks, win, wout, bin, bout] if is_name(b"play", name.as_bytes()) => {
+            play(asks, win, wout, bin, bout)
+        }
+        _ => None,
+    }
+}

@@ -1,0 +1,19 @@
+//! The commands of the program, read from the words after its name.
+//!
+//! `specs/Command` says which words are a command, and which commands read an input. The reader takes no memory.
+//!
+//! ```
+//! let mut words = Vec::new(alloc);
+//! words.push(String::from_str(alloc, "believe")?)?;
+//! words.push(String::from_str(alloc, "200000")?)?;
+//! let command = command_of(&words); // Some(Command::Believe(200_000))
+//! words.push(String::from_str(alloc, "1")?)?;
+//! let none = command_of(&words); // None: one word too many
+//! ```
+#![tactic(auto)]
+
+mod command;
+#[cfg(test)]
+mod tests;
+
+pub use command::{Command, Made, command_of};

@@ -1,0 +1,39 @@
+-- What no public clause cites: the parts of the work answer a value, or the ending of a run that has none.
+use Rattle.std.specs.Prelude.{ℕ, List, Result, Ok, Err}
+use Rattle.krieg_fen.specs.declared.fault.TextFault.{TextFault}
+use Rattle.krieg_fen.specs.declared.fault.TextFault.TheVariants as fault
+use Rattle.krieg_ports.specs.declared.transfer.ReadEnd.{ReadEnd}
+use Rattle.krieg_ports.specs.declared.transfer.ReadEnd.TheVariants as unread
+use Rattle.krieg_belief.specs.declared.beliefs.BeliefStop.{BeliefStop}
+use Rattle.krieg_belief.specs.declared.beliefs.BeliefStop.TheVariants as stop
+use Rattle.krieg_cli.specs.declared.refusal.Refusal.{Refusal}
+use Rattle.krieg_cli.specs.declared.refusal.Refusal.TheVariants.{BadText, TooMany}
+use Rattle.krieg_cli.specs.declared.ending.Ending.{Ending}
+use Rattle.krieg_cli.specs.declared.ending.Ending.TheVariants.{Answered, TooLong, ReadFault, NoMemory, Refused}
+
+-- a source that was not read to its end
+abbrev pub of_read : ReadEnd → Ending
+of_read unread.TooLong = TooLong
+of_read unread.ReadFault = ReadFault
+of_read unread.NoMemory = NoMemory
+
+-- a text that was not read
+abbrev pub of_text : TextFault → Ending
+of_text (fault.At line kind) = Refused (BadText line kind)
+of_text fault.NoMemory = NoMemory
+
+-- a set that was not found
+abbrev pub of_belief : BeliefStop → Ending
+of_belief (stop.TooMany line) = Refused (TooMany line)
+of_belief stop.NoMemory = NoMemory
+
+abbrev pub ending_of : {X : Type 0} → Result X Ending → Ending
+ending_of (Ok x) = Answered
+ending_of (Err ending) = ending
+
+-- what was computed, seen by view, is an outcome, unless memory ran out
+abbrev pub Decides : {X : Type 0} → (X → List ℕ) → Result X Ending → (Result (List ℕ) Refusal → Type 0) → Type 0
+Decides view (Ok x) Outcome = Outcome (Ok (view x))
+Decides view (Err (Refused refusal)) Outcome = Outcome (Err refusal)
+Decides view (Err NoMemory) Outcome = Unit {0}
+Decides view (Err _) Outcome = ⊥

@@ -1,0 +1,56 @@
+-- What is refused of an input: the status with which the program ends, and what the line on err says.
+use Rattle.std.specs.Prelude.{ℕ, ◌≡◌, List, Option, Some, None, Result, Ok, Err, codes}
+use Rattle.krieg_board.specs.declared.position.BadPosition.{BadPosition}
+use Rattle.krieg_board.specs.declared.position.BadPosition.TheVariants as bad
+use Rattle.krieg_fen.specs.declared.fault.TextFault.{TextFault}
+use Rattle.krieg_fen.specs.declared.fault.TextFault.TheVariants as fault
+use Rattle.krieg_fen.specs.declared.fault.TextKind.{TextKind}
+use Rattle.krieg_fen.specs.declared.fault.TextKind.TheVariants as kind
+use Rattle.krieg_cli.specs.declared.refusal.Refusal.{Refusal}
+use Rattle.krieg_cli.specs.declared.refusal.Refusal.TheVariants.{BadText, TooMany, NotBuilt}
+
+-- a position that is not valid, or not of the first one's hand, is told from every other bad line
+abbrev pub text_status : TextKind → ℕ
+text_status (kind.Position bad_position) = 4
+text_status kind.Differs = 4
+text_status kind.Version = 3
+text_status kind.Syntax = 3
+text_status kind.Count = 3
+text_status kind.OutOfPlace = 3
+text_status kind.Deep = 3
+text_status kind.Large = 3
+
+abbrev pub refusal_status : Refusal → ℕ
+refusal_status (BadText line kind) = text_status kind
+refusal_status (TooMany line) = 7
+refusal_status NotBuilt = 15
+
+abbrev pub position_reason : BadPosition → List ℕ
+position_reason bad.Kings = codes "kings"
+position_reason bad.PawnRank = codes "pawn rank"
+position_reason bad.TooManyMen = codes "too many men"
+position_reason bad.IdleInCheck = codes "idle side in check"
+position_reason bad.Rights = codes "rights"
+position_reason bad.Mark = codes "mark"
+
+abbrev pub text_reason : TextKind → List ℕ
+text_reason (kind.Position bad_position) = position_reason bad_position
+text_reason kind.Differs = codes "differs"
+text_reason kind.Version = codes "version"
+text_reason kind.Syntax = codes "syntax"
+text_reason kind.Count = codes "count"
+text_reason kind.OutOfPlace = codes "out of place"
+text_reason kind.Deep = codes "deep"
+text_reason kind.Large = codes "large"
+
+-- the line of the input at which it is, where it is at one, and what it is
+abbrev pub refusal_reason : Refusal → Option ℕ × List ℕ
+refusal_reason (BadText line kind) = (Some line, text_reason kind)
+refusal_reason (TooMany line) = (Some line, codes "too many positions")
+refusal_reason NotBuilt = (None, codes "not built")
+
+-- What comes of a text: an outcome of the value that it spells, or the refusal of its first bad line.
+abbrev pub OfText : {A : Type 0} → Result A TextFault → (A → Result (List ℕ) Refusal → Type 0) → Result (List ℕ) Refusal → Type 0
+OfText (Ok value) Of outcome = Of value outcome
+OfText (Err (fault.At line kind)) Of outcome = outcome ≡ Err (BadText line kind)
+OfText (Err fault.NoMemory) Of outcome = ⊥

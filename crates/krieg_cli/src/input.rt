@@ -1,0 +1,27 @@
+ghost use Rattle.std.specs.Prelude.{◌≡◌, IfOk, IfErr};
+ghost use Rattle.krieg_cli.specs.World.{stream};
+ghost use Rattle.krieg_cli.specs.Input.{WasTaken, FailsToTake};
+
+use crate::ending::Ending;
+use krieg_args::Command;
+use krieg_ports::{Source, read_all};
+use std::alloc::Global;
+
+/// The most bytes that an input may have: 64 MiB.
+pub const MOST_INPUT: usize = 67_108_864;
+
+/// The whole input, where the command takes one.
+pub(crate) fn taken<S: Source>(
+    alloc: Global,
+    command: &Command,
+    input: &mut S,
+) -> Result<Vec<u8>, Ending>
+    ensures text { let seen = stream S.left S.faults in IfOk result (λ text. WasTaken command.now (seen input.old) (seen input.new) text.items) }
+    ensures fails { let seen = stream S.left S.faults in IfErr result (λ e. FailsToTake e command.now (seen input.old) (seen input.new)) }
+{
+    if !command.takes_input() {
+        return Ok(Vec::new(alloc));
+    }
+    let text = read_all(alloc, input, MOST_INPUT)?;
+    Ok(text)
+}

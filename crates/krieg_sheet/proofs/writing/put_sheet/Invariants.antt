@@ -1,0 +1,7 @@
+use Rattle.std.proofs.Common.{map, take}
+use Rattle.krieg_fen.specs.Writing.{HasLines}
+use Rattle.krieg_sheet.specs.SheetText.{entry_line}
+use Rattle.krieg_sheet.proofs.writing.put_sheet.Given as goal
+
+abbrev pub invariant-loop-line : goal.invariant-loop-line
+invariant-loop-line l = HasLines l.initial.text l.text (map (entry_line l.d) (take l.line-index l.entries))

@@ -1,0 +1,16 @@
+-- How the program ends, whatever words the system gives.
+use Rattle.std.specs.Prelude.{ℕ, ◌≡◌, ◌⊎◌, List, codes}
+use Rattle.krieg_args.specs.Command.{command_of}
+use Rattle.krieg_cli.specs.World.{Stream, World}
+use Rattle.krieg_cli.specs.Top.{EndsSo, Runs, Reports, Gets}
+
+-- a run of some words
+abbrev pub RunsSo : ℕ → World → World → Stream → Stream → Type 0
+RunsSo code before after err err' = (words : List (List ℕ)) × EndsSo code (λ ending. Runs ending (command_of words) before after × Reports ending err err')
+
+-- there was no memory for the words, and nothing was read or written but the line that says so
+abbrev pub HasNoWords : ℕ → World → World → Stream → Stream → Type 0
+HasNoWords code before after err err' = (code ≡ 11) × (after ≡ before) × Gets (codes "krieg: want of memory\n") err err'
+
+abbrev pub Starts : ℕ → World → World → Stream → Stream → Type 0
+Starts code before after err err' = RunsSo code before after err err' ⊎ HasNoWords code before after err err'

@@ -1,0 +1,20 @@
+//! The edge of the program: the words that the system gives, and the call `krieg_cli::run` over them and
+//! over the streams that main makes.
+//!
+//! `specs/Start` says what holds of every start, whatever the words are: no clause of the system's says
+//! which they are.
+//!
+//! ```
+//! let mut input = Adapter::new(rt.stdin());
+//! let mut out = AdapterOut::new(rt.stdout());
+//! let mut err = AdapterOut::new(rt.stderr());
+//! let status = start(&rt, &mut input, &mut out, &mut err);
+//! // 1, with `krieg: usage` on standard error, where the program has no words
+//! ```
+#![tactic(auto)]
+
+mod shell;
+#[cfg(test)]
+mod tests;
+
+pub use shell::start;

@@ -1,0 +1,216 @@
+ghost use Rattle.std.specs.Prelude.{◌≡◌, ◌≤◌, codes, ℕ, IfOk, Some, None, Ok};
+ghost use Rattle.std.specs.Str.{bytes_eq};
+ghost use Rattle.std.specs.Option.{option_copied};
+ghost use Rattle.krieg_fen.specs.Outcomes.{Reads};
+ghost use Rattle.krieg_words.specs.Words.{Said, IsSaid, most_tries};
+ghost use Rattle.krieg_words.specs.ToldWords.{Fits};
+ghost use Rattle.krieg_words.specs.WordsText.{words_text};
+ghost use Rattle.krieg_words.specs.Parts as parts;
+ghost use Rattle.krieg_words.specs.WordsReading as spec;
+ghost use Rattle.krieg_words.specs.declared.dialects.Dialect.TheVariants.{Wild16};
+
+use crate::dialects::{ChecksTold, Dialect, MenTold, TriesTold, dialect_rules};
+use crate::parts::{front, left_by};
+use crate::told_words::{NO_KINDS, SOME_KIND};
+use crate::words::{End, MOST_TRIES, Took, Words};
+use crate::words_text::{are_tries, has_ended, is_capture, is_check};
+use krieg_board::Square;
+use krieg_checks::Kinds;
+use krieg_fen::{behind, is_name, read_number_between, read_square};
+
+/// The text is no words of the dialect.
+#[derive(Clone, Copy, Debug, PartialEq, Eq)]
+pub struct WordsFault;
+
+fn square_in(text: Option<&[u8]>) -> Option<Square>
+    ensures { result ≡ spec.square_in (option_copied text.entry) }
+{
+    match text {
+        None => None,
+        Some(text) => read_square(text),
+    }
+}
+
+fn pawn_or_piece(pawn: &Option<Square>, piece: &Option<Square>) -> Took
+    ensures { result ≡ spec.pawn_or_piece pawn.now piece.now }
+{
+    if let Some(s) = pawn {
+        return Took::Pawn(*s);
+    }
+    match piece {
+        None => Took::Nothing,
+        Some(s) => Took::Piece(*s),
+    }
+}
+
+fn took_in(men: MenTold, part: &[u8]) -> Took
+    ensures { result ≡ spec.took_in men part.now }
+{
+    match men {
+        MenTold::Apart => pawn_or_piece(
+            &square_in(behind(b"pawn ", part)),
+            &square_in(behind(b"piece ", part)),
+        ),
+        MenTold::Alike => pawn_or_piece(&None, &square_in(behind(b"took ", part))),
+    }
+}
+
+fn is_next(name: &[u8], rest: Option<&[u8]>) -> bool
+    ensures { result ≡ bytes_eq (parts.front 43 (option_copied rest.entry)) name.now }
+{
+    is_name(name, front(b'+', rest))
+}
+
+/// The kinds of check whose names stand there in their order, joined by `+`.
+fn names_in(names: Option<&[u8]>) -> Option<Kinds>
+    ensures { result ≡ spec.names_in (option_copied names.entry) }
+{
+    let file = is_next(b"file", names);
+    let rest = left_by(b'+', b"", file, names);
+    let rank = is_next(b"rank", rest);
+    let rest = left_by(b'+', b"", rank, rest);
+    let long = is_next(b"long", rest);
+    let rest = left_by(b'+', b"", long, rest);
+    let short = is_next(b"short", rest);
+    let rest = left_by(b'+', b"", short, rest);
+    let knight = is_next(b"knight", rest);
+    let rest = left_by(b'+', b"", knight, rest);
+    if rest.is_none() {
+        Some(Kinds {
+            knight,
+            short,
+            long,
+            rank,
+            file,
+        })
+    } else {
+        None
+    }
+}
+
+fn checks_named(names: Option<&[u8]>) -> Kinds
+    ensures { result ≡ spec.checks_named (option_copied names.entry) }
+{
+    match names {
+        None => NO_KINDS,
+        Some(text) => names_in(Some(text)).unwrap_or(NO_KINDS),
+    }
+}
+
+fn checks_in(checks: ChecksTold, part: &[u8]) -> Kinds
+    ensures { result ≡ spec.checks_in checks part.now }
+{
+    match checks {
+        ChecksTold::ByKind => checks_named(behind(b"check ", part)),
+        ChecksTold::Bare => {
+            if is_name(b"check", part) {
+                SOME_KIND
+            } else {
+                NO_KINDS
+            }
+        }
+    }
+}
+
+/// A number from 1 to the most tries.
+fn count_in(text: Option<&[u8]>) -> u8
+    ensures value { result ≡ spec.count_in (option_copied text.entry) }
+    ensures bound { result ≤ most_tries }
+{
+    match text {
+        None => 0,
+        Some(text) => match read_number_between(text, 1, u64::from(MOST_TRIES)) {
+            Ok(n) => n as u8,
+            Err(_) => 0,
+        },
+    }
+}
+
+fn tries_in(tries: TriesTold, part: &[u8]) -> u8
+    ensures value { result ≡ spec.tries_in tries part.now }
+    ensures bound { result ≤ most_tries }
+{
+    match tries {
+        TriesTold::Number => count_in(behind(b"tries ", part)),
+        TriesTold::Any => { if is_name(b"tries some", part) { 1 } else { 0 } }
+        TriesTold::Untold => 0,
+    }
+}
+
+fn end_in(part: &[u8]) -> End
+    ensures { result ≡ spec.end_in part.now }
+{
+    if is_name(b"mate", part) {
+        End::Mate
+    } else if is_name(b"stalemate", part) {
+        End::Stalemate
+    } else {
+        End::Goes
+    }
+}
+
+/// The parts of a text, each in its place, where it is there.
+#[tactic(auto, unfolding(crate::specs::WordsReading::parts_in))]
+fn parts_in(d: Dialect, text: &[u8]) -> Option<Words>
+    ensures { result ≡ spec.parts_in d text.now }
+{
+    let dialect = dialect_rules(d);
+    let rest = Some(text);
+    let took = took_in(dialect.men, front(b',', rest));
+    let rest = left_by(b',', b" ", is_capture(&took), rest);
+    let checks = checks_in(dialect.checks, front(b',', rest));
+    let rest = left_by(b',', b" ", is_check(checks), rest);
+    let tries = tries_in(dialect.tries, front(b',', rest));
+    let rest = left_by(b',', b" ", are_tries(dialect.tries, tries), rest);
+    let end = end_in(front(b',', rest));
+    let rest = left_by(b',', b" ", has_ended(end), rest);
+    if rest.is_none() {
+        Some(Words {
+            end,
+            took,
+            checks,
+            tries,
+        })
+    } else {
+        None
+    }
+}
+
+/// The words that the text spells in the dialect.
+#[tactic(auto, unfolding(crate::specs::WordsReading::words_in))]
+pub(crate) fn words_in(d: Dialect, text: &[u8]) -> Option<Words>
+    ensures { result ≡ spec.words_in d text.now }
+{
+    if is_name(b"silent", text) {
+        return Some(Words {
+            end: End::Goes,
+            took: Took::Nothing,
+            checks: NO_KINDS,
+            tries: 0,
+        });
+    }
+    parts_in(d, text)
+}
+
+/// The words that the text spells in the dialect. `WordsFault` exactly where it spells none: the parts
+/// stand in their order, each at most once, and tries are a plain decimal from 1 to 16. Every
+/// combination of parts is accepted, also one that no game gives.
+#[tactic(auto, using(crate::proofs::WordsLaws::words))]
+pub fn read_words_in(d: Dialect, text: &[u8]) -> Result<Words, WordsFault>
+    ensures exact { Reads result (spec.words_in d text.now) }
+    // What is read is spelled so, and what is spelled so is read.
+    ensures found { IfOk result (λ w. IsSaid w × Fits d w × (text.now ≡ words_text d w)) }
+    ensures only { (w : Said) → IsSaid w → Fits d w → text.now ≡ words_text d w → result ≡ Ok w }
+{
+    words_in(d, text).ok_or(WordsFault)
+}
+
+/// The words that the text spells in the dialect wild16, as `read_words_in` reads them.
+pub fn read_words(text: &[u8]) -> Result<Words, WordsFault>
+    ensures exact { Reads result (spec.words_in Wild16 text.now) }
+    // What is read is spelled so, and what is spelled so is read.
+    ensures found { IfOk result (λ w. IsSaid w × (text.now ≡ words_text Wild16 w)) }
+    ensures only { (w : Said) → IsSaid w → text.now ≡ words_text Wild16 w → result ≡ Ok w }
+{
+    read_words_in(Dialect::Wild16, text)
+}
