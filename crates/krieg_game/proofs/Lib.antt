@@ -1,0 +1,12 @@
+pub mod KeyLaws
+pub mod MoveOrder
+pub mod ChessLaws
+pub mod Winning
+pub mod Splitting
+pub mod Starting
+pub mod Theorems
+pub mod WordNumbers
+pub mod PackedOutcomes
+pub mod Cutting
+pub mod Classed
+pub mod OutcomeSets

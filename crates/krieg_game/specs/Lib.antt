@@ -1,0 +1,12 @@
+pub mod Keys
+pub mod Chess
+pub mod Outset
+pub mod Laws
+pub mod OutsetLaws
+pub mod PlanMeasures
+pub mod Outcomes
+pub mod Classes
+pub mod ClassLaws
+pub mod WordNumbers
+pub mod PackedOutcome
+pub mod Runs
