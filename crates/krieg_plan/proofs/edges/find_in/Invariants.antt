@@ -1,0 +1,8 @@
+use Rattle.std.proofs.Common.{◌≡◌, map, drop}
+use Rattle.krieg_theory.specs.Tree.{first_edge}
+use Rattle.krieg_game.specs.Keys.{key_lt}
+use Rattle.krieg_plan.specs.Nodes.{edge_of, as_edges}
+use Rattle.krieg_plan.proofs.edges.find_in.Given as goal
+
+abbrev pub invariant-loop-e : goal.invariant-loop-e
+invariant-loop-e l = first_edge key_lt (as_edges (map edge_of (drop l.e-index l.list))) (l.own, l.reply) ≡ first_edge key_lt (as_edges (map edge_of l.list)) (l.own, l.reply)

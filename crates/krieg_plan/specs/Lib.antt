@@ -1,0 +1,5 @@
+pub mod Trees
+pub mod Ordered
+pub mod Nodes
+pub mod Roots
+pub mod Plans

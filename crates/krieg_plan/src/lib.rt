@@ -1,0 +1,32 @@
+//! Plans: what a player has decided in advance, by what he may hear.
+//!
+//! A node is a try, with where to go on if the umpire calls it illegal (`no`), and where to go on by the
+//! words that are heard if it is legal (edges). A plan has roots: a node for each thing that may be heard
+//! before the first own turn. In contracts a node is a tree of `krieg_theory` (`tree_of`), and a plan the
+//! list of its roots' keys with their trees (`plan_of`).
+//!
+//! `node` has nodes and edges, and how they are dropped; `plan` has roots, plans and plan files. `edges`
+//! and `roots` find the node under a key. `ordered` says whether keys ascend, and `size` and `depth` how many
+//! nodes there are. The rules are the definitions of `specs/`: what is found, and what plans mean
+//! (`Trees`, `Nodes`, `Roots`, `Plans`), and when keys ascend (`Ordered`). `Node::make` takes memory, and no
+//! other call does. A drop takes no stack to speak of; `size_within`, `depth_within`, `is_ordered` and
+//! `is_ordered_plan` take some for each edge on a path.
+#![tactic(auto)]
+
+mod depth;
+mod edges;
+mod node;
+mod ordered;
+mod plan;
+mod roots;
+mod size;
+#[cfg(test)]
+mod tests;
+
+pub use depth::depth_within;
+pub use edges::{find_edge, find_edge_in_order};
+pub use node::{Edge, Node};
+pub use ordered::{is_ordered, is_ordered_plan};
+pub use plan::{Plan, PlanFile, Root};
+pub use roots::{find_root, know_ordered};
+pub use size::size_within;
