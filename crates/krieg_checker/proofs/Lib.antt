@@ -1,0 +1,15 @@
+mod BoolLaws
+mod Charges
+mod Gathering
+mod Sets
+mod NodeTells
+mod Walking
+mod Starting
+mod PlanTells
+mod ReachedCosts
+mod ListedSets
+mod Checking
+mod Verdicts
+mod ReachedParts
+mod Once
+mod Least

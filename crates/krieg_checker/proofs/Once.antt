@@ -1,0 +1,158 @@
+-- No pair is reached twice.
+use Rattle.std.proofs.Common.{◌≡◌, Bool, true, false, cond, List, [], ◌∷◌, ◌++◌, ◌⊎◌, inl, inr, map, length, flat_map, refl, sym, ap, subst, ◌∙◌, arith, append_assoc, length-append}
+use Rattle.std.specs.List.{filter}
+use Rattle.std.proofs.lemmas.Bool.{both_ways}
+use Rattle.krieg_theory.specs.Sets.{In, IsOrder, Ascending, as_set, at_key, same}
+use Rattle.krieg_theory.specs.Tree.{Tree, Try, Maybe, Nothing, Just, Edges, NoEdges, Edge}
+use Rattle.krieg_theory.specs.Game.{Game, IsGame}
+use Rattle.krieg_theory.specs.Split.{refused, keys, class, all_outcomes}
+use Rattle.krieg_theory.specs.Plans.{Outset, IsOutset, openings, opening_set, all_starts}
+use Rattle.krieg_theory.proofs.Ascending.{as_set_ascending}
+use Rattle.krieg_theory.proofs.Lists.{append_in, flat_in, map_in, filter_in}
+use Rattle.krieg_costs.specs.Sums.{IsOnce}
+use Rattle.krieg_checker.specs.Reached.{Step, From, No, On, Path, Pair, reached, reached_other, reached_at, first_root}
+use Rattle.krieg_checker.proofs.ReachedParts.{here, others, after, edges, by_part}
+use Rattle.krieg_checker.specs.Laws.{ReachedIsOnce}
+
+once_append : {X : Type 0} (xs ys : List X) → IsOnce xs → IsOnce ys → ((x : X) → In x xs → In x ys → ⊥) → IsOnce (xs ++ ys)
+once_append [] ys a b apart = b
+once_append (x ∷ xs) ys a b apart = ((λ i. go (append_in xs ys x i)), once_append xs ys a.1 b (λ z i j. apart z (inr i) j))
+  where
+    go : In x xs ⊎ In x ys → ⊥
+    go (inl i) = a.0 i
+    go (inr i) = apart x (inl refl) i
+
+once_map : {X Y : Type 0} (f : X → Y) (xs : List X) → ((a b : X) → f a ≡ f b → a ≡ b) → IsOnce xs → IsOnce (map f xs)
+once_map f [] one h = tt
+once_map f (x ∷ xs) one h = ((λ i. let y = map_in f xs (f x) i in h.0 (subst (λ z. In z xs) (one y.0 x y.2) y.1)), once_map f xs one h.1)
+
+once_flat : {X Y : Type 0} (f : X → List Y) (xs : List X) → IsOnce xs → ((x : X) → IsOnce (f x)) → ((a b : X) (y : Y) → In y (f a) → In y (f b) → a ≡ b) → IsOnce (flat_map f xs)
+once_flat f [] h each apart = tt
+once_flat f (x ∷ xs) h each apart =
+    once_append (f x) (flat_map f xs) (each x) (once_flat f xs h.1 each apart)
+    (λ y i j. let z = flat_in f xs y j in h.0 (subst (λ w. In w xs) (apart z.0 x y z.2 i) z.1))
+
+once_filter : {X : Type 0} (f : X → Bool) (xs : List X) → IsOnce xs → IsOnce (filter f xs)
+once_filter f [] h = tt
+once_filter f (x ∷ xs) h = elim (f x) as (λ b. IsOnce (cond b (x ∷ filter f xs) (filter f xs))) [
+  | true ↦ ((λ i. h.0 (filter_in f xs x i).0), once_filter f xs h.1)
+  | false ↦ once_filter f xs h.1
+]
+
+once_ascending : {X : Type 0} (lt : X → X → Bool) → IsOrder lt → (xs : List X) → Ascending lt xs → IsOnce xs
+once_ascending lt o [] up = tt
+once_ascending lt o (x ∷ xs) up = ((λ i. both_ways (lt x x) (o.never_itself x) (up.0 x i)), once_ascending lt o xs up.1)
+
+once_set : {X : Type 0} (lt : X → X → Bool) → IsOrder lt → (xs : List X) → IsOnce (as_set lt xs)
+once_set lt o xs = once_ascending lt o (as_set lt xs) (as_set_ascending lt o xs)
+
+module _ {S : Type 0} where
+  -- no path goes on from itself to itself
+  not_longer : (path front : List S) (s : S) → path ≡ front ++ s ∷ path → ⊥
+  not_longer path front s e = let n = ap (λ (xs : List S). length xs) e in let m = length-append front (s ∷ path) in absurd (omega (arith, n, m))
+
+  -- two ways on from a path that end alike begin with the same step
+  same_step : (path a b : List S) (s t : S) → a ++ s ∷ path ≡ b ++ t ∷ path → s ≡ t
+  same_step path [] [] s t e = cc
+  same_step path [] (y ∷ b) s t e = let f : path ≡ b ++ t ∷ path = cc in absurd (not_longer path b t f)
+  same_step path (x ∷ a) [] s t e = let f : path ≡ a ++ s ∷ path = cc in absurd (not_longer path a s f)
+  same_step path (x ∷ a) (y ∷ b) s t e = let f : a ++ s ∷ path ≡ b ++ t ∷ path = cc in same_step path a b s t f
+
+  -- q goes on from the path
+  abbrev Below : List S → List S → Type 0
+  Below path q = (front : List S) × (q ≡ front ++ path)
+
+  below_more : (s : S) (path q : List S) → Below (s ∷ path) q → Below path q
+  below_more s path q b = (b.0 ++ s ∷ [], b.1 ∙ sym (append_assoc b.0 (s ∷ []) path))
+
+  apart : (s t : S) (path q : List S) → Below (s ∷ path) q → Below (t ∷ path) q → s ≡ t
+  apart s t path q a b = same_step path a.0 b.0 s t (sym a.1 ∙ b.1)
+
+module _ (G : Game) (O : Outset G) where
+  mutual
+    below : (path : Path G O) (n : Tree G.Move G.Key) (B : List G.Position) (x : Pair G O) → In x (reached G O path n B) → Below path x.0
+    below path (Try t other es) B x i =
+        by_part G O path t other es B (Below path x.0) x i (λ p j e. ([], ap (λ (y : Pair G O). y.0) (sym e)))
+        (λ j. below_more No path x.0 (below_other (No ∷ path) other (refused G B t) x j))
+        (λ key k j. below_more (On key) path x.0 (below_at (On key ∷ path) es key (class G B t key) x j))
+
+    below_other : (path : Path G O) (o : Maybe G.Move G.Key) (B : List G.Position) (x : Pair G O) → In x (reached_other G O path o B) → Below path x.0
+    below_other path Nothing B x i = absurd i
+    below_other path (Just n) B x i = below path n B x i
+
+    below_at : (path : Path G O) (es : Edges G.Move G.Key) (key : G.Key) (B : List G.Position) (x : Pair G O) → In x (reached_at G O path es key B) → Below path x.0
+    below_at path NoEdges key B x i = absurd i
+    below_at path (Edge key' n es) key B x i = go (same G.key_lt key' key) i (below path n B x) (below_at path es key B x)
+      where
+        go : (b : Bool) → In x (cond b (reached G O path n B) (reached_at G O path es key B)) → (In x (reached G O path n B) → Below path x.0) → (In x (reached_at G O path es key B) → Below path x.0) → Below path x.0
+        go true j f g = f j
+        go false j f g = g j
+
+  -- what stands at a node does not stand below it
+  not_here : (path : Path G O) (n : Tree G.Move G.Key) (B : List G.Position) (s : Step O.Root G.Key) (x : Pair G O) → In x (map (λ p. (path, n, p)) B) → Below (s ∷ path) x.0 → ⊥
+  not_here path n B s x i b =
+      let p = map_in (λ p. (path, n, p)) B x i in
+      not_longer path b.0 s (ap (λ (y : Pair G O). y.0) p.2 ∙ b.1)
+
+  same_on : (a b : G.Key) → ◌≡◌ {A = Step O.Root G.Key} (On a) (On b) → a ≡ b
+  same_on a b e = cc
+
+  not_on : (k : G.Key) → ◌≡◌ {A = Step O.Root G.Key} No (On k) → ⊥
+  not_on k e = cc
+
+  same_from : (a b : O.Root) → ◌≡◌ {A = Step O.Root G.Key} (From a) (From b) → a ≡ b
+  same_from a b e = cc
+
+  -- no two parts have a pair in common
+  module _ (path : Path G O) (t : G.Move) (other : Maybe G.Move G.Key) (es : Edges G.Move G.Key) (B : List G.Position) where
+    keys_apart : (a b : G.Key) (x : Pair G O) → In x (after G O path t es B a) → In x (after G O path t es B b) → a ≡ b
+    keys_apart a b x i j = same_on a b (apart (On a) (On b) path x.0 (below_at (On a ∷ path) es a (class G B t a) x i) (below_at (On b ∷ path) es b (class G B t b) x j))
+
+    others_apart : (x : Pair G O) → In x (others G O path t other B) → In x (edges G O path t es B) → ⊥
+    others_apart x i j =
+        let k = flat_in (after G O path t es B) (keys G B t) x j in
+        not_on k.0 (apart No (On k.0) path x.0 (below_other (No ∷ path) other (refused G B t) x i) (below_at (On k.0 ∷ path) es k.0 (class G B t k.0) x k.2))
+
+    here_apart : (x : Pair G O) → In x (here G O path (Try t other es) B) → In x (others G O path t other B ++ edges G O path t es B) → ⊥
+    here_apart x i j = go (append_in (others G O path t other B) (edges G O path t es B) x j)
+      where
+        go : In x (others G O path t other B) ⊎ In x (edges G O path t es B) → ⊥
+        go (inl k) = not_here path (Try t other es) B No x i (below_other (No ∷ path) other (refused G B t) x k)
+        go (inr k) =
+            let key = flat_in (after G O path t es B) (keys G B t) x k in
+            not_here path (Try t other es) B (On key.0) x i (below_at (On key.0 ∷ path) es key.0 (class G B t key.0) x key.2)
+
+  module _ (L : IsGame G) where
+    once_keys : (B : List G.Position) (t : G.Move) → IsOnce (keys G B t)
+    once_keys B t = once_set G.key_lt L.key_order (map (λ o. o.0) (all_outcomes G B t))
+
+    once_class : (B : List G.Position) (t : G.Move) (key : G.Key) → IsOnce (class G B t key)
+    once_class B t key = once_set G.position_lt L.position_order (at_key G.key_lt key (all_outcomes G B t))
+
+    mutual
+      once : (path : Path G O) (n : Tree G.Move G.Key) (B : List G.Position) → IsOnce B → IsOnce (reached G O path n B)
+      once path (Try t other es) B h =
+          once_append (here G O path (Try t other es) B) (others G O path t other B ++ edges G O path t es B)
+          (once_map (λ p. (path, Try t other es, p)) B (λ a b e. ap (λ (y : Pair G O). y.2) e) h)
+          (once_append (others G O path t other B) (edges G O path t es B) (once_other (No ∷ path) other (refused G B t) (once_filter _ B h))
+          (once_flat (after G O path t es B) (keys G B t) (once_keys B t) (λ key. once_at (On key ∷ path) es key (class G B t key) (once_class B t key)) (keys_apart path t other es B))
+          (others_apart path t other es B))
+          (here_apart path t other es B)
+
+      once_other : (path : Path G O) (o : Maybe G.Move G.Key) (B : List G.Position) → IsOnce B → IsOnce (reached_other G O path o B)
+      once_other path Nothing B h = tt
+      once_other path (Just n) B h = once path n B h
+
+      once_at : (path : Path G O) (es : Edges G.Move G.Key) (key : G.Key) (B : List G.Position) → IsOnce B → IsOnce (reached_at G O path es key B)
+      once_at path NoEdges key B h = tt
+      once_at path (Edge key' n es) key B h = go (same G.key_lt key' key) (once path n B h) (once_at path es key B h)
+        where
+          go : (b : Bool) → IsOnce (reached G O path n B) → IsOnce (reached_at G O path es key B) → IsOnce (cond b (reached G O path n B) (reached_at G O path es key B))
+          go true f g = f
+          go false f g = g
+
+    pub reached_is_once : IsOutset G O → ReachedIsOnce G O
+    reached_is_once LO plan S =
+        once_flat (λ key. reached_other G O (From key ∷ []) (first_root G O plan key) (opening_set G O S key)) (openings G O S) (once_set O.root_lt LO.root_order (map (λ o. o.0) (all_starts G O S)))
+        (λ key. once_other (From key ∷ []) (first_root G O plan key) (opening_set G O S key) (once_set G.position_lt L.position_order (at_key O.root_lt key (all_starts G O S))))
+        (λ a b y i j. same_from a b (apart (From a) (From b) [] y.0 (below_other (From a ∷ []) (first_root G O plan a) (opening_set G O S a) y i) (below_other (From b ∷ []) (first_root G O plan b) (opening_set G O S b) y j)))

@@ -1,0 +1,10 @@
+pub mod Reached
+pub mod CheckCost
+pub mod Laws
+pub mod Charged
+pub mod Found
+pub mod Walked
+pub mod Gathering
+pub mod Parted
+pub mod Starting
+pub mod Verdict

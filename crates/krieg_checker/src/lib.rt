@@ -1,0 +1,41 @@
+//! A check of a plan, by its definition and not by any search.
+//!
+//! `check` walks the plan with the set of positions that reaches each node, from each root on, and says whether the
+//! plan mates every listed position within the number that its file claims, and in how many moves at worst. What
+//! it takes is counted in units, exactly: which pairs of a node and a position are reached (`Reached` in `specs/`),
+//! and what each of them takes (`CheckCost`). `Verdict` says what the answers mean, by the theory of plans.
+//! `laws` has what is proved of the pairs: that they are the least set that is closed, and that none is counted twice;
+//! `toy` has small examples.
+//!
+//! `start` has what comes before the first own turn, `part` what a try makes of a set, over what `gather` finds of
+//! each member; `roots` and `walk` go through the plan. They are internal.
+//!
+//! A set is let go once it is parted, and a unit is taken for each position before it is stored. The walk is a loop
+//! over the nodes for illegal tries, and calls itself for the edges: what it takes of the stack grows with the edges
+//! on a path.
+//!
+//! ```
+//! let mut units = Units::new(16);
+//! match check(alloc, &file, &mut units) {
+//!     Ok(Checked::Mates(worst)) => .., // the plan mates all listed positions, within `worst` moves
+//!     Ok(Checked::Fails) => .., // in some position it does not, within what the file claims
+//!     Err(CheckStop::Spent) => .., // it takes more than 16 units
+//!     Err(CheckStop::NoMemory) => ..,
+//! }
+//! ```
+#![tactic(auto)]
+
+mod gather;
+pub mod laws;
+mod part;
+mod plan_check;
+mod roots;
+mod start;
+mod stop;
+#[cfg(test)]
+mod tests;
+pub mod toy;
+mod walk;
+
+pub use plan_check::{Checked, check, has_one_turn};
+pub use stop::CheckStop;

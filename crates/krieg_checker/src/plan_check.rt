@@ -1,0 +1,80 @@
+ghost use Rattle.std.specs.Prelude.{◌≡◌, ◌↔◌, IsTrue};
+ghost use Rattle.std.specs.List.{list_all};
+ghost use Rattle.krieg_board.specs.Men.{is_same_side};
+ghost use Rattle.krieg_checker.specs.Charged.{Charged};
+ghost use Rattle.krieg_checker.specs.Starting.{IsOneTurn};
+ghost use Rattle.krieg_checker.specs.Verdict as spec;
+ghost use Rattle.krieg_checker.specs.Verdict.{IsVerdict, check_cost};
+
+use crate::roots::walk_roots;
+use crate::start::start;
+use crate::stop::CheckStop;
+use krieg_board::{Position, Side, Units};
+use krieg_pack::Belief;
+use krieg_plan::PlanFile;
+use std::alloc::Global;
+
+/// What a check finds.
+#[derive(Clone, Copy, Debug, PartialEq, Eq)]
+pub enum Checked {
+    /// The plan mates every listed position, and this is its worst case.
+    Mates(u16),
+    /// It does not mate every listed position within the number that the file claims.
+    Fails,
+}
+
+/// The answer by what was found, against the number that the file claims.
+fn verdict(worst: u16, over: bool, need: Option<u16>) -> Checked
+    ensures { result ≡ spec.verdict worst over need }
+{
+    match need {
+        Some(w) if !over && w <= worst => Checked::Mates(w),
+        _ => Checked::Fails,
+    }
+}
+
+/// Whether the side is to move in all positions.
+fn are_turns_of(list: &[Position], side: Side) -> bool
+    ensures { result ≡ list_all (λ p. is_same_side p.side side) list.now }
+{
+    for p in list {
+        if p.side() != side {
+            return false;
+        }
+    }
+    true
+}
+
+/// Whether the same side is to move in all listed positions, as `check` asks for.
+pub fn has_one_turn(f: &PlanFile) -> bool
+    ensures { IsTrue result ↔ IsOneTurn f.now.list.items }
+{
+    let list = f.list.as_slice();
+    match list.first() {
+        None => true,
+        Some(p) => are_turns_of(list, p.side()),
+    }
+}
+
+/// Whether the plan mates every listed position within the number that the file claims, and its worst case.
+///
+/// It takes one unit for each pair of a node and a position that reaches it, and one for each legal reply there; and
+/// where the opponent is to move first, one for each of his moves in each listed position. Each is counted once,
+/// however many games lead to it, and all are counted where the plan fails too. `Spent` comes only where fewer units
+/// are left, and an answer takes exactly these.
+pub fn check(alloc: Global, f: &PlanFile, units: &mut Units) -> Result<Checked, CheckStop>
+    requires { IsOneTurn f.now.list.items }
+    ensures { Charged result (IsVerdict f.now) (check_cost f.now) units.old units.new }
+{
+    let list = Belief::from_positions(alloc, f.list.as_slice())?;
+    let started = start(alloc, f.dialect, f.side, list, units)?;
+    let need = walk_roots(
+        alloc,
+        f.dialect,
+        &f.plan,
+        started.own,
+        started.classes,
+        units,
+    )?;
+    Ok(verdict(f.worst, started.over, need))
+}
