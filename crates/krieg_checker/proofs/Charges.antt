@@ -5,7 +5,7 @@ use Rattle.krieg_checker.specs.declared.stop.CheckStop.{CheckStop}
 use Rattle.krieg_checker.specs.declared.stop.CheckStop.TheVariants.{Spent, NoMemory}
 use Rattle.krieg_checker.specs.Charged.{Charged}
 
--- a step took too much, behind others
+-- a step took too much, after others
 pub stopped : {A B : Type 0} (Q : CheckStop → Type 0) (r : Result B CheckStop) (e : CheckStop) (holds : A → Type 0) (wanted : B → Type 0) (cost all old mid now new : ℕ) →
     ((x : CheckStop) → Q x → e ≡ x) → IsErrAnd r Q → old + cost ≤ mid + all → Charged (Err e) holds cost mid now → Charged r wanted all old new
 stopped Q (Ok x) e holds wanted cost all old mid now new same fails so h = absurd fails

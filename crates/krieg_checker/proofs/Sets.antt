@@ -63,7 +63,7 @@ module _ (G : Game) where
       ∙ ap (λ (x : Bool). (x && R) && (not S && list_all h O)) (sym fp)
       ∙ ap (λ (x : Bool). (f p && x) && (not S && list_all h O)) (sym fr)
 
-  -- a node wins all of a set where the refused part is won behind its `no`, none is stalemated, and all replies are answered
+  -- a node wins all of a set where the refused part is won at the node for it, none is stalemated, and all replies are answered
   pub all_split : (t : G.Move) (other : Maybe G.Move G.Key) (es : Edges G.Move G.Key) (B : List G.Position) (k : ℕ) →
       list_all (λ p. wins G (Try t other es) p (suc k)) B
       ≡ (list_all (λ p. wins_other G other p (suc k)) (refused G B t) && (not (stale_in_some G B t) && list_all (λ o. wins_at G es o.0 o.1 k) (all_outcomes G B t)))

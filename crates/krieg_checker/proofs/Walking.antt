@@ -63,12 +63,6 @@ pub record IsWalked (d : Dialect) (n here : NodeTree) (all B : List Pos) (need :
   pub found : (k : ℕ) → k ≤ 65535 → within need k && all_won (chess d) here B k ≡ all_won (chess d) n all k
   pub taken : units + node_cost (chess d) n all ≡ old + node_cost (chess d) here B
 
-pub walk_begins : (d : Dialect) (n : NodeTree) (B : List Pos) (units : ℕ) → IsWalked d n n B B (Some 0) units units
-walk_begins d n B units = record {
-  found = λ k small. ap (λ (b : Bool). b && all_won (chess d) n B k) (le-leb 0 k (omega arith));
-  taken = refl;
-}
-
 and_true : (b : Bool) → b ≡ (b && true)
 and_true true = refl
 and_true false = refl

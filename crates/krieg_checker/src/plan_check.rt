@@ -61,7 +61,7 @@ pub fn has_one_turn(f: &PlanFile) -> bool
 /// It takes one unit for each pair of a node and a position that reaches it, and one for each legal reply there; and
 /// where the opponent is to move first, one for each of his moves in each listed position. Each is counted once,
 /// however many games lead to it, and all are counted where the plan fails too. `Spent` comes only where fewer units
-/// are left, and an answer takes exactly these.
+/// are left, and an answer takes exactly these. After an `Err` some of them may be gone.
 pub fn check(alloc: Global, f: &PlanFile, units: &mut Units) -> Result<Checked, CheckStop>
     requires { IsOneTurn f.now.list.items }
     ensures { Charged result (IsVerdict f.now) (check_cost f.now) units.old units.new }

@@ -58,7 +58,7 @@ fn leaf(alloc: Global, mv: &[u8]) -> Result<Box<Node>, Stop> {
     Ok(Node::make(alloc, read_move(mv)?, None, Vec::new(alloc))?)
 }
 
-/// A node with that try, which goes on after each of these words of a reply, the own words being silent.
+/// A node with that try and these edges.
 fn node(alloc: Global, mv: &[u8], edges: Vec<Edge>) -> Result<Box<Node>, Stop> {
     Ok(Node::make(alloc, read_move(mv)?, None, edges)?)
 }
