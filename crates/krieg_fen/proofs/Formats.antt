@@ -14,6 +14,7 @@ use Rattle.krieg_fen.specs.Formats.{behind_or, named, one_of, Always, IsReading}
 use Rattle.krieg_fen.proofs.Locality.{IsLocal, ok_is, local_pure, local_taken, Holds, followed, local_bind, local_bind_if}
 use Rattle.krieg_fen.proofs.Loops.{loop, local_loop}
 use Rattle.krieg_fen.proofs.FirstBadLine.{code_first_bad}
+use Rattle.krieg_fen.proofs.Goings.{GoesBy, goes_by}
 use Rattle.krieg_fen.proofs.Grammars.{Said, untold, KeepsTo}
 use Rattle.krieg_fen.proofs.NameLemmas.{behind_again, behind_spells}
 use Rattle.krieg_fen.proofs.Takings.{steps, taken_at, taken_again, Read, whole_read, read_whole}
@@ -227,10 +228,10 @@ pub whole_only : {A : Type 0} (r : LineReader A) (K : A → Type 0) (S : A → L
 whole_only r K S is ls x k s = read_whole r ls x (record { number = 1 + length ls; is = ap (λ (t : List (List ℕ)). r (place 1 t)) (sym (append-nil ls)) ∙ is.only 1 ls [] x k s })
 
 -- what a reader of whole texts promises, where it answers what its definition gives
-pub reading_by : {X A : Type 0} (view : X → A) (answer : Result X TextFault) (r : LineReader A) (K : A → Type 0) (S : A → Language) (J : A → Type 0) (Grammar : Language) →
-    ((ls : List (List ℕ)) (x : A) → whole r ls ≡ Ok x → S x ls) → ((ls : List (List ℕ)) (x : A) → K x → S x ls → whole r ls ≡ Ok x) → KeepsTo r J untold (λ u. Grammar) → (ls : List (List ℕ)) →
+pub reading_as : {X A : Type 0} (view : X → A) (answer : Result X TextFault) (r : LineReader A) (K : A → Type 0) (S : A → Language) (J : A → Type 0) (Grammar : Language) →
+    ((ls : List (List ℕ)) (x : A) → whole r ls ≡ Ok x → S x ls) → ((ls : List (List ℕ)) (x : A) → K x → S x ls → whole r ls ≡ Ok x) → GoesBy r J untold (λ u. Grammar) → (ls : List (List ℕ)) →
     Gives view answer (whole r ls) → IsReading view r K S Grammar ls answer
-reading_by {X = X} {A = A} view answer r K S J Grammar found only keeps ls given = record {
+reading_as {X = X} {A = A} view answer r K S J Grammar found only keeps ls given = record {
   exact = given;
   first_bad = code_first_bad view answer r J Grammar keeps ls given;
   found = go answer given;
@@ -240,6 +241,12 @@ reading_by {X = X} {A = A} view answer r K S J Grammar found only keeps ls given
     go : (a : Result X TextFault) → Gives view a (whole r ls) → IfOk a (λ x. S (view x) ls)
     go (Ok x) h = found ls (view x) h
     go (Err e) h = tt
+
+-- the same of a reader that keeps to its grammar
+pub reading_by : {X A : Type 0} (view : X → A) (answer : Result X TextFault) (r : LineReader A) (K : A → Type 0) (S : A → Language) (J : A → Type 0) (Grammar : Language) →
+    ((ls : List (List ℕ)) (x : A) → whole r ls ≡ Ok x → S x ls) → ((ls : List (List ℕ)) (x : A) → K x → S x ls → whole r ls ≡ Ok x) → KeepsTo r J untold (λ u. Grammar) → (ls : List (List ℕ)) →
+    Gives view answer (whole r ls) → IsReading view r K S Grammar ls answer
+reading_by view answer r K S J Grammar found only keeps ls given = reading_as view answer r K S J Grammar found only (goes_by r J Grammar keeps) ls given
 
 -- the same of a format
 pub reading : {X A : Type 0} (view : X → A) (answer : Result X TextFault) (r : LineReader A) (K : A → Type 0) (S : A → Language) (J : A → Type 0) (Grammar : Language) → IsFormatIf r K S → KeepsTo r J untold (λ u. Grammar) → (ls : List (List ℕ)) →

@@ -58,6 +58,16 @@ pub record KeepsTo {A B : Type 0} (r : LineReader A) (K : A → Type 0) (info : 
   -- and so can no line
   pub begun : (n : ℕ) → Finished r n []
 
+-- What it reads is of the grammar, and what is of the grammar is judged.
+pub record Judges {A B : Type 0} (r : LineReader A) (K : A → Type 0) (info : A → B) (G : B → Language) : Type 0 where
+  pub local : IsLocal r
+  pub holds : Holds r K
+  pub said : (n : ℕ) (ls : List (List ℕ)) (x : A) (q : Place) → r (place n ls) ≡ Ok (x, q) → Said info G ls x q
+  pub judged : (n : ℕ) (used rest : List (List ℕ)) (b : B) → G b used → Judged r info n used rest b
+
+pub judges : {A B : Type 0} (r : LineReader A) (K : A → Type 0) (info : A → B) (G : B → Language) → KeepsTo r K info G → Judges r K info G
+judges r K info G k = record { local = k.local; holds = k.holds; said = k.said; judged = k.judged }
+
 -- ---- a line
 
 -- The form F is that of the lines that the reader's form takes or refuses by what is beyond it, and there is such a line.
@@ -67,10 +77,16 @@ pub record HasForm {A B : Type 0} (form : List ℕ → Result A TextKind) (K : A
   pub judged : (l : List ℕ) (b : B) → F b l → ((x : A) × (info x ≡ b) × (form l ≡ Ok x)) ⊎ ((kind : TextKind) × (is_beyond_form kind ≡ true) × (form l ≡ Err kind))
   pub some : (l : List ℕ) × (x : A) × (form l ≡ Ok x)
 
+-- the same without such a line
+pub record IsJudgedForm {A B : Type 0} (form : List ℕ → Result A TextKind) (K : A → Type 0) (info : A → B) (F : B → List ℕ → Type 0) : Type 0 where
+  pub holds : (l : List ℕ) (x : A) → form l ≡ Ok x → K x
+  pub said : (l : List ℕ) (x : A) → form l ≡ Ok x → F (info x) l
+  pub judged : (l : List ℕ) (b : B) → F b l → ((x : A) × (info x ≡ b) × (form l ≡ Ok x)) ⊎ ((kind : TextKind) × (is_beyond_form kind ≡ true) × (form l ≡ Err kind))
+
 abbrev after : {A : Type 0} → ℕ → List (List ℕ) → Result A TextKind → Result (A × Place) TextFault
 after {A = A} n ls f = ◌>>=◌ {B = A × Place} (on n f) (λ v. Ok (v, place (n + 1) ls))
 
-line_said : {A B : Type 0} (form : List ℕ → Result A TextKind) (K : A → Type 0) (info : A → B) (F : B → List ℕ → Type 0) → HasForm form K info F →
+line_said : {A B : Type 0} (form : List ℕ → Result A TextKind) (K : A → Type 0) (info : A → B) (F : B → List ℕ → Type 0) → IsJudgedForm form K info F →
     (n : ℕ) (ls : List (List ℕ)) (x : A) (q : Place) → taken form (place n ls) ≡ Ok (x, q) → Said info (λ b. One (F b)) ls x q
 line_said form K info F is n [] x q e = absurd cc
 line_said {A = A} form K info F is n (l ∷ ls) x q e = go (form l) refl e
@@ -85,13 +101,21 @@ line_said {A = A} form K info F is n (l ∷ ls) x q e = go (form l) refl e
           says = record { line = l; is = refl; says = is.said l x (h ∙ ap (λ (t : A × Place). Ok t.0) same) };
         }
 
-line_judged : {A B : Type 0} (form : List ℕ → Result A TextKind) (K : A → Type 0) (info : A → B) (F : B → List ℕ → Type 0) → HasForm form K info F →
+line_judged : {A B : Type 0} (form : List ℕ → Result A TextKind) (K : A → Type 0) (info : A → B) (F : B → List ℕ → Type 0) → IsJudgedForm form K info F →
     (n : ℕ) (used rest : List (List ℕ)) (b : B) → One (F b) used → Judged (taken form) info n used rest b
 line_judged {A = A} {B = B} form K info F is n used rest b s = subst (λ t. Judged (taken form) info n t rest b) (sym s.is) (go (is.judged s.line b s.says))
   where
     go : ((x : A) × (info x ≡ b) × (form s.line ≡ Ok x)) ⊎ ((kind : TextKind) × (is_beyond_form kind ≡ true) × (form s.line ≡ Err kind)) → Judged (taken form) info n (s.line ∷ []) rest b
     go (inl h) = inl (record { value = h.0; told = h.1; is = ap (after n rest) h.2 })
     go (inr h) = inr (record { line = n; kind = h.0; beyond = h.1; is = ap (after n rest) h.2 })
+
+pub line_judges : {A B : Type 0} (form : List ℕ → Result A TextKind) (K : A → Type 0) (info : A → B) (F : B → List ℕ → Type 0) → IsJudgedForm form K info F → Judges (taken form) K info (λ b. One (F b))
+line_judges form K info F is = record {
+  local = local_taken form;
+  holds = λ n ls x q e. let t = taken_at form (place n ls) q x e in is.holds t.text x t.is;
+  said = line_said form K info F is;
+  judged = line_judged form K info F is;
+}
 
 line_finished : {A : Type 0} (form : List ℕ → Result A TextKind) (n : ℕ) (ls : List (List ℕ)) → Finished (taken form) n [] → taken form (place n ls) ≡ Err (At (n + length ls) Syntax) → Finished (taken form) n ls
 line_finished form n [] begun e = begun
@@ -105,14 +129,16 @@ line_begun : {A B : Type 0} (form : List ℕ → Result A TextKind) (K : A → T
 line_begun form K info F is n = record { more = is.some.0 ∷ []; value = is.some.1; is = ap (after n []) is.some.2 }
 
 pub line_keeps : {A B : Type 0} (form : List ℕ → Result A TextKind) (K : A → Type 0) (info : A → B) (F : B → List ℕ → Type 0) → HasForm form K info F → KeepsTo (taken form) K info (λ b. One (F b))
-line_keeps form K info F is = record {
-  local = local_taken form;
-  holds = λ n ls x q e. let t = taken_at form (place n ls) q x e in is.holds t.text x t.is;
-  said = line_said form K info F is;
-  judged = line_judged form K info F is;
-  finished = λ n ls e. line_finished form n ls (line_begun form K info F is n) e;
-  begun = line_begun form K info F is;
-}
+line_keeps form K info F is =
+    let j = line_judges form K info F (record { holds = is.holds; said = is.said; judged = is.judged }) in
+    record {
+      local = j.local;
+      holds = j.holds;
+      said = j.said;
+      judged = j.judged;
+      finished = λ n ls e. line_finished form n ls (line_begun form K info F is n) e;
+      begun = line_begun form K info F is;
+    }
 
 -- ---- no line
 
@@ -168,7 +194,7 @@ then_begun {A = A} {C = C} r f K info G L tell H kr kf n ls a =
       is = ap (λ (t : List (List ℕ)). followed r f (place n t)) all ∙ c.is ∙ ap (λ (t : List (List ℕ)). Ok (c.value, place (n + length t) [])) (sym all);
     }
 
-then_said : {A B C D : Type 0} (r : LineReader A) (f : A → LineReader C) (K : A → Type 0) (info : A → B) (G : B → Language) (L : C → Type 0) (tell : C → D) (H : B → D → Language) → KeepsTo r K info G → ((x : A) → K x → KeepsTo (f x) L tell (H (info x))) →
+then_said : {A B C D : Type 0} (r : LineReader A) (f : A → LineReader C) (K : A → Type 0) (info : A → B) (G : B → Language) (L : C → Type 0) (tell : C → D) (H : B → D → Language) → Judges r K info G → ((x : A) → K x → Judges (f x) L tell (H (info x))) →
     (n : ℕ) (ls : List (List ℕ)) (y : C) (q : Place) → followed r f (place n ls) ≡ Ok (y, q) → Said tell (λ d. Any (λ b. G b ⨾ H b d)) ls y q
 then_said r f K info G L tell H kr kf n ls y q e =
     let s = steps (r (place n ls)) (λ x. f x.0 x.1) (y, q) e in
@@ -180,7 +206,7 @@ then_said r f K info G L tell H kr kf n ls y q e =
       says = (info s.mid.0, record { front = a.used; back = b.used; is = refl; first = a.says; second = b.says });
     }
 
-then_judged : {A B C D : Type 0} (r : LineReader A) (f : A → LineReader C) (K : A → Type 0) (info : A → B) (G : B → Language) (L : C → Type 0) (tell : C → D) (H : B → D → Language) → KeepsTo r K info G → ((x : A) → K x → KeepsTo (f x) L tell (H (info x))) →
+then_judged : {A B C D : Type 0} (r : LineReader A) (f : A → LineReader C) (K : A → Type 0) (info : A → B) (G : B → Language) (L : C → Type 0) (tell : C → D) (H : B → D → Language) → Judges r K info G → ((x : A) → K x → Judges (f x) L tell (H (info x))) →
     (n : ℕ) (used rest : List (List ℕ)) (d : D) → Any (λ b. G b ⨾ H b d) used → Judged (followed r f) tell n used rest d
 then_judged {A = A} {B = B} {C = C} {D = D} r f K info G L tell H kr kf n used rest d s = first (kr.judged n s.1.front (s.1.back ++ rest) s.0 s.1.first)
   where
@@ -218,32 +244,47 @@ then_goes {A = A} {C = C} r f K info G L tell H kr kf n ls (Ok x) is h =
     let some : Finished (f x.0) x.1.number (x.1.left ++ []) = subst (Finished (f x.0) x.1.number) (sym (append-nil x.1.left)) b in
     subst (Finished (followed r f) n) (append-nil ls) (then_finished r f n ls [] x.0 x.1 a some)
 
-pub bind_keeps : {A B C D : Type 0} (r : LineReader A) (f : A → LineReader C) (K : A → Type 0) (info : A → B) (G : B → Language) (L : C → Type 0) (tell : C → D) (H : B → D → Language) → KeepsTo r K info G → ((x : A) → K x → KeepsTo (f x) L tell (H (info x))) →
-    KeepsTo (followed r f) L tell (λ d. Any (λ b. G b ⨾ H b d))
-bind_keeps r f K info G L tell H kr kf = record {
+pub bind_judges : {A B C D : Type 0} (r : LineReader A) (f : A → LineReader C) (K : A → Type 0) (info : A → B) (G : B → Language) (L : C → Type 0) (tell : C → D) (H : B → D → Language) → Judges r K info G → ((x : A) → K x → Judges (f x) L tell (H (info x))) →
+    Judges (followed r f) L tell (λ d. Any (λ b. G b ⨾ H b d))
+bind_judges r f K info G L tell H kr kf = record {
   local = local_bind_if r f K kr.local kr.holds (λ x h. (kf x h).local);
   holds = λ n ls y q e. let s = steps (r (place n ls)) (λ x. f x.0 x.1) (y, q) e in (kf s.mid.0 (kr.holds n ls s.mid.0 s.mid.1 s.first)).holds s.mid.1.number s.mid.1.left y q s.second;
   said = then_said r f K info G L tell H kr kf;
   judged = then_judged r f K info G L tell H kr kf;
-  finished = λ n ls e. then_goes r f K info G L tell H kr kf n ls (r (place n ls)) refl e;
-  begun = λ n. then_begun r f K info G L tell H kr kf n [] (kr.begun n);
 }
 
+pub bind_keeps : {A B C D : Type 0} (r : LineReader A) (f : A → LineReader C) (K : A → Type 0) (info : A → B) (G : B → Language) (L : C → Type 0) (tell : C → D) (H : B → D → Language) → KeepsTo r K info G → ((x : A) → K x → KeepsTo (f x) L tell (H (info x))) →
+    KeepsTo (followed r f) L tell (λ d. Any (λ b. G b ⨾ H b d))
+bind_keeps r f K info G L tell H kr kf =
+    let j = bind_judges r f K info G L tell H (judges r K info G kr) (λ x h. judges (f x) L tell (H (info x)) (kf x h)) in
+    record {
+      local = j.local;
+      holds = j.holds;
+      said = j.said;
+      judged = j.judged;
+      finished = λ n ls e. then_goes r f K info G L tell H kr kf n ls (r (place n ls)) refl e;
+      begun = λ n. then_begun r f K info G L tell H kr kf n [] (kr.begun n);
+    }
+
 -- the same reader, with its grammar in other words
-pub same_keeps : {A B D : Type 0} (r : LineReader A) (K : A → Type 0) (info : A → B) (G : B → Language) (tell : A → D) (H : D → Language) → ((x : A) (ls : List (List ℕ)) → G (info x) ls → H (tell x) ls) →
-    ((d : D) (ls : List (List ℕ)) → H d ls → (b : B) × G b ls × ((x : A) → info x ≡ b → tell x ≡ d)) → KeepsTo r K info G → KeepsTo r K tell H
-same_keeps {A = A} {B = B} {D = D} r K info G tell H to from k = record {
+pub same_judges : {A B D : Type 0} (r : LineReader A) (K : A → Type 0) (info : A → B) (G : B → Language) (tell : A → D) (H : D → Language) → ((x : A) (ls : List (List ℕ)) → G (info x) ls → H (tell x) ls) →
+    ((d : D) (ls : List (List ℕ)) → H d ls → (b : B) × G b ls × ((x : A) → info x ≡ b → tell x ≡ d)) → Judges r K info G → Judges r K tell H
+same_judges {A = A} {B = B} {D = D} r K info G tell H to from k = record {
   local = k.local;
   holds = k.holds;
   said = λ n ls x q e. let s = k.said n ls x q e in record { used = s.used; is = s.is; says = to x s.used s.says };
   judged = λ n used rest d s. let g = from d used s in go n used rest d g.0 g.2 (k.judged n used rest g.0 g.1);
-  finished = k.finished;
-  begun = k.begun;
 }
   where
     go : (n : ℕ) (used rest : List (List ℕ)) (d : D) (b : B) → ((x : A) → info x ≡ b → tell x ≡ d) → Judged r info n used rest b → Judged r tell n used rest d
     go n used rest d b so (inl a) = inl (record { value = a.value; told = so a.value a.told; is = a.is })
     go n used rest d b so (inr a) = inr a
+
+pub same_keeps : {A B D : Type 0} (r : LineReader A) (K : A → Type 0) (info : A → B) (G : B → Language) (tell : A → D) (H : D → Language) → ((x : A) (ls : List (List ℕ)) → G (info x) ls → H (tell x) ls) →
+    ((d : D) (ls : List (List ℕ)) → H d ls → (b : B) × G b ls × ((x : A) → info x ≡ b → tell x ≡ d)) → KeepsTo r K info G → KeepsTo r K tell H
+same_keeps r K info G tell H to from k =
+    let j = same_judges r K info G tell H to from (judges r K info G k) in
+    record { local = j.local; holds = j.holds; said = j.said; judged = j.judged; finished = k.finished; begun = k.begun }
 
 -- ---- shorter ways to say it
 
@@ -258,9 +299,9 @@ made_finished : {A C : Type 0} (r : LineReader A) (make : A → C) (n : ℕ) (ls
 made_finished {A = A} {C = C} r make n ls a = record { more = a.more; value = make a.value; is = ap (λ (t : Result (A × Place) TextFault). ◌>>=◌ {B = C × Place} t (λ x. Ok (make x.0, x.1))) a.is }
 
 -- a reader whose value is made into another one
-pub made_keeps : {A B C : Type 0} (r : LineReader A) (make : A → C) (K : A → Type 0) (info : A → B) (G : B → Language) (L : C → Type 0) (tell : C → B) → ((x : A) → K x → L (make x)) → ((x : A) → tell (make x) ≡ info x) → KeepsTo r K info G →
-    KeepsTo (followed r (λ x p. Ok (make x, p))) L tell G
-made_keeps {A = A} {B = B} {C = C} r make K info G L tell holds same k = record {
+pub made_judges : {A B C : Type 0} (r : LineReader A) (make : A → C) (K : A → Type 0) (info : A → B) (G : B → Language) (L : C → Type 0) (tell : C → B) → ((x : A) → K x → L (make x)) → ((x : A) → tell (make x) ≡ info x) → Judges r K info G →
+    Judges (followed r (λ x p. Ok (make x, p))) L tell G
+made_judges {A = A} {B = B} {C = C} r make K info G L tell holds same k = record {
   local = local_bind_if r (λ x p. Ok (make x, p)) K k.local k.holds (λ x h. local_pure (make x));
   holds = λ n ls y q e.
       let s = steps (r (place n ls)) (λ x. Ok (make x.0, x.1)) (y, q) e in
@@ -275,14 +316,25 @@ made_keeps {A = A} {B = B} {C = C} r make K info G L tell holds same k = record 
         says = subst (λ b. G b a.used) (sym (same s.mid.0) ∙ ap (λ (t : C × Place). tell t.0) is) a.says;
       };
   judged = λ n used rest b s. go n used rest b (k.judged n used rest b s);
-  finished = λ n ls e. made_finished r make n ls (k.finished n ls (unmade (r (place n ls)) (At (n + length ls) Syntax) e));
-  begun = λ n. made_finished r make n [] (k.begun n);
 }
   where
-    unmade : (t : Result (A × Place) TextFault) (e : TextFault) → ◌>>=◌ {B = C × Place} t (λ x. Ok (make x.0, x.1)) ≡ Err e → t ≡ Err e
-    unmade (Ok x) e h = absurd cc
-    unmade (Err d) e h = let is : d ≡ e = cc in ap Err is
-
     go : (n : ℕ) (used rest : List (List ℕ)) (b : B) → Judged r info n used rest b → Judged (followed r (λ x p. Ok (make x, p))) tell n used rest b
     go n used rest b (inl a) = inl (record { value = make a.value; told = same a.value ∙ a.told; is = ap (λ (t : Result (A × Place) TextFault). ◌>>=◌ {B = C × Place} t (λ x. Ok (make x.0, x.1))) a.is })
     go n used rest b (inr a) = inr (record { line = a.line; kind = a.kind; beyond = a.beyond; is = ap (λ (t : Result (A × Place) TextFault). ◌>>=◌ {B = C × Place} t (λ x. Ok (make x.0, x.1))) a.is })
+
+pub unmade : {A C : Type 0} (make : A → C) (t : Result (A × Place) TextFault) (e : TextFault) → ◌>>=◌ {B = C × Place} t (λ x. Ok (make x.0, x.1)) ≡ Err e → t ≡ Err e
+unmade make (Ok x) e h = absurd cc
+unmade make (Err d) e h = let is : d ≡ e = cc in ap Err is
+
+pub made_keeps : {A B C : Type 0} (r : LineReader A) (make : A → C) (K : A → Type 0) (info : A → B) (G : B → Language) (L : C → Type 0) (tell : C → B) → ((x : A) → K x → L (make x)) → ((x : A) → tell (make x) ≡ info x) → KeepsTo r K info G →
+    KeepsTo (followed r (λ x p. Ok (make x, p))) L tell G
+made_keeps r make K info G L tell holds same k =
+    let j = made_judges r make K info G L tell holds same (judges r K info G k) in
+    record {
+      local = j.local;
+      holds = j.holds;
+      said = j.said;
+      judged = j.judged;
+      finished = λ n ls e. made_finished r make n ls (k.finished n ls (unmade make (r (place n ls)) (At (n + length ls) Syntax) e));
+      begun = λ n. made_finished r make n [] (k.begun n);
+    }

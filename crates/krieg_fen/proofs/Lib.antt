@@ -14,6 +14,7 @@ pub mod ReadingLemmas
 pub mod Locality
 pub mod Loops
 pub mod Grammars
+pub mod Goings
 pub mod LoopGrammars
 pub mod FirstBadLine
 pub mod Listing

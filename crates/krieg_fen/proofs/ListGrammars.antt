@@ -27,6 +27,7 @@ use Rattle.krieg_fen.specs.FirstBad.{is_beyond_form, IsFormed, Has, FirstBad}
 use Rattle.krieg_fen.specs.Listing.{ListGrammar, ListingGrammar}
 use Rattle.krieg_fen.proofs.FirstBadLine.{code_bad_from}
 use Rattle.krieg_fen.proofs.FormSpellings.{side_again, count_again, position_read}
+use Rattle.krieg_fen.proofs.Goings.{goes_by}
 use Rattle.krieg_fen.proofs.Grammars.{untold, KeepsTo, HasForm, line_keeps, pure_keeps, bind_keeps, same_keeps, then_keeps, made_keeps}
 use Rattle.krieg_fen.proofs.HandOfItself.{hand_self}
 use Rattle.krieg_fen.proofs.ListSpellings.{written_spells, listed_spells}
@@ -170,4 +171,4 @@ listing_keeps turn =
 
 pub code_list_bad : {X : Type 0} (view : X → List Pos) (r : Result X TextFault) (q : Place) (who : Side) (n line : ℕ) (ls : List (List ℕ)) →
     GivesOn view r q (positions_at Either who None n (place line ls)) → IfErr r (λ e. e ≢ NoMemory → FirstBad (λ t. positions_at Either who None n (place line t)) (ListGrammar n) line ls e)
-code_list_bad view r q who n line ls given = code_bad_from view r (positions_at Either who None n) (λ ps. Unit {0}) (ListGrammar n) (positions_keep n Either who None tt) line ls q given
+code_list_bad view r q who n line ls given = code_bad_from view r (positions_at Either who None n) (λ ps. Unit {0}) (ListGrammar n) (goes_by (positions_at Either who None n) (λ ps. Unit {0}) (ListGrammar n) (positions_keep n Either who None tt)) line ls q given

@@ -21,10 +21,6 @@ less_from Less h = refl
 less_from Equal h = absurd (both_ways false refl h)
 less_from Greater h = absurd (both_ways false refl h)
 
--- whether neither stands before the other, by what the comparison says
-same_of : Ordering → Ordering → Bool
-same_of a b = not (is_lt a) && not (is_lt b)
-
 module _ {X K : Type 0} (key : X → K) (tree : X → NodeTree) (cmp : K → K → Ordering) (o : IsTotalOrder cmp) (k : K) where
   abbrev lt : K → K → Bool
   lt a b = is_lt (cmp a b)

@@ -1,4 +1,4 @@
--- The bytes of the texts of words and lines: none is below a space, and no part of words has a comma.
+-- The bytes of the texts of words and lines: none is below a space or a slash, and no part of words has a comma.
 use Rattle.std.proofs.Common.{◌≡◌, ℕ, ◌<◌, ◌≤◌, ◌^◌, Bool, true, false, not, ◌&&◌, eqb, leb, List, [], ◌∷◌, ◌++◌, refl, arith}
 use Rattle.std.specs.Prelude.{codes}
 use Rattle.std.specs.List.{list_all}
@@ -67,9 +67,9 @@ texts_have test (p ∷ ps) h = by_test p.0 (texts_have test ps h.1)
     by_test true rest = (h.0, rest)
     by_test false rest = rest
 
--- no byte below a space
+-- no byte below a space, and no slash
 abbrev pub is_words_byte : ℕ → Bool
-is_words_byte b = leb 32 b
+is_words_byte b = leb 32 b && not (eqb b 47)
 
 -- nor a comma
 abbrev pub is_part_byte : ℕ → Bool
@@ -79,14 +79,14 @@ is_part_byte b = is_words_byte b && not (eqb b 44)
 pub part_free : (text : List ℕ) → Has is_part_byte text → Free 44 text
 part_free text h = weaker is_part_byte (λ b. not (eqb b 44)) (λ b k. (and_parts (is_words_byte b) (not (eqb b 44)) k).1) text h
 
-above_has : (text : List ℕ) → Above 44 text → Has is_part_byte text
+above_has : (text : List ℕ) → Above 47 text → Has is_part_byte text
 above_has [] h = refl
 above_has (b ∷ text) h =
-    let above : 44 < b = h.0 in
-    rw (le-leb 32 b (omega arith), ne_eqb b 44 (λ e. absurd (omega arith))) (above_has text h.1)
+    let above : 47 < b = h.0 in
+    rw (le-leb 32 b (omega arith), ne_eqb b 47 (λ e. absurd (omega arith)), ne_eqb b 44 (λ e. absurd (omega arith))) (above_has text h.1)
 
 square_has : (s : ℕ) → Has is_part_byte (square_text s)
-square_has s = above_has (square_text s) (above_less 44 48 (square_text s) (omega arith) (square_above s))
+square_has s = above_has (square_text s) (above_less 47 48 (square_text s) (omega arith) (square_above s))
 
 pub took_has : (men : MenTold) (t : Took) → Has is_part_byte (took_text men t)
 took_has men Nothing = refl
@@ -102,7 +102,7 @@ checks_have ByKind k =
 checks_have Bare k = refl
 
 pub tries_have : (tries : TriesTold) (n : ℕ) → n ≤ most_tries → Has is_part_byte (tries_text tries n)
-tries_have Number n few = let small : n < 2 ^ 64 = omega arith in above_has (number_text n) (above_less 44 47 (number_text n) (omega arith) (number_above n small))
+tries_have Number n few = let small : n < 2 ^ 64 = omega arith in above_has (number_text n) (number_above n small)
 tries_have Any n few = refl
 tries_have Untold n few = refl
 
@@ -128,7 +128,7 @@ words_have d w said =
     ))
 
 move_has : (m : Move) (verdict : List ℕ) → Has is_words_byte verdict → Has is_words_byte (move_text m ++ verdict)
-move_has m verdict h = append_has is_words_byte (move_text m) verdict (as_words (move_text m) (above_has (move_text m) (above_less 44 48 (move_text m) (omega arith) (move_above m)))) h
+move_has m verdict h = append_has is_words_byte (move_text m) verdict (as_words (move_text m) (above_has (move_text m) (above_less 47 48 (move_text m) (omega arith) (move_above m)))) h
 
 line_has : (d : Dialect) (l : Line) → IsLine l → Has is_words_byte (line_text d l)
 unfolding line_text
@@ -143,8 +143,15 @@ has_above : (text : List ℕ) → Has is_words_byte text → Above 31 text
 has_above [] h = tt
 has_above (b ∷ text) h =
     let p = and_parts (is_words_byte b) (list_all is_words_byte text) h in
-    let low : 32 ≤ b = leb-true 32 b p.0 in
+    let low : 32 ≤ b = leb-true 32 b (and_parts (leb 32 b) (not (eqb b 47)) p.0).0 in
     (omega arith, has_above text p.1)
+
+-- texts of words are part of a line, and have no slash
+pub words_above : (d : Dialect) (w : Said) → IsSaid w → Above 31 (words_text d w)
+words_above d w said = has_above (words_text d w) (words_have d w said)
+
+pub words_no_slash : (d : Dialect) (w : Said) → IsSaid w → Free 47 (words_text d w)
+words_no_slash d w said = weaker is_words_byte (λ b. not (eqb b 47)) (λ b k. (and_parts (leb 32 b) (not (eqb b 47)) k).1) (words_text d w) (words_have d w said)
 
 -- texts of lines are one line each
 pub line_above : (d : Dialect) (l : Line) → IsLine l → Above 31 (line_text d l)

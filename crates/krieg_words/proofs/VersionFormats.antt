@@ -21,11 +21,11 @@ version_format name =
     (λ n used rest d k s. version_reads name used d n rest s)
 
 -- no line of the dialect, or one
-abbrev DialectPart : Bool → Dialect → Language
+abbrev pub DialectPart : Bool → Dialect → Language
 DialectPart true d ls = (unnamed_dialect ≡ d) × Nothing ls
 DialectPart false d ls = One (λ l. dialect_form l ≡ Ok d) ls
 
-dialect_keeps : (version : ℕ) → KeepsTo (dialect_at version) Always (λ d. d) (DialectPart (eqb version 1))
+pub dialect_keeps : (version : ℕ) → KeepsTo (dialect_at version) Always (λ d. d) (DialectPart (eqb version 1))
 dialect_keeps version = go (eqb version 1)
   where
     go : (t : Bool) → KeepsTo (λ p. cond t (Ok (unnamed_dialect, p)) (taken dialect_form p)) Always (λ d. d) (DialectPart t)

@@ -20,7 +20,7 @@ use Rattle.krieg_words.proofs.Cases.{by_front}
 use Rattle.krieg_words.proofs.DialectNames.{dialect_spells, dialect_read}
 
 -- The line of the dialect.
-line_is : (line : List ℕ) (d : Dialect) → dialect_form line ≡ Ok d → line ≡ dialect_line d
+pub line_is : (line : List ℕ) (d : Dialect) → dialect_form line ≡ Ok d → line ≡ dialect_line d
 unfolding dialect_form
 line_is line d e =
     by_front (λ o. dialect_behind o ≡ Ok d → line ≡ dialect_line d) (codes "dialect ") line

@@ -1,0 +1,14 @@
+mod Branches
+mod PlayForms
+mod KeyForms
+mod Edges
+mod BranchForms
+mod NodeGrammars
+mod NodeSpellings
+mod NodesAgain
+mod PlanOrder
+mod Headings
+mod PlanGrammars
+mod PlanSpellings
+mod NodeWriting
+mod PlansAgain
