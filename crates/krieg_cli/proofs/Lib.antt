@@ -1,3 +1,4 @@
+mod Checking
 mod Pieces
 mod Reports
 mod Solutions

@@ -3,6 +3,7 @@ pub mod Refusal
 pub mod Ending
 pub mod Input
 pub mod Solve
+pub mod Check
 pub mod Believe
 pub mod Umpire
 pub mod Outcome

@@ -6,8 +6,10 @@ use Rattle.krieg_ports.specs.declared.transfer.ReadEnd.{ReadEnd}
 use Rattle.krieg_ports.specs.declared.transfer.ReadEnd.TheVariants as unread
 use Rattle.krieg_belief.specs.declared.beliefs.BeliefStop.{BeliefStop}
 use Rattle.krieg_belief.specs.declared.beliefs.BeliefStop.TheVariants as stop
+use Rattle.krieg_checker.specs.declared.stop.CheckStop.{CheckStop}
+use Rattle.krieg_checker.specs.declared.stop.CheckStop.TheVariants as check
 use Rattle.krieg_cli.specs.declared.refusal.Refusal.{Refusal}
-use Rattle.krieg_cli.specs.declared.refusal.Refusal.TheVariants.{BadText, TooMany}
+use Rattle.krieg_cli.specs.declared.refusal.Refusal.TheVariants.{BadText, TooMany, BudgetSpent}
 use Rattle.krieg_cli.specs.declared.ending.Ending.{Ending}
 use Rattle.krieg_cli.specs.declared.ending.Ending.TheVariants.{Answered, TooLong, ReadFault, NoMemory, Refused}
 
@@ -26,6 +28,11 @@ of_text fault.NoMemory = NoMemory
 abbrev pub of_belief : BeliefStop → Ending
 of_belief (stop.TooMany line) = Refused (TooMany line)
 of_belief stop.NoMemory = NoMemory
+
+-- a check without an answer
+abbrev pub of_check : CheckStop → Ending
+of_check check.Spent = Refused BudgetSpent
+of_check check.NoMemory = NoMemory
 
 abbrev pub ending_of : {X : Type 0} → Result X Ending → Ending
 ending_of (Ok x) = Answered

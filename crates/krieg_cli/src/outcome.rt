@@ -4,7 +4,7 @@ ghost use Rattle.krieg_cli.specs.Outcome as spec;
 
 use crate::ending::Ending;
 use crate::refusal::Refusal;
-use crate::{believe, solve, umpire};
+use crate::{believe, check, solve, umpire};
 use krieg_args::Command;
 use std::alloc::Global;
 
@@ -14,7 +14,7 @@ pub(crate) fn is_built(command: &Command) -> bool
 {
     matches!(
         command,
-        Command::Solve(1, _, _) | Command::Believe(_) | Command::Umpire(_)
+        Command::Solve(1, _, _) | Command::Check(_) | Command::Believe(_) | Command::Umpire(_)
     )
 }
 
@@ -24,6 +24,7 @@ pub(crate) fn outcome(alloc: Global, command: &Command, text: Vec<u8>) -> Result
 {
     match command {
         Command::Solve(_, _, _) => solve::answer(alloc, text),
+        Command::Check(budget) => check::answer(alloc, *budget, text),
         Command::Believe(limit) => believe::answer(alloc, *limit, text),
         Command::Umpire(who) => umpire::answer(alloc, *who, text),
         _ => Err(Ending::Refused(Refusal::NotBuilt)),

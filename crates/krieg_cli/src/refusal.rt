@@ -11,6 +11,10 @@ pub(crate) enum Refusal {
     BadText(usize, TextKind),
     /// More positions are possible than the limit allows, first at that line of the sheet as it is written.
     TooMany(usize),
+    /// The budget is less than the work takes.
+    BudgetSpent,
+    /// The plan does not mate every listed position within the number that its file claims.
+    PlanFails,
     /// It is not built yet for this command.
     NotBuilt,
 }
@@ -65,6 +69,8 @@ impl Refusal {
         match self {
             Refusal::BadText(_, kind) => text_status(kind),
             Refusal::TooMany(_) => 7,
+            Refusal::BudgetSpent => 8,
+            Refusal::PlanFails => 13,
             Refusal::NotBuilt => 15,
         }
     }
@@ -77,6 +83,8 @@ impl Refusal {
         match self {
             Refusal::BadText(line, kind) => (Some(*line), text_reason(kind)),
             Refusal::TooMany(line) => (Some(*line), b"too many positions"),
+            Refusal::BudgetSpent => (None, b"budget spent"),
+            Refusal::PlanFails => (None, b"plan fails"),
             Refusal::NotBuilt => (None, b"not built"),
         }
     }

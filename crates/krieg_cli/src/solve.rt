@@ -1,20 +1,22 @@
 ghost use Rattle.std.specs.Prelude.{◌≡◌, true, All, IfOk};
 ghost use Rattle.std.specs.List.{find};
 ghost use Rattle.krieg_board.specs.Men.{is_same_side};
-ghost use Rattle.krieg_fen.specs.Writing.{PutsLines};
 ghost use Rattle.krieg_moves.specs.After.{after};
 ghost use Rattle.krieg_moves.specs.Legal.{is_legal};
 ghost use Rattle.krieg_moves.specs.Moves.{is_mate};
+ghost use Rattle.krieg_plan.specs.Plans.{plan_of};
+ghost use Rattle.krieg_planfile.specs.PlanFiles.{state_of};
 ghost use Rattle.krieg_cli.specs.Parts.{Decides};
 ghost use Rattle.krieg_cli.specs.Solve as spec;
 
 use crate::ending::Ending;
 use crate::refusal::Refusal;
-use krieg_board::{Move, NoMemory, Position, Side};
-use krieg_fen::{Text, put_listing, put_move};
+use krieg_board::{Move, NoMemory, Position, Side, know_valid};
 use krieg_moves::{after, is_mate, legal_moves};
+use krieg_plan::{Node, Plan, PlanFile, Root};
+use krieg_planfile::write_plan;
 use krieg_sheet::{Sheet, read_sheet};
-use krieg_words::{Dialect, Line, Words, opening, put_words};
+use krieg_words::{Dialect, Line, opening};
 use std::alloc::Global;
 
 fn mates(p: &Position, mv: &Move) -> bool
@@ -46,52 +48,48 @@ fn mating_move(alloc: Global, p: &Position) -> Result<Option<Move>, NoMemory>
     Ok(first_mate(p, moves.as_slice()))
 }
 
-/// Adds the lines before the root.
-#[tactic(auto, using(krieg_fen::proofs::Writings::writings))]
-fn put_head(p: &Position, text: &mut Text) -> Result<(), NoMemory>
-    ensures { PutsLines result text.old text.new (spec.head_lines p.now) }
+/// The plan that is this move alone.
+fn plan_by(alloc: Global, p: &Position, mv: Move) -> Result<Plan, NoMemory>
+    ensures { IfOk result (λ plan. plan_of plan ≡ (spec.plan_by p.now mv).plan) }
 {
-    text.line(b"krieg plan 1")?;
-    put_listing(p.side(), &[*p], text)?;
-    text.line(b"worst 1")?;
-    text.line(b"roots 1")
+    let node = Node::make(alloc, mv, None, Vec::new(alloc))?;
+    let mut roots = Vec::with_capacity(alloc, 1)?;
+    roots.push(Root {
+        opens: opening(p),
+        heard: None,
+        node,
+    })?;
+    Ok(Plan::make(roots))
 }
 
-/// Adds the plan file whose one node is the move.
-#[tactic(auto, using(krieg_fen::proofs::Writings::writings))]
-fn put_plan(p: &Position, mv: Move, text: &mut Text) -> Result<(), NoMemory>
-    ensures { PutsLines result text.old text.new (spec.plan_lines p.now mv) }
+/// The plan file that this move mates the position.
+fn file_by(alloc: Global, p: &Position, mv: Move) -> Result<PlanFile, NoMemory>
+    ensures { IfOk result (λ file. state_of file ≡ spec.plan_by p.now mv) }
 {
-    put_head(p, text)?;
-    text.put(b"on ")?;
-    put_words(opening(p), text)?;
-    text.end_line()?;
-    text.put(b"play ")?;
-    put_move(mv, text)?;
-    text.put(b" 0")?;
-    text.end_line()?;
-    text.line(b"end")
+    let plan = plan_by(alloc, p, mv)?;
+    let list = vec![in alloc; *p; 1]?;
+    Ok(PlanFile {
+        dialect: Dialect::Wild16,
+        side: p.side(),
+        list,
+        worst: 1,
+        plan,
+    })
 }
 
-fn put_solution(p: &Position, found: Option<Move>, text: &mut Text) -> Result<(), NoMemory>
-    ensures { PutsLines result text.old text.new (spec.solution_lines p.now found) }
+/// The text that answers `solve 1` of this position, by the move that mates, if there is one.
+#[tactic(auto, using(crate::proofs::Solutions::can_be_written))]
+fn solution_text(alloc: Global, p: &Position, found: Option<Move>) -> Result<Vec<u8>, NoMemory>
+    ensures { IfOk result (λ text. text.items ≡ spec.solution_text p.now found) }
 {
-    match found {
-        Some(mv) => put_plan(p, mv, text),
-        None => text.line(b"none 1"),
-    }
-}
-
-/// The text that answers `solve 1` of this position.
-#[tactic(auto, unfolding(crate::specs::Solve::solution_text))]
-fn solution_text(alloc: Global, p: &Position) -> Result<Vec<u8>, NoMemory>
-    ensures { IfOk result (λ text. text.items ≡ spec.solution_text p.now) }
-{
-    let found = mating_move(alloc, p)?;
     let mut answer = Vec::new(alloc);
-    let mut text = Text::after(&mut answer);
-    let done = put_solution(p, found, &mut text);
-    text.end(done, &mut answer)?;
+    match found {
+        None => answer.extend_from_slice(b"none 1\n")?,
+        Some(mv) => {
+            know_valid(p);
+            write_plan(&file_by(alloc, p, mv)?, &mut answer)?;
+        }
+    }
     Ok(answer)
 }
 
@@ -130,7 +128,10 @@ pub(crate) fn answer(alloc: Global, text: Vec<u8>) -> Result<Vec<u8>, Ending>
     let sheet = read_sheet(alloc, &text)?;
     drop(text);
     match lone_position(&sheet) {
-        Some(position) => Ok(solution_text(alloc, &position)?),
+        Some(position) => {
+            let found = mating_move(alloc, &position)?;
+            Ok(solution_text(alloc, &position, found)?)
+        }
         None => Err(Ending::Refused(Refusal::NotBuilt)),
     }
 }

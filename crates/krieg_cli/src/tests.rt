@@ -1,5 +1,8 @@
 //! The whole program over streams in memory: each command on worked examples, and every refusal.
 
+mod broad;
+mod checking;
+mod deep;
 mod games;
 mod large;
 mod possible;

@@ -53,15 +53,16 @@ fn obey<S: Source, O: Sink>(alloc: Global, words: &[String], input: &mut S, out:
 ///
 /// Built so far are `umpire w`, `umpire b` and `umpire all` on any session, for which `out` gets the
 /// player's sheet or the lines of both, `believe LIMIT` on any sheet, for which it gets a sheet that lists
-/// every position that is still possible, and `solve 1 BUDGET LIMIT` on a sheet that lists one position and
-/// says no more, for which it gets the plan file of the first legal move that mates, or the line `none 1`
-/// exactly where no move mates.
+/// every position that is still possible, `check BUDGET` on any plan file, for which it gets the plan's worst
+/// case, and `solve 1 BUDGET LIMIT` on a sheet that lists one position and says no more, for which it gets the
+/// plan file of the first legal move that mates, or the line `none 1` exactly where no move mates.
 ///
 /// The status is 0 with the answer; 1 exactly where the words are no command, and 15 where the command
 /// is not built (nothing is read then); 2 exactly where one byte more came than the
 /// [`MOST_INPUT`](crate::MOST_INPUT) that an input may have; 3 or 4 exactly where it has a first bad line,
 /// and 15 where it is not built; 7 exactly where more positions are possible after some part of the sheet
-/// than the limit allows; 9 where a read failed, with no more bytes read than an input may have; 10 where
+/// than the limit allows; 8 exactly where the check of a plan takes more than the budget, and otherwise 13
+/// exactly where the plan does not mate all that it lists within the number that it claims; 9 where a read failed, with no more bytes read than an input may have; 10 where
 /// a write to `out` failed, which has got a front part of the answer then; 11 for want of memory. At each
 /// status but 0 `err` gets one line, and at each but 0 and 10 `out` gets nothing.
 pub fn run<S: Source, O: Sink, E: Sink>(

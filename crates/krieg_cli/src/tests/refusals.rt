@@ -29,9 +29,8 @@ fn tells_the_usage(rt: HostRuntime) -> Result<(), AllocError> {
 /// Commands that are not built yet.
 #[test]
 fn tells_what_is_not_built(rt: HostRuntime) -> Result<(), AllocError> {
-    let refused: [&[&str]; 5] = [
+    let refused: [&[&str]; 4] = [
         &["solve", "2", "64", "1"],
-        &["check", "64"],
         &["play", "4096", "a", "b", "c", "d"],
         &["make", "session", "4294967295"],
         &["job", "0"],
