@@ -1,0 +1,11 @@
+mod Items
+mod BoolLaws
+mod Charges
+mod Pools
+mod Gathering
+mod PartSizes
+mod Mating
+mod LastMoves
+mod Renaming
+mod FirstMoves
+mod TryLists

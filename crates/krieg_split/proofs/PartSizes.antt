@@ -1,0 +1,56 @@
+-- The parts of a set, and how large they are.
+use Rattle.std.proofs.Common.{suc, ◌≤◌, Bool, true, false, cond, List, [], ◌∷◌, length, ap, ◌∙◌, arith}
+use Rattle.krieg_board.specs.Pos.{Pos}
+use Rattle.krieg_board.specs.declared.men.Move.{Move}
+use Rattle.krieg_words.specs.declared.dialects.Dialect.{Dialect}
+use Rattle.krieg_pack.specs.Order.{position_lt}
+use Rattle.krieg_pack.specs.Members.{IsAscending, set_of}
+use Rattle.krieg_pack.proofs.Counts.{as_set_le}
+use Rattle.krieg_pack.proofs.PositionSets.{set_of_ascending}
+use Rattle.krieg_theory.specs.Sets.{same, at_key}
+use Rattle.krieg_theory.specs.Split.{refused, given, all_outcomes, class}
+use Rattle.krieg_theory.proofs.Steps.{refused_lt}
+use Rattle.krieg_costs.specs.Cost.{made}
+use Rattle.krieg_costs.proofs.Totals.{length_flat}
+use Rattle.krieg_game.specs.Keys.{Key, key_lt}
+use Rattle.krieg_game.specs.Outcomes.{KeyedPosition}
+use Rattle.krieg_game.specs.Chess.{chess}
+use Rattle.krieg_game.proofs.ChessLaws.{chess_is_game}
+use Rattle.krieg_game.proofs.Classed.{outcomes_are_classed}
+use Rattle.krieg_game.proofs.Splitting.{refused_ascends, classes_come_about}
+use Rattle.krieg_split.specs.Gathering.{IsGathered, IsSorted}
+use Rattle.krieg_split.specs.Parted.{IsParted}
+use Rattle.krieg_split.specs.Laws.{ClassesAreSets, RefusedIsSet}
+use Rattle.krieg_split.specs.declared.parts.Gathered.{Gathered}
+use Rattle.krieg_split.specs.declared.parts.Parted.{Parted}
+use Rattle.krieg_split.proofs.Pools.{same_classes}
+
+pub parted : (d : Dialect) (B : List Pos) (t : Move) (parts : Gathered) (r : Parted) → IsAscending B → IsGathered d B t parts → IsSorted parts r → IsParted d B t r
+parted d B t parts r up g s = record {
+  refused_part = s.refused_part ∙ ap set_of g.refused_part ∙ set_of_ascending (refused (chess d) B t) (refused_ascends d B t up);
+  stale_part = s.stale_part ∙ g.stale_part;
+  classes_part = s.classes_part ∙ same_classes parts.pool (all_outcomes (chess d) B t) g.pool_part ∙ outcomes_are_classed d B t;
+}
+
+at_key_le : (key : Key) (os : List KeyedPosition) → length (at_key key_lt key os) ≤ length os
+at_key_le key [] = omega arith
+at_key_le key (o ∷ os) = go (same key_lt o.0 key) (at_key_le key os)
+  where
+    go : (b : Bool) → length (at_key key_lt key os) ≤ length os → length (cond b (o.1 ∷ at_key key_lt key os) (at_key key_lt key os)) ≤ suc (length os)
+    go true r = omega arith
+    go false r = omega arith
+
+class_le : (d : Dialect) (B : List Pos) (t : Move) (key : Key) → length (class (chess d) B t key) ≤ made (chess d) B t
+class_le d B t key =
+    let a = as_set_le position_lt (at_key key_lt key (all_outcomes (chess d) B t)) in
+    let b = at_key_le key (all_outcomes (chess d) B t) in
+    let c = length_flat (given (chess d) t) B in
+    omega (arith, a, b, c)
+
+pub classes_are_sets : (d : Dialect) → ClassesAreSets d
+classes_are_sets d B t key =
+    let c = classes_come_about d B t key.0 key.1 in
+    record { ascending = c.ascending; some = c.occurs.0; few = class_le d B t key }
+
+pub refused_is_set : (d : Dialect) → RefusedIsSet d
+refused_is_set d B t = record { ascending = refused_ascends d B t; fewer = refused_lt (chess d) (chess_is_game d) B t }

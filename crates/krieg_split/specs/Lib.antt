@@ -1,0 +1,11 @@
+pub mod Units
+pub mod Parted
+pub mod LastMove
+pub mod Turns
+pub mod Firsts
+pub mod Openings
+pub mod Laws
+pub mod Pools
+pub mod Gathering
+pub mod Mating
+pub mod MoveSets

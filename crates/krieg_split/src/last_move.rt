@@ -1,0 +1,124 @@
+ghost use Rattle.std.specs.Prelude.{◌≡◌, true, suc, None, Some, IfOk, if◌then◌else◌};
+ghost use Rattle.krieg_moves.specs.Legal as rule;
+ghost use Rattle.krieg_moves.specs.Moves as list;
+ghost use Rattle.krieg_pack.specs.Members.{set_of};
+ghost use Rattle.krieg_costs.specs.Cost.{made};
+ghost use Rattle.krieg_game.specs.Chess.{chess};
+ghost use Rattle.krieg_split.specs.Units.{Charged, IsPaid};
+ghost use Rattle.krieg_split.specs.LastMove.{IsLastMove};
+ghost use Rattle.krieg_split.specs.Mating.{IsTried, AreTried, replies, looked_at};
+
+use crate::stop::{SplitStop, take};
+use krieg_board::{Move, Position, Units};
+use krieg_moves::{after, in_check, is_legal, legal_moves};
+use krieg_pack::{Belief, Packed, unpack};
+use krieg_words::Dialect;
+use std::alloc::Global;
+
+/// What is known of the members that were looked at.
+#[derive(Drop)]
+pub(crate) struct Mating {
+    /// Whether in some member the try is legal and does not mate.
+    pub lives: bool,
+    /// The members that refuse it. Once one lives, no more are added.
+    pub refused: Vec<Packed>,
+}
+
+/// Whether the moves are none and the side to move is in check.
+#[tactic(auto, unfolding(krieg_moves::specs::Moves::is_mate, krieg_moves::specs::Moves::is_ended))]
+fn is_mate(q: &Position, moves: &[Move]) -> bool
+    requires { moves.now ≡ list.moves q.now }
+    ensures { result ≡ list.is_mate q.now }
+{
+    moves.is_empty() && in_check(q)
+}
+
+/// Tries the legal move in one member.
+fn try_legal(
+    alloc: Global,
+    p: &Position,
+    mv: &Move,
+    found: &mut Mating,
+    units: &mut Units,
+) -> Result<(), SplitStop>
+    requires { rule.is_legal p.now mv.now ≡ true }
+    ensures { Charged result (λ _. IsTried found.old found.new p.now mv.now) (suc (replies mv.now p.now)) units.old units.new }
+{
+    let q = after(p, *mv);
+    let replies = legal_moves(alloc, &q)?;
+    take(units, 1 + replies.len() as u64)?;
+    found.lives = found.lives || !is_mate(&q, replies.as_slice());
+    Ok(())
+}
+
+/// Tries the move in one member, for one unit and one for each reply.
+fn try_in(
+    alloc: Global,
+    member: &Packed,
+    mv: &Move,
+    found: &mut Mating,
+    units: &mut Units,
+) -> Result<(), SplitStop>
+    ensures { Charged result (λ _. IsTried found.old found.new member.now mv.now) (suc (replies mv.now member.now)) units.old units.new }
+{
+    let p = unpack(member);
+    if is_legal(&p, *mv) {
+        return try_legal(alloc, &p, mv, found, units);
+    }
+    take(units, 1)?;
+    if !found.lives {
+        found.refused.push(*member)?;
+    }
+    Ok(())
+}
+
+/// Tries the move in all members.
+fn try_in_all(
+    alloc: Global,
+    members: &[Packed],
+    mv: &Move,
+    units: &mut Units,
+) -> Result<Mating, SplitStop>
+    ensures { Charged result (AreTried members.now mv.now) (looked_at members.now mv.now) units.old units.new }
+{
+    let mut found = Mating {
+        lives: false,
+        refused: Vec::new(alloc),
+    };
+    for member in members {
+        try_in(alloc, member, mv, &mut found, units)?;
+    }
+    Ok(found)
+}
+
+/// The members that refuse the try, where it mates in all others.
+fn left_by(found: Mating) -> Option<Belief>
+    ensures { result ≡ (if found.lives then None else Some (set_of found.refused.items)) }
+{
+    if found.lives {
+        return None;
+    }
+    Some(Belief::from_packed(found.refused))
+}
+
+/// Tries a move where it must mate: it gives the members in which it is illegal, and `None` where in some member it
+/// is legal and does not mate.
+///
+/// It takes as many units as `split` does. `Spent` comes only where fewer are left. An error takes none. Nothing that
+/// is heard matters for it, so it makes no words; and once one member lives it only counts.
+#[inline(never)]
+pub fn split_to_mate(
+    alloc: Global,
+    d: Dialect,
+    b: &Belief,
+    mv: Move,
+    units: &mut Units,
+) -> Result<Option<Belief>, SplitStop>
+    ensures parts { IfOk result (IsLastMove d b.now mv) }
+    ensures units { IsPaid result (made (chess d) b.now mv) units.old units.new }
+{
+    let mut left = Units::new(units.left());
+    let found = try_in_all(alloc, b.members(), &mv, &mut left)?;
+    *units = left;
+    Ok(left_by(found))
+}

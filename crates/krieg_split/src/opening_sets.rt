@@ -1,0 +1,56 @@
+ghost use Rattle.std.specs.Prelude.{◌≡◌, map, IfOk};
+ghost use Rattle.krieg_board.specs.declared.men.Side.{Side};
+ghost use Rattle.krieg_game.specs.Classes.{class_pair, classes_in};
+ghost use Rattle.krieg_game.specs.ClassLaws.{opened, opening_sets, silence};
+ghost use Rattle.krieg_split.specs.Turns.{IsOwnTurn};
+ghost use Rattle.krieg_split.specs.Openings.{opened_pair, opened_set, heard_first};
+
+use krieg_board::NoMemory;
+use krieg_game::{Class, Outcome, classes_of, push_opening};
+use krieg_pack::{Belief, Packed, unpack};
+use krieg_words::{Dialect, Words};
+use std::alloc::Global;
+
+/// The members of a set with the same opening words.
+#[derive(Drop)]
+pub struct Opened {
+    pub opens: Words,
+    pub belief: Belief,
+}
+
+/// All members with their opening words.
+fn with_openings(alloc: Global, d: Dialect, members: &[Packed]) -> Result<Vec<Outcome>, NoMemory>
+    ensures { IfOk result (λ v. v.items ≡ map (opened d silence) members.now) }
+{
+    let mut outcomes = Vec::with_capacity(alloc, members.len())?;
+    for member in members {
+        push_opening(d, &unpack(member), &mut outcomes)?;
+    }
+    Ok(outcomes)
+}
+
+/// The classes by their opening words alone.
+fn opened_of(alloc: Global, classes: Vec<Class>) -> Result<Vec<Opened>, NoMemory>
+    ensures { IfOk result (λ v. map opened_pair v.items ≡ map heard_first (map class_pair classes.items)) }
+{
+    let mut openings = Vec::with_capacity(alloc, classes.len())?;
+    for class in classes {
+        openings.push(Opened {
+            opens: class.own,
+            belief: class.belief,
+        })?;
+    }
+    Ok(openings)
+}
+
+/// The members of a set by what is told of them at the start, ascending.
+///
+/// Where the player `who` is to move in all of them, these are the opening sets of his plans.
+#[inline(never)]
+pub fn openings(alloc: Global, d: Dialect, b: &Belief) -> Result<Vec<Opened>, NoMemory>
+    ensures value { IfOk result (λ v. map opened_pair v.items ≡ map heard_first (classes_in (map (opened d silence) b.now))) }
+    ensures sets { IfOk result (λ v. (who : Side) → IsOwnTurn who b.now → map opened_set v.items ≡ opening_sets d who b.now) }
+{
+    let outcomes = with_openings(alloc, d, b.members())?;
+    opened_of(alloc, classes_of(alloc, outcomes)?)
+}

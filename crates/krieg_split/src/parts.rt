@@ -1,0 +1,149 @@
+ghost use Rattle.std.specs.Prelude.{◌≡◌, true, suc, length, IfOk};
+ghost use Rattle.krieg_moves.specs.Legal as rule;
+ghost use Rattle.krieg_moves.specs.Moves as list;
+ghost use Rattle.krieg_theory.specs.Split.{given};
+ghost use Rattle.krieg_costs.specs.Cost.{made};
+ghost use Rattle.krieg_game.specs.Chess.{chess};
+ghost use Rattle.krieg_split.specs.Units.{Charged, IsPaid};
+ghost use Rattle.krieg_split.specs.Gathering.{IsAdded, IsGathered, IsSorted};
+ghost use Rattle.krieg_split.specs.Parted.{IsParted};
+
+use crate::pool::Pool;
+use crate::stop::{SplitStop, take};
+use krieg_board::{Move, NoMemory, Position, Units};
+use krieg_game::Class;
+use krieg_moves::{in_check, is_legal, legal_moves};
+use krieg_pack::{Belief, Packed, unpack};
+use krieg_words::{Dialect, make_move};
+use std::alloc::Global;
+
+/// What a try makes of a set: for each position in it, it is illegal, or it is made and the opponent replies.
+#[derive(Drop)]
+pub struct Parted {
+    /// The members in which it is illegal.
+    pub refused: Belief,
+    /// Whether it stalemates in some member.
+    pub stale: bool,
+    /// What is possible once the words of the try and of a reply were heard, for all that may be heard, ascending.
+    pub classes: Vec<Class>,
+}
+
+/// What is known of the members that were looked at.
+#[derive(Drop)]
+pub(crate) struct Gathered {
+    pub refused: Vec<Packed>,
+    pub stale: bool,
+    pub pool: Pool,
+}
+
+/// Whether the moves are none and the side to move is not in check.
+#[tactic(auto, unfolding(krieg_moves::specs::Moves::is_stalemate, krieg_moves::specs::Moves::is_ended))]
+fn is_stalemate(q: &Position, moves: &[Move]) -> bool
+    requires { moves.now ≡ list.moves q.now }
+    ensures { result ≡ list.is_stalemate q.now }
+{
+    moves.is_empty() && !in_check(q)
+}
+
+/// Adds what the legal try makes of one member.
+#[tactic(auto, unfolding(krieg_game::specs::Chess::stalemates, krieg_game::specs::Chess::outcomes))]
+fn add_legal(
+    alloc: Global,
+    d: Dialect,
+    p: &Position,
+    mv: &Move,
+    parts: &mut Gathered,
+    units: &mut Units,
+) -> Result<(), SplitStop>
+    requires { rule.is_legal p.now mv.now ≡ true }
+    ensures { Charged result (λ _. IsAdded d parts.old parts.new p.now mv.now) (suc (length (given (chess d) mv.now p.now))) units.old units.new }
+{
+    let made = make_move(p, *mv);
+    let replies = legal_moves(alloc, &made.position)?;
+    take(units, 1 + replies.len() as u64)?;
+    parts.stale = parts.stale || is_stalemate(&made.position, replies.as_slice());
+    parts
+        .pool
+        .add(d, &made.words, &made.position, replies.as_slice())?;
+    Ok(())
+}
+
+/// Adds what the try makes of one member, for one unit and one for each reply.
+fn add_member(
+    alloc: Global,
+    d: Dialect,
+    member: &Packed,
+    mv: &Move,
+    parts: &mut Gathered,
+    units: &mut Units,
+) -> Result<(), SplitStop>
+    ensures { Charged result (λ _. IsAdded d parts.old parts.new member.now mv.now) (suc (length (given (chess d) mv.now member.now))) units.old units.new }
+{
+    let p = unpack(member);
+    if is_legal(&p, *mv) {
+        return add_legal(alloc, d, &p, mv, parts, units);
+    }
+    take(units, 1)?;
+    parts.refused.push(*member)?;
+    Ok(())
+}
+
+/// Gathers what the try makes of all members.
+fn gather(
+    alloc: Global,
+    d: Dialect,
+    members: &[Packed],
+    mv: &Move,
+    units: &mut Units,
+) -> Result<Gathered, SplitStop>
+    ensures { Charged result (IsGathered d members.now mv.now) (made (chess d) members.now mv.now) units.old units.new }
+{
+    let mut parts = Gathered {
+        refused: Vec::new(alloc),
+        stale: false,
+        pool: Pool::new(alloc),
+    };
+    for member in members {
+        add_member(alloc, d, member, mv, &mut parts, units)?;
+    }
+    Ok(parts)
+}
+
+/// The parts of what was gathered.
+fn sorted(alloc: Global, parts: Gathered) -> Result<Parted, NoMemory>
+    ensures { IfOk result (IsSorted parts) }
+{
+    let Gathered {
+        refused,
+        stale,
+        pool,
+    } = parts;
+    let classes = pool.into_classes(alloc)?;
+    Ok(Parted {
+        refused: Belief::from_packed(refused),
+        stale,
+        classes,
+    })
+}
+
+/// Parts the set by the try.
+///
+/// It takes one unit for each member, and where the try is legal one for each reply: no more is made than there are
+/// units for. `Spent` comes only where fewer are left. An error takes none.
+#[inline(never)]
+pub fn split(
+    alloc: Global,
+    d: Dialect,
+    b: &Belief,
+    mv: Move,
+    units: &mut Units,
+) -> Result<Parted, SplitStop>
+    ensures parts { IfOk result (IsParted d b.now mv) }
+    ensures units { IsPaid result (made (chess d) b.now mv) units.old units.new }
+{
+    let mut left = Units::new(units.left());
+    let parts = gather(alloc, d, b.members(), &mv, &mut left)?;
+    let parted = sorted(alloc, parts)?;
+    *units = left;
+    Ok(parted)
+}

@@ -1,0 +1,164 @@
+-- What the map's calls give, in the words of the table.
+use Rattle.std.proofs.Common.{◌≡◌, ℕ, zero, suc, ◌+◌, ◌≤◌, ◌<◌, Bool, true, false, cond, not, ◌⊎◌, inl, inr, List, [], ◌∷◌, length, Option, Some, None, refl, sym, ap, subst, ◌∙◌, arith, length-set}
+use Rattle.std.specs.Prelude.{slice_get, unwrap_or, map, Result, Ok, Err, OnOk, OnErr, IsErr, ◌↔◌}
+use Rattle.std.specs.Map.{lookup, keys_of}
+use Rattle.std.specs.List.{position_or_len}
+use Rattle.std.specs.Cmp.Lexicographic.{pointwise}
+use Rattle.std.proofs.lemmas.Bool.{cases_Bool, cases_lt, cond-true, cond-false, both_ways}
+use Rattle.indexmap.specs.IndexMap.{insert_entry}
+use Rattle.indexmap.specs.Layout.{set_value_at}
+use Rattle.krieg_board.specs.Pos.{Pos}
+use Rattle.krieg_pack.specs.Order.{position_lt, position_eq}
+use Rattle.krieg_theory.specs.Sets.{In}
+use Rattle.krieg_costs.specs.Sums.{same_list, IsOnce}
+use Rattle.krieg_table.specs.declared.known.Known.{Known}
+use Rattle.krieg_table.specs.Results.{Results, nothing, with_known}
+use Rattle.krieg_table.specs.Interned.{Row, Interned, sets, row_at, number_of, interned, with_result}
+use Rattle.krieg_table.specs.Table.{IsTable, IsInterned, IsNoted}
+use Rattle.krieg_board.specs.declared.memory.NoMemory.{NoMemory}
+use Rattle.krieg_table.proofs.Sets.{test_is, set_itself}
+use Rattle.krieg_table.proofs.Interning.{interned_is, stays_table}
+use Rattle.krieg_table.proofs.Noting.{row_in, noted_is}
+
+module _ (B : List Pos) where
+  abbrev pub test : List Pos → Bool
+  test X = pointwise position_eq B X
+
+  -- the map after an insertion that leaves the results of a set that is there
+  pub inserted : (T : Interned) → insert_entry (pointwise position_eq) T B (unwrap_or (lookup test T) nothing) ≡ interned B T
+  inserted [] = refl
+  inserted (r ∷ T) = go (test r.0) (test_is B r.0) (inserted T)
+    where
+      go : (b : Bool) → b ≡ same_list position_lt r.0 B → insert_entry (pointwise position_eq) T B (unwrap_or (lookup test T) nothing) ≡ interned B T
+          → cond b ((r.0, unwrap_or (cond b (Some r.1) (lookup test T)) nothing) ∷ T) (r ∷ insert_entry (pointwise position_eq) T B (unwrap_or (cond b (Some r.1) (lookup test T)) nothing)) ≡ interned B (r ∷ T)
+      go true e h = sym (cond-true (same_list position_lt r.0 B) (r ∷ T) (r ∷ interned B T) (sym e))
+      go false e h = ap (λ (x : Interned). r ∷ x) h ∙ sym (cond-false (same_list position_lt r.0 B) (r ∷ T) (r ∷ interned B T) (sym e))
+
+  one : (n : ℕ) → 1 + n ≡ suc n
+  one n = omega arith
+
+  -- and the place of the set in it
+  pub placed : (T : Interned) → position_or_len test (keys_of T) ≡ number_of B T
+  placed [] = refl
+  placed (r ∷ T) = go (test r.0) (test_is B r.0) (placed T)
+    where
+      go : (b : Bool) → b ≡ same_list position_lt r.0 B → position_or_len test (keys_of T) ≡ number_of B T → cond (not b) (1 + position_or_len test (keys_of T)) 0 ≡ number_of B (r ∷ T)
+      go true e h = sym (cond-true (same_list position_lt r.0 B) 0 (suc (number_of B T)) (sym e))
+      go false e h = ap (λ (n : ℕ). 1 + n) h ∙ one (number_of B T) ∙ sym (cond-false (same_list position_lt r.0 B) 0 (suc (number_of B T)) (sym e))
+
+  pub absent : (T : Interned) → lookup test T ≡ None → In B (sets T) → ⊥
+  absent [] e i = i
+  absent (r ∷ T) e i = go (cases_Bool (test r.0)) i (absent T)
+    where
+      go : (test r.0 ≡ true) ⊎ (test r.0 ≡ false) → (r.0 ≡ B) ⊎ In B (sets T) → (lookup test T ≡ None → In B (sets T) → ⊥) → ⊥
+      go (inl t) j h = let q : ◌≡◌ {A = Option Results} (Some r.1) None = sym (cond-true (test r.0) (Some r.1) (lookup test T) t) ∙ e in cc
+      go (inr t) (inl s) h = both_ways _ t (test_is B r.0 ∙ subst (λ (X : List Pos). same_list position_lt X B ≡ true) (sym s) (set_itself B))
+      go (inr t) (inr j) h = h (sym (cond-false (test r.0) (Some r.1) (lookup test T) t) ∙ e) j
+
+-- the row that a call by number gives
+pub results_at : (T : Interned) (id : ℕ) (rs : Results) → slice_get (map (λ (r : Row). r.1) T) id ≡ Some rs → (row_at T id).1 ≡ rs
+results_at [] id rs h = absurd (let q : ◌≡◌ {A = Option Results} None (Some rs) = h in cc)
+results_at (r ∷ T) zero rs h = let q : Some r.1 ≡ Some rs = h in cc
+results_at (r ∷ T) (suc id) rs h = results_at T id rs h
+
+-- a write by number
+pub put_at : (T : Interned) (id moves : ℕ) (k : Known) → set_value_at T id (with_known (row_at T id).1 moves k) ≡ with_result T id moves k
+put_at [] id moves k = refl
+put_at (r ∷ T) zero moves k = refl
+put_at (r ∷ T) (suc id) moves k = ap (λ (x : Interned). r ∷ x) (put_at T id moves k)
+
+-- of what is there changes nothing
+pub put_same : (T : Interned) (id : ℕ) → set_value_at T id (row_at T id).1 ≡ T
+put_same [] id = refl
+put_same (r ∷ T) zero = refl
+put_same (r ∷ T) (suc id) = ap (λ (x : Interned). r ∷ x) (put_same T id)
+
+pub with_length : (rs : Results) (moves : ℕ) (k : Known) → length (with_known rs moves k) ≡ length rs
+with_length rs zero k = refl
+with_length rs (suc i) k = length-set rs i (Some k)
+
+put_sets : (T : Interned) (id : ℕ) (w : Results) → sets (set_value_at T id w) ≡ sets T
+put_sets [] id w = refl
+put_sets (r ∷ T) zero w = refl
+put_sets (r ∷ T) (suc id) w = ap (λ xs. r.0 ∷ xs) (put_sets T id w)
+
+put_in : (T : Interned) (id : ℕ) (w : Results) (r : Row) → In r (set_value_at T id w) → In r T ⊎ (w ≡ r.1)
+put_in [] id w r i = absurd i
+put_in (s ∷ T) zero w r (inl e) = inr (ap (λ (x : Row). x.1) e)
+put_in (s ∷ T) zero w r (inr i) = inl (inr i)
+put_in (s ∷ T) (suc id) w r (inl e) = inl (inl e)
+put_in (s ∷ T) (suc id) w r (inr i) = go (put_in T id w r i)
+  where
+    go : In r T ⊎ (w ≡ r.1) → In r (s ∷ T) ⊎ (w ≡ r.1)
+    go (inl a) = inl (inr a)
+    go (inr e) = inr e
+
+pub put_table : (T : Interned) (id : ℕ) (w : Results) → IsTable T → length w ≡ 6 → IsTable (set_value_at T id w)
+put_table T id w t h = record {
+  once = subst (λ xs. IsOnce xs) (sym (put_sets T id w)) t.once;
+  six = λ r i. six r (put_in T id w r i);
+}
+  where
+    six : (r : Row) → In r T ⊎ (w ≡ r.1) → length r.1 ≡ 6
+    six r (inl i) = t.six r i
+    six r (inr e) = sym (ap (λ (x : Results). length x) e) ∙ h
+
+-- what is owed where a set has come
+pub table_from : (B : List Pos) (T E : Interned) → E ≡ interned B T → IsTable T → IsTable E
+table_from B T E e t = subst IsTable (sym e) (stays_table B T t)
+
+pub interned_from : (B : List Pos) (T E : Interned) (id : ℕ) → E ≡ interned B T → id ≡ number_of B T → IsInterned T E B id
+interned_from B T E id e n = subst (λ (x : Interned). IsInterned T x B id) (sym e) (subst (λ (i : ℕ). IsInterned T (interned B T) B i) (sym n) (interned_is B T))
+
+pub on_err : {A X P : Type 0} (r : Result A X) → P → OnErr r P
+on_err (Ok a) p = tt
+on_err (Err x) p = p
+
+-- what is owed where a result was put in: T is the table before, now the row's results, and new what they became
+module _ (T : Interned) (id moves : ℕ) (k : Known) (now new : Results) (r : Result (Unit {0}) NoMemory) (at : (row_at T id).1 ≡ now) (ok : OnOk r (new ≡ with_known now moves k)) (kept : OnErr r (new ≡ now)) where
+  put_ok : new ≡ with_known now moves k → set_value_at T id new ≡ with_result T id moves k
+  put_ok e = ap (set_value_at T id) (e ∙ ap (λ (x : Results). with_known x moves k) (sym at)) ∙ put_at T id moves k
+
+  pub rows_put : (S : Interned) → T ≡ S → OnOk r (set_value_at T id new ≡ with_result S id moves k)
+  rows_put S s = go r ok
+    where
+      go : (r : Result (Unit {0}) NoMemory) → OnOk r (new ≡ with_known now moves k) → OnOk r (set_value_at T id new ≡ with_result S id moves k)
+      go (Ok a) e = put_ok e ∙ ap (λ (x : Interned). with_result x id moves k) s
+      go (Err x) e = tt
+
+  pub rows_kept : (S : Interned) → T ≡ S → OnErr r (set_value_at T id new ≡ S)
+  rows_kept S s = go r kept
+    where
+      go : (r : Result (Unit {0}) NoMemory) → OnErr r (new ≡ now) → OnErr r (set_value_at T id new ≡ S)
+      go (Ok a) e = tt
+      go (Err x) e = ap (set_value_at T id) (e ∙ sym at) ∙ put_same T id ∙ s
+
+  put_length : length new ≡ length now
+  put_length = go r ok kept
+    where
+      go : (r : Result (Unit {0}) NoMemory) → OnOk r (new ≡ with_known now moves k) → OnErr r (new ≡ now) → length new ≡ length now
+      go (Ok a) e f = ap (λ (x : Results). length x) e ∙ with_length now moves k
+      go (Err x) e f = ap (λ (x : Results). length x) f
+
+  pub table_put : IsTable T → id < length T → IsTable (set_value_at T id new)
+  table_put t l = put_table T id new t (put_length ∙ ap (λ (x : Results). length x) (sym at) ∙ t.six (row_at T id) (row_in T id l))
+
+  pub noted_put : (S : Interned) → T ≡ S → IsTable T → id < length T → (IsErr r ↔ ((moves ≡ 0) ⊎ (6 < moves))) → OnOk r (IsNoted S (set_value_at T id new) id moves k)
+  noted_put S s t l err = go r ok err
+    where
+      within : ((moves ≡ 0) ⊎ (6 < moves) → ⊥) → (0 < moves) × (moves ≤ 6)
+      within n = (some moves (λ e. n (inl e)), at_most (cases_lt 6 moves))
+        where
+          some : (m : ℕ) → (m ≡ 0 → ⊥) → 0 < m
+          some zero h = absurd (h refl)
+          some (suc m) h = omega arith
+
+          at_most : (6 < moves) ⊎ (moves ≤ 6) → moves ≤ 6
+          at_most (inl h) = absurd (n (inr h))
+          at_most (inr h) = h
+
+      go : (r : Result (Unit {0}) NoMemory) → OnOk r (new ≡ with_known now moves k) → (IsErr r ↔ ((moves ≡ 0) ⊎ (6 < moves))) → OnOk r (IsNoted S (set_value_at T id new) id moves k)
+      go (Ok a) e f =
+          let w = within (λ x. both_ways false refl (f.1 x)) in
+          subst (λ (x : Interned). IsNoted x (set_value_at T id new) id moves k) s (subst (λ (x : Interned). IsNoted T x id moves k) (sym (put_ok e)) (noted_is T id moves k t l w.0 w.1))
+      go (Err x) e f = tt

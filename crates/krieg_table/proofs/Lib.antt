@@ -1,0 +1,5 @@
+pub mod Sets
+pub mod Interning
+pub mod RowEntries
+pub mod Noting
+pub mod Calls

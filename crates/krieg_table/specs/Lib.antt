@@ -1,0 +1,4 @@
+pub mod Results
+pub mod Interned
+pub mod Entries
+pub mod Table

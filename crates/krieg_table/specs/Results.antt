@@ -1,0 +1,20 @@
+-- What is known of one set, for each number of own moves.
+use Rattle.std.specs.Prelude.{ℕ, zero, suc, List, [], ◌∷◌, set, slice_index_or, Option, Some, None}
+use Rattle.krieg_table.specs.declared.known.Known.{Known}
+
+-- for the numbers 1 to 6, in this order
+abbrev pub Results : Type 0
+Results = List (Option Known)
+
+abbrev pub nothing : Results
+nothing = None ∷ None ∷ None ∷ None ∷ None ∷ None ∷ []
+
+-- what is known for a number of moves: nothing for 0 and beyond 6
+abbrev pub known_for : Results → ℕ → Option Known
+known_for rs zero = None
+known_for rs (suc i) = slice_index_or rs i None
+
+-- the results with one for a number of moves put in, or put in place of the one before
+abbrev pub with_known : Results → ℕ → Known → Results
+with_known rs zero k = rs
+with_known rs (suc i) k = set rs i (Some k)

@@ -1,0 +1,28 @@
+//! Sets of positions by number, and what a search knows of each.
+//!
+//! A search meets the same sets again and again. `Table` gives each a number, in the order in which they first come, and
+//! keeps beside it what is known for each number of own moves from 1 to 6: that the set can be won, and by which try
+//! first, or that it cannot. A set is hashed once a call of `intern`, and looked at by its number from then on.
+//!
+//! In contracts a `Table` is the list of its rows (`Interned` in `specs/`), and every call says what they become.
+//! `Entries` has the results by sets, as `krieg_accounts` speaks of them, and `Table` what a call does to these. `results`
+//! has what is known of one set; it is internal.
+//!
+//! ```
+//! let mut table = Table::new(alloc);
+//! let id = table.intern(set)?; // 0: the first set
+//! let unknown = table.result(id, 2); // None
+//! table.note(id, 2, Known::Wins(mv))?;
+//! let again = table.intern(copy)?; // 0 once more
+//! let found = table.result(again, 2); // Some(Known::Wins(mv)), and still None with 1 or 3 moves
+//! ```
+#![tactic(auto)]
+
+mod known;
+mod results;
+mod table;
+#[cfg(test)]
+mod tests;
+
+pub use known::Known;
+pub use table::Table;

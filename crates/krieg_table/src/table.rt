@@ -1,0 +1,106 @@
+ghost use Rattle.std.specs.Prelude.{◌≡◌, ◌<◌, ◌↔◌, ◌⊎◌, [], length, IfOk, OnOk, OnErr, IsErr, option_map};
+ghost use Rattle.krieg_theory.specs.Sets.{In};
+ghost use Rattle.krieg_pack.specs.Order.{position_lt};
+ghost use Rattle.krieg_accounts.specs.Stored.{stored};
+ghost use Rattle.krieg_table.specs.Interned.{sets, set_at, known_at, number_of, interned, with_result};
+ghost use Rattle.krieg_table.specs.Entries.{try_of, entries};
+ghost use Rattle.krieg_table.specs.Table.{IsInterned, IsNoted};
+
+use crate::known::Known;
+use crate::results::Results;
+use indexmap::IndexMap;
+use krieg_board::NoMemory;
+use krieg_pack::Belief;
+use std::alloc::Global;
+use std::marker::Model;
+
+/// Sets of positions by number, and what is known of each with 1 to 6 own moves.
+///
+/// Sets are numbered from 0 in the order in which they first came, and each has one number. In contracts a `Table` is
+/// the list of its rows: each a set with what is known of it. `entries` has the same results by sets.
+#[derive(Drop)]
+pub struct Table {
+    rows: IndexMap<Belief, Results>,
+}
+
+impl Model for Table {
+    ghost use Rattle.krieg_table.specs.Interned.{Interned};
+    ghost use Rattle.krieg_table.specs.Table.{IsTable};
+
+    ghost Value = { Interned };
+
+    ghost view = { λ t. t.rows.entries };
+
+    ghost invariant = { λ t. IsTable t.rows.entries };
+}
+
+impl Table {
+    /// An empty table. It takes no memory.
+    pub fn new(alloc: Global) -> Table
+        ensures { result ≡ [] }
+    {
+        Table {
+            rows: IndexMap::new(alloc),
+        }
+    }
+
+    /// How many sets there are.
+    pub fn len(&self) -> usize
+        ensures { result ≡ length self.now }
+    {
+        self.rows.len()
+    }
+
+    /// The number of the set, from 0 in the order of the first calls. A set that is there keeps its number and what is
+    /// known of it, and the new copy is dropped.
+    ///
+    /// `NoMemory` comes for a new set alone, and leaves the table as it was.
+    pub fn intern(&mut self, b: Belief) -> Result<u32, NoMemory>
+        requires { length self.old < 100000000 }
+        ensures number { IfOk result (λ id. id ≡ number_of b self.old) }
+        ensures rows { OnOk result (self.new ≡ interned b self.old) }
+        ensures ok { IfOk result (λ id. IsInterned self.old self.new b id) }
+        ensures err { OnErr result (self.new ≡ self.old) }
+        ensures new_alone { OnErr result (In b (sets self.old) → ⊥) }
+    {
+        let row = self.rows.entry(b)?;
+        let id = row.index();
+        row.or_insert(Results::none());
+        Ok(id as u32)
+    }
+
+    /// The set with that number.
+    pub fn belief(&self, id: u32) -> &Belief
+        requires { id < length self.now }
+        ensures { result.now ≡ set_at self.now id }
+    {
+        match self.rows.get_index(id as usize) {
+            Some((b, _)) => b,
+            None => unreachable!(),
+        }
+    }
+
+    /// What was noted last of the set with that number and the number of own moves. It is unknown for 0 and beyond 6.
+    pub fn result(&self, id: u32, moves: u8) -> Option<Known>
+        requires { id < length self.now }
+        ensures value { result ≡ known_at self.now id moves }
+        ensures by_sets { option_map try_of result ≡ stored position_lt (entries self.now) (set_at self.now id, moves) }
+    {
+        self.rows[id as usize].get(moves)
+    }
+
+    /// Notes what is known of the set with that number and the number of own moves. All other results stay. It takes no
+    /// memory.
+    ///
+    /// A table has room for 1 to 6 moves: `NoMemory` comes exactly where `moves` is 0 or more than 6, and leaves the
+    /// table as it was.
+    pub fn note(&mut self, id: u32, moves: u8, known: Known) -> Result<(), NoMemory>
+        requires { id < length self.old }
+        ensures rows { OnOk result (self.new ≡ with_result self.old id moves known) }
+        ensures ok { OnOk result (IsNoted self.old self.new id moves known) }
+        ensures unchanged { OnErr result (self.new ≡ self.old) }
+        ensures err { IsErr result ↔ ((moves ≡ 0) ⊎ (6 < moves)) }
+    {
+        self.rows[id as usize].put(moves, known)
+    }
+}
