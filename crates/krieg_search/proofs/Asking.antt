@@ -1,0 +1,37 @@
+-- The sets of openings, one after another.
+use Rattle.std.proofs.Common.{◌≡◌, ℕ, ◌+◌, suc, ◌<◌, true, false, List, ◌∷◌, length, drop, get_or, refl, subst, arith}
+use Rattle.krieg_board.specs.Pos.{Pos}
+use Rattle.krieg_words.specs.declared.dialects.Dialect.{Dialect}
+use Rattle.krieg_accounts.specs.Stretch.{CoversSet, CoversSets}
+use Rattle.krieg_game.specs.Chess.{chess}
+use Rattle.krieg_table.specs.Interned.{Interned, set_at}
+use Rattle.krieg_search.specs.declared.openings.Opening.{Opening}
+use Rattle.krieg_search.specs.Searched.{IsSearched, TellsSet, TellsSets}
+use Rattle.krieg_search.specs.Opened.{AreNumbered}
+use Rattle.krieg_search.specs.Decided.{sets_in}
+use Rattle.krieg_search.proofs.Checking.{IsChecking, at_item, item_in, next_covers, set_lost, set_won}
+
+-- the next opening is asked for
+module _ (d : Dialect) (T0 T1 : Interned) (os : List Opening) (k : ℕ) (x : Opening) (j u0 u1 : ℕ) (l : k < length os) (e : x ≡ get_or os k x) (n : AreNumbered T0 os) (a : IsChecking d T0 T1 (sets_in T0 os) (sets_in T0 (drop k os)) j u0 u1) where
+  ahead : IsChecking d T0 T1 (sets_in T0 os) (set_at T0 x.set ∷ sets_in T0 (drop (suc k) os)) j u0 u1
+  ahead = subst (λ (ys : List Opening). IsChecking d T0 T1 (sets_in T0 os) (sets_in T0 ys) j u0 u1) (at_item os k x l e) a
+
+  same : set_at T1 x.set ≡ set_at T0 x.set
+  same = a.searched.more.same x.set (n x (item_in os k x l e))
+
+  -- its number is one of the table
+  pub opening_within : x.set < length T1
+  opening_within = let m = n x (item_in os k x l e) in let longer = a.searched.more.longer in omega arith
+
+  pub opening_covers : (R : List (List Pos × ℕ)) → CoversSets (chess d) (sets_in T0 os) j R → CoversSet (chess d) (set_at T1 x.set) j R
+  opening_covers = next_covers d T0 T1 T1 (sets_in T0 os) (set_at T0 x.set) (sets_in T0 (drop (suc k) os)) (set_at T1 x.set) j u0 u1 ahead same refl a.searched
+
+  module _ (T2 : Interned) (u2 : ℕ) (s : IsSearched d (CoversSet (chess d) (set_at T1 x.set) j) 0 T1 T2 u1 u2) where
+    pub opening_lost : TellsSet d T2 (set_at T1 x.set) j false → TellsSets d T2 (sets_in T0 os) j false × IsSearched d (CoversSets (chess d) (sets_in T0 os) j) 0 T0 T2 u0 u2
+    opening_lost w = set_lost d T0 T1 T1 (sets_in T0 os) (set_at T0 x.set) (sets_in T0 (drop (suc k) os)) (set_at T1 x.set) j u0 u1 ahead same refl a.searched T2 u2 s w
+
+    pub opening_won : TellsSet d T2 (set_at T1 x.set) j true → IsChecking d T0 T2 (sets_in T0 os) (sets_in T0 (drop (k + 1) os)) j u0 u2
+    opening_won w =
+        let one : suc k ≡ k + 1 = omega arith in
+        subst (λ (m : ℕ). IsChecking d T0 T2 (sets_in T0 os) (sets_in T0 (drop m os)) j u0 u2) one
+        (set_won d T0 T1 T1 (sets_in T0 os) (set_at T0 x.set) (sets_in T0 (drop (suc k) os)) (set_at T1 x.set) j u0 u1 ahead same refl a.searched T2 u2 s w)

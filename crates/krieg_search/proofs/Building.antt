@@ -1,0 +1,158 @@
+-- The node of a set, and what it takes.
+use Rattle.std.proofs.Common.{◌≡◌, ℕ, suc, ◌+◌, ◌-◌, ◌≤◌, ◌<◌, ◌^◌, true, false, ◌⊎◌, inl, inr, List, [], ◌∷◌, map, Some, Result, Ok, Err, max, refl, sym, ap, subst, ◌∙◌, arith}
+use Rattle.std.specs.Result.{IsErrAnd}
+use Rattle.std.proofs.Math.Nat.{le-max_left, le-max_right}
+use Rattle.krieg_board.specs.Pos.{Pos}
+use Rattle.krieg_board.specs.declared.men.Move.{Move}
+use Rattle.krieg_words.specs.declared.dialects.Dialect.{Dialect}
+use Rattle.krieg_theory.specs.Sets.{In, is_nil}
+use Rattle.krieg_theory.specs.Tree.{Try, Maybe, Just, Edges, size, size_other, size_edges, depth, depth_other, depth_edges}
+use Rattle.krieg_theory.specs.Split.{refused, keys, class}
+use Rattle.krieg_theory.specs.Can.{can}
+use Rattle.krieg_theory.specs.Computed.{edge_with, edges_of, canon}
+use Rattle.krieg_theory.proofs.Lists.{map_in}
+use Rattle.krieg_theory.proofs.Built.{canon_wins}
+use Rattle.krieg_theory.proofs.Unique.{can_upto}
+use Rattle.krieg_costs.specs.Cost.{made}
+use Rattle.krieg_accounts.specs.Sound.{known, IsSound}
+use Rattle.krieg_accounts.specs.Charges.{charged}
+use Rattle.krieg_accounts.specs.Laws.{refused_canon}
+use Rattle.krieg_accounts.proofs.Tables.{result_can}
+use Rattle.krieg_accounts.proofs.Canonical.{class_won, refused_won, split_paid, stored_is_canon}
+use Rattle.krieg_game.specs.Keys.{Key}
+use Rattle.krieg_game.specs.Chess.{chess}
+use Rattle.krieg_game.specs.Classes.{class_pair}
+use Rattle.krieg_game.proofs.ChessLaws.{chess_is_game}
+use Rattle.krieg_split.specs.Parted.{IsParted}
+use Rattle.krieg_split.specs.declared.parts.Parted.{Parted}
+use Rattle.krieg_plan.specs.Trees.{NodeTree}
+use Rattle.krieg_table.specs.Interned.{Interned}
+use Rattle.krieg_table.specs.Entries.{entries}
+use Rattle.krieg_search.specs.declared.stop.Stop2.{Stop2}
+use Rattle.krieg_search.specs.declared.stop.Stop2.TheVariants.{Spent, Large, NoMemory}
+use Rattle.krieg_search.specs.Searched.{AreCounted, IsNumbered, IsReady, sets_of}
+use Rattle.krieg_search.specs.Opened.{AddsSets}
+use Rattle.krieg_search.specs.Built.{WonBy, Builds, IsPaidFor, edges_for}
+use Rattle.krieg_search.proofs.Leaving.{sets_are}
+use Rattle.krieg_search.proofs.Searching.{more_itself, more_then}
+
+-- only sets come
+pub adds_nothing : (T : Interned) → AreCounted T → AddsSets T T
+adds_nothing T c = record { counted = c; more = more_itself T; noted = refl }
+
+pub adds_then : (T0 T1 T2 : Interned) → AddsSets T0 T1 → AddsSets T1 T2 → AddsSets T0 T2
+adds_then T0 T1 T2 a b = record { counted = b.counted; more = more_then T0 T1 T2 a.more b.more; noted = b.noted ∙ a.noted }
+
+pub adds_number : (T0 T1 : Interned) (B : List Pos) (set : ℕ) → IsNumbered T0 T1 B set → AddsSets T0 T1
+adds_number T0 T1 B set n = record { counted = n.counted; more = n.interned.more; noted = n.interned.noted }
+
+pub still_won : (T T' : Interned) (X : List Pos) (j : ℕ) → AddsSets T T' → WonBy T X j → WonBy T' X j
+still_won T T' X j a w = (w.0, w.1, w.2, w.3, subst (λ E. Rattle.krieg_accounts.specs.Stored.stored Rattle.krieg_pack.specs.Order.position_lt E (X, w.0) ≡ Some (Some w.3)) (sym a.noted) w.4)
+
+-- the same in another set, which is equal
+pub won_at : (T : Interned) (X Y : List Pos) (j : ℕ) → Y ≡ X → WonBy T X j → WonBy T Y j
+won_at T X Y j e w = subst (λ (Z : List Pos). WonBy T Z j) (sym e) w
+
+-- a step was too large: so is the whole
+pub too_large : {A B : Type 0} (P : Stop2 → Type 0) (r : Result B Stop2) (e : Stop2) (holds : A → Type 0) (wanted : B → Type 0) (nodes nodes' deepest deepest' : ℕ) (T0 T1 T2 T3 : Interned) (had had' has has' deep deep' : ℕ)
+    → ((x : Stop2) → P x → e ≡ x) → IsErrAnd r P → ((had < nodes) ⊎ (deep < deepest) → (had' < nodes') ⊎ (deep' < deepest')) → Builds (Err e) holds nodes deepest T0 T1 had has deep → Builds r wanted nodes' deepest' T2 T3 had' has' deep'
+too_large P (Ok x) e holds wanted nodes nodes' deepest deepest' T0 T1 T2 T3 had had' has has' deep deep' same fails f k = absurd fails
+too_large {A = A} {B = B} P (Err x) e holds wanted nodes nodes' deepest deepest' T0 T1 T2 T3 had had' has has' deep deep' same fails f k =
+    go x (subst (λ (y : Stop2). Builds {A = A} (Err y) holds nodes deepest T0 T1 had has deep) (same x fails) k)
+  where
+    go : (y : Stop2) → Builds {A = A} (Err y) holds nodes deepest T0 T1 had has deep → Builds {A = B} (Err y) wanted nodes' deepest' T2 T3 had' has' deep'
+    go Spent v = absurd v
+    go Large v = f v
+    go NoMemory v = tt
+
+pub size_some : (n : NodeTree) → 0 < size n
+size_some (Try t o es) = omega arith
+
+pub depth_some : (n : NodeTree) → 0 < depth n
+depth_some (Try t o es) = omega arith
+
+module _ (d : Dialect) where
+  pub still_paid : (T T' : Interned) → AddsSets T T' → IsPaidFor d T → IsPaidFor d T'
+  still_paid T T' a p = record {
+    ready = record { counted = a.counted; sound = subst (λ E. IsSound (chess d) E) (sym a.noted) p.ready.sound };
+    paid = subst (λ E. charged (chess d) E < 2 ^ 64) (sym a.noted) p.paid;
+  }
+
+  -- a set that is stored as won has a canonical node
+  pub won_can : (T : Interned) (X : List Pos) (j : ℕ) → IsReady d T → WonBy T X j → can (chess d) j X ≡ true
+  won_can T X j r w = can_upto (chess d) (chess_is_game d) w.0 j X w.2 (result_can (chess d) (chess_is_game d) (entries T) r.sound X w.0 (Some w.3) w.4)
+
+  pub won_node : (T : Interned) (X : List Pos) (j : ℕ) → IsReady d T → WonBy T X j → (n : NodeTree) × (canon (chess d) j X ≡ Just n)
+  won_node T X j r w = let c = canon_wins (chess d) (chess_is_game d) j X (won_can T X j r w) in (c.0, c.1)
+
+  -- so it takes some node, and some path
+  pub no_nodes : (T : Interned) (X : List Pos) (j left deep : ℕ) → IsReady d T → WonBy T X j → left ≡ 0 → (left < size_other (canon (chess d) j X)) ⊎ (deep < depth_other (canon (chess d) j X))
+  no_nodes T X j left deep r w e = let n = won_node T X j r w in let s = size_some n.0 in let q = ap size_other n.1 in inl (omega arith)
+
+  pub no_path : (T : Interned) (X : List Pos) (j left deep : ℕ) → IsReady d T → WonBy T X j → deep ≡ 0 → (left < size_other (canon (chess d) j X)) ⊎ (deep < depth_other (canon (chess d) j X))
+  no_path T X j left deep r w e = let n = won_node T X j r w in let s = depth_some n.0 in let q = ap depth_other n.1 in inr (omega arith)
+
+  list_is : (B : List Pos) (m : Move) (j : ℕ) (ks : List Key) → edges_for d j (map (λ key. (key, class (chess d) B m key)) ks) ≡ edges_of (chess d) ks (λ key. canon (chess d) j (class (chess d) B m key))
+  list_is B m j [] = refl
+  list_is B m j (k ∷ ks) = ap (edge_with (chess d) k (canon (chess d) j (class (chess d) B m k))) (list_is B m j ks)
+
+  -- how the set is won that is built, and what its try makes of it
+  module _ (T : Interned) (B : List Pos) (j number : ℕ) (m : Move) (paid : IsPaidFor d T) (some : 0 < number) (within : number ≤ j) (stored : known (chess d) (entries T) (B, number) ≡ Some (Some m)) where
+    before : suc (number - 1) ≡ number
+    before = omega arith
+
+    at_before : known (chess d) (entries T) (B, suc (number - 1)) ≡ Some (Some m)
+    at_before = subst (λ (i : ℕ). known (chess d) (entries T) (B, i) ≡ Some (Some m)) (sym before) stored
+
+    -- its split was paid for
+    pub paid_by : made (chess d) B m < 2 ^ 64
+    paid_by = let a = split_paid (chess d) (chess_is_game d) (entries T) paid.ready.sound B (number - 1) m at_before in let b = paid.paid in omega arith
+
+    module _ (p : Parted) (q : IsParted d B m p) where
+      pub classes_won : (C : List Pos) → In C (sets_of p.classes.items) → WonBy T C (number - 1)
+      classes_won C i =
+          let k = map_in (λ (key : Key). class (chess d) B m key) (keys (chess d) B m) C (subst (In C) (sets_are d B m p.classes.items q.classes_part) i) in
+          subst (λ (X : List Pos). WonBy T X (number - 1)) k.2 (class_won (chess d) (chess_is_game d) (entries T) paid.ready.sound B (number - 1) m at_before k.0 k.1)
+
+      pub refused_is_won : is_nil p.refused ≡ false → WonBy T p.refused number
+      refused_is_won n =
+          subst (λ (X : List Pos). WonBy T X number) (sym q.refused_part)
+          (subst (λ (i : ℕ). WonBy T (refused (chess d) B m) i) before (refused_won (chess d) (chess_is_game d) (entries T) paid.ready.sound B (number - 1) m at_before (ap is_nil (sym q.refused_part) ∙ n)))
+
+      other : Maybe Move Key
+      other = refused_canon (chess d) number p.refused
+
+      edges : Edges Move Key
+      edges = edges_for d (number - 1) (map class_pair p.classes.items)
+
+      -- the canonical node, by the parts
+      pub node_is : canon (chess d) j B ≡ Just (Try m (refused_canon (chess d) number p.refused) (edges_for d (number - 1) (map class_pair p.classes.items)))
+      node_is =
+          stored_is_canon (chess d) (chess_is_game d) (entries T) B j (number - 1) m paid.ready.sound at_before (let x = before in omega arith)
+          ∙ ap (λ (i : ℕ). Just (Try m (refused_canon (chess d) i (refused (chess d) B m)) (edges_of (chess d) (keys (chess d) B m) (λ key. canon (chess d) (number - 1) (class (chess d) B m key))))) before
+          ∙ ap (λ (X : List Pos). Just (Try m (refused_canon (chess d) number X) (edges_of (chess d) (keys (chess d) B m) (λ key. canon (chess d) (number - 1) (class (chess d) B m key))))) (sym q.refused_part)
+          ∙ ap (λ es. Just (Try m (refused_canon (chess d) number p.refused) es)) (sym (ap (edges_for d (number - 1)) q.classes_part ∙ list_is B m (number - 1) (keys (chess d) B m)))
+
+      sizes : size_other (canon (chess d) j B) ≡ 1 + (size_other (refused_canon (chess d) number p.refused) + size_edges (edges_for d (number - 1) (map class_pair p.classes.items)))
+      sizes = ap size_other node_is
+
+      depths : depth_other (canon (chess d) j B) ≡ 1 + max (depth_other (refused_canon (chess d) number p.refused)) (depth_edges (edges_for d (number - 1) (map class_pair p.classes.items)))
+      depths = ap depth_other node_is
+
+      -- the edges are too large
+      pub edges_large : (left deep : ℕ) → 0 < left → 0 < deep → (left - 1 < size_edges (edges_for d (number - 1) (map class_pair p.classes.items))) ⊎ (deep - 1 < depth_edges (edges_for d (number - 1) (map class_pair p.classes.items)))
+          → (left < size_other (canon (chess d) j B)) ⊎ (deep < depth_other (canon (chess d) j B))
+      edges_large left deep a b (inl h) = inl (let s = sizes in omega arith)
+      edges_large left deep a b (inr h) = inr (let s = depths in let x = le-max_right (depth_other (refused_canon (chess d) number p.refused)) (depth_edges (edges_for d (number - 1) (map class_pair p.classes.items))) in omega arith)
+
+      -- the node for the illegal case is, with the edges
+      pub other_large : (left has deep : ℕ) → 0 < left → 0 < deep → has + size_edges (edges_for d (number - 1) (map class_pair p.classes.items)) ≡ left - 1 → (has < size_other (refused_canon (chess d) number p.refused)) ⊎ (deep - 1 < depth_other (refused_canon (chess d) number p.refused))
+          → (left < size_other (canon (chess d) j B)) ⊎ (deep < depth_other (canon (chess d) j B))
+      other_large left has deep a b e (inl h) = inl (let s = sizes in omega arith)
+      other_large left has deep a b e (inr h) = inr (let s = depths in let x = le-max_left (depth_other (refused_canon (chess d) number p.refused)) (depth_edges (edges_for d (number - 1) (map class_pair p.classes.items))) in omega arith)
+
+      -- all fits
+      pub node_fits : (left has has' deep : ℕ) → 0 < left → 0 < deep → has + size_edges (edges_for d (number - 1) (map class_pair p.classes.items)) ≡ left - 1 → has' + size_other (refused_canon (chess d) number p.refused) ≡ has
+          → depth_edges (edges_for d (number - 1) (map class_pair p.classes.items)) ≤ deep - 1 → depth_other (refused_canon (chess d) number p.refused) ≤ deep - 1
+          → (has' + size_other (canon (chess d) j B) ≡ left) × (depth_other (canon (chess d) j B) ≤ deep)
+      node_fits left has has' deep a b e f g h = ((let s = sizes in omega arith), (let s = depths in omega arith))

@@ -1,0 +1,169 @@
+-- What is decided over the opening sets, and what it takes.
+use Rattle.std.proofs.Common.{◌≡◌, ℕ, ◌+◌, ◌≤◌, Bool, true, false, not, ◌&&◌, List, [], ◌∷◌, map, Option, Result, Ok, Err, refl, sym, ap, subst, ◌∙◌, arith, Vec, Some}
+use Rattle.std.specs.declared.alloc.Global.{Global}
+use Rattle.std.specs.List.{list_all, list_any}
+use Rattle.std.specs.Result.{IsErrAnd}
+use Rattle.std.proofs.lemmas.Bool.{cond-true}
+use Rattle.krieg_board.specs.Pos.{Pos}
+use Rattle.krieg_board.specs.declared.men.Side.{Side}
+use Rattle.krieg_words.specs.declared.dialects.Dialect.{Dialect}
+use Rattle.krieg_theory.specs.Sets.{In}
+use Rattle.krieg_theory.specs.Can.{can}
+use Rattle.krieg_theory.specs.Plans.{openings, opening_set, is_over, can_plan}
+use Rattle.krieg_theory.proofs.Lists.{all_at}
+use Rattle.krieg_costs.specs.Sums.{total, once}
+use Rattle.krieg_costs.specs.Cost.{first_made}
+use Rattle.krieg_costs.specs.Reach.{fresh}
+use Rattle.krieg_costs.specs.Backing.{floor, floor_price}
+use Rattle.krieg_accounts.specs.Sound.{IsSound}
+use Rattle.krieg_accounts.specs.Charges.{charged}
+use Rattle.krieg_accounts.specs.Stretch.{IsStretch, FallsShort, CoversSets}
+use Rattle.krieg_accounts.specs.Answers.{AnswersSets, opening_sets}
+use Rattle.krieg_accounts.proofs.Canonical.{by_least}
+use Rattle.krieg_accounts.proofs.Searches.{empty_sound, fresh_is_enough, short_is_below_fresh, floor_is_taken, sets_answer_plan}
+use Rattle.krieg_accounts.proofs.TryEnds.{all_map}
+use Rattle.krieg_game.specs.Keys.{RootKey}
+use Rattle.krieg_game.specs.Chess.{chess}
+use Rattle.krieg_game.specs.Outset.{outset}
+use Rattle.krieg_game.specs.ClassLaws as game
+use Rattle.krieg_game.proofs.ChessLaws.{chess_is_game, outset_is_lawful}
+use Rattle.krieg_split.specs.declared.stop.SplitStop.{SplitStop}
+use Rattle.krieg_split.specs.declared.stop.SplitStop.TheVariants as split
+use Rattle.krieg_split.specs.Units.{Charged}
+use Rattle.krieg_table.specs.Interned.{Interned}
+use Rattle.krieg_table.specs.Entries.{entries}
+use Rattle.krieg_table.specs.Table.{IsMore}
+use Rattle.krieg_search.specs.declared.openings.Opening.{Opening}
+use Rattle.krieg_search.specs.declared.decide.Won.{Won}
+use Rattle.krieg_search.specs.declared.stop.Stop2.{Stop2}
+use Rattle.krieg_search.specs.declared.stop.Stop2.TheVariants.{Spent, Large, NoMemory}
+use Rattle.krieg_search.specs.Stops.{stop_of}
+use Rattle.krieg_search.specs.Searched.{AreCounted, IsReady, IsSearched, Searches, TellsSets}
+use Rattle.krieg_search.specs.Opened.{opening_in, AreNumbered, AreAdded, IsOpened}
+use Rattle.krieg_search.specs.Built.{WonBy}
+use Rattle.krieg_search.specs.Decided.{sets_in, IsBetween, IsWon, IsDecided}
+use Rattle.krieg_search.proofs.Searching.{ready_from}
+use Rattle.krieg_search.proofs.Opening.{same_openings, numbered_more}
+
+map_compose : {X Y Z : Type 0} (f : X → Y) (g : Y → Z) (xs : List X) → map g (map f xs) ≡ map (λ x. g (f x)) xs
+map_compose f g [] = refl
+map_compose f g (x ∷ xs) = ap (λ ys. g (f x) ∷ ys) (map_compose f g xs)
+
+no_entries : entries [] ≡ []
+unfolding entries
+no_entries = refl
+
+-- nothing is known in an empty table
+pub empty_counted : AreCounted []
+empty_counted k = omega arith
+
+-- the sets of openings, whatever was stored since
+pub same_sets : (T T' : Interned) (os : List Opening) → IsMore T T' → AreNumbered T os → sets_in T' os ≡ sets_in T os
+same_sets T T' os m n =
+    sym (map_compose (opening_in T') (λ (c : RootKey × List Pos). c.1) os)
+    ∙ ap (map (λ (c : RootKey × List Pos). c.1)) (same_openings T T' os m n)
+    ∙ map_compose (opening_in T) (λ (c : RootKey × List Pos). c.1) os
+
+module _ (d : Dialect) (who : Side) (S : List Pos) (n : ℕ) where
+  first_within : first_made (chess d) (outset d who) S ≤ fresh (chess d) (outset d who) n S
+  first_within = omega arith
+
+  -- the openings were stopped
+  pub openings_stopped : {A : Type 0} (P : Stop2 → Type 0) (r : Result (Option Won) Stop2) (stop : SplitStop) (holds : A → Type 0) (u0 u1 u2 : ℕ)
+      → ((x : Stop2) → P x → stop_of stop ≡ x) → IsErrAnd r P → Charged {A = A} (Err stop) holds (first_made (chess d) (outset d who) S) u0 u1 → IsDecided d who S n r u0 u2
+  openings_stopped P (Ok x) stop holds u0 u1 u2 same fails k = absurd fails
+  openings_stopped {A = A} P (Err x) stop holds u0 u1 u2 same fails k = subst (λ (y : Stop2). IsDecided d who S n (Err y) u0 u2) (same x fails) (go stop k)
+    where
+      go : (stop : SplitStop) → Charged {A = A} (Err stop) holds (first_made (chess d) (outset d who) S) u0 u1 → IsDecided d who S n (Err (stop_of stop)) u0 u2
+      go split.Spent v = let w = first_within in omega arith
+      go split.NoMemory v = tt
+
+  -- the openings are there
+  pub are_opened : (T T1 : Interned) (r : Option (Vec Opening Global)) (os : Vec Opening Global) → T ≡ [] → r ≡ Some os → IsOpened d who S T T1 r → (list_any (is_over (chess d) (outset d who)) S ≡ false) × AreAdded [] T1 os.items (game.opening_sets d who S)
+  are_opened T T1 r os e f o = subst (λ (T : Interned). IsOpened d who S T T1 (Some os)) e (subst (λ (r : Option (Vec Opening Global)). IsOpened d who S T T1 r) f o)
+
+  -- some listed position is over
+  pub over : (u0 u1 : ℕ) → list_any (is_over (chess d) (outset d who)) S ≡ true → u1 + first_made (chess d) (outset d who) S ≡ u0 → (can_plan (chess d) (outset d who) n S ≡ false) × IsBetween d who S n u0 u1
+  over u0 u1 o e =
+      let w = first_within in
+      let f : floor (chess d) (outset d who) n S ≡ first_made (chess d) (outset d who) S + total (floor_price (chess d)) (once (chess d) []) = ap (λ R. first_made (chess d) (outset d who) S + total (floor_price (chess d)) (once (chess d) R)) (cond-true (list_any (is_over (chess d) (outset d who)) S) [] _ o) in (
+        ap (λ b. not b && list_all (λ key. can (chess d) n (opening_set (chess d) (outset d who) S key)) (openings (chess d) (outset d who) S)) o,
+        record { at_least = omega arith; at_most = omega arith },
+      )
+
+  -- the openings are there, and their sets are searched
+  module _ (T1 : Interned) (os : List Opening) (a : AreAdded [] T1 os (game.opening_sets d who S)) where
+    pub opened_ready : IsReady d T1
+    opened_ready = record { counted = a.sets.counted; sound = subst (λ E. IsSound (chess d) E) (sym (a.sets.noted ∙ no_entries)) (empty_sound (chess d)) }
+
+    at_sets : sets_in T1 os ≡ opening_sets (chess d) (outset d who) S
+    at_sets =
+        sym (map_compose (opening_in T1) (λ (c : RootKey × List Pos). c.1) os)
+        ∙ ap (map (λ (c : RootKey × List Pos). c.1)) a.are
+        ∙ map_compose (λ (key : RootKey). (key, opening_set (chess d) (outset d who) S key)) (λ (c : RootKey × List Pos). c.1) (openings (chess d) (outset d who) S)
+
+    none_stored : entries T1 ≡ []
+    none_stored = a.sets.noted ∙ no_entries
+
+    -- they were stopped
+    pub search_stopped : {A : Type 0} (P : Stop2 → Type 0) (r : Result (Option Won) Stop2) (e : Stop2) (holds : A → Type 0) (T2 : Interned) (u0 u1 u2 u3 : ℕ)
+        → ((x : Stop2) → P x → e ≡ x) → IsErrAnd r P → u1 + first_made (chess d) (outset d who) S ≡ u0 → Searches d {A = A} (Err e) holds (CoversSets (chess d) (sets_in T1 os) n) 0 T1 T2 u1 u2 → IsDecided d who S n r u0 u3
+    search_stopped P (Ok x) e holds T2 u0 u1 u2 u3 same fails taken k = absurd fails
+    search_stopped {A = A} P (Err x) e holds T2 u0 u1 u2 u3 same fails taken k =
+        go x (subst (λ (y : Stop2). Searches d {A = A} (Err y) holds (CoversSets (chess d) (sets_in T1 os) n) 0 T1 T2 u1 u2) (same x fails) k)
+      where
+        go : (y : Stop2) → Searches d {A = A} (Err y) holds (CoversSets (chess d) (sets_in T1 os) n) 0 T1 T2 u1 u2 → IsDecided d who S n (Err y) u0 u3
+        go Spent v =
+            let w = subst (λ E. FallsShort (chess d) (CoversSets (chess d) (opening_sets (chess d) (outset d who) S) n) 0 E u1) none_stored (subst (λ (Cs : List (List Pos)). FallsShort (chess d) (CoversSets (chess d) Cs n) 0 (entries T1) u1) at_sets v) in
+            let f = short_is_below_fresh (chess d) (chess_is_game d) (outset d who) (outset_is_lawful d who) n S u1 w in
+            omega arith
+        go Large v = absurd v
+        go NoMemory v = tt
+
+    module _ (T2 : Interned) (yes : Bool) (u0 u1 u2 : ℕ) (none : list_any (is_over (chess d) (outset d who)) S ≡ false) (taken : u1 + first_made (chess d) (outset d who) S ≡ u0) (w : TellsSets d T2 (sets_in T1 os) n yes) (s : IsSearched d (CoversSets (chess d) (sets_in T1 os) n) 0 T1 T2 u1 u2) where
+      stretch : IsStretch (chess d) (CoversSets (chess d) (opening_sets (chess d) (outset d who) S) n) 0 [] (entries T2) u1 u2
+      stretch = subst (λ E. IsStretch (chess d) (CoversSets (chess d) (opening_sets (chess d) (outset d who) S) n) 0 E (entries T2) u1 u2) none_stored (subst (λ (Cs : List (List Pos)). IsStretch (chess d) (CoversSets (chess d) Cs n) 0 (entries T1) (entries T2) u1 u2) at_sets s.stretch)
+
+      tells : TellsSets d T2 (opening_sets (chess d) (outset d who) S) n yes
+      tells = subst (λ (Cs : List (List Pos)). TellsSets d T2 Cs n yes) at_sets w
+
+      answer : yes ≡ can_plan (chess d) (outset d who) n S
+      answer =
+          tells.right ∙ all_map (opening_set (chess d) (outset d who) S) (can (chess d) n) (openings (chess d) (outset d who) S)
+          ∙ ap (λ b. not b && list_all (λ key. can (chess d) n (opening_set (chess d) (outset d who) S key)) (openings (chess d) (outset d who) S)) (sym none)
+
+      between : IsBetween d who S n u0 u2
+      between =
+          let plan = sets_answer_plan (chess d) (chess_is_game d) (outset d who) (outset_is_lawful d who) n S (entries T2) none (subst (λ b. AnswersSets (chess d) (entries T2) (opening_sets (chess d) (outset d who) S) n b) answer tells.stored) in
+          let f = floor_is_taken (chess d) (chess_is_game d) (outset d who) (outset_is_lawful d who) n S (entries T2) u1 u2 stretch plan in
+          let g = fresh_is_enough (chess d) (chess_is_game d) (outset d who) (outset_is_lawful d who) n S (entries T2) u1 u2 stretch in
+          record { at_least = omega arith; at_most = omega arith }
+
+      -- some opening set cannot be won
+      pub not_won : yes ≡ false → (can_plan (chess d) (outset d who) n S ≡ false) × IsBetween d who S n u0 u2
+      not_won e = (sym answer ∙ e, between)
+
+      -- all can
+      pub all_are_won : yes ≡ true → (won : Won) → won.table ≡ T2 → won.openings.items ≡ os → IsWon d who S n won u0 × IsBetween d who S n u0 u2
+      all_are_won e won t o = (
+        record {
+          can = sym answer ∙ e;
+          ready = subst (IsReady d) (sym t) ready;
+          paid = subst (λ (T : Interned). charged (chess d) (entries T) ≤ u0) (sym t) paid;
+          numbered = subst (λ (T : Interned). AreNumbered T won.openings.items) (sym t) (subst (λ (xs : List Opening). AreNumbered T2 xs) (sym o) (numbered_more T1 T2 os s.more a.numbered));
+          sets = subst (λ (T : Interned). map (opening_in T) won.openings.items ≡ game.opening_sets d who S) (sym t) (subst (λ (xs : List Opening). map (opening_in T2) xs ≡ game.opening_sets d who S) (sym o) (same_openings T1 T2 os s.more a.numbered ∙ a.are));
+          won = subst (λ (T : Interned). (C : List Pos) → In C (sets_in T won.openings.items) → WonBy T C n) (sym t) (subst (λ (xs : List Opening). (C : List Pos) → In C (sets_in T2 xs) → WonBy T2 C n) (sym o) each);
+        },
+        between,
+      )
+        where
+          ready : IsReady d T2
+          ready = ready_from d (CoversSets (chess d) (sets_in T1 os) n) 0 T1 T2 u1 u2 s
+
+          paid : charged (chess d) (entries T2) ≤ u0
+          paid = let x = stretch.exact in omega arith
+
+          each : (C : List Pos) → In C (sets_in T2 os) → WonBy T2 C n
+          each C i =
+              let k = subst (In C) (same_sets T1 T2 os s.more a.numbered) i in
+              by_least (chess d) (chess_is_game d) (entries T2) ready.sound C n (w.stored.won e C k) (all_at (can (chess d) n) (sets_in T1 os) (sym w.right ∙ e) C k)

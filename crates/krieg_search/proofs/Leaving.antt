@@ -1,0 +1,66 @@
+-- What a try leaves to be won, by the theory's words.
+use Rattle.std.proofs.Common.{◌≡◌, ℕ, zero, suc, ◌<◌, true, false, List, [], ◌∷◌, map, Option, Some, None, refl, sym, ap, ◌∙◌, arith}
+use Rattle.std.specs.Prelude.{IfSome}
+use Rattle.std.proofs.lemmas.Bool.{cond-true}
+use Rattle.krieg_board.specs.Pos.{Pos}
+use Rattle.krieg_board.specs.declared.men.Move.{Move}
+use Rattle.krieg_words.specs.declared.dialects.Dialect.{Dialect}
+use Rattle.krieg_theory.specs.Split.{stale_in_some, keys, class}
+use Rattle.krieg_costs.specs.Block.{block_pair, lives_in_some, pair_of}
+use Rattle.krieg_accounts.specs.Answers.{classes}
+use Rattle.krieg_accounts.proofs.TryEnds.{begins_stale, blocked_stale}
+use Rattle.krieg_game.specs.Keys.{Key}
+use Rattle.krieg_game.specs.Chess.{chess}
+use Rattle.krieg_game.specs.Classes.{class_pair}
+use Rattle.krieg_game.specs.declared.classes.Class.{Class}
+use Rattle.krieg_game.proofs.ChessLaws.{chess_is_game}
+use Rattle.krieg_split.specs.Parted.{IsParted}
+use Rattle.krieg_split.specs.LastMove.{SomeLives, AllMate}
+use Rattle.krieg_split.specs.declared.parts.Parted.{Parted}
+use Rattle.krieg_search.specs.Searched.{sets_of}
+use Rattle.krieg_search.specs.Leaving.{FailsAtOnce, Leaves}
+use Rattle.krieg_search.specs.declared.left.Left.{Left}
+
+map_compose : {X Y Z : Type 0} (f : X → Y) (g : Y → Z) (xs : List X) → map g (map f xs) ≡ map (λ x. g (f x)) xs
+map_compose f g [] = refl
+map_compose f g (x ∷ xs) = ap (λ ys. g (f x) ∷ ys) (map_compose f g xs)
+
+no_pair : {X : Type 0} (o : Option X) → IfSome o (λ x. ⊥) → o ≡ None
+no_pair None h = refl
+no_pair (Some x) h = absurd h
+
+module _ (d : Dialect) where
+  -- a try that stalemates in some member
+  pub fails_by_stalemate : (B : List Pos) (t : Move) (j : ℕ) → 0 < j → stale_in_some (chess d) B t ≡ true → FailsAtOnce d B t j
+  fails_by_stalemate B t zero pos s = absurd (omega arith)
+  fails_by_stalemate B t (suc i) pos s = record {
+    fails = begins_stale (chess d) (chess_is_game d) i B t s;
+    no_pair = no_pair (block_pair (chess d) (suc i) B t) (blocked_stale (chess d) (chess_is_game d) (λ q. ⊥) i B t s);
+  }
+
+  -- a try that does not mate with the last move
+  pub fails_by_life : (B : List Pos) (t : Move) → SomeLives d B t → FailsAtOnce d B t 1
+  fails_by_life B t s = record {
+    fails = s.fails;
+    no_pair = ap (pair_of (chess d) 0 B t) (cond-true (lives_in_some (chess d) B t) _ _ s.lives);
+  }
+
+  -- one that mates wherever it is legal
+  pub leaves_refused : (B : List Pos) (t : Move) (l : Left) (rest : List Pos) → l.classes.items ≡ [] → l.refused ≡ rest → AllMate d B t rest → Leaves d B t l
+  leaves_refused B t l rest none is a = record {
+    none_stale = a.none_stale;
+    classes_part = ap (map class_pair) none ∙ ap (map (λ (key : Key). (key, class (chess d) B t key))) (sym a.no_keys);
+    refused_part = is ∙ a.refused_part;
+  }
+
+  pub leaves_parts : (B : List Pos) (t : Move) (l : Left) (p : Parted) → l.classes.items ≡ p.classes.items → l.refused ≡ p.refused → p.stale ≡ false → IsParted d B t p → Leaves d B t l
+  leaves_parts B t l p same is none a = record {
+    none_stale = sym a.stale_part ∙ none;
+    classes_part = ap (map class_pair) same ∙ a.classes_part;
+    refused_part = is ∙ a.refused_part;
+  }
+
+  -- the sets of the classes are those of the keys that occur
+  pub sets_are : (B : List Pos) (t : Move) (cs : List Class) → map class_pair cs ≡ map (λ key. (key, class (chess d) B t key)) (keys (chess d) B t) → sets_of cs ≡ classes (chess d) B t
+  sets_are B t cs e =
+      sym (map_compose class_pair (λ (x : Key × List Pos). x.1) cs) ∙ ap (map (λ (x : Key × List Pos). x.1)) e ∙ map_compose (λ (k : Key). (k, class (chess d) B t k)) (λ (x : Key × List Pos). x.1) (keys (chess d) B t)

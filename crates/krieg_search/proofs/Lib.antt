@@ -1,0 +1,16 @@
+mod Searching
+mod Leaving
+mod Trying
+mod Tries
+mod Numbers
+mod Noting
+mod Checking
+mod Asking
+mod Opening
+mod Deciding
+mod Building
+mod Edging
+mod Rooting
+mod Ordering
+mod Solving
+mod Turning

@@ -1,0 +1,105 @@
+-- What is known of a set once its result is stored.
+use Rattle.std.proofs.Common.{◌≡◌, ℕ, zero, suc, ◌≤◌, ◌<◌, ◌^◌, true, false, List, [], ◌∷◌, length, slice_index_or, Option, Some, None, Result, Ok, Err, is_some, refl, sym, ap, subst, ◌∙◌, arith}
+use Rattle.std.specs.Prelude.{option_map}
+use Rattle.std.specs.Result.{IsErrAnd}
+use Rattle.std.proofs.lemmas.Bool.{both_ways}
+use Rattle.krieg_board.specs.Pos.{Pos}
+use Rattle.krieg_board.specs.declared.men.Move.{Move}
+use Rattle.krieg_words.specs.declared.dialects.Dialect.{Dialect}
+use Rattle.krieg_theory.specs.Can.{first_try}
+use Rattle.krieg_costs.specs.Cost.{price}
+use Rattle.krieg_costs.specs.Backing.{floor_price}
+use Rattle.krieg_pack.specs.Order.{position_lt}
+use Rattle.krieg_accounts.specs.Stored.{stored, AddsResult}
+use Rattle.krieg_accounts.specs.Sound.{known, IsBacked}
+use Rattle.krieg_accounts.specs.Stretch.{CoversPair, CoversTries}
+use Rattle.krieg_accounts.proofs.Tables.{result_can}
+use Rattle.krieg_accounts.proofs.Stretches.{stretch_noted, short_noted, still_unknown}
+use Rattle.krieg_game.specs.Chess.{chess}
+use Rattle.krieg_game.proofs.ChessLaws.{chess_is_game}
+use Rattle.krieg_table.specs.declared.known.Known.{Known}
+use Rattle.krieg_table.specs.Interned.{Interned, sets, set_at}
+use Rattle.krieg_table.specs.Entries.{try_of, entries}
+use Rattle.krieg_table.specs.Table.{IsMore, IsNoted}
+use Rattle.krieg_search.specs.declared.stop.Stop2.{Stop2}
+use Rattle.krieg_search.specs.declared.stop.Stop2.TheVariants.{Spent, Large, NoMemory}
+use Rattle.krieg_search.specs.Searched.{IsReady, IsSearched, Searches, TellsSet}
+use Rattle.krieg_search.proofs.Searching.{more_then, searched_nothing}
+
+-- the sets of a table by their places
+set_there : (T : Interned) (m : ℕ) → set_at T m ≡ slice_index_or (sets T) m []
+set_there [] m = refl
+set_there (r ∷ T) zero = refl
+set_there (r ∷ T) (suc m) = set_there T m
+
+length_sets : (T : Interned) → length (sets T) ≡ length T
+length_sets [] = refl
+length_sets (r ∷ T) = ap suc (length_sets T)
+
+module _ (d : Dialect) where
+  -- the result that is stored for a pair answers
+  pub stored_tells : (T : Interned) (B : List Pos) (j : ℕ) (o : Option Move) → IsReady d T → known (chess d) (entries T) (B, j) ≡ Some o → TellsSet d T B j (is_some o)
+  stored_tells T B j (Some t) r h = record {
+    right = sym (result_can (chess d) (chess_is_game d) (entries T) r.sound B j (Some t) h);
+    stored = record { won = λ y. (j, t, h); lost = λ y. absurd (both_ways true y refl) };
+  }
+  stored_tells T B j None r h = record {
+    right = sym (result_can (chess d) (chess_is_game d) (entries T) r.sound B j None h);
+    stored = record { won = λ y. absurd (both_ways false refl y); lost = λ y p. h };
+  }
+
+  pub found_tells : (T : Interned) (B : List Pos) (j u : ℕ) (found : Option Known) (k : Known) → IsReady d T → found ≡ Some k → option_map try_of found ≡ stored position_lt (entries T) (B, j)
+      → TellsSet d T B j (is_some (try_of k)) × IsSearched d (CoversPair (chess d) B j) 0 T T u u
+  found_tells T B j u found k r e h = (
+    stored_tells T B j (try_of k) r (sym h ∙ ap (option_map try_of) e),
+    searched_nothing d (CoversPair (chess d) B j) T u r,
+  )
+
+  -- nothing is stored where nothing is found
+  pub none_found : (T : Interned) (q : List Pos × ℕ) (found : Option Known) → found ≡ None → option_map try_of found ≡ stored position_lt (entries T) q → known (chess d) (entries T) q ≡ None
+  none_found T q found e h = sym h ∙ ap (option_map try_of) e
+
+  -- a search of the pair was stopped at one of its tries
+  pub pair_stopped : {A : Type 0} (P : Stop2 → Type 0) (r : Result A Stop2) (wanted : A → Type 0) (B : List Pos) (j : ℕ) (T0 T : Interned) (u0 u : ℕ) → IsErrAnd r P → known (chess d) (entries T0) (B, j) ≡ None
+      → Searches d r wanted (CoversTries (chess d) B j) (price (chess d) B) T0 T u0 u → Searches d r wanted (CoversPair (chess d) B j) 0 T0 T u0 u
+  pair_stopped P (Ok x) wanted B j T0 T u0 u fails none k = absurd fails
+  pair_stopped P (Err Spent) wanted B j T0 T u0 u fails none k = short_noted (chess d) (chess_is_game d) (entries T0) B j u0 none k
+  pair_stopped P (Err Large) wanted B j T0 T u0 u fails none k = absurd k
+  pair_stopped P (Err NoMemory) wanted B j T0 T u0 u fails none k = tt
+
+  -- the tries are through, and the result is noted
+  pub noted : (T0 T1 T2 : Interned) (set j : ℕ) (k : Known) (o : Option Move) (u0 u1 : ℕ) → 0 < j → set < length T0
+      → IsSearched d (CoversTries (chess d) (set_at T0 set) j) (floor_price (chess d) (set_at T0 set, j)) T0 T1 u0 u1
+      → known (chess d) (entries T0) (set_at T0 set, j) ≡ None → IsNoted T1 T2 set j k → try_of k ≡ o → o ≡ first_try (chess d) j (set_at T0 set) → IsBacked (chess d) (entries T1) (set_at T0 set) j o
+      → TellsSet d T2 (set_at T0 set) j (is_some o) × IsSearched d (CoversPair (chess d) (set_at T0 set) j) 0 T0 T2 u0 u1
+  noted T0 T1 T2 set j k o u0 u1 pos w s none n is f b = (
+    stored_tells T2 B j o (record { counted = counted; sound = sound.sound }) adds.here,
+    record { counted = counted; more = more; stretch = sound },
+  )
+    where
+      B : List Pos
+      B = set_at T0 set
+
+      same : set_at T1 set ≡ B
+      same = s.more.same set w
+
+      still : stored position_lt (entries T1) (set_at T1 set, j) ≡ None
+      still = subst (λ (X : List Pos). stored position_lt (entries T1) (X, j) ≡ None) (sym same) (still_unknown (chess d) (chess_is_game d) (entries T0) (entries T1) B j (floor_price (chess d) (B, j)) u0 u1 pos s.stretch none)
+
+      adds : AddsResult position_lt (entries T1) (entries T2) (B, j) o
+      adds = subst (λ (X : List Pos). AddsResult position_lt (entries T1) (entries T2) (X, j) o) same (subst (λ (y : Option Move). AddsResult position_lt (entries T1) (entries T2) (set_at T1 set, j) y) is (n.added still))
+
+      same_set : (m : ℕ) → set_at T2 m ≡ set_at T1 m
+      same_set m = set_there T2 m ∙ ap (λ (xs : List (List Pos)). slice_index_or xs m []) n.same_sets ∙ sym (set_there T1 m)
+
+      counted : (k : ℕ) → length (set_at T2 k) < 2 ^ 64
+      counted k = subst (λ (X : List Pos). length X < 2 ^ 64) (sym (same_set k)) (s.counted k)
+
+      longer : length T1 ≤ length T2
+      longer = let a = length_sets T1 in let b = length_sets T2 in let q = ap (λ (xs : List (List Pos)). length xs) n.same_sets in omega arith
+
+      more : IsMore T0 T2
+      more = more_then T0 T1 T2 s.more (record { longer = longer; same = λ m h. same_set m })
+
+      sound : Rattle.krieg_accounts.specs.Stretch.IsStretch (chess d) (CoversPair (chess d) B j) 0 (entries T0) (entries T2) u0 u1
+      sound = stretch_noted (chess d) (chess_is_game d) (entries T0) (entries T1) (entries T2) B j o u0 u1 s.stretch f b none adds

@@ -1,0 +1,111 @@
+-- The plan of the opening sets is the best one.
+use Rattle.std.proofs.Common.{◌≡◌, ℕ, ◌<◌, ◌^◌, true, false, max, List, [], ◌∷◌, map, Result, Ok, Err, refl, sym, ap, subst, ◌∙◌, arith}
+use Rattle.std.specs.Result.{IsErrAnd}
+use Rattle.std.proofs.lemmas.Bool.{both_ways, false_from_ne_true}
+use Rattle.krieg_board.specs.Pos.{Pos}
+use Rattle.krieg_board.specs.declared.men.Move.{Move}
+use Rattle.krieg_board.specs.declared.men.Side.{Side}
+use Rattle.krieg_words.specs.declared.dialects.Dialect.{Dialect}
+use Rattle.krieg_theory.specs.Tree.{Maybe, Nothing, Just}
+use Rattle.krieg_theory.specs.Can.{least}
+use Rattle.krieg_theory.specs.Computed.{canon}
+use Rattle.krieg_theory.specs.Plans.{greatest, openings, opening_set, roots_of, root_with, can_plan, canon_plan, canon_worst}
+use Rattle.krieg_theory.proofs.Planned.{mates_shows, canon_plan_is, canon_plan_worst, worst_enough, worst_least}
+use Rattle.krieg_costs.specs.Cost.{cost_of}
+use Rattle.krieg_costs.proofs.Costs.{fresh_is_at_most_cost}
+use Rattle.krieg_game.specs.Keys.{Key, RootKey}
+use Rattle.krieg_game.specs.Chess.{chess}
+use Rattle.krieg_game.specs.Outset.{outset}
+use Rattle.krieg_game.proofs.ChessLaws.{chess_is_game, outset_is_lawful}
+use Rattle.krieg_plan.specs.Trees.{PlanTrees}
+use Rattle.krieg_plan.specs.Plans.{plan_of}
+use Rattle.krieg_plan.specs.Ordered.{is_ordered_plan}
+use Rattle.krieg_search.specs.declared.best_plan.Answer.{Answer}
+use Rattle.krieg_search.specs.declared.best_plan.Answer.TheVariants.{Mates, None}
+use Rattle.krieg_search.specs.declared.decide.Won.{Won}
+use Rattle.krieg_search.specs.declared.stop.Stop2.{Stop2}
+use Rattle.krieg_search.specs.declared.stop.Stop2.TheVariants.{Spent, Large, NoMemory}
+use Rattle.krieg_search.specs.Opened.{opening_in}
+use Rattle.krieg_search.specs.Decided.{IsWon, IsDecided}
+use Rattle.krieg_search.specs.Built.{IsPaidFor, with_root, roots_for}
+use Rattle.krieg_search.specs.Planned.{IsUnfit, IsPlan, IsPlanned}
+use Rattle.krieg_search.specs.Solved.{IsBest, NoneMates, IsLarge, IsAnswer}
+use Rattle.krieg_search.proofs.Ordering.{plan_ordered}
+
+module _ (d : Dialect) (who : Side) (S : List Pos) (n : ℕ) where
+  root_is : (key : RootKey) (m : Maybe Move Key) (rs : PlanTrees) → with_root key m rs ≡ root_with (chess d) (outset d who) key m rs
+  root_is key Nothing rs = refl
+  root_is key (Just t) rs = refl
+
+  roots_are : (ks : List RootKey) → roots_for d n (map (λ key. (key, opening_set (chess d) (outset d who) S key)) ks) ≡ roots_of (chess d) (outset d who) ks (λ key. canon (chess d) n (opening_set (chess d) (outset d who) S key))
+  roots_are [] = refl
+  roots_are (k ∷ ks) =
+      ap (with_root k (canon (chess d) n (opening_set (chess d) (outset d who) S k))) (roots_are ks)
+      ∙ root_is k (canon (chess d) n (opening_set (chess d) (outset d who) S k)) (roots_of (chess d) (outset d who) ks (λ key. canon (chess d) n (opening_set (chess d) (outset d who) S key)))
+
+  greatest_is : (ks : List RootKey) → greatest (λ (c : RootKey × List Pos). least (chess d) n c.1) (map (λ key. (key, opening_set (chess d) (outset d who) S key)) ks) ≡ greatest (λ key. least (chess d) n (opening_set (chess d) (outset d who) S key)) ks
+  greatest_is [] = refl
+  greatest_is (k ∷ ks) = ap (max (least (chess d) n (opening_set (chess d) (outset d who) S k))) (greatest_is ks)
+
+  best : can_plan (chess d) (outset d who) n S ≡ true → IsBest d who S n (canon_worst (chess d) (outset d who) n S) (canon_plan (chess d) (outset d who) n S)
+  best c = record {
+    canonical = canon_plan_is (chess d) (chess_is_game d) (outset d who) (outset_is_lawful d who) n S c;
+    worst_case = canon_plan_worst (chess d) (chess_is_game d) (outset d who) (outset_is_lawful d who) n S c;
+    within = worst_enough (chess d) (chess_is_game d) (outset d who) (outset_is_lawful d who) n S c;
+    least = λ other k m. worst_least (chess d) (chess_is_game d) (outset d who) (outset_is_lawful d who) n S other k m;
+  }
+
+  -- no plan mates where not each opening set can be won
+  pub none_mates : can_plan (chess d) (outset d who) n S ≡ false → NoneMates d who S n
+  none_mates c = record {
+    no_plan = λ plan. false_from_ne_true _ (λ m. both_ways _ c (mates_shows (chess d) (chess_is_game d) (outset d who) (outset_is_lawful d who) plan S n m));
+    cannot = c;
+  }
+
+  module _ (w : Won) (had : ℕ) (a : IsWon d who S n w had) where
+    pairs : List (RootKey × List Pos)
+    pairs = map (opening_in w.table) w.openings.items
+
+    plan_is : roots_for d n (map (opening_in w.table) w.openings.items) ≡ canon_plan (chess d) (outset d who) n S
+    plan_is = ap (roots_for d n) a.sets ∙ roots_are (openings (chess d) (outset d who) S)
+
+    worst_is : greatest (λ (c : RootKey × List Pos). least (chess d) n c.1) (map (opening_in w.table) w.openings.items) ≡ canon_worst (chess d) (outset d who) n S
+    worst_is = ap (greatest (λ (c : RootKey × List Pos). least (chess d) n c.1)) a.sets ∙ greatest_is (openings (chess d) (outset d who) S)
+
+    pub is_paid : had < 2 ^ 64 → IsPaidFor d w.table
+    is_paid h = record { ready = a.ready; paid = (let p = a.paid in omega arith) }
+
+    pub is_ordered : is_ordered_plan (roots_for d n (map (opening_in w.table) w.openings.items)) ≡ true
+    is_ordered = ap is_ordered_plan plan_is ∙ plan_ordered d who (canon_plan (chess d) (outset d who) n S) S (best a.can).canonical
+
+    -- the plan that was built is the best one
+    pub is_best : (nodes worst : ℕ) (plan : PlanTrees) → IsPlan d n (map (opening_in w.table) w.openings.items) nodes worst plan → IsBest d who S n worst plan
+    is_best nodes worst plan p =
+        subst (λ (x : PlanTrees). IsBest d who S n worst x) (sym (p.are ∙ plan_is))
+        (subst (λ (k : ℕ). IsBest d who S n k (canon_plan (chess d) (outset d who) n S)) (sym (p.greatest_least ∙ worst_is)) (best a.can))
+
+    -- the plan that was not built is too large
+    pub is_large : (nodes : ℕ) → IsUnfit nodes (roots_for d n (map (opening_in w.table) w.openings.items)) → IsLarge d who S n nodes
+    is_large nodes u = record {
+      plan = canon_plan (chess d) (outset d who) n S;
+      worst = canon_worst (chess d) (outset d who) n S;
+      best = best a.can;
+      large = subst (λ (p : PlanTrees). IsUnfit nodes p) plan_is u;
+    }
+
+module _ (d : Dialect) (who : Side) (S : List Pos) (n : ℕ) where
+  -- the search was stopped
+  pub stopped_below_cost : (P : Stop2 → Type 0) (r : Result Answer Stop2) (e : Stop2) (had has : ℕ)
+      → ((x : Stop2) → P x → e ≡ x) → IsErrAnd r P → IsDecided d who S n (Err e) had has → r ≡ Err Spent → had < cost_of (chess d) (outset d who) n S
+  stopped_below_cost P (Ok x) e had has same fails k eq = absurd fails
+  stopped_below_cost P (Err x) e had has same fails k eq = go x (cc) (subst (λ (y : Stop2). IsDecided d who S n (Err y) had has) (same x fails) k)
+    where
+      go : (y : Stop2) → y ≡ Spent → IsDecided d who S n (Err y) had has → had < cost_of (chess d) (outset d who) n S
+      go Spent q v = let c = fresh_is_at_most_cost (chess d) (chess_is_game d) (outset d who) n S in omega arith
+      go Large q v = absurd v
+      go NoMemory q v = absurd (cc)
+
+  -- the plan was built
+  pub built : (w : Won) (had nodes : ℕ) (a : Answer) → IsWon d who S n w had → IsPlanned d n (map (opening_in w.table) w.openings.items) nodes (Ok a) → IsAnswer d who S n nodes (Ok a)
+  built w had nodes (Mates worst plan) k p = (is_best d who S n w had k nodes worst (plan_of plan) p, p.fit)
+  built w had nodes None k p = absurd p

@@ -1,0 +1,103 @@
+use Rattle.std.proofs.Common.{Bool, Err, refl, sym, subst, List, Option, Vec}
+use Rattle.std.specs.declared.alloc.Global.{Global}
+use Rattle.krieg_accounts.specs.Stretch.{CoversSets}
+use Rattle.krieg_game.specs.Chess.{chess}
+use Rattle.krieg_search.specs.declared.openings.Opening.{Opening}
+use Rattle.krieg_search.specs.declared.decide.Won.{Won}
+use Rattle.krieg_search.specs.Searched.{AreCounted, IsSearched, Searches, TellsSets}
+use Rattle.krieg_search.specs.Opened.{AreNumbered, IsOpened}
+use Rattle.krieg_search.specs.Decided.{sets_in}
+use Rattle.krieg_search.proofs.Deciding.{empty_counted, are_opened, openings_stopped, over, opened_ready, search_stopped, not_won, all_are_won}
+use Rattle.krieg_search.proofs.decide.decide.Goals as goal
+
+pub find_openings-requires-clause-counted : goal.find_openings-requires-clause-counted
+find_openings-requires-clause-counted c = subst AreCounted (sym c.new-table.ensures) empty_counted
+
+pub returns-in_err-openings : goal.returns-in_err-openings
+returns-in_err-openings c =
+    let d = c.args.d in
+    let who = c.args.who in
+    let S = c.args.b.now in
+    let u0 = c.args.units.now in
+    let u1 = c.find_openings.new.units in
+    openings_stopped d who S c.args.moves _ c.from_residual.result c.in_err-openings.field-0.0 (IsOpened d who S c.new-table.result c.find_openings.new.table) u0 u1 u1 (λ x h. cc) c.from_residual.ensures.1 c.in_err-openings.ensures
+
+pub returns-in_default : goal.returns-in_default
+returns-in_default c =
+    let d = c.args.d in
+    let who = c.args.who in
+    let S = c.args.b.now in
+    let o = subst (λ (x : Option (Vec Opening Global)). IsOpened d who S c.new-table.result c.find_openings.new.table x) c.in_default.is c.in_ok-openings.ensures.0 in
+    over d who S c.args.moves c.args.units.now c.find_openings.new.units o c.in_ok-openings.ensures.1
+
+pub all_openings_win-requires-clause-ready : goal.all_openings_win-requires-clause-ready
+all_openings_win-requires-clause-ready c =
+    let d = c.args.d in
+    let who = c.args.who in
+    let S = c.args.b.now in
+    let n = c.args.moves in
+    let T1 = c.find_openings.new.table in
+    let os = c.in-Some.openings in
+    let o = are_opened d who S n c.new-table.result T1 c.in_ok-openings.field-0 os c.new-table.ensures c.in-Some.is c.in_ok-openings.ensures.0 in
+    opened_ready d who S n T1 os.items o.1
+
+pub all_openings_win-requires-clause-numbered : goal.all_openings_win-requires-clause-numbered
+all_openings_win-requires-clause-numbered c =
+    let d = c.args.d in
+    let who = c.args.who in
+    let S = c.args.b.now in
+    let n = c.args.moves in
+    let T1 = c.find_openings.new.table in
+    let os = c.in-Some.openings in
+    let o = are_opened d who S n c.new-table.result T1 c.in_ok-openings.field-0 os c.new-table.ensures c.in-Some.is c.in_ok-openings.ensures.0 in
+    subst (λ (xs : List Opening). AreNumbered T1 xs) (sym c.deref.ensures.value) o.1.numbered
+
+pub returns-in_err-all_openings_win : goal.returns-in_err-all_openings_win
+returns-in_err-all_openings_win c =
+    let d = c.args.d in
+    let who = c.args.who in
+    let S = c.args.b.now in
+    let n = c.args.moves in
+    let T1 = c.find_openings.new.table in
+    let T2 = c.all_openings_win.new.table in
+    let u0 = c.args.units.now in
+    let u1 = c.find_openings.new.units in
+    let u2 = c.all_openings_win.new.units in
+    let os = c.in-Some.openings in
+    let o = are_opened d who S n c.new-table.result T1 c.in_ok-openings.field-0 os c.new-table.ensures c.in-Some.is c.in_ok-openings.ensures.0 in
+    search_stopped d who S n T1 os.items o.1 _ c.from_residual-in_err-all_openings_win.result c.in_err-all_openings_win.field-0.0 (TellsSets d T2 (sets_in T1 os.items) n) T2 u0 u1 u2 u2 (λ x h. cc) c.from_residual-in_err-all_openings_win.ensures.1
+    c.in_ok-openings.ensures.1
+    (subst (λ (xs : List Opening). Searches d {A = Bool} (Err c.in_err-all_openings_win.field-0.0) (TellsSets d T2 (sets_in T1 xs) n) (CoversSets (chess d) (sets_in T1 xs) n) 0 T1 T2 u1 u2) c.deref.ensures.value c.in_err-all_openings_win.ensures)
+
+pub returns-then-not-branch : goal.returns-then-not-branch
+returns-then-not-branch c =
+    let d = c.args.d in
+    let who = c.args.who in
+    let S = c.args.b.now in
+    let n = c.args.moves in
+    let T1 = c.find_openings.new.table in
+    let T2 = c.all_openings_win.new.table in
+    let u0 = c.args.units.now in
+    let u1 = c.find_openings.new.units in
+    let u2 = c.all_openings_win.new.units in
+    let os = c.in-Some.openings in
+    let o = are_opened d who S n c.new-table.result T1 c.in_ok-openings.field-0 os c.new-table.ensures c.in-Some.is c.in_ok-openings.ensures.0 in
+    let w = subst (λ (xs : List Opening). TellsSets d T2 (sets_in T1 xs) n c.in_ok-all_openings_win.field-0 × IsSearched d (CoversSets (chess d) (sets_in T1 xs) n) 0 T1 T2 u1 u2) c.deref.ensures.value c.in_ok-all_openings_win.ensures in
+    not_won d who S n T1 os.items o.1 T2 c.in_ok-all_openings_win.field-0 u0 u1 u2 o.0 c.in_ok-openings.ensures.1 w.0 w.1 c.if-not-branch.true
+
+pub returns : goal.returns
+returns c =
+    let d = c.args.d in
+    let who = c.args.who in
+    let S = c.args.b.now in
+    let n = c.args.moves in
+    let T1 = c.find_openings.new.table in
+    let T2 = c.all_openings_win.new.table in
+    let u0 = c.args.units.now in
+    let u1 = c.find_openings.new.units in
+    let u2 = c.all_openings_win.new.units in
+    let os = c.in-Some.openings in
+    let o = are_opened d who S n c.new-table.result T1 c.in_ok-openings.field-0 os c.new-table.ensures c.in-Some.is c.in_ok-openings.ensures.0 in
+    let won : Won = record { table = T2; openings = os } in
+    let w = subst (λ (xs : List Opening). TellsSets d T2 (sets_in T1 xs) n c.in_ok-all_openings_win.field-0 × IsSearched d (CoversSets (chess d) (sets_in T1 xs) n) 0 T1 T2 u1 u2) c.deref.ensures.value c.in_ok-all_openings_win.ensures in
+    all_are_won d who S n T1 os.items o.1 T2 c.in_ok-all_openings_win.field-0 u0 u1 u2 o.0 c.in_ok-openings.ensures.1 w.0 w.1 c.if-not-branch.false won refl refl

@@ -1,0 +1,33 @@
+use Rattle.std.proofs.Common.{◌≡◌, ◌-◌, length, ◌+◌, ◌*◌, ◌^◌}
+use Rattle.std.specs.Vec.Iter.{into_iter_items, into_iter_len}
+use Rattle.krieg_table.specs.Interned.{set_at}
+use Rattle.krieg_search.specs.Searched.{sets_of}
+use Rattle.krieg_search.proofs.Tries.{IsTrying}
+use Rattle.krieg_search.proofs.Numbers.{IsCounting}
+use Rattle.krieg_search.proofs.Checking.{IsChecking}
+use Rattle.krieg_search.proofs.search.+search.Given as goal
+
+-- first the number of moves counts, then the members; no class has 2 ^ 64
+abbrev pub decreases-all_can_win : goal.decreases-all_can_win
+decreases-all_can_win l = 8 * (l.moves * 2 ^ 64 + 2 ^ 64 - 1) + 4
+
+abbrev pub decreases-begins : goal.decreases-begins
+decreases-begins l = 8 * (l.moves * 2 ^ 64 + length (set_at l.table.now l.set)) + 1
+
+abbrev pub decreases-can_win_in : goal.decreases-can_win_in
+decreases-can_win_in l = 8 * (l.moves * 2 ^ 64 + length (set_at l.table.now l.set)) + 2
+
+abbrev pub decreases-can_win : goal.decreases-can_win
+decreases-can_win l = 8 * (l.moves * 2 ^ 64 + length (set_at l.table.now l.set)) + 3
+
+abbrev pub invariant-can_win-loop-fewer : goal.invariant-can_win-loop-fewer
+invariant-can_win-loop-fewer l = IsCounting l.d l.initial.table l.table (set_at l.initial.table l.set) l.moves l.fewer l.initial.units l.units
+
+abbrev pub invariant-can_win_in-loop-mv : goal.invariant-can_win_in-loop-mv
+invariant-can_win_in-loop-mv l = IsTrying l.d l.initial.table l.table (set_at l.initial.table l.set) l.moves l.mv-items l.mv-index l.initial.units l.units
+
+abbrev pub invariant-all_can_win-loop-class : goal.invariant-all_can_win-loop-class
+invariant-all_can_win-loop-class l = record {
+  checking : IsChecking l.d l.initial.table l.table (sets_of l.fn.classes.items) (sets_of (into_iter_items l.class-iterator)) l.moves l.initial.units l.units;
+  counted : into_iter_len l.class-iterator ≡ length (into_iter_items l.class-iterator);
+}

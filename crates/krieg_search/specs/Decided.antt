@@ -1,0 +1,48 @@
+-- Whether some plan mates, as the search finds it.
+use Rattle.std.specs.Prelude.{◌≡◌, ℕ, ◌+◌, ◌<◌, ◌≤◌, true, false, List, map, Option, Some, None, Result, Ok, Err, ⊤}
+use Rattle.krieg_board.specs.Pos.{Pos}
+use Rattle.krieg_board.specs.declared.men.Side.{Side}
+use Rattle.krieg_words.specs.declared.dialects.Dialect.{Dialect}
+use Rattle.krieg_theory.specs.Sets.{In}
+use Rattle.krieg_theory.specs.Plans.{can_plan}
+use Rattle.krieg_costs.specs.Reach.{fresh}
+use Rattle.krieg_costs.specs.Backing.{floor}
+use Rattle.krieg_accounts.specs.Charges.{charged}
+use Rattle.krieg_game.specs.Chess.{chess}
+use Rattle.krieg_game.specs.Outset.{outset}
+use Rattle.krieg_game.specs.ClassLaws.{opening_sets}
+use Rattle.krieg_table.specs.Interned.{Interned, set_at}
+use Rattle.krieg_table.specs.Entries.{entries}
+use Rattle.krieg_search.specs.declared.openings.Opening.{Opening}
+use Rattle.krieg_search.specs.declared.decide.Won.{Won}
+use Rattle.krieg_search.specs.declared.stop.Stop2.{Stop2}
+use Rattle.krieg_search.specs.declared.stop.Stop2.TheVariants.{Spent, Large, NoMemory}
+use Rattle.krieg_search.specs.Searched.{IsReady}
+use Rattle.krieg_search.specs.Opened.{AreNumbered, opening_in}
+use Rattle.krieg_search.specs.Built.{WonBy}
+
+-- the sets of openings
+abbrev pub sets_in : Interned → List Opening → List (List Pos)
+sets_in T os = map (λ o. set_at T o.set) os
+
+module _ (d : Dialect) (who : Side) (S : List Pos) (n : ℕ) where
+  -- at least the floor and at most what is fresh was taken
+  pub record IsBetween (had has : ℕ) : Type 0 where
+    pub at_least : has + floor (chess d) (outset d who) n S ≤ had
+    pub at_most : had ≤ has + fresh (chess d) (outset d who) n S
+
+  -- each opening that occurs has its set in the table, where it is stored as won
+  pub record IsWon (w : Won) (had : ℕ) : Type 0 where
+    pub can : can_plan (chess d) (outset d who) n S ≡ true
+    pub ready : IsReady d w.table
+    pub paid : charged (chess d) (entries w.table) ≤ had
+    pub numbered : AreNumbered w.table w.openings.items
+    pub sets : map (opening_in w.table) w.openings.items ≡ opening_sets d who S
+    pub won : (C : List Pos) → In C (sets_in w.table w.openings.items) → WonBy w.table C n
+
+  abbrev pub IsDecided : Result (Option Won) Stop2 → ℕ → ℕ → Type 0
+  IsDecided (Ok None) had has = (can_plan (chess d) (outset d who) n S ≡ false) × IsBetween had has
+  IsDecided (Ok (Some w)) had has = IsWon w had × IsBetween had has
+  IsDecided (Err Spent) had has = had < fresh (chess d) (outset d who) n S
+  IsDecided (Err Large) had has = ⊥
+  IsDecided (Err NoMemory) had has = ⊤

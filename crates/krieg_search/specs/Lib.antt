@@ -1,0 +1,9 @@
+pub mod Solved
+pub mod Planned
+pub mod Decided
+pub mod Opened
+pub mod Searched
+pub mod Leaving
+pub mod Built
+pub mod Rooted
+pub mod Stops

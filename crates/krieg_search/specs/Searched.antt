@@ -1,0 +1,65 @@
+-- A stretch of the search, over a table in which sets have numbers.
+use Rattle.std.specs.Prelude.{◌≡◌, ℕ, ◌<◌, ◌^◌, Bool, List, length, map, Result, Ok, Err, ⊤}
+use Rattle.std.specs.List.{list_all}
+use Rattle.krieg_board.specs.Pos.{Pos}
+use Rattle.krieg_board.specs.declared.men.Move.{Move}
+use Rattle.krieg_words.specs.declared.dialects.Dialect.{Dialect}
+use Rattle.krieg_theory.specs.Can.{can, begins}
+use Rattle.krieg_accounts.specs.Sound.{IsSound}
+use Rattle.krieg_accounts.specs.Stretch.{IsStretch, FallsShort}
+use Rattle.krieg_accounts.specs.Answers.{AnswersSet, AnswersTry, AnswersSets}
+use Rattle.krieg_game.specs.Chess.{chess}
+use Rattle.krieg_game.specs.declared.classes.Class.{Class}
+use Rattle.krieg_table.specs.Interned.{Interned, set_at}
+use Rattle.krieg_table.specs.Entries.{entries}
+use Rattle.krieg_table.specs.Table.{IsMore, IsInterned}
+use Rattle.krieg_search.specs.declared.stop.Stop2.{Stop2}
+use Rattle.krieg_search.specs.declared.stop.Stop2.TheVariants.{Spent, Large, NoMemory}
+
+-- the members of each set can be counted in 64 bits
+abbrev pub AreCounted : Interned → Type 0
+AreCounted T = (k : ℕ) → length (set_at T k) < 2 ^ 64
+
+-- the set has that number in the table, and all its sets can be counted
+pub record IsNumbered (T T' : Interned) (B : List Pos) (set : ℕ) : Type 0 where
+  pub interned : IsInterned T T' B set
+  pub counted : AreCounted T'
+
+-- the sets of classes
+abbrev pub sets_of : List Class → List (List Pos)
+sets_of cs = map (λ c. c.belief) cs
+
+module _ (d : Dialect) where
+  -- what the search needs of a table, and leaves of it: the results are right and stand on others
+  pub record IsReady (T : Interned) : Type 0 where
+    pub counted : AreCounted T
+    pub sound : IsSound (chess d) (entries T)
+
+  -- From one table and number of units to others. No set has lost its number, and the results and the units are those
+  -- of a stretch.
+  pub record IsSearched (Q : List (List Pos × ℕ) → Type 0) (cost : ℕ) (T T' : Interned) (had has : ℕ) : Type 0 where
+    pub counted : AreCounted T'
+    pub more : IsMore T T'
+    pub stretch : IsStretch (chess d) Q cost (entries T) (entries T') had has
+
+  -- an answer that holds, with the stretch that led to it; or too few units for it
+  abbrev pub Searches : {A : Type 0} → Result A Stop2 → (A → Type 0) → (List (List Pos × ℕ) → Type 0) → ℕ → Interned → Interned → ℕ → ℕ → Type 0
+  Searches (Ok x) holds Q cost T T' had has = holds x × IsSearched Q cost T T' had has
+  Searches (Err Spent) holds Q cost T T' had has = FallsShort (chess d) Q cost (entries T) had
+  Searches (Err Large) holds Q cost T T' had has = ⊥
+  Searches (Err NoMemory) holds Q cost T T' had has = ⊤
+
+  -- whether the set can be won within j, and that the table has it
+  pub record TellsSet (T : Interned) (B : List Pos) (j : ℕ) (yes : Bool) : Type 0 where
+    pub right : yes ≡ can (chess d) j B
+    pub stored : AnswersSet (chess d) (entries T) B j yes
+
+  -- whether the try begins to win the set within j, and that the table has it
+  pub record TellsTry (T : Interned) (B : List Pos) (j : ℕ) (t : Move) (yes : Bool) : Type 0 where
+    pub right : yes ≡ begins (chess d) j B t
+    pub stored : AnswersTry (chess d) (entries T) B j t yes
+
+  -- whether all of the sets can be won within j, and that the table has it
+  pub record TellsSets (T : Interned) (Cs : List (List Pos)) (j : ℕ) (yes : Bool) : Type 0 where
+    pub right : yes ≡ list_all (can (chess d) j) Cs
+    pub stored : AnswersSets (chess d) (entries T) Cs j yes

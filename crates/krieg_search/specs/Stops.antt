@@ -1,0 +1,9 @@
+-- Why a search stops, by why a split does.
+use Rattle.krieg_split.specs.declared.stop.SplitStop.{SplitStop}
+use Rattle.krieg_split.specs.declared.stop.SplitStop.TheVariants as split
+use Rattle.krieg_search.specs.declared.stop.Stop2.{Stop2}
+use Rattle.krieg_search.specs.declared.stop.Stop2.TheVariants.{Spent, NoMemory}
+
+abbrev pub stop_of : SplitStop → Stop2
+stop_of split.Spent = Spent
+stop_of split.NoMemory = NoMemory

@@ -1,0 +1,99 @@
+ghost use Rattle.std.specs.Prelude.{◌≡◌, ◌<◌, ◌⊎◌, true, List, map, Err};
+ghost use Rattle.krieg_board.specs.Pos.{Pos};
+ghost use Rattle.krieg_theory.specs.Sets.{In};
+ghost use Rattle.krieg_costs.specs.Cost.{cost_of};
+ghost use Rattle.krieg_game.specs.Chess.{chess};
+ghost use Rattle.krieg_game.specs.Outset.{outset};
+ghost use Rattle.krieg_plan.specs.Ordered.{is_ordered_plan};
+ghost use Rattle.krieg_split.specs.Turns.{IsOwnTurn, IsOthersTurn};
+ghost use Rattle.krieg_search.specs.declared.stop.Stop2.TheVariants.{Spent};
+ghost use Rattle.krieg_search.specs.Opened.{AreNumbered, opening_in};
+ghost use Rattle.krieg_search.specs.Decided.{sets_in};
+ghost use Rattle.krieg_search.specs.Built.{WonBy, IsPaidFor, roots_for};
+ghost use Rattle.krieg_search.specs.Planned.{IsPlanned};
+ghost use Rattle.krieg_search.specs.Solved.{IsAnswer, IsCharged};
+
+use crate::decide::{Won, decide};
+use crate::roots::{Roots, build_roots};
+use crate::stop::Stop2;
+use krieg_board::{Side, Units};
+use krieg_pack::Belief;
+use krieg_plan::Plan;
+use krieg_words::Dialect;
+use std::alloc::Global;
+
+/// What a search finds.
+#[derive(Drop)]
+pub enum Answer {
+    /// The plan mates every listed position, and this is its worst case.
+    Mates { worst: u8, plan: Plan },
+    /// No plan mates every listed position within the number of moves that was asked.
+    None,
+}
+
+/// The canonical plan, where the set of every opening can be won. `Large` comes exactly where it has more than `nodes`
+/// nodes, or more than 2,500 on a path.
+fn build_plan(alloc: Global, d: Dialect, won: Won, moves: u8, nodes: usize) -> Result<Answer, Stop2>
+    requires paid { IsPaidFor d won.table }
+    requires numbered { AreNumbered won.table won.openings.items }
+    requires won { (C : List Pos) → In C (sets_in won.table won.openings.items) → WonBy won.table C moves }
+    requires ordered { is_ordered_plan (roots_for d moves (map (opening_in won.table) won.openings.items)) ≡ true }
+    ensures { IsPlanned d moves (map (opening_in won.table) won.openings.items) nodes result }
+{
+    let Won {
+        mut table,
+        openings,
+    } = won;
+    let mut left = nodes;
+    let Roots { worst, roots } = build_roots(alloc, d, &mut table, openings, moves, &mut left)?;
+    Ok(Answer::Mates {
+        worst,
+        plan: Plan::make(roots),
+    })
+}
+
+/// The best plan of the side `who` for the listed positions, as the umpire tells games in the dialect, or that none
+/// mates all of them within `moves`.
+///
+/// `Mates` has the canonical plan with its worst case, below which no plan mates. `None` comes only where no plan
+/// mates within `moves`, and `Large` only where the canonical plan does and has more than `nodes` nodes, or more than
+/// 2,500 on a path: since these exclude each other, each comes exactly then, if neither units nor memory are wanting.
+///
+/// The units are those of krieg_costs: for each set and number that is searched, one for each listed position and each
+/// reply by which a try is split. An answer, and `Large`, take at least the floor and at most what is fresh.
+/// `Spent` comes only where fewer units are left than are fresh, and so fewer than the cost. It takes none, and
+/// neither does `NoMemory`.
+///
+/// The table of results has room for 6 moves: with more, `NoMemory` may come for that. It says nothing otherwise.
+/// The same side is to move in all listed positions; `has_one_turn` tells.
+pub fn solve(
+    alloc: Global,
+    d: Dialect,
+    who: Side,
+    b: &Belief,
+    moves: u8,
+    nodes: usize,
+    units: &mut Units,
+) -> Result<Answer, Stop2>
+    requires { IsOwnTurn who b.now ⊎ IsOthersTurn who b.now }
+    ensures answer { IsAnswer d who b.now moves nodes result }
+    ensures units { IsCharged d who b.now moves result units.old units.new }
+    ensures cost { result ≡ Err Spent → units.old < cost_of (chess d) (outset d who) moves b.now }
+{
+    let mut left = Units::new(units.left());
+    let Some(won) = decide(alloc, d, who, b, moves, &mut left)? else {
+        *units = left;
+        return Ok(Answer::None);
+    };
+    match build_plan(alloc, d, won, moves, nodes) {
+        Ok(answer) => {
+            *units = left;
+            Ok(answer)
+        }
+        Err(Stop2::Large) => {
+            *units = left;
+            Err(Stop2::Large)
+        }
+        Err(stop) => Err(stop),
+    }
+}

@@ -1,0 +1,166 @@
+ghost use Rattle.std.specs.Prelude.{◌≡◌, ◌<◌, ◌≤◌, ◌^◌, ◌++◌, ◌∷◌, [], IfOk, OnOk, Some, false, length, List, map, option_map};
+ghost use Rattle.krieg_board.specs.Pos.{Pos};
+ghost use Rattle.krieg_pack.specs.Order.{position_lt};
+ghost use Rattle.krieg_theory.specs.Sets.{In, is_nil};
+ghost use Rattle.krieg_theory.specs.Tree.{Just, size_edges, size_other, depth_edges, depth_other};
+ghost use Rattle.krieg_theory.specs.Computed.{canon};
+ghost use Rattle.krieg_costs.specs.Cost.{made};
+ghost use Rattle.krieg_accounts.specs.Stored.{stored};
+ghost use Rattle.krieg_accounts.specs.Laws.{refused_canon};
+ghost use Rattle.krieg_game.specs.Chess.{chess};
+ghost use Rattle.krieg_game.specs.Classes.{class_pair};
+ghost use Rattle.krieg_split.specs.Parted.{IsParted};
+ghost use Rattle.krieg_table.specs.Interned.{set_at};
+ghost use Rattle.krieg_table.specs.Entries.{entries};
+ghost use Rattle.krieg_plan.specs.Nodes.{tree_of, edge_of, as_other, as_edges};
+ghost use Rattle.krieg_search.specs.Searched.{sets_of};
+ghost use Rattle.krieg_search.specs.Built.{WonBy, IsPaidFor, winning_try, edges_for, Builds};
+
+use crate::number::number_of;
+use crate::stop::Stop2;
+use krieg_board::{Move, NoMemory, Units};
+use krieg_game::Class;
+use krieg_pack::Belief;
+use krieg_plan::{Edge, Node};
+use krieg_split::{Parted, SplitStop, split};
+use krieg_table::{Known, Table};
+use krieg_words::Dialect;
+use std::alloc::Global;
+
+/// The least number of moves within which a set can be won, and the first try that begins to win it then.
+#[derive(Clone, Copy, Debug, PartialEq, Eq)]
+pub(crate) struct Win {
+    pub moves: u8,
+    pub mv: Move,
+}
+
+/// The try that is stored for the set and the number, if it is won there.
+fn stored_try(table: &Table, set: u32, moves: u8) -> Option<Move>
+    requires { set < length table.now }
+    ensures { result ≡ winning_try (stored position_lt (entries table.now) (set_at table.now set, moves)) }
+{
+    match table.result(set, moves) {
+        Some(Known::Wins(mv)) => Some(mv),
+        Some(Known::Loses) => None,
+        None => None,
+    }
+}
+
+/// How the set is won, which is stored as won within `moves`.
+pub(crate) fn win_of(table: &Table, set: u32, moves: u8) -> Win
+    requires within { set < length table.now }
+    requires won { WonBy table.now (set_at table.now set) moves }
+    ensures some { 0 < result.moves }
+    ensures at_most { result.moves ≤ moves }
+    ensures stored { stored position_lt (entries table.now) (set_at table.now set, result.moves) ≡ Some (Some result.mv) }
+{
+    for fewer in 0..moves {
+        if let Some(mv) = stored_try(table, set, fewer + 1) {
+            return Win {
+                moves: fewer + 1,
+                mv,
+            };
+        }
+    }
+    unreachable!()
+}
+
+/// Parts the set once more by a try whose split the search has paid for, by units that are made for it alone.
+#[inline(never)]
+fn split_again(alloc: Global, d: Dialect, b: &Belief, mv: Move) -> Result<Parted, NoMemory>
+    requires { made (chess d) b.now mv < 2 ^ 64 }
+    ensures { IfOk result (IsParted d b.now mv) }
+{
+    let mut units = Units::new(u64::MAX);
+    match split(alloc, d, b, mv, &mut units) {
+        Ok(parts) => Ok(parts),
+        Err(SplitStop::Spent) => unreachable!(),
+        Err(SplitStop::NoMemory) => Err(NoMemory),
+    }
+}
+
+/// The canonical node of the set, which is stored as won within `moves`. `Large` comes exactly where it has more nodes
+/// than are left, or more than `deep` on a path: each node is taken from those that are left before anything below it is
+/// built.
+#[cycle(build)]
+pub(crate) fn build(
+    alloc: Global,
+    d: Dialect,
+    table: &mut Table,
+    set: u32,
+    moves: u8,
+    left: &mut usize,
+    deep: usize,
+) -> Result<Box<Node>, Stop2>
+    requires within { set < length table.old }
+    requires paid { IsPaidFor d table.old }
+    requires won { WonBy table.old (set_at table.old set) moves }
+    ensures { Builds result (λ n. canon (chess d) moves (set_at table.old set) ≡ Just (tree_of n.value)) (size_other (canon (chess d) moves (set_at table.old set))) (depth_other (canon (chess d) moves (set_at table.old set))) table.old table.new left.old left.new deep }
+{
+    if *left == 0 {
+        return Err(Stop2::Large);
+    }
+    if deep == 0 {
+        return Err(Stop2::Large);
+    }
+    *left -= 1;
+    let win = win_of(table, set, moves);
+    let Parted {
+        refused,
+        classes,
+        ..
+    } = split_again(alloc, d, table.belief(set), win.mv)?;
+    let edges = build_edges(alloc, d, table, classes, win.moves - 1, left, deep - 1)?;
+    let no = build_other(alloc, d, table, refused, win.moves, left, deep - 1)?;
+    Ok(Node::make(alloc, win.mv, no, edges)?)
+}
+
+/// An edge to the canonical node of each class, all of which are stored as won within `moves`.
+#[cycle(build)]
+fn build_edges(
+    alloc: Global,
+    d: Dialect,
+    table: &mut Table,
+    classes: Vec<Class>,
+    moves: u8,
+    left: &mut usize,
+    deep: usize,
+) -> Result<Vec<Edge>, Stop2>
+    requires paid { IsPaidFor d table.old }
+    requires won { (C : List Pos) → In C (sets_of classes.items) → WonBy table.old C moves }
+    ensures { Builds result (λ es. as_edges (map edge_of es.items) ≡ edges_for d moves (map class_pair classes.items)) (size_edges (edges_for d moves (map class_pair classes.items))) (depth_edges (edges_for d moves (map class_pair classes.items))) table.old table.new left.old left.new deep }
+{
+    let mut edges = Vec::new(alloc);
+    for class in classes {
+        let set = number_of(table, class.belief)?;
+        let node = build(alloc, d, table, set, moves, left, deep)?;
+        edges.push(Edge {
+            own: class.own,
+            reply: class.reply,
+            node,
+        })?;
+    }
+    Ok(edges)
+}
+
+/// The canonical node of the members that refuse a try, if there are any, which are stored as won within `moves`.
+#[cycle(build)]
+fn build_other(
+    alloc: Global,
+    d: Dialect,
+    table: &mut Table,
+    refused: Belief,
+    moves: u8,
+    left: &mut usize,
+    deep: usize,
+) -> Result<Option<Box<Node>>, Stop2>
+    requires paid { IsPaidFor d table.old }
+    requires won { is_nil refused ≡ false → WonBy table.old refused moves }
+    ensures { Builds result (λ o. as_other (option_map (λ b. tree_of b.value) o) ≡ refused_canon (chess d) moves refused) (size_other (refused_canon (chess d) moves refused)) (depth_other (refused_canon (chess d) moves refused)) table.old table.new left.old left.new deep }
+{
+    if refused.is_empty() {
+        return Ok(None);
+    }
+    let set = number_of(table, refused)?;
+    Ok(Some(build(alloc, d, table, set, moves, left, deep)?))
+}

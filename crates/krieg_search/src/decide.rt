@@ -1,0 +1,66 @@
+ghost use Rattle.std.specs.Prelude.{◌⊎◌, map};
+ghost use Rattle.krieg_accounts.specs.Stretch.{CoversSets};
+ghost use Rattle.krieg_game.specs.Chess.{chess};
+ghost use Rattle.krieg_split.specs.Turns.{IsOwnTurn, IsOthersTurn};
+ghost use Rattle.krieg_search.specs.Searched.{IsReady, Searches, TellsSets};
+ghost use Rattle.krieg_search.specs.Opened.{AreNumbered};
+ghost use Rattle.krieg_search.specs.Decided.{IsDecided, sets_in};
+
+use crate::openings::{Opening, find_openings};
+use crate::search::can_win;
+use crate::stop::Stop2;
+use krieg_board::{Side, Units};
+use krieg_pack::Belief;
+use krieg_table::Table;
+use krieg_words::Dialect;
+use std::alloc::Global;
+
+/// What a search leaves where some plan mates: the results, and what may be heard before the first own turn.
+#[derive(Drop)]
+pub(crate) struct Won {
+    pub table: Table,
+    pub openings: Vec<Opening>,
+}
+
+/// Whether the set of each opening can be won within `moves`, up to the first that cannot.
+fn all_openings_win(
+    alloc: Global,
+    d: Dialect,
+    table: &mut Table,
+    openings: &[Opening],
+    moves: u8,
+    units: &mut Units,
+) -> Result<bool, Stop2>
+    requires ready { IsReady d table.old }
+    requires numbered { AreNumbered table.old openings.now }
+    ensures { Searches d result (TellsSets d table.new (sets_in table.old openings.now) moves) (CoversSets (chess d) (sets_in table.old openings.now) moves) 0 table.old table.new units.old units.new }
+{
+    for o in openings {
+        if !can_win(alloc, d, table, o.set, moves, units)? {
+            return Ok(false);
+        }
+    }
+    Ok(true)
+}
+
+/// Whether some plan mates every listed position within `moves`, and by which results.
+pub(crate) fn decide(
+    alloc: Global,
+    d: Dialect,
+    who: Side,
+    b: &Belief,
+    moves: u8,
+    units: &mut Units,
+) -> Result<Option<Won>, Stop2>
+    requires { IsOwnTurn who b.now ⊎ IsOthersTurn who b.now }
+    ensures { IsDecided d who b.now moves result units.old units.new }
+{
+    let mut table = Table::new(alloc);
+    let Some(openings) = find_openings(alloc, d, who, b, &mut table, units)? else {
+        return Ok(None);
+    };
+    if !all_openings_win(alloc, d, &mut table, &openings, moves, units)? {
+        return Ok(None);
+    }
+    Ok(Some(Won { table, openings }))
+}

@@ -1,0 +1,72 @@
+ghost use Rattle.std.specs.Prelude.{IfOk, ◌≡◌, true, ◌<◌};
+ghost use Rattle.krieg_theory.specs.Split.{legal_in_some};
+ghost use Rattle.krieg_costs.specs.Cost.{made};
+ghost use Rattle.krieg_game.specs.Chess.{chess};
+ghost use Rattle.krieg_split.specs.Units.{IsPaid};
+ghost use Rattle.krieg_search.specs.Leaving.{IsLeft};
+
+use krieg_board::{Move, Units};
+use krieg_game::Class;
+use krieg_pack::Belief;
+use krieg_split::{Parted, SplitStop, split, split_to_mate};
+use krieg_words::Dialect;
+use std::alloc::Global;
+
+/// What a try leaves to be won: what is possible after each thing that may be heard, with one move less, and the
+/// members that refuse it, with the same number.
+#[derive(Drop)]
+pub(crate) struct Left {
+    pub classes: Vec<Class>,
+    pub refused: Belief,
+}
+
+/// The same where one move is left: the try must mate wherever it is legal, and then nothing is heard.
+fn left_by_last(
+    alloc: Global,
+    d: Dialect,
+    b: &Belief,
+    mv: Move,
+    units: &mut Units,
+) -> Result<Option<Left>, SplitStop>
+    ensures left { IfOk result (IsLeft d b.now mv 1) }
+    ensures units { IsPaid result (made (chess d) b.now mv) units.old units.new }
+{
+    match split_to_mate(alloc, d, b, mv, units)? {
+        Some(refused) => Ok(Some(Left {
+            classes: Vec::new(alloc),
+            refused,
+        })),
+        None => Ok(None),
+    }
+}
+
+/// What the try leaves to be won where it is to win within `moves`: nothing where it fails at once, since in some
+/// member it stalemates or, with one move left, does not mate.
+///
+/// It takes as many units as a split, or none with an error.
+#[inline(never)]
+pub(crate) fn left_by(
+    alloc: Global,
+    d: Dialect,
+    b: &Belief,
+    mv: Move,
+    moves: u8,
+    units: &mut Units,
+) -> Result<Option<Left>, SplitStop>
+    requires { 0 < moves }
+    ensures left { IfOk result (IsLeft d b.now mv moves) }
+    ensures units { IsPaid result (made (chess d) b.now mv) units.old units.new }
+{
+    if moves == 1 {
+        return left_by_last(alloc, d, b, mv, units);
+    }
+    let Parted {
+        refused,
+        stale,
+        classes,
+    } = split(alloc, d, b, mv, units)?;
+    if stale {
+        return Ok(None);
+    }
+    Ok(Some(Left { classes, refused }))
+}

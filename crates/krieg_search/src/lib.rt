@@ -1,0 +1,53 @@
+//! The search for the best plan: `solve`.
+//!
+//! It tells how a side mates every listed position, whichever of them is on the board, within a number of own moves;
+//! or that no plan does. What stands in a clause of `solve` is in the terms of krieg_theory and krieg_costs: read
+//! `Solved` in `specs/` (what each answer says, and what it takes), then `Decided` and `Planned` (the two halves:
+//! whether some plan mates, and the plan that is built), then `Searched` and `Built` (a stretch of the search, and
+//! a node of the plan).
+//!
+//! `openings` has what may be heard before the first own turn, with the set of what is possible then. `decide` asks
+//! for one opening after the other whether its set can be won, by `search`: one number of moves after the other; for
+//! each number the tries in their order, up to the first that begins to win; for a try first what makes it fail at once
+//! (`left`), then what is possible after each thing that may be heard, and then the members that refuse it, up to
+//! the first part that cannot be won. Each set has a number in a table (`number`), which holds what is found
+//! for 1 to 6 moves, so that no set is searched twice for the same number of moves.
+//!
+//! `roots` and `build` make the plan of the stored results. Each node is taken from the number that is allowed before
+//! anything below it is built. They split the sets once more, each by the one try that wins it, by units that are made
+//! for that alone: `paid` (in `Built`) says that the search has paid for all of these splits.
+//!
+//! The search calls itself for each part of a set, and building for each node below a node. Where one try after another
+//! is refused, they go a level deeper for each, some 2,490 levels at most. A level of the search takes less than 400
+//! bytes of the stack, or less than 1,500 in a program that Rattle's own compiler builds, and a level of building less
+//! than 600.
+//!
+//! ```
+//! let mut units = Units::new(5_000_000);
+//! // `list` has White's king on b6, his rook on h1 and Black's king on a8 or c8; White is to move
+//! match solve(alloc, Dialect::Wild16, Side::White, &list, 2, 100, &mut units) {
+//!     Ok(Answer::Mates { worst, plan }) => .., // 2, and h1d1 and then d1d8, whichever it is
+//!     Ok(Answer::None) => .., // no plan mates both within 2 moves
+//!     Err(Stop2::Large) => .., // the plan has more than 100 nodes
+//!     Err(Stop2::Spent) => .., // the units are too few, and all are left
+//!     Err(Stop2::NoMemory) => ..,
+//! }
+//! ```
+#![tactic(auto)]
+
+mod best_plan;
+mod build;
+mod decide;
+mod left;
+mod number;
+mod openings;
+mod roots;
+mod search;
+mod stop;
+#[cfg(test)]
+mod tests;
+mod turn;
+
+pub use best_plan::{Answer, solve};
+pub use stop::Stop2;
+pub use turn::has_one_turn;
