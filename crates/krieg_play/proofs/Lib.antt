@@ -1,0 +1,10 @@
+pub mod FirstSeats
+pub mod Tellings
+pub mod Courses
+pub mod SideCalls
+pub mod HeardLines
+pub mod BothSides
+pub mod Judging
+pub mod Turning
+pub mod Stopping
+pub mod Opening

@@ -1,0 +1,92 @@
+-- What no public clause cites: what each call of one side's seats makes of them.
+use Rattle.std.specs.Prelude.{◌≡◌, ◌+◌, ◌<◌, ◌≤◌, ◌⊎◌, List, [], ◌∷◌, ◌++◌, Result, Ok, Err, Vec, vec_len, vec_capacity}
+use Rattle.krieg_ports.specs.Faults.{Rose}
+use Rattle.krieg_board.specs.Pos.{Pos}
+use Rattle.krieg_board.specs.declared.men.Move.{Move}
+use Rattle.krieg_board.specs.declared.men.Side.{Side}
+use Rattle.krieg_words.specs.WordsOfMoves.{opening}
+use Rattle.krieg_words.specs.declared.line.Line.{Line}
+use Rattle.krieg_words.specs.declared.line.Line.TheVariants.{Opens}
+use Rattle.krieg_referee.specs.Hearing.{lines_for}
+use Rattle.krieg_referee.specs.declared.verdict.Judged.{Judged}
+use Rattle.krieg_seats.specs.Accounts.{Account}
+use Rattle.krieg_seats.specs.declared.seat.SeatFault.{SeatFault}
+use Rattle.krieg_seats.specs.declared.seat.SeatFault.TheVariants.{Failed, NoMemory}
+use Rattle.krieg_play.specs.Teams.{Team, Course, BrokenCourse, Stays, HasLeft, HasFailed, MayBeShort}
+use Rattle.krieg_play.specs.declared.turn.Turn.{Turn}
+use Rattle.krieg_play.specs.declared.turn.Turn.TheVariants.{Tried, Relieved, Left}
+
+-- ---- one seat
+
+-- the lines of a side so far, in the umpire's words: the opening words, and then a line for each try of which it hears
+abbrev pub lines_to : Pos → Side → List Judged → List Line
+lines_to start who log = Opens (opening start) ∷ lines_for who log
+
+-- the seat heard a front part of the lines, and nothing else changed but its count of faults
+pub record BreaksOff (lines : List Line) (before now : Account) : Type 0 where
+  pub told : List Line
+  pub due : List Line
+  pub split : told ++ due ≡ lines
+  pub now_is : now ≡ record before { heard = before.heard ++ told; faults = now.faults }
+
+-- what telling a seat these lines, one after another, makes of it
+abbrev pub ToldAll : List Line → Result (Unit {0}) SeatFault → Account → Account → Type 0
+ToldAll lines (Ok _) before now = now ≡ record before { heard = before.heard ++ lines }
+ToldAll lines (Err Failed) before now = BreaksOff lines before now × Rose before.faults now.faults
+ToldAll lines (Err NoMemory) before now = BreaksOff lines before now × (before.faults ≤ now.faults)
+
+-- the first of the list changed so, and the others stay
+pub record FirstChanges {X : Type 0} (R : X → X → Type 0) (before now : List X) : Type 0 where
+  pub first : X
+  pub first' : X
+  pub behind : List X
+  pub then_is : before ≡ first ∷ behind
+  pub now_is : now ≡ first' ∷ behind
+  pub changes : R first first'
+
+-- ---- one side
+
+-- there is a seat, and room for each in the out list
+abbrev pub IsReady : {X Z : Type 0} → Vec X Z → Vec X Z → Type 0
+IsReady seats out = (0 < vec_len seats) × (vec_len seats + vec_len out ≤ vec_capacity out)
+
+-- what the sitting seat's counts came to where a call of the side ends with the fault of a seat
+abbrev pub seat_counts : SeatFault → Account → Account → Type 0
+seat_counts Failed = HasFailed
+seat_counts NoMemory = MayBeShort
+
+-- what a side did when a call that tells it has answered: its sitting seat has heard all, or met this fault
+abbrev pub AfterTelling : {X : Type 0} → (X → Account) → Result (Unit {0}) SeatFault → Team X → Team X → List Line → List Move → Type 0
+AfterTelling account (Ok _) entry now lines tries = Course account Stays entry now lines [] tries
+AfterTelling account (Err fault) entry now lines tries = BrokenCourse account (seat_counts fault) entry now lines tries
+
+-- a relief, from any course so far whose sitting seat has these counts
+abbrev pub Relieves : {X : Type 0} → (X → Account) → (Account → Account → Type 0) → Result (Unit {0}) SeatFault → Team X → Team X → List Line → Type 0
+Relieves {X} account Counts r before now lines =
+    (entry : Team X) (due : List Line) (tries : List Move) → Course account Counts entry before lines due tries → AfterTelling account r entry now lines tries
+
+-- telling these lines, from any course so far of which they are due
+abbrev pub Tells : {X : Type 0} → (X → Account) → Result (Unit {0}) SeatFault → Team X → Team X → List Line → List Line → Type 0
+Tells {X} account r before now lines due =
+    (entry : Team X) (tries : List Move) → Course account Stays entry before lines due tries → AfterTelling account r entry now lines tries
+
+-- what a side did when its sitting seat was asked
+abbrev pub AfterTurn : {X : Type 0} → (X → Account) → Result Turn SeatFault → Team X → Team X → List Line → List Move → Type 0
+AfterTurn account (Ok (Tried m)) entry now lines tries = Course account Stays entry now lines [] (tries ++ m ∷ [])
+AfterTurn account (Ok Relieved) entry now lines tries = Course account Stays entry now lines [] tries
+AfterTurn account (Ok Left) entry now lines tries = Course account HasLeft entry now lines [] tries
+AfterTurn account (Err fault) entry now lines tries = BrokenCourse account (seat_counts fault) entry now lines tries
+
+-- a turn, from any course so far whose sitting seat has heard all and has these counts
+abbrev pub TakesTurn : {X : Type 0} → (X → Account) → (Account → Account → Type 0) → Result Turn SeatFault → Team X → Team X → List Line → Type 0
+TakesTurn {X} account Counts r before now lines =
+    (entry : Team X) (tries : List Move) → Course account Counts entry before lines [] tries → AfterTurn account r entry now lines tries
+
+-- the turn of a side whose sitting seat was relieved
+abbrev pub relieved_turn : Result (Unit {0}) SeatFault → Result Turn SeatFault
+relieved_turn (Ok _) = Ok Relieved
+relieved_turn (Err fault) = Err fault
+
+-- the last seat of the side left or failed
+abbrev pub IsLastOnes : Result Turn SeatFault → Type 0
+IsLastOnes r = (r ≡ Ok Left) ⊎ (r ≡ Err Failed)

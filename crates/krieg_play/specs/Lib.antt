@@ -1,0 +1,5 @@
+pub mod Teams
+pub mod Games
+pub mod Played
+pub mod Calls
+pub mod Passes

@@ -1,0 +1,137 @@
+// A whole game: the opening words, turn after turn, until it stops.
+ghost use Rattle.std.specs.Prelude.{◌≡◌, ◌↔◌, ◌+◌, ◌<◌, ◌≤◌, [], Ok, Err, IfOk, IfErr, OnOk, vec_len};
+ghost use Rattle.krieg_play.specs.Teams.{team_of};
+ghost use Rattle.krieg_play.specs.Played.{sides, IsPlayed, Refuses};
+ghost use Rattle.krieg_play.specs.Calls.{IsReady};
+ghost use Rattle.krieg_play.specs.Passes.{PlaysOn, ComesTo};
+
+use crate::live::bench::Bench;
+use crate::live::table::{relieved_count, take_turn, tell_both};
+use crate::{PlayFault, Played};
+use krieg_board::{NoMemory, Position, Side};
+use krieg_moves::has_move;
+use krieg_referee::{Game, Stop};
+use krieg_seats::Seat;
+use krieg_words::{Line, opening};
+use std::alloc::Global;
+
+/// Plays on until the game stops. `seats` is how many seats stood in both lists when the call began.
+fn play_on(
+    bench: &mut Bench,
+    start: &Position,
+    game: &mut Game,
+    seats: usize,
+) -> Result<Stop, PlayFault>
+    requires white { IsReady bench.old.white bench.old.white_out }
+    requires black { IsReady bench.old.black bench.old.black_out }
+    requires seats { vec_len bench.old.white + vec_len bench.old.black ≤ seats }
+    ensures plays { PlaysOn (λ b. account b) result start.now seats
+        (sides (team_of bench.old.white bench.old.white_out) (team_of bench.old.black bench.old.black_out))
+        (sides (team_of bench.new.white bench.new.white_out) (team_of bench.new.black bench.new.black_out))
+        game.old game.new }
+{
+    'turns: loop {
+        if !has_move(game.position()) {
+            return Ok(Stop::Ended);
+        }
+        if game.spare() <= relieved_count(bench, seats) {
+            return Ok(Stop::AsksUsed);
+        }
+        match take_turn(bench, start, game, seats) {
+            Ok(None) => {}
+            Ok(Some(who)) => return Ok(Stop::Left(who)),
+            Err(fault) => return Err(fault),
+        }
+    }
+}
+
+/// Tells both sides the opening words, and plays on.
+fn play_game(bench: &mut Bench, start: &Position, game: &mut Game) -> Result<Stop, PlayFault>
+    requires white { IsReady bench.old.white bench.old.white_out }
+    requires black { IsReady bench.old.black bench.old.black_out }
+    requires position { game.old.position ≡ start.now }
+    requires log { game.old.log ≡ [] }
+    ensures plays { ComesTo (λ b. account b) result start.now game.old.spare
+        (sides (team_of bench.old.white bench.old.white_out) (team_of bench.old.black bench.old.black_out))
+        (sides (team_of bench.new.white bench.new.white_out) (team_of bench.new.black bench.new.black_out))
+        game.new }
+{
+    let seats = bench.white.len() + bench.black.len();
+    let white = Line::Opens(opening(start));
+    let black = Line::Opens(opening(start));
+    match tell_both(bench, Some(white), Some(black), start, game.log()) {
+        Ok(()) => play_on(bench, start, game, seats),
+        Err(fault) => Err(fault),
+    }
+}
+
+/// Takes the places of all tries and of all reliefs.
+fn reserve(bench: &mut Bench, game: &mut Game, asks: usize) -> Result<(), NoMemory>
+    requires white { 0 < vec_len bench.old.white }
+    requires black { 0 < vec_len bench.old.black }
+    requires spare { game.old.spare ≡ 0 }
+    ensures kept { (bench.new.white.items ≡ bench.old.white.items) × (bench.new.white_out.items ≡ bench.old.white_out.items)
+        × (bench.new.black.items ≡ bench.old.black.items) × (bench.new.black_out.items ≡ bench.old.black_out.items) }
+    ensures game { OnOk result (game.new ≡ record game.old { spare = asks }) }
+    ensures white { OnOk result (IsReady bench.new.white bench.new.white_out) }
+    ensures black { OnOk result (IsReady bench.new.black bench.new.black_out) }
+{
+    game.reserve(asks)?;
+    bench.white_out.reserve(bench.white.len())?;
+    bench.black_out.reserve(bench.black.len())?;
+    Ok(())
+}
+
+/// Lets the seats of the bench play a game from this position, in which at most `asks` tries are judged.
+///
+/// Both sides are told the opening words, White first. Then the first seat of the side to move is asked; its try is
+/// judged, and White and after him Black is told what he hears of it. The game stops where it has ended, where the
+/// tries and the relieved seats together are as many as `asks`, or where the last seat of the side to move leaves.
+///
+/// A seat that fails or leaves is relieved where another stands behind it: it is moved to the end of its side's out
+/// list, and nothing more is asked of it or told to it. The next seat is told all lines of its side so far, and is
+/// itself relieved where it fails then. The game goes on with what follows.
+///
+/// Room for all tries and reliefs is taken before the first call of a seat.
+///
+/// # Errors
+///
+/// `Vacant` comes exactly where a side has no seat, White's list being looked at first; nothing has changed then.
+/// `Seat` comes only where a call of the last seat of that side failed: its count of faults rose, and the game is
+/// given up. So it is after `NoMemory`, a seat's own or that of the call. The seats have then said and heard what
+/// they did so far, and those that were relieved stand in their out lists.
+pub fn play(
+    alloc: Global,
+    start: Position,
+    bench: &mut Bench,
+    asks: usize,
+) -> Result<Played, PlayFault>
+    ensures played { IfOk result (λ p. IsPlayed (λ b. account b) start asks
+        (sides (team_of bench.old.white bench.old.white_out) (team_of bench.old.black bench.old.black_out))
+        (sides (team_of bench.new.white bench.new.white_out) (team_of bench.new.black bench.new.black_out))
+        p.game p.stop) }
+    ensures refused { IfErr result (Refuses (λ b. account b) start asks
+        (sides (team_of bench.old.white bench.old.white_out) (team_of bench.old.black bench.old.black_out))
+        (sides (team_of bench.new.white bench.new.white_out) (team_of bench.new.black bench.new.black_out))) }
+
+    // A side without a seat is the only cause of its fault, and always one.
+    ensures no_white { (result ≡ Err (PlayFault.Vacant Side.White)) ↔ (bench.old.white.items ≡ []) }
+    ensures no_black { (result ≡ Err (PlayFault.Vacant Side.Black))
+        ↔ ((0 < vec_len bench.old.white) × (bench.old.black.items ≡ [])) }
+{
+    if bench.white.is_empty() {
+        return Err(PlayFault::Vacant(Side::White));
+    }
+    if bench.black.is_empty() {
+        return Err(PlayFault::Vacant(Side::Black));
+    }
+    let mut game = Game::start(alloc, start);
+    match reserve(bench, &mut game, asks) {
+        Ok(()) => {}
+        Err(NoMemory) => return Err(PlayFault::NoMemory),
+    }
+    match play_game(bench, &start, &mut game) {
+        Ok(stop) => Ok(Played { game, stop }),
+        Err(fault) => Err(fault),
+    }
+}

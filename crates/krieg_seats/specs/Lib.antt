@@ -1,0 +1,5 @@
+pub mod Accounts
+pub mod Scripts
+pub mod Saying
+pub mod LineReading
+pub mod Streams
