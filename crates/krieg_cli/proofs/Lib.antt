@@ -1,5 +1,8 @@
+mod BestFiles
 mod Checking
 mod Pieces
+mod Ranges
 mod Reports
-mod Solutions
+mod Searching
+mod ToldPlans
 mod WholeGames

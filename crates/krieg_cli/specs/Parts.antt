@@ -8,8 +8,10 @@ use Rattle.krieg_belief.specs.declared.beliefs.BeliefStop.{BeliefStop}
 use Rattle.krieg_belief.specs.declared.beliefs.BeliefStop.TheVariants as stop
 use Rattle.krieg_checker.specs.declared.stop.CheckStop.{CheckStop}
 use Rattle.krieg_checker.specs.declared.stop.CheckStop.TheVariants as check
+use Rattle.krieg_search.specs.declared.stop.Stop2.{Stop2}
+use Rattle.krieg_search.specs.declared.stop.Stop2.TheVariants as search
 use Rattle.krieg_cli.specs.declared.refusal.Refusal.{Refusal}
-use Rattle.krieg_cli.specs.declared.refusal.Refusal.TheVariants.{BadText, TooMany, BudgetSpent}
+use Rattle.krieg_cli.specs.declared.refusal.Refusal.TheVariants.{BadText, TooMany, BudgetSpent, PlanTooLarge}
 use Rattle.krieg_cli.specs.declared.ending.Ending.{Ending}
 use Rattle.krieg_cli.specs.declared.ending.Ending.TheVariants.{Answered, TooLong, ReadFault, NoMemory, Refused}
 
@@ -33,6 +35,12 @@ of_belief stop.NoMemory = NoMemory
 abbrev pub of_check : CheckStop → Ending
 of_check check.Spent = Refused BudgetSpent
 of_check check.NoMemory = NoMemory
+
+-- a search without an answer
+abbrev pub of_search : Stop2 → Ending
+of_search search.Spent = Refused BudgetSpent
+of_search search.Large = Refused PlanTooLarge
+of_search search.NoMemory = NoMemory
 
 abbrev pub ending_of : {X : Type 0} → Result X Ending → Ending
 ending_of (Ok x) = Answered

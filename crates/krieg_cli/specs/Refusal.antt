@@ -7,7 +7,7 @@ use Rattle.krieg_fen.specs.declared.fault.TextFault.TheVariants as fault
 use Rattle.krieg_fen.specs.declared.fault.TextKind.{TextKind}
 use Rattle.krieg_fen.specs.declared.fault.TextKind.TheVariants as kind
 use Rattle.krieg_cli.specs.declared.refusal.Refusal.{Refusal}
-use Rattle.krieg_cli.specs.declared.refusal.Refusal.TheVariants.{BadText, TooMany, BudgetSpent, PlanFails, NotBuilt}
+use Rattle.krieg_cli.specs.declared.refusal.Refusal.TheVariants.{BadText, TooMany, NonePossible, GameOver, BudgetSpent, PlanFails, PlanTooLarge, NotBuilt}
 
 -- a position that is not valid, or not of the first one's hand, is told from every other bad line
 abbrev pub text_status : TextKind → ℕ
@@ -23,8 +23,11 @@ text_status kind.Large = 3
 abbrev pub refusal_status : Refusal → ℕ
 refusal_status (BadText line kind) = text_status kind
 refusal_status (TooMany line) = 7
+refusal_status NonePossible = 5
+refusal_status GameOver = 6
 refusal_status BudgetSpent = 8
 refusal_status PlanFails = 13
+refusal_status PlanTooLarge = 14
 refusal_status NotBuilt = 15
 
 abbrev pub position_reason : BadPosition → List ℕ
@@ -49,8 +52,11 @@ text_reason kind.Large = codes "large"
 abbrev pub refusal_reason : Refusal → Option ℕ × List ℕ
 refusal_reason (BadText line kind) = (Some line, text_reason kind)
 refusal_reason (TooMany line) = (Some line, codes "too many positions")
+refusal_reason NonePossible = (None, codes "no consistent position")
+refusal_reason GameOver = (None, codes "not the player's turn")
 refusal_reason BudgetSpent = (None, codes "budget spent")
 refusal_reason PlanFails = (None, codes "plan fails")
+refusal_reason PlanTooLarge = (None, codes "plan too large")
 refusal_reason NotBuilt = (None, codes "not built")
 
 -- What comes of a text: an outcome of the value that it spells, or the refusal of its first bad line.

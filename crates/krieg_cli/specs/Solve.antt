@@ -1,71 +1,101 @@
--- What `solve 1` answers: for a sheet that lists one position and says no more, the plan of the first move that mates, or that there is none.
-use Rattle.std.specs.Prelude.{ℕ, Bool, true, false, ◌≡◌, ◌&&◌, List, [], ◌∷◌, Option, Some, None, is_none, Result, Ok, Err, codes, if◌then◌else◌}
-use Rattle.std.specs.List.{find}
-use Rattle.krieg_board.specs.Men.{is_same_side}
+-- What `solve` answers to a sheet: the best plan for all that is possible, or that no plan mates within the moves that were asked.
+use Rattle.std.specs.Prelude.{◌≡◌, ◌⊎◌, ℕ, ◌<◌, ◌≤◌, Bool, true, false, List, [], ◌∷◌, Result, Ok, Err, codes}
 use Rattle.krieg_board.specs.Pos.{Pos}
-use Rattle.krieg_board.specs.declared.men.Move.{Move}
 use Rattle.krieg_board.specs.declared.men.Side.{Side}
-use Rattle.krieg_moves.specs.After.{after}
-use Rattle.krieg_moves.specs.Moves.{moves, is_mate}
+use Rattle.krieg_fen.specs.Decimals.{number_text}
 use Rattle.krieg_fen.specs.Lines.{lines}
 use Rattle.krieg_fen.specs.Reading.{whole}
-use Rattle.krieg_fen.specs.Writing.{alone, put_lines}
-use Rattle.krieg_words.specs.WordsOfMoves.{opening}
+use Rattle.krieg_fen.specs.Writing.{Pieces, put_lines}
 use Rattle.krieg_words.specs.declared.dialects.Dialect.{Dialect}
-use Rattle.krieg_words.specs.declared.dialects.Dialect.TheVariants.{Wild16, Anytry, Plain}
-use Rattle.krieg_words.specs.declared.line.Line.{Line}
-use Rattle.krieg_theory.specs.Tree.{Try, Nothing, NoEdges}
-use Rattle.krieg_planfile.specs.PlanFiles.{PlanState}
-use Rattle.krieg_planfile.specs.PlanText.{plan_text}
 use Rattle.krieg_sheet.specs.Sheets.{SheetState}
 use Rattle.krieg_sheet.specs.SheetReading.{sheet_at}
+use Rattle.krieg_sheet.specs.Turns.{is_over}
+use Rattle.krieg_belief.specs.Possible.{IsPossible}
+use Rattle.krieg_belief.specs.Limits.{AllWithin, IsFirstExcess}
+use Rattle.krieg_theory.specs.Sets.{is_nil}
+use Rattle.krieg_theory.specs.Plans.{mates, IsCanonPlan}
+use Rattle.krieg_costs.specs.Reach.{fresh}
+use Rattle.krieg_costs.specs.Backing.{floor}
+use Rattle.krieg_game.specs.Chess.{chess}
+use Rattle.krieg_game.specs.Outset.{outset}
+use Rattle.krieg_plan.specs.Trees.{PlanTrees, plan_size, plan_depth}
+use Rattle.krieg_planfile.specs.PlanFiles.{PlanState, most_nodes, most_on_path}
+use Rattle.krieg_planfile.specs.PlanText.{plan_text}
 use Rattle.krieg_cli.specs.Refusal.{OfText}
 use Rattle.krieg_cli.specs.declared.refusal.Refusal.{Refusal}
-use Rattle.krieg_cli.specs.declared.refusal.Refusal.TheVariants.{NotBuilt}
+use Rattle.krieg_cli.specs.declared.refusal.Refusal.TheVariants.{TooMany, NonePossible, GameOver, BudgetSpent, PlanTooLarge}
 
--- the first of the legal moves, in their order, that mates
-unfoldable pub mating_move : Pos → Option Move
-mating_move p = find (λ m. is_mate (after p m)) (moves p)
+-- the line that no plan mates within n moves
+abbrev pub none_line : ℕ → Pieces
+none_line n = codes "none " ∷ number_text n ∷ []
 
--- the plan file whose one node is that move: it mates the one position within one own move
-abbrev pub plan_by : Pos → Move → PlanState
-plan_by p m = record {
-  dialect = Wild16;
-  side = p.side;
-  list = p ∷ [];
-  worst = 1;
-  plan = ((opening p, None), Try m Nothing NoEdges) ∷ [];
-}
+-- with a line feed
+unfoldable pub none_text : ℕ → List ℕ
+none_text n = put_lines [] (none_line n ∷ [])
 
--- the answer's text: that file, or that there is none
-abbrev pub solution_text : Pos → Option Move → List ℕ
-solution_text p None = put_lines [] (alone (codes "none 1") ∷ [])
-solution_text p (Some m) = plan_text (plan_by p m)
+-- the file of a plan with its worst case
+abbrev pub file_of : Dialect → Side → List Pos → ℕ → PlanTrees → PlanState
+file_of d who S worst plan = record { dialect = d; side = who; list = S; worst = worst; plan = plan }
 
--- Which sheets are built.
+-- it has more nodes, or more of them on a path, than a plan file may have
+abbrev pub IsTooLarge : PlanState → Type 0
+IsTooLarge f = (most_nodes < plan_size f.plan) ⊎ (most_on_path < plan_depth f.plan)
 
-abbrev pub is_wild16 : Dialect → Bool
-is_wild16 Wild16 = true
-is_wild16 Anytry = false
-is_wild16 Plain = false
+module _ (d : Dialect) (who : Side) (S : List Pos) where
+  -- the plan mates from each of the positions, against every reply, within k own moves
+  abbrev pub mates_all : PlanTrees → ℕ → Bool
+  mates_all plan k = mates (chess d) (outset d who) plan S k
 
-abbrev pub with_turn : Side → Pos → Option Pos
-with_turn who p = if is_same_side p.side who then Some p else None
+  -- The file is that of the best plan within n own moves: it is in the dialect, for the side, and lists the positions. The
+  -- plan mates from each of them within the claim, which is its worst case, and no plan has a smaller one. It is the
+  -- canonical plan, so there is one such file.
+  pub record IsBestFile (n : ℕ) (f : PlanState) : Type 0 where
+    pub dialect : f.dialect ≡ d
+    pub side : f.side ≡ who
+    pub list : f.list ≡ S
+    pub mates : mates_all f.plan f.worst ≡ true
+    pub within : f.worst ≤ n
+    pub least : (plan : PlanTrees) (k : ℕ) → mates_all plan k ≡ true → f.worst ≤ k
+    pub canonical : IsCanonPlan (chess d) (outset d who) f.plan S
 
-abbrev pub lone_in : Side → List Pos → List Line → Option Pos
-lone_in who (p ∷ []) [] = with_turn who p
-lone_in who (p ∷ []) (l ∷ ls) = None
-lone_in who [] entries = None
-lone_in who (p ∷ q ∷ ps) entries = None
+  -- no plan mates within n own moves
+  abbrev pub NoneMates : ℕ → Type 0
+  NoneMates n = (plan : PlanTrees) → mates_all plan n ≡ false
 
--- the position of a sheet in wild16 that lists one, in which the sheet's side is to move, and says no more
-unfoldable pub lone_position : SheetState → Option Pos
-lone_position s = if is_wild16 s.dialect && is_none s.opens then lone_in s.side s.list s.entries else None
+  -- what a search for at most n moves must take, and what it takes at most
+  abbrev pub least_units : ℕ → ℕ
+  least_units n = floor (chess d) (outset d who) n S
 
-abbrev pub solved : Option Pos → Result (List ℕ) Refusal
-solved None = Err NotBuilt
-solved (Some p) = Ok (solution_text p (mating_move p))
+  abbrev pub most_units : ℕ → ℕ
+  most_units n = fresh (chess d) (outset d who) n S
 
--- the answer to a sheet; other sheets are not built
-abbrev pub Solves : List ℕ → Result (List ℕ) Refusal → Type 0
-Solves text outcome = OfText (whole sheet_at (lines text)) (λ sheet told. told ≡ solved (lone_position sheet)) outcome
+  -- the text of the best file, or the line that no plan mates
+  abbrev pub Tells : ℕ → List ℕ → Type 0
+  Tells n answer = ((f : PlanState) × IsBestFile n f × (answer ≡ plan_text f)) ⊎ (NoneMates n × (answer ≡ none_text n))
+
+  -- A search tells its answer, or that the best file is too large for a text, where the budget is at least what it must take;
+  -- the budget is spent only where it is less than a search may take.
+  abbrev pub Searched : ℕ → ℕ → Result (List ℕ) Refusal → Type 0
+  Searched n budget (Ok answer) = (least_units n ≤ budget) × Tells n answer
+  Searched n budget (Err PlanTooLarge) = (least_units n ≤ budget) × (f : PlanState) × IsBestFile n f × IsTooLarge f
+  Searched n budget (Err BudgetSpent) = budget < most_units n
+  Searched n budget (Err _) = ⊥
+
+-- The sheet asks for a plan for these positions: they are all that is possible, no part of the sheet leaves more than the
+-- limit possible, there is one, and the game is not over.
+pub record Asks (limit : ℕ) (s : SheetState) (S : List Pos) : Type 0 where
+  pub possible : IsPossible s S
+  pub within : AllWithin limit s
+  pub some : is_nil S ≡ false
+  pub goes_on : is_over s ≡ false
+
+-- In this order: too many positions are possible, or none, or the game is over; or the search answers.
+abbrev pub Solved : ℕ → ℕ → ℕ → SheetState → Result (List ℕ) Refusal → Type 0
+Solved n budget limit s (Err (TooMany line)) = IsFirstExcess s limit line
+Solved n budget limit s (Err NonePossible) = IsPossible s [] × AllWithin limit s
+Solved n budget limit s (Err GameOver) = (S : List Pos) × IsPossible s S × AllWithin limit s × (is_nil S ≡ false) × (is_over s ≡ true)
+Solved n budget limit s outcome = (S : List Pos) × Asks limit s S × Searched s.dialect s.side S n budget outcome
+
+-- the same of a text that may spell a sheet
+abbrev pub Solves : ℕ → ℕ → ℕ → List ℕ → Result (List ℕ) Refusal → Type 0
+Solves n budget limit text outcome = OfText (whole sheet_at (lines text)) (Solved n budget limit) outcome

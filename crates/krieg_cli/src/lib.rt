@@ -1,7 +1,7 @@
 //! The whole program as one call over streams: `run`.
 //!
-//! Built so far are `umpire` on any session, `believe` on any sheet, `check` on any plan file, and
-//! `solve 1 BUDGET LIMIT` on a sheet that lists one position and says no more. The definitions of `specs/` say what is seen of a run before
+//! Built so far are `umpire` on any session, `believe` and `solve` on any sheet, and `check` on any plan file.
+//! The definitions of `specs/` say what is seen of a run before
 //! it and after it (`World`), what comes of its input (`Input`), how it ends (`Ending`, `Refusal`), what each
 //! command makes of its input (`Solve`, `Check`, `Believe`, `Umpire`, and `Outcome` for all), by what causes a run ends
 //! so (`Top`), and that `believe` lists where a game stands, given what `umpire` writes of it (`WholeGames`).

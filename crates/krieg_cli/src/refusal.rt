@@ -11,10 +11,16 @@ pub(crate) enum Refusal {
     BadText(usize, TextKind),
     /// More positions are possible than the limit allows, first at that line of the sheet as it is written.
     TooMany(usize),
+    /// No position is consistent with the sheet.
+    NonePossible,
+    /// The game of the sheet is over.
+    GameOver,
     /// The budget is less than the work takes.
     BudgetSpent,
     /// The plan does not mate every listed position within the number that its file claims.
     PlanFails,
+    /// The best plan has more nodes than a plan file may have.
+    PlanTooLarge,
     /// It is not built yet for this command.
     NotBuilt,
 }
@@ -69,8 +75,11 @@ impl Refusal {
         match self {
             Refusal::BadText(_, kind) => text_status(kind),
             Refusal::TooMany(_) => 7,
+            Refusal::NonePossible => 5,
+            Refusal::GameOver => 6,
             Refusal::BudgetSpent => 8,
             Refusal::PlanFails => 13,
+            Refusal::PlanTooLarge => 14,
             Refusal::NotBuilt => 15,
         }
     }
@@ -83,8 +92,11 @@ impl Refusal {
         match self {
             Refusal::BadText(line, kind) => (Some(*line), text_reason(kind)),
             Refusal::TooMany(line) => (Some(*line), b"too many positions"),
+            Refusal::NonePossible => (None, b"no consistent position"),
+            Refusal::GameOver => (None, b"not the player's turn"),
             Refusal::BudgetSpent => (None, b"budget spent"),
             Refusal::PlanFails => (None, b"plan fails"),
+            Refusal::PlanTooLarge => (None, b"plan too large"),
             Refusal::NotBuilt => (None, b"not built"),
         }
     }

@@ -1,137 +1,162 @@
-ghost use Rattle.std.specs.Prelude.{◌≡◌, true, All, IfOk};
-ghost use Rattle.std.specs.List.{find};
-ghost use Rattle.krieg_board.specs.Men.{is_same_side};
-ghost use Rattle.krieg_moves.specs.After.{after};
-ghost use Rattle.krieg_moves.specs.Legal.{is_legal};
-ghost use Rattle.krieg_moves.specs.Moves.{is_mate};
+ghost use Rattle.std.specs.Prelude.{◌≡◌, ◌∷◌, [], ◌≤◌, ◌⊎◌, false, length, All, IfOk};
+ghost use Rattle.krieg_board.specs.Validity.{IsValid};
+ghost use Rattle.krieg_fen.specs.Forms.{most_listed};
+ghost use Rattle.krieg_fen.specs.Writing.{PutsLines};
+ghost use Rattle.krieg_theory.specs.Sets.{is_nil};
+ghost use Rattle.krieg_belief.specs.Possible.{HaveOneHand};
 ghost use Rattle.krieg_plan.specs.Plans.{plan_of};
-ghost use Rattle.krieg_planfile.specs.PlanFiles.{state_of};
+ghost use Rattle.krieg_planfile.specs.PlanFiles.{CanBeWritten};
+ghost use Rattle.krieg_planfile.specs.PlanText.{plan_text};
 ghost use Rattle.krieg_cli.specs.Parts.{Decides};
 ghost use Rattle.krieg_cli.specs.Solve as spec;
 
 use crate::ending::Ending;
 use crate::refusal::Refusal;
-use krieg_board::{Move, NoMemory, Position, Side, know_valid};
-use krieg_moves::{after, is_mate, legal_moves};
-use krieg_plan::{Node, Plan, PlanFile, Root};
+use krieg_belief::believe;
+use krieg_board::{NoMemory, Position, Side, Units};
+use krieg_fen::{Text, put_number};
+use krieg_pack::Belief;
+use krieg_plan::{Plan, PlanFile};
 use krieg_planfile::write_plan;
+use krieg_search::{Answer, Stop2, solve};
 use krieg_sheet::{Sheet, read_sheet};
-use krieg_words::{Dialect, Line, opening};
+use krieg_words::Dialect;
 use std::alloc::Global;
 
-fn mates(p: &Position, mv: &Move) -> bool
-    requires { is_legal p.now mv.now ≡ true }
-    ensures { result ≡ is_mate (after p.now mv.now) }
-{
-    is_mate(&after(p, *mv))
-}
+/// The most nodes of a plan that is written.
+const MOST_NODES: usize = 100_000;
 
-/// The first of these legal moves that mates.
-fn first_mate(p: &Position, moves: &[Move]) -> Option<Move>
-    requires { All (λ m. is_legal p.now m ≡ true) moves.now }
-    ensures { result ≡ find (λ m. is_mate (after p.now m)) moves.now }
-{
-    for mv in moves {
-        if mates(p, mv) {
-            return Some(*mv);
+impl From<Stop2> for Ending {
+    ghost use Rattle.krieg_cli.specs.Parts.{of_search};
+
+    ghost from_gives = { λ stop e. e ≡ of_search stop };
+
+    fn from(stop: Stop2) -> Ending {
+        match stop {
+            Stop2::Spent => Ending::Refused(Refusal::BudgetSpent),
+            Stop2::Large => Ending::Refused(Refusal::PlanTooLarge),
+            Stop2::NoMemory => Ending::NoMemory,
         }
     }
-    None
 }
 
-/// The first of the legal moves that mates.
-#[tactic(auto, using(crate::proofs::Solutions::legal), unfolding(crate::specs::Solve::mating_move))]
-fn mating_move(alloc: Global, p: &Position) -> Result<Option<Move>, NoMemory>
-    ensures { IfOk result (λ found. found ≡ spec.mating_move p.now) }
+/// The members of the set as a list.
+fn listed(alloc: Global, set: &Belief) -> Result<Vec<Position>, NoMemory>
+    ensures same { IfOk result (λ list. list.items ≡ set.now) }
+    ensures valid { IfOk result (λ list. All IsValid list.items) }
 {
-    let moves = legal_moves(alloc, p)?;
-    Ok(first_mate(p, moves.as_slice()))
+    let mut list = Vec::with_capacity(alloc, set.len())?;
+    for i in 0..set.len() {
+        list.push(set.get(i))?;
+    }
+    Ok(list)
 }
 
-/// The plan that is this move alone.
-fn plan_by(alloc: Global, p: &Position, mv: Move) -> Result<Plan, NoMemory>
-    ensures { IfOk result (λ plan. plan_of plan ≡ (spec.plan_by p.now mv).plan) }
+/// The text of the plan file of a plan for the listed positions.
+fn file_text(
+    alloc: Global,
+    dialect: Dialect,
+    side: Side,
+    list: Vec<Position>,
+    worst: u8,
+    plan: Plan,
+) -> Result<Vec<u8>, NoMemory>
+    requires { CanBeWritten (spec.file_of dialect side list.items worst (plan_of plan)) }
+    ensures { IfOk result (λ text. text.items ≡ plan_text (spec.file_of dialect side list.items worst (plan_of plan))) }
 {
-    let node = Node::make(alloc, mv, None, Vec::new(alloc))?;
-    let mut roots = Vec::with_capacity(alloc, 1)?;
-    roots.push(Root {
-        opens: opening(p),
-        heard: None,
-        node,
-    })?;
-    Ok(Plan::make(roots))
-}
-
-/// The plan file that this move mates the position.
-fn file_by(alloc: Global, p: &Position, mv: Move) -> Result<PlanFile, NoMemory>
-    ensures { IfOk result (λ file. state_of file ≡ spec.plan_by p.now mv) }
-{
-    let plan = plan_by(alloc, p, mv)?;
-    let list = vec![in alloc; *p; 1]?;
-    Ok(PlanFile {
-        dialect: Dialect::Wild16,
-        side: p.side(),
+    let file = PlanFile {
+        dialect,
+        side,
         list,
-        worst: 1,
+        worst: u16::from(worst),
         plan,
-    })
+    };
+    let mut text = Vec::new(alloc);
+    write_plan(&file, &mut text)?;
+    Ok(text)
 }
 
-/// The text that answers `solve 1` of this position, by the move that mates, if there is one.
-#[tactic(auto, using(crate::proofs::Solutions::can_be_written))]
-fn solution_text(alloc: Global, p: &Position, found: Option<Move>) -> Result<Vec<u8>, NoMemory>
-    ensures { IfOk result (λ text. text.items ≡ spec.solution_text p.now found) }
+/// Adds the line that no plan mates within so many moves.
+fn put_none(moves: u64, text: &mut Text) -> Result<(), NoMemory>
+    ensures { PutsLines result text.old text.new (spec.none_line moves ∷ []) }
+{
+    text.put(b"none ")?;
+    put_number(moves, text)?;
+    text.end_line()
+}
+
+/// The text that tells it.
+#[tactic(auto, unfolding(crate::specs::Solve::none_text))]
+fn none_text(alloc: Global, moves: u64) -> Result<Vec<u8>, NoMemory>
+    ensures { IfOk result (λ text. text.items ≡ spec.none_text moves) }
 {
     let mut answer = Vec::new(alloc);
-    match found {
-        None => answer.extend_from_slice(b"none 1\n")?,
-        Some(mv) => {
-            know_valid(p);
-            write_plan(&file_by(alloc, p, mv)?, &mut answer)?;
-        }
-    }
+    let mut text = Text::after(&mut answer);
+    let done = put_none(moves, &mut text);
+    text.end(done, &mut answer)?;
     Ok(answer)
 }
 
-fn is_wild16(d: Dialect) -> bool
-    ensures { result ≡ spec.is_wild16 d }
+/// What a search for the best plan for the set comes to, within so many moves and units.
+fn searched(
+    alloc: Global,
+    d: Dialect,
+    who: Side,
+    set: &Belief,
+    moves: u64,
+    budget: u64,
+) -> Result<Vec<u8>, Ending>
+    requires six { moves ≤ 6 }
+    requires some { is_nil set.now ≡ false }
+    requires few { length set.now ≤ most_listed }
+    requires hand { HaveOneHand who set.now }
+    ensures { Decides (λ answer. answer.items) result (spec.Searched d who set.now moves budget) }
 {
-    matches!(d, Dialect::Wild16)
-}
-
-fn lone_in(who: Side, list: &[Position], entries: &[Line]) -> Option<Position>
-    ensures { result ≡ spec.lone_in who list.now entries.now }
-{
-    match (list, entries) {
-        ([p], []) if p.side() == who => Some(*p),
-        _ => None,
+    let mut units = Units::new(budget);
+    match solve(alloc, d, who, set, moves as u8, MOST_NODES, &mut units)? {
+        Answer::Mates { worst, plan } => {
+            let list = listed(alloc, set)?;
+            Ok(file_text(alloc, d, who, list, worst, plan)?)
+        }
+        Answer::None => Ok(none_text(alloc, moves)?),
     }
 }
 
-/// The position of a sheet in wild16 that lists one, in which the sheet's side is to move, and says no
-/// more: `solve` is built for no other sheet.
-#[tactic(auto, unfolding(crate::specs::Solve::lone_position))]
-fn lone_position(sheet: &Sheet) -> Option<Position>
-    ensures { result ≡ spec.lone_position sheet.now }
+/// What `solve` answers to a sheet.
+fn solved(
+    alloc: Global,
+    sheet: &Sheet,
+    moves: u64,
+    budget: u64,
+    limit: u64,
+) -> Result<Vec<u8>, Ending>
+    requires six { moves ≤ 6 }
+    requires few { limit ≤ most_listed }
+    ensures { Decides (λ answer. answer.items) result (spec.Solved moves budget limit sheet.now) }
 {
-    if is_wild16(sheet.dialect()) && sheet.opens().is_none() {
-        lone_in(sheet.side(), sheet.list(), sheet.entries())
-    } else {
-        None
+    let set = believe(alloc, sheet, limit as usize)?;
+    if set.is_empty() {
+        return Err(Ending::Refused(Refusal::NonePossible));
     }
+    if sheet.is_over() {
+        return Err(Ending::Refused(Refusal::GameOver));
+    }
+    searched(alloc, sheet.dialect(), sheet.side(), &set, moves, budget)
 }
 
-/// What `solve 1` answers to the text of a sheet.
-pub(crate) fn answer(alloc: Global, text: Vec<u8>) -> Result<Vec<u8>, Ending>
-    ensures { Decides (λ answer. answer.items) result (spec.Solves text.items) }
+/// What `solve` answers to the text of a sheet.
+pub(crate) fn answer(
+    alloc: Global,
+    moves: u64,
+    budget: u64,
+    limit: u64,
+    text: Vec<u8>,
+) -> Result<Vec<u8>, Ending>
+    requires six { moves ≤ 6 }
+    requires few { limit ≤ most_listed }
+    ensures { Decides (λ answer. answer.items) result (spec.Solves moves budget limit text.items) }
 {
     let sheet = read_sheet(alloc, &text)?;
     drop(text);
-    match lone_position(&sheet) {
-        Some(position) => {
-            let found = mating_move(alloc, &position)?;
-            Ok(solution_text(alloc, &position, found)?)
-        }
-        None => Err(Ending::Refused(Refusal::NotBuilt)),
-    }
+    solved(alloc, &sheet, moves, budget, limit)
 }

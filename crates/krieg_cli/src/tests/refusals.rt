@@ -29,8 +29,7 @@ fn tells_the_usage(rt: HostRuntime) -> Result<(), AllocError> {
 /// Commands that are not built yet.
 #[test]
 fn tells_what_is_not_built(rt: HostRuntime) -> Result<(), AllocError> {
-    let refused: [&[&str]; 4] = [
-        &["solve", "2", "64", "1"],
+    let refused: [&[&str]; 3] = [
         &["play", "4096", "a", "b", "c", "d"],
         &["make", "session", "4294967295"],
         &["job", "0"],
@@ -115,20 +114,32 @@ fn refuses_bad_tails(rt: HostRuntime) -> Result<(), AllocError> {
     Ok(())
 }
 
-/// Sheets for which `solve` is not built: the other side's, with opening words, with two positions, and in
-/// another dialect.
+/// What `solve 1` refuses of a sheet that is well formed, by its entries, with a budget: nothing is possible, the game is
+/// over, and one unit less than a search must take.
 #[test]
-fn tells_which_sheets_are_not_built(rt: HostRuntime) -> Result<(), AllocError> {
-    let sheets = [
-        "krieg sheet 1\nside b\nlist 1\n1k6/8/1K6/8/8/8/8/7R w - -\nend\n",
-        "krieg sheet 1\nside w\nlist 1\n1k6/8/1K6/8/8/8/8/7R w - -\nopens silent\nend\n",
-        "krieg sheet 1\nside w\nlist 2\n1k6/8/1K6/8/8/8/8/7R w - -\n\
-            1k6/8/1K6/8/8/8/8/7R w - -\nend\n",
-        "krieg sheet 2\ndialect plain\nside w\nlist 1\n1k6/8/1K6/8/8/8/8/7R w - -\nend\n",
+fn refuses_to_search(rt: HostRuntime) -> Result<(), AllocError> {
+    let refused = [
+        (
+            "64",
+            "opens check file\n",
+            5,
+            "krieg: no consistent position\n",
+        ),
+        (
+            "64",
+            "opens silent\ntry h1h8 ok check rank, mate\n",
+            6,
+            "krieg: not the player's turn\n",
+        ),
+        ("37", "", 8, "krieg: budget spent\n"),
+        ("1", "opens silent\n", 8, "krieg: budget spent\n"),
     ];
-    for text in sheets {
-        let ran = run_on(rt.alloc(), &SOLVE, text)?;
-        assert!(rt; refuses(&ran, 15, "krieg: not built\n"), "{text}");
+    for (budget, entries, status, line) in refused {
+        let mut text = String::from_str(rt.alloc(), ROOK_LIST)?;
+        text.push_str(entries)?;
+        text.push_str("end\n")?;
+        let ran = run_on(rt.alloc(), &["solve", "1", budget, "1"], text.as_str())?;
+        assert!(rt; refuses(&ran, status, line), "{text}");
     }
     Ok(())
 }

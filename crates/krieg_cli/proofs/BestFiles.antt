@@ -1,0 +1,135 @@
+-- The best plan for positions of one hand can be written as a plan file.
+use Rattle.std.proofs.Common.{◌≡◌, ℕ, zero, suc, ◌+◌, take, Some, ◌≤◌, Bool, true, false, not, List, [], ◌∷◌, ◌++◌, map, length, refl, sym, ap, subst, inl, inr, ◌∙◌, arith}
+use Rattle.std.specs.Prelude.{◌⊎◌, slice_get, if◌then◌else◌}
+use Rattle.std.specs.List.{All, list_any}
+use Rattle.std.proofs.lemmas.Bool.{both_ways, and_parts, cases_Bool}
+use Rattle.std.proofs.lemmas.List.Elements.{All-head, All-tail, All-nil, All-cons}
+use Rattle.krieg_board.specs.Hand.{same_hand}
+use Rattle.krieg_board.specs.Men.{is_same_side}
+use Rattle.krieg_board.specs.Pos.{Pos}
+use Rattle.krieg_board.specs.Validity.{IsValid}
+use Rattle.krieg_board.specs.declared.men.Side.{Side}
+use Rattle.krieg_fen.specs.Forms.{most_listed}
+use Rattle.krieg_moves.proofs.Hands.{same_hand_alike}
+use Rattle.krieg_words.specs.declared.dialects.Dialect.{Dialect}
+use Rattle.krieg_belief.specs.Possible.{HaveOneHand}
+use Rattle.krieg_theory.specs.Sets.{In, is_nil, same}
+use Rattle.krieg_theory.specs.Wins.{wins}
+use Rattle.krieg_theory.specs.Plans.{mates, is_over, all_starts, wins_root, IsCanonPlan}
+use Rattle.krieg_theory.proofs.Keys.{key_occurs}
+use Rattle.krieg_theory.proofs.Lists.{all_at, any_none, in_flat}
+use Rattle.krieg_game.specs.Keys.{RootKey, root_lt}
+use Rattle.krieg_game.specs.Chess.{chess}
+use Rattle.krieg_game.specs.Outset.{outset, starts}
+use Rattle.krieg_game.proofs.KeyLaws.{root_order}
+use Rattle.krieg_game.proofs.Winning.{nothing_wins_in_none}
+use Rattle.krieg_plan.specs.Trees.{PlanTrees}
+use Rattle.krieg_planfile.specs.PlanFiles.{AreAlike, waits, most_nodes, CanBeWritten}
+use Rattle.krieg_search.specs.Planned.{IsFit}
+use Rattle.krieg_search.specs.Solved.{IsBest}
+use Rattle.krieg_split.specs.Turns.{IsOwnTurn, IsOthersTurn}
+use Rattle.krieg_cli.specs.Solve.{file_of}
+use Rattle.krieg_cli.proofs.ToldPlans.{AreValid, some_member, plan_told}
+
+-- one place more
+pub take_more : {X : Type 0} (xs : List X) (i : ℕ) (x : X) → slice_get xs i ≡ Some x → take i xs ++ x ∷ [] ≡ take (i + 1) xs
+take_more {X = X} xs i x h = let next : suc i ≡ i + 1 = omega arith in go xs i h ∙ ap (λ n. take n xs) next
+  where
+    go : (xs : List X) (i : ℕ) → slice_get xs i ≡ Some x → take i xs ++ x ∷ [] ≡ take (suc i) xs
+    go [] i h = absurd cc
+    go (y ∷ xs) zero h = let same : y ≡ x = cc in ap (λ z. z ∷ []) (sym same)
+    go (y ∷ xs) (suc i) h = ap (λ zs. y ∷ zs) (go xs i h)
+
+-- one more of a list
+pub all_more : {X : Type 0} (P : X → Type 0) (xs : List X) (x : X) → All P xs → P x → All P (xs ++ x ∷ [])
+all_more P [] x all here = All-cons P x [] here (All-nil P)
+all_more P (y ∷ xs) x all here = All-cons P y (xs ++ x ∷ []) (All-head P y xs all) (all_more P xs x (All-tail P y xs all) here)
+
+-- each of a list, by its members
+all_of : {X : Type 0} (P : X → Type 0) (xs : List X) → ((x : X) → In x xs → P x) → All P xs
+all_of P [] each = All-nil P
+all_of P (x ∷ xs) each = All-cons P x xs (each x (inl refl)) (all_of P xs (λ y at. each y (inr at)))
+
+pub valid_of : (S : List Pos) → All IsValid S → AreValid S
+valid_of [] all p at = absurd at
+valid_of (q ∷ S) all p (inl same) = subst IsValid same (All-head IsValid q S all)
+valid_of (q ∷ S) all p (inr at) = valid_of S (All-tail IsValid q S all) p at
+
+some_length : {X : Type 0} (xs : List X) → is_nil xs ≡ false → 1 ≤ length xs
+some_length [] h = absurd (both_ways true h refl)
+some_length (x ∷ xs) h = omega arith
+
+some_of_map : {X Y : Type 0} (f : X → Y) (xs : List X) (y : Y) → In y (map f xs) → 1 ≤ length xs
+some_of_map f [] y at = absurd at
+some_of_map f (x ∷ xs) y at = omega arith
+
+alike : (who : Side) (S : List Pos) → HaveOneHand who S → AreAlike who S
+alike who [] hand = tt
+alike who (p ∷ ps) hand = all_of (λ q. same_hand p q who ≡ true) ps (λ q at. hand p q (inl refl) (inr at))
+
+-- the same side is to move in all of them
+same_turn : (who : Side) (S : List Pos) → HaveOneHand who S → (p q : Pos) → In p S → In q S → p.side ≡ q.side
+same_turn who S hand p q at other = (same_hand_alike who p q (hand p q at other)).turn
+
+turn_is : (who : Side) (S : List Pos) → HaveOneHand who S → (q : Pos) → In q S → not (is_same_side q.side who) ≡ waits who S
+turn_is who [] hand q at = absurd at
+turn_is who (p ∷ ps) hand q at = ap (λ (side : Side). not (is_same_side side who)) (same_turn who (p ∷ ps) hand q p at (inl refl))
+
+-- what a search asks for
+pub one_turn_of : (who : Side) (S : List Pos) → HaveOneHand who S → is_nil S ≡ false → IsOwnTurn who S ⊎ IsOthersTurn who S
+one_turn_of who [] hand some = absurd (both_ways true some refl)
+one_turn_of who (p ∷ ps) hand some = go (cases_Bool (is_same_side p.side who))
+  where
+    same : (q : Pos) → In q (p ∷ ps) → is_same_side q.side who ≡ is_same_side p.side who
+    same q at = ap (λ (side : Side). is_same_side side who) (same_turn who (p ∷ ps) hand q p at (inl refl))
+
+    go : (is_same_side p.side who ≡ true) ⊎ (is_same_side p.side who ≡ false) → IsOwnTurn who (p ∷ ps) ⊎ IsOthersTurn who (p ∷ ps)
+    go (inl own) = inl (λ q at. same q at ∙ own)
+    go (inr other) = inr (λ q at. same q at ∙ other)
+
+module _ (d : Dialect) (who : Side) where
+  -- nothing is won within no move
+  no_win : (plan : PlanTrees) (key : RootKey) (p : Pos) → wins_root (chess d) (outset d who) plan key p 0 ≡ false
+  no_win [] key p = refl
+  no_win (r ∷ rs) key p = go (same root_lt r.0 key) (no_win rs key p)
+    where
+      go : (t : Bool) → wins_root (chess d) (outset d who) rs key p 0 ≡ false → (if t then wins (chess d) r.1 p 0 else wins_root (chess d) (outset d who) rs key p 0) ≡ false
+      go true rest = nothing_wins_in_none d r.1 p
+      go false rest = rest
+
+  -- a way in which a game from some member starts
+  some_start : (S : List Pos) → is_nil S ≡ false → list_any (is_over (chess d) (outset d who)) S ≡ false → (p : Pos) × In p S × (s : RootKey × Pos) × In s (starts d who p)
+  some_start S some none_over =
+      let (p, at) = some_member S some in
+      let (s, started) = some_member (starts d who p) (any_none (is_over (chess d) (outset d who)) S none_over p at) in
+      (p, at, s, started)
+
+  pub some_roots : (S : List Pos) (plan : PlanTrees) → is_nil S ≡ false → IsCanonPlan (chess d) (outset d who) plan S → 1 ≤ length plan
+  some_roots S plan some c =
+      let (p, at, s, started) = some_start S some c.none_over in
+      some_of_map (λ r. r.0) plan s.0 (subst (In s.0) (sym c.same_keys) (key_occurs root_lt root_order (all_starts (chess d) (outset d who) S) s (in_flat (starts d who) S p s at started)))
+
+  pub some_moves : (S : List Pos) (plan : PlanTrees) (w : ℕ) → is_nil S ≡ false → IsCanonPlan (chess d) (outset d who) plan S → mates (chess d) (outset d who) plan S w ≡ true → 1 ≤ w
+  some_moves S plan zero some c mated =
+      let (p, at, s, started) = some_start S some c.none_over in
+      let won = (and_parts (not (is_over (chess d) (outset d who) p)) _ (all_at _ S mated p at)).1 in
+      absurd (both_ways _ (no_win plan s.0 s.1) (all_at (λ s. wins_root (chess d) (outset d who) plan s.0 s.1 0) (starts d who p) won s started))
+  some_moves S plan (suc w) some c mated = omega arith
+
+  pub can_be_written : (S : List Pos) (n w : ℕ) (plan : PlanTrees) → is_nil S ≡ false → length S ≤ most_listed → HaveOneHand who S → All IsValid S → n ≤ 6 → IsBest d who S n w plan → IsFit most_nodes plan →
+      CanBeWritten (file_of d who S w plan)
+  can_be_written S n w plan some few hand valid six best fit =
+      let told = plan_told d who S (valid_of S valid) (waits who S) plan (turn_is who S hand) best.canonical in
+      record {
+        some_listed = some_length S some;
+        few_listed = few;
+        alike = alike who S hand;
+        valid = valid;
+        least_worst = some_moves S plan w some best.canonical best.worst_case.mates_within;
+        most_worst = (let h = best.within in omega arith);
+        some_roots = some_roots S plan some best.canonical;
+        size = fit.size;
+        depth = fit.depth;
+        told = told.0;
+        roots = told.1;
+      }

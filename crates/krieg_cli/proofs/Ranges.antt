@@ -1,0 +1,76 @@
+-- The numbers of a search are in their ranges where the words are a command.
+use Rattle.std.proofs.Common.{◌≡◌, ℕ, ◌≤◌, Bool, true, false, List, [], ◌∷◌, Option, Some, None, option_map, Result, Ok, Err, refl, subst, ◌<◌, ◌^◌, arith}
+use Rattle.std.specs.Prelude.{codes, if◌then◌else◌}
+use Rattle.std.specs.Result.{result_ok}
+use Rattle.std.specs.Str.{bytes_eq}
+use Rattle.krieg_fen.specs.Decimals.{number_between}
+use Rattle.krieg_fen.specs.Forms.{most_listed}
+use Rattle.krieg_fen.specs.declared.number.NumberFault.{NumberFault}
+use Rattle.krieg_fen.proofs.Numbers.{between_spells}
+use Rattle.krieg_args.specs.Command as words
+use Rattle.krieg_args.specs.Command.{◌>>=◌, command_of, command_of_one, solve, make, play, number, moves_of, budget_of, limit_of, made_input, seed_of}
+use Rattle.krieg_args.specs.declared.command.Command.{Command}
+use Rattle.krieg_args.specs.declared.command.Command.TheVariants.{Solve, Check, Believe, Umpire, Play, Make, Job}
+use Rattle.krieg_args.specs.declared.command.Made.{Made}
+use Rattle.krieg_cli.specs.Outcome.{IsInRange}
+
+-- a search among the words has its numbers in their ranges
+abbrev Ranged : Option Command → Type 0
+Ranged o = (c : Command) → o ≡ Some c → IsInRange c
+
+none : Ranged None
+none c e = absurd cc
+
+either : (t : Bool) (x y : Option Command) → Ranged x → Ranged y → Ranged (if t then x else y)
+either true x y a b = a
+either false x y a b = b
+
+mapped : {X : Type 0} (name : X → Command) (o : Option X) → ((x : X) → IsInRange (name x)) → Ranged (option_map name o)
+mapped name None each = none
+mapped name (Some x) each = λ c e. let same : name x ≡ c = cc in subst IsInRange same (each x)
+
+at_most : (least most n : ℕ) (word : List ℕ) → most < 2 ^ 64 → number least most word ≡ Some n → n ≤ most
+at_most least most n word small e = go (number_between word least most) refl e
+  where
+    go : (r : Result ℕ NumberFault) → number_between word least most ≡ r → result_ok r ≡ Some n → n ≤ most
+    go (Ok m) is e = let same : m ≡ n = cc in let b = between_spells word least most m small is in omega (arith, b.1, same)
+    go (Err f) is e = absurd cc
+
+solving : (moves budget limit : List ℕ) → Ranged (solve moves budget limit)
+solving moves budget limit = go (moves_of moves) refl (budget_of budget) (limit_of limit) refl
+  where
+    go : (m : Option ℕ) → moves_of moves ≡ m → (b : Option ℕ) → (l : Option ℕ) → limit_of limit ≡ l → Ranged (m >>= λ m. b >>= λ b. l >>= λ l. Some (Solve m b l))
+    go None em b l el = none
+    go (Some m) em None l el = none
+    go (Some m) em (Some b) None el = none
+    go (Some m) em (Some b) (Some l) el = λ c e.
+        let same : Solve m b l ≡ c = cc in
+        subst IsInRange same (at_most 1 6 m moves (omega arith) em, at_most 1 most_listed l limit (omega arith) el)
+
+making : (what seed : List ℕ) → Ranged (make what seed)
+making what seed = go (made_input what) (seed_of seed)
+  where
+    go : (w : Option Made) (s : Option ℕ) → Ranged (w >>= λ w. s >>= λ s. Some (Make w s))
+    go None s = none
+    go (Some w) None = none
+    go (Some w) (Some s) = λ c e. let same : Make w s ≡ c = cc in subst IsInRange same tt
+
+playing : (asks win wout bin bout : List ℕ) → Ranged (play asks win wout bin bout)
+playing asks win wout bin bout = either _ (option_map Play (words.asks_of asks)) None (mapped Play (words.asks_of asks) (λ n. tt)) none
+
+of_one : (name word : List ℕ) → Ranged (command_of_one name word)
+of_one name word =
+    either (bytes_eq name (codes "check")) _ _ (mapped Check (budget_of word) (λ n. tt))
+    (either (bytes_eq name (codes "believe")) _ _ (mapped Believe (limit_of word) (λ n. tt))
+    (either (bytes_eq name (codes "umpire")) _ _ (mapped Umpire (words.whose word) (λ who. tt))
+    (either (bytes_eq name (codes "job")) _ _ (mapped Job (seed_of word) (λ n. tt)) none)))
+
+pub in_range : (ws : List (List ℕ)) (c : Command) → command_of ws ≡ Some c → IsInRange c
+in_range [] = none
+in_range (name ∷ []) = none
+in_range (name ∷ word ∷ []) = of_one name word
+in_range (name ∷ what ∷ seed ∷ []) = either (bytes_eq name (codes "make")) (make what seed) None (making what seed) none
+in_range (name ∷ moves ∷ budget ∷ limit ∷ []) = either (bytes_eq name (codes "solve")) (solve moves budget limit) None (solving moves budget limit) none
+in_range (a ∷ b ∷ c ∷ d ∷ e ∷ []) = none
+in_range (name ∷ asks ∷ win ∷ wout ∷ bin ∷ bout ∷ []) = either (bytes_eq name (codes "play")) (play asks win wout bin bout) None (playing asks win wout bin bout) none
+in_range (a ∷ b ∷ c ∷ d ∷ e ∷ f ∷ g ∷ more) = none

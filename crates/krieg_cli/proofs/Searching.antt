@@ -1,0 +1,61 @@
+-- What a search finds, as the answer to a sheet.
+use Rattle.std.proofs.Common.{◌≡◌, ℕ, suc, ◌≤◌, List, length, Result, Ok, Err, refl, ap, subst, arith}
+use Rattle.std.proofs.lemmas.List.{take_all}
+use Rattle.krieg_board.specs.Pos.{Pos}
+use Rattle.krieg_board.specs.declared.men.Side.{Side}
+use Rattle.krieg_words.specs.declared.dialects.Dialect.{Dialect}
+use Rattle.krieg_words.specs.declared.line.Line.{Line}
+use Rattle.krieg_pack.proofs.PositionSets.{same_members}
+use Rattle.krieg_sheet.specs.Sheets.{SheetState}
+use Rattle.krieg_belief.specs.Possible.{IsPossible}
+use Rattle.krieg_belief.specs.Limits.{AllWithin}
+use Rattle.krieg_plan.specs.Trees.{PlanTrees}
+use Rattle.krieg_planfile.specs.PlanFiles.{most_nodes}
+use Rattle.krieg_search.specs.Solved.{IsBest, IsAnswer, IsCharged}
+use Rattle.krieg_search.specs.declared.stop.Stop2.{Stop2}
+use Rattle.krieg_search.specs.declared.stop.Stop2.TheVariants as search
+use Rattle.krieg_cli.specs.Parts.{of_search, Decides}
+use Rattle.krieg_cli.specs.Solve.{file_of, IsBestFile, Searched, Asks, Solved}
+use Rattle.krieg_cli.specs.declared.refusal.Refusal.{Refusal}
+use Rattle.krieg_cli.specs.declared.refusal.Refusal.TheVariants as refusal
+use Rattle.krieg_cli.specs.declared.ending.Ending.{Ending}
+use Rattle.krieg_cli.specs.declared.ending.Ending.TheVariants as ending
+
+-- where a search may stop at all, no more is possible than the limit
+pub few_possible : (s : SheetState) (limit : ℕ) (S : List Pos) → AllWithin limit s → IsPossible s S → length S ≤ limit
+few_possible s limit S within possible =
+    let (ps, is, few) = within (suc (length s.entries)) (omega arith) in
+    let all : IsPossible s ps = subst (λ (ls : List Line). IsPossible (record { dialect = s.dialect; side = s.side; list = s.list; opens = s.opens; entries = ls }) ps) (take_all (length s.entries) s.entries (omega arith)) is in
+    let same : S ≡ ps = same_members S ps possible.ascending all.ascending (λ p i. (all.exact p).1 ((possible.exact p).0 i)) (λ p i. (possible.exact p).1 ((all.exact p).0 i)) in
+    omega (arith, few, ap (λ (ps : List Pos). length ps) same)
+
+module _ (d : Dialect) (who : Side) (S : List Pos) (n budget start left : ℕ) (same : start ≡ budget) where
+  best_file : (w : ℕ) (plan : PlanTrees) → IsBest d who S n w plan → IsBestFile d who S n (file_of d who S w plan)
+  best_file w plan b = record { dialect = refl; side = refl; list = refl; mates = b.worst_case.mates_within; within = b.within; least = b.least; canonical = b.canonical }
+
+  pub stop_told : {X : Type 0} (view : X → List ℕ) (stop : Stop2) → IsAnswer d who S n most_nodes (Err stop) → IsCharged d who S n (Err stop) start left → Decides view (Err (of_search stop)) (Searched d who S n budget)
+  stop_told view search.Spent answer units = omega (arith, same, units.0)
+  stop_told view search.Large answer units = (omega (arith, same, units.at_least), file_of d who S answer.worst answer.plan, best_file answer.worst answer.plan answer.best, answer.large)
+  stop_told view search.NoMemory answer units = tt
+
+module _ (n budget limit : ℕ) (s : SheetState) (S : List Pos) (asks : Asks limit s S) where
+  refused : (r : Refusal) → Searched s.dialect s.side S n budget (Err r) → Solved n budget limit s (Err r)
+  refused refusal.BudgetSpent h = (S, asks, h)
+  refused refusal.PlanTooLarge h = (S, asks, h)
+  refused (refusal.BadText line kind) h = absurd h
+  refused (refusal.TooMany line) h = absurd h
+  refused refusal.NonePossible h = absurd h
+  refused refusal.GameOver h = absurd h
+  refused refusal.PlanFails h = absurd h
+  refused refusal.NotBuilt h = absurd h
+
+  answered : {X : Type 0} (view : X → List ℕ) (r : Result X Ending) → Decides view r (Searched s.dialect s.side S n budget) → Decides view r (Solved n budget limit s)
+  answered view (Ok x) h = (S, asks, h)
+  answered view (Err (ending.Refused r)) h = refused r h
+  answered view (Err ending.NoMemory) h = tt
+  answered view (Err _) h = absurd h
+
+  -- what a search answers is the answer to the sheet
+  pub asked : {X : Type 0} (view : X → List ℕ) (r : Result X Ending) (d : Dialect) (who : Side) → d ≡ s.dialect → who ≡ s.side → Decides view r (Searched d who S n budget) → Decides view r (Solved n budget limit s)
+  asked view r d who same own h =
+      answered view r (subst (λ (w : Side). Decides view r (Searched s.dialect w S n budget)) own (subst (λ (e : Dialect). Decides view r (Searched e who S n budget)) same h))
