@@ -18,11 +18,11 @@ use Rattle.krieg_theory.proofs.Lists.{filter_in}
 use Rattle.krieg_pack.specs.Members.{IsAscending, set_of}
 use Rattle.krieg_pack.proofs.PositionSets.{set_of_ascending}
 
-kept : (b : Bool) (p : Pos) (xs rest : List Pos) → (xs ++ cond b (p ∷ []) []) ++ rest ≡ xs ++ cond b (p ∷ rest) rest
+pub kept : (b : Bool) (p : Pos) (xs rest : List Pos) → (xs ++ cond b (p ∷ []) []) ++ rest ≡ xs ++ cond b (p ∷ rest) rest
 kept true p xs rest = append_assoc xs (p ∷ []) rest
 kept false p xs rest = append_assoc xs [] rest
 
-or_assoc : (a b c : Bool) → ((a || b) || c) ≡ (a || (b || c))
+pub or_assoc : (a b c : Bool) → ((a || b) || c) ≡ (a || (b || c))
 or_assoc true b c = refl
 or_assoc false b c = refl
 
@@ -33,7 +33,7 @@ added_left d old new p rest B t a l = record {
   outcomes_part = ap (λ xs. xs ++ all_outcomes (chess d) rest t) a.outcomes_part ∙ append_assoc old.outcomes.items (given (chess d) t p) (all_outcomes (chess d) rest t) ∙ l.outcomes_part;
 }
 
-or_false : (b : Bool) → b ≡ (b || false)
+pub or_false : (b : Bool) → b ≡ (b || false)
 or_false true = refl
 or_false false = refl
 
@@ -72,6 +72,10 @@ filter_ascending f (p ∷ ps) up = elim (f p) as (λ b. IsAscending (cond b (p �
   | false ↦ filter_ascending f ps up.1
 ]
 
+-- what a test lets through of a set is a set
+pub passed_is : (f : Pos → Bool) (B : List Pos) → IsAscending B → set_of (filter f B) ≡ filter f B
+passed_is f B up = set_of_ascending (filter f B) (filter_ascending f B up)
+
 -- the members that refuse a try are a set
 pub refused_is : (d : Dialect) (B : List Pos) (t : Move) → IsAscending B → set_of (refused (chess d) B t) ≡ refused (chess d) B t
-refused_is d B t up = set_of_ascending (refused (chess d) B t) (filter_ascending (λ p. not (is_legal p t)) B up)
+refused_is d B t up = passed_is (λ p. not (is_legal p t)) B up

@@ -1,6 +1,9 @@
 mod BoolLaws
 mod Charges
 mod Gathering
+mod MoveCounts
+mod Mating
+mod Ending
 mod Sets
 mod NodeTells
 mod Walking

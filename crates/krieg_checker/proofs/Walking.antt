@@ -1,5 +1,5 @@
 -- Steps of the walk.
-use Rattle.std.proofs.Common.{◌≡◌, ℕ, suc, ◌+◌, ◌≤◌, Bool, true, false, cond, ◌&&◌, List, [], ◌∷◌, map, Option, Some, None, Result, Ok, Err, refl, sym, ap, ◌∙◌, arith}
+use Rattle.std.proofs.Common.{◌≡◌, ℕ, suc, ◌+◌, ◌≤◌, Bool, true, false, cond, ◌&&◌, List, [], ◌∷◌, map, Option, Some, None, Result, Ok, Err, refl, sym, ap, subst, ◌∙◌, arith}
 use Rattle.std.specs.List.{list_all}
 use Rattle.std.proofs.lemmas.Bool.{le-leb}
 use Rattle.krieg_board.specs.Pos.{Pos}
@@ -30,7 +30,9 @@ use Rattle.krieg_checker.specs.Charged.{Charged}
 use Rattle.krieg_checker.specs.Found.{within, Tells, worse, own_need, all_won, all_won_other}
 use Rattle.krieg_checker.specs.Parted.{IsParted}
 use Rattle.krieg_game.specs.Classes.{class_pair}
-use Rattle.krieg_checker.specs.Walked.{node_cost, other_cost, edge_cost, classes_won, classes_cost}
+use Rattle.krieg_checker.specs.Tried.{IsTriedAt}
+use Rattle.krieg_checker.specs.Walked.{node_cost, other_cost, edge_cost, try_in, other_in, classes_won, classes_cost}
+use Rattle.krieg_checker.specs.declared.tried.Tried.{Tried}
 use Rattle.krieg_checker.proofs.BoolLaws.{and_assoc}
 use Rattle.krieg_checker.proofs.Sets.{all_map, total_map, first_all, first_costs}
 use Rattle.krieg_checker.proofs.NodeTells.{node_tells, worse_within}
@@ -54,7 +56,7 @@ module _ (G : Game) where
     none_other Nothing = refl
     none_other (Just n) = none_cost n
 
-some_nil : (B : List Pos) → (B ≡ [] → ⊥) → is_nil B ≡ false
+pub some_nil : (B : List Pos) → (B ≡ [] → ⊥) → is_nil B ≡ false
 some_nil [] other = absurd (other refl)
 some_nil (p ∷ B) other = refl
 
@@ -76,26 +78,35 @@ walk_nil d n here all [] need units old w e = (
 )
 walk_nil d n here all (p ∷ B) need units old w e = absurd cc
 
--- what is left of a node is its refused part, once its classes are walked
+-- a set that is parted by the try of the node
 module _ (d : Dialect) (here : NodeTree) (t : Move) (other : Maybe Move Key) (es : Edges Move Key) (is : here ≡ Try t other es) (B : List Pos) (r : Parted) (p : IsParted d B t r) where
   classes_cost_is : classes_cost d es (map class_pair r.classes.items) ≡ total (λ key. edge_cost (chess d) es key (class (chess d) B t key)) (keys (chess d) B t)
   classes_cost_is = ap (classes_cost d es) p.classes_part ∙ total_map (λ (x : Key × List Pos). edge_cost (chess d) es x.0 x.1) (λ key. (key, class (chess d) B t key)) (keys (chess d) B t)
 
-  pub costs : node_cost (chess d) here B ≡ made (chess d) B t + (other_cost (chess d) other r.refused + classes_cost d es (map class_pair r.classes.items))
-  costs =
-      ap (λ x. node_cost (chess d) x B) is
-      ∙ ap (λ xs. made (chess d) B t + (other_cost (chess d) other xs + total (λ key. edge_cost (chess d) es key (class (chess d) B t key)) (keys (chess d) B t))) (sym p.refused_part)
-      ∙ ap (λ k. made (chess d) B t + (other_cost (chess d) other r.refused + k)) (sym classes_cost_is)
-
-  left : (c : Option ℕ) → (B ≡ [] → ⊥) → Tells c (classes_won d es (map class_pair r.classes.items)) → (k : ℕ) → k ≤ 65535 →
-      all_won (chess d) here B k ≡ (all_won_other (chess d) other r.refused k && within (own_need r.stale c) k)
-  left c some hc k small =
-      ap (λ x. all_won (chess d) x B k) is
-      ∙ node_tells (chess d) key_order position_order t other es B c (some_nil B some)
+  parted_won : (c : Option ℕ) → (B ≡ [] → ⊥) → Tells c (classes_won d es (map class_pair r.classes.items)) → (k : ℕ) → k ≤ 65535 →
+      all_won (chess d) (Try t other es) B k ≡ (all_won_other (chess d) other r.refused k && within (own_need r.stale c) k)
+  parted_won c some hc k small =
+      node_tells (chess d) key_order position_order t other es B c (some_nil B some)
       (λ k small. sym (ap (λ xs. classes_won d es xs k) p.classes_part ∙ all_map (λ (x : Key × List Pos). list_all (λ q. wins_at (chess d) es x.0 q k) x.1) (λ key. (key, class (chess d) B t key)) (keys (chess d) B t)) ∙ hc k small) k small
       ∙ ap (λ b. all_won_other (chess d) other (refused (chess d) B t) k && within (own_need b c) k) (sym p.stale_part)
       ∙ ap (λ xs. all_won_other (chess d) other xs k && within (own_need r.stale c) k) (sym p.refused_part)
 
+  parted_tried : (v : Tried) → v.refused ≡ r.refused → v.fails ≡ r.stale → v.classes.items ≡ r.classes.items → IsTriedAt d (Try t other es) B v
+  parted_tried v same fails classes = record {
+    refused_part = same ∙ p.refused_part;
+    won_part = λ some c hc k small.
+        parted_won c some (λ k small. ap (λ cs. classes_won d es (map class_pair cs) k) (sym classes) ∙ hc k small) k small
+        ∙ (λ i. all_won_other (chess d) other (sym same i) k && within (own_need (sym fails i) c) k);
+    cost_part =
+        ap (λ xs. made (chess d) B t + (other_cost (chess d) other xs + total (λ key. edge_cost (chess d) es key (class (chess d) B t key)) (keys (chess d) B t))) (sym (same ∙ p.refused_part))
+        ∙ ap (λ k. made (chess d) B t + (other_cost (chess d) other v.refused + k)) (sym classes_cost_is ∙ ap (λ cs. classes_cost d es (map class_pair cs)) (sym classes));
+  }
+
+  pub parted_at : (v : Tried) → v.refused ≡ r.refused → v.fails ≡ r.stale → v.classes.items ≡ r.classes.items → IsTriedAt d here B v
+  parted_at v same fails classes = subst (λ x. IsTriedAt d x B v) (sym is) (parted_tried v same fails classes)
+
+-- what is left of a node is its refused part, once its classes are walked
+module _ (d : Dialect) (here : NodeTree) (B : List Pos) (r : Tried) (p : IsTriedAt d here B r) where
   regroup : (a x b : Bool) → (a && (x && b)) ≡ ((a && b) && x)
   regroup true true b = and_true b
   regroup true false true = refl
@@ -103,34 +114,34 @@ module _ (d : Dialect) (here : NodeTree) (t : Move) (other : Maybe Move Key) (es
   regroup false x b = refl
 
   -- where the units are too few for the classes, they are for all
-  pub over : (n : NodeTree) (all : List Pos) (need : Option ℕ) (units old mid : ℕ) → IsWalked d n here all B need units old → mid + made (chess d) B t ≡ units →
-      old + classes_cost d es (map class_pair r.classes.items) ≤ mid + node_cost (chess d) n all
-  over n all need units old mid w parted = omega (arith, w.taken, parted, costs)
+  pub over : (n : NodeTree) (all : List Pos) (need : Option ℕ) (units old mid : ℕ) → IsWalked d n here all B need units old → mid + made (chess d) B (try_in here) ≡ units →
+      old + classes_cost d (edges_in here) (map class_pair r.classes.items) ≤ mid + node_cost (chess d) n all
+  over n all need units old mid w parted = omega (arith, w.taken, parted, p.cost_part)
 
-  module _ (n : NodeTree) (all : List Pos) (need c : Option ℕ) (some : B ≡ [] → ⊥) (hc : Tells c (classes_won d es (map class_pair r.classes.items))) where
+  module _ (n : NodeTree) (all : List Pos) (need c : Option ℕ) (some : B ≡ [] → ⊥) (hc : Tells c (classes_won d (edges_in here) (map class_pair r.classes.items))) where
     pub own_found : ((k : ℕ) → k ≤ 65535 → within need k && all_won (chess d) here B k ≡ all_won (chess d) n all k) →
-        (k : ℕ) → k ≤ 65535 → within (worse need (own_need r.stale c)) k && all_won_other (chess d) other r.refused k ≡ all_won (chess d) n all k
+        (k : ℕ) → k ≤ 65535 → within (worse need (own_need r.fails c)) k && all_won_other (chess d) (other_in here) r.refused k ≡ all_won (chess d) n all k
     own_found w k small =
-        ap (λ b. b && all_won_other (chess d) other r.refused k) (worse_within need (own_need r.stale c) k)
-        ∙ sym (regroup (within need k) (all_won_other (chess d) other r.refused k) (within (own_need r.stale c) k))
-        ∙ ap (λ b. within need k && b) (sym (left c some hc k small)) ∙ w k small
+        ap (λ b. b && all_won_other (chess d) (other_in here) r.refused k) (worse_within need (own_need r.fails c) k)
+        ∙ sym (regroup (within need k) (all_won_other (chess d) (other_in here) r.refused k) (within (own_need r.fails c) k))
+        ∙ ap (λ b. within need k && b) (sym (p.won_part some c hc k small)) ∙ w k small
 
-    module _ (units old mid now : ℕ) (w : IsWalked d n here all B need units old) (parted : mid + made (chess d) B t ≡ units) where
+    module _ (units old mid now : ℕ) (w : IsWalked d n here all B need units old) (parted : mid + made (chess d) B (try_in here) ≡ units) where
       -- the walk goes on at the node for the illegal case
-      pub goes_on : (next : NodeTree) (more : Option ℕ) → other ≡ Just next → now + classes_cost d es (map class_pair r.classes.items) ≡ mid → more ≡ worse need (own_need r.stale c) →
+      pub goes_on : (next : NodeTree) (more : Option ℕ) → other_in here ≡ Just next → now + classes_cost d (edges_in here) (map class_pair r.classes.items) ≡ mid → more ≡ worse need (own_need r.fails c) →
           IsWalked d n next all r.refused more now old
       goes_on next more on taken e = record {
-        found = λ k small. ap (λ x. within x k && all_won (chess d) next r.refused k) e ∙ ap (λ o. within (worse need (own_need r.stale c)) k && all_won_other (chess d) o r.refused k) (sym on) ∙ own_found w.found k small;
-        taken = omega (arith, w.taken, parted, taken, costs, ap (λ o. other_cost (chess d) o r.refused) on);
+        found = λ k small. ap (λ x. within x k && all_won (chess d) next r.refused k) e ∙ ap (λ o. within (worse need (own_need r.fails c)) k && all_won_other (chess d) o r.refused k) (sym on) ∙ own_found w.found k small;
+        taken = omega (arith, w.taken, parted, taken, p.cost_part, ap (λ o. other_cost (chess d) o r.refused) on);
       }
 
       -- or ends where there is none
-      pub ends : (m more last : Option ℕ) → other ≡ Nothing → now + classes_cost d es (map class_pair r.classes.items) ≡ mid → more ≡ worse need (own_need r.stale c) →
+      pub ends : (m more last : Option ℕ) → other_in here ≡ Nothing → now + classes_cost d (edges_in here) (map class_pair r.classes.items) ≡ mid → more ≡ worse need (own_need r.fails c) →
           Tells m (λ k. list_all (λ (p : Pos). false) r.refused) → last ≡ worse more m → Tells last (all_won (chess d) n all) × (now + node_cost (chess d) n all ≡ old)
       ends m more last none taken e hm f = (
-        λ k small. sym (ap (λ x. within x k) (f ∙ ap (λ x. worse x m) e) ∙ worse_within (worse need (own_need r.stale c)) m k ∙ ap (λ b. within (worse need (own_need r.stale c)) k && b) (sym (hm k small))
-            ∙ ap (λ o. within (worse need (own_need r.stale c)) k && all_won_other (chess d) o r.refused k) (sym none) ∙ own_found w.found k small),
-        omega (arith, w.taken, parted, taken, costs, ap (λ o. other_cost (chess d) o r.refused) none),
+        λ k small. sym (ap (λ x. within x k) (f ∙ ap (λ x. worse x m) e) ∙ worse_within (worse need (own_need r.fails c)) m k ∙ ap (λ b. within (worse need (own_need r.fails c)) k && b) (sym (hm k small))
+            ∙ ap (λ o. within (worse need (own_need r.fails c)) k && all_won_other (chess d) o r.refused k) (sym none) ∙ own_found w.found k small),
+        omega (arith, w.taken, parted, taken, p.cost_part, ap (λ o. other_cost (chess d) o r.refused) none),
       )
 
 -- a node by its try, the node for the illegal case and its edges

@@ -6,5 +6,7 @@ pub mod Found
 pub mod Walked
 pub mod Gathering
 pub mod Parted
+pub mod Mating
+pub mod Tried
 pub mod Starting
 pub mod Verdict

@@ -31,6 +31,10 @@ module _ (G : Game) where
     edge_cost NoEdges key B = 0
     edge_cost (Edge key' n es) key B = if same G.key_lt key' key then node_cost n B else edge_cost es key B
 
+-- the try of a node
+abbrev pub try_in : NodeTree → Move
+try_in (Try t other es) = t
+
 -- the node for the illegal case
 abbrev pub other_in : NodeTree → Maybe Move Key
 other_in (Try t other es) = other

@@ -8,7 +8,8 @@
 //! `toy` has small examples.
 //!
 //! `start` has what comes before the first own turn, `part` what a try makes of a set, over what `gather` finds of
-//! each member; `roots` and `walk` go through the plan. They are internal.
+//! each member, and `last_try` what is found of a try after which no edge follows, where replies are only counted;
+//! `tried` has both for the try of a node. `roots` and `walk` go through the plan. They are internal.
 //!
 //! A set is let go once it is parted, and a unit is taken for each position before it is stored. The walk is a loop
 //! over the nodes for illegal tries, and calls itself for the edges: what it takes of the stack grows with the edges
@@ -26,6 +27,7 @@
 #![tactic(auto)]
 
 mod gather;
+mod last_try;
 pub mod laws;
 mod part;
 mod plan_check;
@@ -35,6 +37,7 @@ mod stop;
 #[cfg(test)]
 mod tests;
 pub mod toy;
+mod tried;
 mod walk;
 
 pub use plan_check::{Checked, check, has_one_turn};

@@ -295,6 +295,23 @@ fn a_stalemate_is_no_mate(rt: HostRuntime) -> Result<(), Stop> {
     Ok(())
 }
 
+/// A reply to a last try loses the plan, and what refuses the try is walked all the same: of these the first refuses it,
+/// the second is mated, and in the third the king has one reply. So it takes 4 units, and one more at the next node.
+#[test]
+fn a_reply_to_the_last_try(rt: HostRuntime) -> Result<(), Stop> {
+    let alloc = rt.alloc();
+    let list: [&[u8]; 3] = [
+        b"1k6/8/1K6/6n1/8/8/8/6RR w - -",
+        b"1k6/8/1K6/7n/8/8/8/6RR w - -",
+        b"2k5/8/1K6/8/8/8/8/6RR w - -",
+    ];
+    let other = Some(leaf(alloc, b"h1h8")?);
+    let root = Node::make(alloc, read_move(b"g1g8")?, other, Vec::new(alloc))?;
+    let f = file(alloc, Dialect::Wild16, &list, 2, None, root)?;
+    assert!(rt; costs(alloc, &f, Checked::Fails, 5)?);
+    Ok(())
+}
+
 /// A path of so many nodes over an illegal try, and then the node.
 fn refusals(alloc: Global, count: u32, last: Box<Node>) -> Result<Box<Node>, Stop> {
     let mut here = last;

@@ -11,8 +11,8 @@ ghost use Rattle.krieg_checker.specs.Found as found;
 ghost use Rattle.krieg_checker.specs.Found.{Tells, all_won};
 ghost use Rattle.krieg_checker.specs.Walked.{node_cost, edge_cost, classes_won, classes_cost};
 
-use crate::part::{Parted, part};
 use crate::stop::CheckStop;
+use crate::tried::{Tried, try_node};
 use krieg_board::Units;
 use krieg_game::Class;
 use krieg_pack::Belief;
@@ -31,11 +31,11 @@ pub(crate) fn worse(a: Option<u16>, b: Option<u16>) -> Option<u16>
 }
 
 /// What the legal try of a node needs.
-fn own_need(stale: bool, below: Option<u16>) -> Option<u16>
-    ensures { result ≡ found.own_need stale below }
+fn own_need(fails: bool, below: Option<u16>) -> Option<u16>
+    ensures { result ≡ found.own_need fails below }
 {
     match below {
-        Some(w) if !stale && w < 65535 => Some(w + 1),
+        Some(w) if !fails && w < 65535 => Some(w + 1),
         _ => None,
     }
 }
@@ -70,13 +70,13 @@ pub(crate) fn walk(
         if set.is_empty() {
             return Ok(need);
         }
-        let Parted {
+        let Tried {
             refused,
-            stale,
+            fails,
             classes,
-        } = part(alloc, d, here.mv, set, units)?;
+        } = try_node(alloc, d, here, set, units)?;
         let below = walk_classes(alloc, d, here, classes, units)?;
-        need = worse(need, own_need(stale, below));
+        need = worse(need, own_need(fails, below));
         match &here.no {
             Some(next) => {
                 here = next;

@@ -22,3 +22,4 @@ pub mod Steps
 pub mod Going
 pub mod PawnGoing
 pub mod Listing
+pub mod Counting

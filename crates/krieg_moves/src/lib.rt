@@ -3,7 +3,7 @@
 //! The rules of this crate are the definitions of `specs/`: which moves are legal (`Legal`), what a
 //! move changes (`After`), where a king castles (`Wings`), and the list of the legal moves with mate
 //! and stalemate (`Moves`). Each function here answers exactly what the definition of its name says.
-//! `legal_moves` alone takes memory.
+//! `legal_moves` alone takes memory: `count_moves` counts the moves without it.
 //!
 //! ```
 //! // `start` is the position in which a game begins.
@@ -18,6 +18,7 @@
 #![tactic(auto)]
 
 mod change;
+mod count;
 mod ends;
 mod guard;
 mod legality;
@@ -28,6 +29,7 @@ mod tests;
 mod wing;
 
 pub use change::{after, is_en_passant, passed_square};
+pub use count::count_moves;
 pub use ends::{has_move, has_move_by, in_check, is_mate, is_stalemate};
 pub use guard::Guard;
 pub use legality::is_legal;

@@ -85,6 +85,20 @@ fn perft(alloc: Global, p: &Position, depth: u8) -> Result<u32, NoMemory> {
     Ok(total)
 }
 
+/// How many sequences of that many legal moves and one more there are. The last moves are counted only.
+fn perft_by_count(alloc: Global, p: &Position, depth: u8) -> Result<usize, NoMemory> {
+    if depth == 0 {
+        return Ok(count_moves(p));
+    }
+    let mut total = 0usize;
+    for mv in legal_moves(alloc, p)?.as_slice() {
+        if is_legal(p, *mv) {
+            total = total.saturating_add(perft_by_count(alloc, &after(p, *mv), depth - 1)?);
+        }
+    }
+    Ok(total)
+}
+
 const START: &[u8] = b"rnbqkbnr/pppppppp/8/8/8/8/PPPPPPPP/RNBQKBNR";
 
 /// A position whose games are counted widely: castling, captures in passing, promotions and pins.

@@ -29,4 +29,4 @@ pub use node::{Edge, Node};
 pub use ordered::{is_ordered, is_ordered_plan};
 pub use plan::{Plan, PlanFile, Root};
 pub use roots::{find_root, know_ordered};
-pub use size::size_within;
+pub use size::{size_up_to, size_within};

@@ -15,6 +15,14 @@ pub fn size_within(p: &Plan, max: usize) -> bool
     left_of(&p.roots, max).is_some()
 }
 
+/// How many nodes the plan has; none where they are more than `max`.
+pub fn size_up_to(p: &Plan, max: usize) -> Option<usize>
+    ensures { MatchOption result (max < plan_size (plan_of p.now)) (λ size. (size ≡ plan_size (plan_of p.now)) × (size ≤ max)) }
+{
+    let left = left_of(&p.roots, max)?;
+    Some(max - left)
+}
+
 /// What the nodes of all roots leave of `max`; none where they are more.
 fn left_of(roots: &[Root], max: usize) -> Option<usize>
     ensures { MatchOption result (max < plan_size (map root_of roots.now)) (λ left. left + plan_size (map root_of roots.now) ≡ max) }

@@ -145,6 +145,8 @@ fn finds_roots(rt: HostRuntime) -> Result<(), Stop> {
     }
     assert!(rt; size_within(&p, 4));
     assert!(rt; !size_within(&p, 3));
+    assert!(rt; size_up_to(&p, 4) == Some(4) && size_up_to(&p, 9) == Some(4));
+    assert!(rt; size_up_to(&p, 3).is_none());
     assert!(rt; depth_within(&p, 1));
     assert!(rt; !depth_within(&p, 0));
     Ok(())

@@ -8,7 +8,7 @@ ghost use Rattle.krieg_search.specs.Leaving.{IsLeft};
 use krieg_board::{Move, Units};
 use krieg_game::Class;
 use krieg_pack::Belief;
-use krieg_split::{Parted, SplitStop, split, split_to_mate};
+use krieg_split::{SplitStop, split_to_mate, split_unless_stale};
 use krieg_words::Dialect;
 use std::alloc::Global;
 
@@ -60,13 +60,11 @@ pub(crate) fn left_by(
     if moves == 1 {
         return left_by_last(alloc, d, b, mv, units);
     }
-    let Parted {
-        refused,
-        stale,
-        classes,
-    } = split(alloc, d, b, mv, units)?;
-    if stale {
-        return Ok(None);
+    match split_unless_stale(alloc, d, b, mv, units)? {
+        Some(parted) => Ok(Some(Left {
+            classes: parted.classes,
+            refused: parted.refused,
+        })),
+        None => Ok(None),
     }
-    Ok(Some(Left { classes, refused }))
 }

@@ -232,6 +232,54 @@ fn the_least_worst_case(rt: HostRuntime) -> Result<(), Fail> {
     Ok(())
 }
 
+/// Two rooks against a king on one of two squares: on the last rank the ladder takes two moves, and one more for each rank that
+/// he stands lower.
+const LADDERS: [(u8, [&[u8]; 2]); 3] = [
+    (
+        2,
+        [
+            b"k7/8/8/8/8/8/8/2K3RR w - -",
+            b"1k6/8/8/8/8/8/8/2K3RR w - -",
+        ],
+    ),
+    (
+        3,
+        [
+            b"8/k7/8/8/8/8/8/2K3RR w - -",
+            b"8/1k6/8/8/8/8/8/2K3RR w - -",
+        ],
+    ),
+    (
+        4,
+        [
+            b"8/8/k7/8/8/8/8/2K3RR w - -",
+            b"8/8/1k6/8/8/8/8/2K3RR w - -",
+        ],
+    ),
+];
+
+/// One move less than the ladder takes is not enough.
+#[test]
+fn a_ladder_of_each_height(rt: HostRuntime) -> Result<(), Fail> {
+    let alloc = rt.alloc();
+    for (moves, texts) in LADDERS {
+        let b = set(alloc, &texts)?;
+        let fewer = white(Dialect::Wild16, moves.saturating_sub(1), 100);
+        assert_eq!(rt;
+            search(alloc, fewer, &b, 50_000_000)?.came,
+            Came::None,
+            "{moves}"
+        );
+        let enough = white(Dialect::Wild16, moves, 100);
+        assert_eq!(rt;
+            search(alloc, enough, &b, 50_000_000)?.came,
+            Came::Mates(moves),
+            "{moves}"
+        );
+    }
+    Ok(())
+}
+
 #[test]
 fn black_may_search(rt: HostRuntime) -> Result<(), Fail> {
     let alloc = rt.alloc();

@@ -5,6 +5,7 @@ mod Pools
 mod Gathering
 mod PartSizes
 mod Mating
+mod MoveCounts
 mod LastMoves
 mod Renaming
 mod FirstMoves

@@ -1,4 +1,4 @@
-ghost use Rattle.std.specs.Prelude.{◌≡◌, true, suc, None, Some, IfOk, if◌then◌else◌};
+ghost use Rattle.std.specs.Prelude.{◌≡◌, true, suc, length, None, Some, IfOk, if◌then◌else◌};
 ghost use Rattle.krieg_moves.specs.Legal as rule;
 ghost use Rattle.krieg_moves.specs.Moves as list;
 ghost use Rattle.krieg_pack.specs.Members.{set_of};
@@ -10,7 +10,7 @@ ghost use Rattle.krieg_split.specs.Mating.{IsTried, AreTried, replies, looked_at
 
 use crate::stop::{SplitStop, take};
 use krieg_board::{Move, Position, Units};
-use krieg_moves::{after, in_check, is_legal, legal_moves};
+use krieg_moves::{after, count_moves, in_check, is_legal};
 use krieg_pack::{Belief, Packed, unpack};
 use krieg_words::Dialect;
 use std::alloc::Global;
@@ -24,18 +24,18 @@ pub(crate) struct Mating {
     pub refused: Vec<Packed>,
 }
 
-/// Whether the moves are none and the side to move is in check.
-#[tactic(auto, unfolding(krieg_moves::specs::Moves::is_mate, krieg_moves::specs::Moves::is_ended))]
-fn is_mate(q: &Position, moves: &[Move]) -> bool
-    requires { moves.now ≡ list.moves q.now }
+/// Whether there is no move and the side to move is in check.
+#[tactic(auto, using(crate::proofs::Mating::none_listed), unfolding(krieg_moves::specs::Moves::is_mate, krieg_moves::specs::Moves::is_ended))]
+fn is_mate(q: &Position, count: usize) -> bool
+    requires { count ≡ length (list.moves q.now) }
     ensures { result ≡ list.is_mate q.now }
 {
-    moves.is_empty() && in_check(q)
+    count == 0 && in_check(q)
 }
 
 /// Tries the legal move in one member.
+#[tactic(auto, using(crate::proofs::MoveCounts::few_moves))]
 fn try_legal(
-    alloc: Global,
     p: &Position,
     mv: &Move,
     found: &mut Mating,
@@ -45,15 +45,14 @@ fn try_legal(
     ensures { Charged result (λ _. IsTried found.old found.new p.now mv.now) (suc (replies mv.now p.now)) units.old units.new }
 {
     let q = after(p, *mv);
-    let replies = legal_moves(alloc, &q)?;
-    take(units, 1 + replies.len() as u64)?;
-    found.lives = found.lives || !is_mate(&q, replies.as_slice());
+    let replies = count_moves(&q);
+    take(units, 1 + replies as u64)?;
+    found.lives = found.lives || !is_mate(&q, replies);
     Ok(())
 }
 
 /// Tries the move in one member, for one unit and one for each reply.
 fn try_in(
-    alloc: Global,
     member: &Packed,
     mv: &Move,
     found: &mut Mating,
@@ -63,7 +62,7 @@ fn try_in(
 {
     let p = unpack(member);
     if is_legal(&p, *mv) {
-        return try_legal(alloc, &p, mv, found, units);
+        return try_legal(&p, mv, found, units);
     }
     take(units, 1)?;
     if !found.lives {
@@ -86,7 +85,7 @@ fn try_in_all(
         refused: Vec::new(alloc),
     };
     for member in members {
-        try_in(alloc, member, mv, &mut found, units)?;
+        try_in(member, mv, &mut found, units)?;
     }
     Ok(found)
 }

@@ -1,7 +1,8 @@
 //! Sets of positions, one of which is the true one, parted by what a player hears.
 //!
 //! `split` tries a move on a set: it gives the members that refuse it, whether it stalemates in some, and the set for
-//! each pair of words that may be heard next. `split_to_mate` does it where the move must mate. `tries` lists the moves
+//! each pair of words that may be heard next. `split_unless_stale` does it where the move may not stalemate, and
+//! `split_to_mate` where it must mate. `tries` lists the moves
 //! that make sense in a set. `openings` parts a set by its opening words, and `first_replies` by these and by what is
 //! heard of the opponent's first move. What is made is counted in units, exactly.
 //!
@@ -30,6 +31,7 @@ mod stop;
 #[cfg(test)]
 mod tests;
 mod try_list;
+mod unless_stale;
 
 pub use firsts::{First, Firsts, first_replies};
 pub use last_move::split_to_mate;
@@ -37,3 +39,4 @@ pub use opening_sets::{Opened, openings};
 pub use parts::{Parted, split};
 pub use stop::SplitStop;
 pub use try_list::tries;
+pub use unless_stale::split_unless_stale;

@@ -237,6 +237,51 @@ fn what_refuses_a_try(rt: HostRuntime) -> Result<(), Fail> {
     Ok(())
 }
 
+/// The parts of these positions, where the try stalemates in none. It takes just so many units, and is spent with one
+/// less and takes none.
+fn parts_unless_stale(
+    alloc: Global,
+    texts: &[&[u8]],
+    mv: &[u8],
+    cost: u64,
+) -> Result<Option<Parted>, Fail> {
+    let b = set(alloc, texts)?;
+    let few = cost.saturating_sub(1);
+    let mut units = Units::new(few);
+    let is_spent = match split_unless_stale(alloc, Dialect::Plain, &b, read_move(mv)?, &mut units) {
+        Ok(_) => false,
+        Err(stop) => stop == SplitStop::Spent,
+    };
+    if !is_spent || units.left() != few {
+        return Err(Fail::from("one unit less is enough"));
+    }
+    let mut exact = Units::new(cost);
+    let parted = split_unless_stale(alloc, Dialect::Plain, &b, read_move(mv)?, &mut exact)?;
+    if exact.left() != 0 {
+        return Err(Fail::from("units are left"));
+    }
+    Ok(parted)
+}
+
+/// None where in some member the try stalemates, for a unit for each member and each reply: with the knight on c6 the
+/// king on b8 has two, a8 and c8, and the king on a8 none.
+#[test]
+fn what_a_stalemate_leaves(rt: HostRuntime) -> Result<(), Fail> {
+    let alloc = rt.alloc();
+    let stalemate: &[u8] = b"k7/8/1K6/8/3N4/8/8/8 w - -";
+    let check: &[u8] = b"1k6/8/1K6/8/3N4/8/8/8 w - -";
+    assert!(rt; parts_unless_stale(alloc, &[stalemate], b"d4c6", 1)?.is_none());
+    assert!(rt; parts_unless_stale(alloc, &[check, stalemate, A8], b"d4c6", 5)?.is_none());
+    let live = parts_unless_stale(alloc, &[check, A8], b"d4c6", 4)?;
+    let parted = live.ok_or("no member is stalemated")?;
+    assert!(rt; parted.refused.same(&set(alloc, &[A8])?));
+    assert_eq!(rt; parted.classes.len(), 1);
+    for class in &parted.classes {
+        assert_eq!(rt; class.belief.len(), 2);
+    }
+    Ok(())
+}
+
 /// What is left of these positions by a try that must mate, where it takes just so many units, and is spent with one
 /// less and takes none.
 fn left_for(alloc: Global, texts: &[&[u8]], mv: &[u8], cost: u64) -> Result<Option<Belief>, Fail> {

@@ -1,7 +1,8 @@
 //! Numbers of games, by published counts.
 
-use super::{MIXED, PINS, START, perft, position};
-use krieg_board::Side;
+use super::{MIXED, PINS, START, perft, perft_by_count, position};
+use crate::*;
+use krieg_board::{Side, Square};
 
 /// The start position, and five positions whose counts are published: castling and its rights, pins on
 /// captures in passing, promotions, checks by discovery.
@@ -28,7 +29,36 @@ fn counts_games(rt: HostRuntime) {
                     counts[depth as usize],
                     "at depth {depth} of {rights}"
                 );
+                let counted = perft_by_count(rt.alloc(), &p, depth).expect(&rt, "memory");
+                assert_eq!(rt; counted, counts[depth as usize] as usize);
             }
         }
+    }
+}
+
+/// Counts by hand: promotions with and without a capture, a capture in passing with the mark, without it and
+/// where it would open the rank, mate, stalemate, and the position with the most moves that is known.
+#[test]
+fn counts_moves(rt: HostRuntime) {
+    let white_pawn: &[u8] = b"1n5k/P7/8/8/8/8/8/K7";
+    let black_pawn: &[u8] = b"k7/8/8/8/8/8/7p/K5N1";
+    let passing: &[u8] = b"8/8/8/K2pP3/8/8/8/7k";
+    let opening: &[u8] = b"8/8/8/K2pP2r/8/8/8/7k";
+    let mate: &[u8] = b"4R1k1/5ppp/8/8/8/8/8/6K1";
+    let stalemate: &[u8] = b"7k/5Q2/6K1/8/8/8/8/8";
+    let most: &[u8] = b"R6R/3Q4/1Q4Q1/4Q3/2Q4Q/Q4Q2/pp1Q4/kBNN1KB1";
+    let cases = [
+        (white_pawn, Side::White, None, 11usize),
+        (black_pawn, Side::Black, None, 11),
+        (passing, Side::White, Square::new(43), 7),
+        (passing, Side::White, None, 6),
+        (opening, Side::White, Square::new(43), 6),
+        (mate, Side::Black, None, 0),
+        (stalemate, Side::Black, None, 0),
+        (most, Side::White, None, 218),
+    ];
+    for (placement, side, mark, count) in cases {
+        let p = position(placement, side, 0, mark).expect(&rt, "a valid position");
+        assert_eq!(rt; count_moves(&p), count);
     }
 }

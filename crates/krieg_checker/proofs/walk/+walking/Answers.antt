@@ -8,7 +8,7 @@ use Rattle.krieg_plan.specs.Nodes.{tree_of, as_other}
 use Rattle.krieg_plan.specs.declared.node.Edge.TheViews.{out-Node}
 use Rattle.krieg_plan.proofs.NodeTrees.{other_of}
 use Rattle.krieg_checker.specs.Found.{within, worse, own_need}
-use Rattle.krieg_checker.specs.Walked.{classes_won, classes_cost}
+use Rattle.krieg_checker.specs.Walked.{classes_won, classes_cost, other_in}
 use Rattle.krieg_checker.proofs.Charges.{stopped}
 use Rattle.krieg_checker.proofs.Walking.{walk_nil, parts_are, over, goes_on, ends, falls, other_falls, other_is_ordered, class_more, no_edge, some_edge}
 use Rattle.krieg_checker.proofs.walk.+walking.Goals as goal
@@ -22,7 +22,7 @@ walk-returns-in_err-below t c =
     let h = c.nodes.here.now in
     let p = c.in_ok-refused.ensures in
     stopped _ c.from_residual-in_err-below.result c.in_err-below.field-0.0 _ _ _ _ _ _ _ _ (λ x h. cc) c.from_residual-in_err-below.ensures.1
-    (over c.args.d (tree_of h) (out-Node h).mv (other_of (out-Node h)) (edges_in (tree_of h)) (parts_are h) c.nodes.set c.in_ok-refused.field-0 p.0 (tree_of c.args.n.now) c.args.b c.nodes.need c.nodes.units c.args.units.now c.part.new.units c.nodes.invariant.walked p.1)
+    (over c.args.d (tree_of h) c.nodes.set c.in_ok-refused.field-0 p.0 (tree_of c.args.n.now) c.args.b c.nodes.need c.nodes.units c.args.units.now c.try_node.new.units c.nodes.invariant.walked p.1)
     c.in_err-below.ensures
 
 pub walk-nodes-preserved : goal.walk-nodes-preserved
@@ -32,11 +32,11 @@ walk-nodes-preserved t c =
     let b = c.in_ok-below.ensures in
     let some : c.nodes.set ≡ [] → ⊥ = search rules in
     let next : other_of (out-Node h) ≡ Just (tree_of c.deref-here.result.now) = ap (λ o. as_other (option_map (λ b. tree_of b.value) o)) c.in-Some.is ∙ ap (λ n. Just (tree_of n)) (sym c.deref-here.ensures) in
-    let more : c.worse-need.result ≡ worse c.nodes.need (own_need c.in_ok-refused.field-0.stale c.in_ok-below.below) = search rules in
+    let more : c.worse-need.result ≡ worse c.nodes.need (own_need c.in_ok-refused.field-0.fails c.in_ok-below.below) = search rules in
     record {
       walked =
-          goes_on c.args.d (tree_of h) (out-Node h).mv (other_of (out-Node h)) (edges_in (tree_of h)) (parts_are h) c.nodes.set c.in_ok-refused.field-0 p.0 (tree_of c.args.n.now) c.args.b c.nodes.need c.in_ok-below.below some b.0 c.nodes.units c.args.units.now c.part.new.units c.walk_classes.new.units c.nodes.invariant.walked p.1
-          (tree_of c.deref-here.result.now) c.worse-need.result next b.1 more;
+          goes_on c.args.d (tree_of h) c.nodes.set c.in_ok-refused.field-0 p.0 (tree_of c.args.n.now) c.args.b c.nodes.need c.in_ok-below.below some b.0 c.nodes.units c.args.units.now c.try_node.new.units c.walk_classes.new.units c.nodes.invariant.walked p.1
+          (tree_of c.deref-here.result.now) c.worse-need.result (ap other_in (parts_are h) ∙ next) b.1 more;
       ordered = other_is_ordered (tree_of h) (out-Node h).mv (other_of (out-Node h)) (edges_in (tree_of h)) (tree_of c.deref-here.result.now) (parts_are h) next c.nodes.invariant.ordered;
       smaller = omega (arith, c.nodes.invariant.smaller, other_falls (tree_of h) (out-Node h).mv (other_of (out-Node h)) (edges_in (tree_of h)) (tree_of c.deref-here.result.now) (parts_are h) next);
     }
@@ -48,9 +48,9 @@ walk-returns-in-None t c =
     let b = c.in_ok-below.ensures in
     let some : c.nodes.set ≡ [] → ⊥ = search rules in
     let none : other_of (out-Node h) ≡ Nothing = ap (λ o. as_other (option_map (λ b. tree_of b.value) o)) c.in-None.is in
-    let more : c.worse-need.result ≡ worse c.nodes.need (own_need c.in_ok-refused.field-0.stale c.in_ok-below.below) = search rules in
-    ends c.args.d (tree_of h) (out-Node h).mv (other_of (out-Node h)) (edges_in (tree_of h)) (parts_are h) c.nodes.set c.in_ok-refused.field-0 p.0 (tree_of c.args.n.now) c.args.b c.nodes.need c.in_ok-below.below some b.0 c.nodes.units c.args.units.now c.part.new.units c.walk_classes.new.units c.nodes.invariant.walked p.1
-    c.missing.result c.worse-need.result c.worse.result none b.1 more c.missing.ensures (search rules)
+    let more : c.worse-need.result ≡ worse c.nodes.need (own_need c.in_ok-refused.field-0.fails c.in_ok-below.below) = search rules in
+    ends c.args.d (tree_of h) c.nodes.set c.in_ok-refused.field-0 p.0 (tree_of c.args.n.now) c.args.b c.nodes.need c.in_ok-below.below some b.0 c.nodes.units c.args.units.now c.try_node.new.units c.walk_classes.new.units c.nodes.invariant.walked p.1
+    c.missing.result c.worse-need.result c.worse.result (ap other_in (parts_are h) ∙ none) b.1 more c.missing.ensures (search rules)
 
 pub walk_class-walk-requires : goal.walk_class-walk-requires
 walk_class-walk-requires t c =

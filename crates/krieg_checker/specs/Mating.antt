@@ -1,0 +1,36 @@
+-- What is found of a try after which no edge follows, so that it must mate. Nothing that is heard matters for it.
+use Rattle.std.specs.Prelude.{◌≡◌, ℕ, ◌+◌, Bool, not, ◌&&◌, ◌||◌, ◌++◌, [], ◌∷◌, List, filter, length, if◌then◌else◌}
+use Rattle.std.specs.List.{list_any}
+use Rattle.krieg_board.specs.Pos.{Pos}
+use Rattle.krieg_board.specs.declared.men.Move.{Move}
+use Rattle.krieg_moves.specs.Legal.{is_legal}
+use Rattle.krieg_moves.specs.After.{after}
+use Rattle.krieg_moves.specs.Moves.{moves, is_mate}
+use Rattle.krieg_costs.specs.Sums.{total}
+use Rattle.krieg_checker.specs.declared.last_try.Mating.{Mating}
+
+-- the try is legal and does not mate
+abbrev pub lives : Move → Pos → Bool
+lives t p = is_legal p t && not (is_mate (after p t))
+
+-- it is illegal
+abbrev pub refuses : Move → Pos → Bool
+refuses t p = not (is_legal p t)
+
+-- how many replies there are to it
+abbrev pub replies : Move → Pos → ℕ
+replies t p = if is_legal p t then length (moves (after p t)) else 0
+
+-- how many positions are looked at: the members, and those after a reply
+abbrev pub looked_at : List Pos → Move → ℕ
+looked_at B t = length B + total (replies t) B
+
+-- what one member adds
+pub record IsTried (old new : Mating) (p : Pos) (t : Move) : Type 0 where
+  pub lives_part : new.lives ≡ (old.lives || lives t p)
+  pub refused_part : new.refused.items ≡ old.refused.items ++ filter (refuses t) (p ∷ [])
+
+-- the try was made in all members
+pub record AreTried (B : List Pos) (t : Move) (found : Mating) : Type 0 where
+  pub lives_part : found.lives ≡ list_any (lives t) B
+  pub refused_part : found.refused.items ≡ filter (refuses t) B
