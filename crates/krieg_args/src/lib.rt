@@ -13,7 +13,9 @@
 #![tactic(auto)]
 
 mod command;
+mod files;
 #[cfg(test)]
 mod tests;
 
 pub use command::{Command, Made, command_of};
+pub use files::{SeatFiles, seat_files};

@@ -18,6 +18,7 @@ mod games;
 mod material;
 mod modes;
 mod rounds;
+mod sets;
 mod sums;
 
 use crate::games::games;

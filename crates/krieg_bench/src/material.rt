@@ -5,8 +5,9 @@ ghost use Rattle.std.specs.List.{All};
 ghost use Rattle.krieg_moves.specs.Legal.{is_legal};
 
 use krieg_board::{Move, NoMemory, Position};
+use krieg_fen::read_position;
 use krieg_moves::{after, legal_moves};
-use krieg_pack::{Packed, pack};
+use krieg_pack::{Belief, Packed, pack};
 use smallvec::SmallVec;
 use std::alloc::Global;
 
@@ -18,12 +19,15 @@ pub struct Listed {
     ghost legal: { All (λ m. is_legal position m ≡ true) moves.items },
 }
 
-/// Positions, and the same ones with their legal moves and packed.
+/// Positions, and the same ones with their legal moves, packed, and as a set; and the positions of a ladder, two rooks
+/// against a king on one of four squares.
 #[derive(Drop)]
 pub struct Material {
     pub positions: Vec<Position>,
     pub listed: Vec<Listed>,
     pub packed: Vec<Packed>,
+    pub set: Belief,
+    pub ladder: Belief,
 }
 
 /// The legal moves of the position.
@@ -72,6 +76,25 @@ pub fn pack_each(alloc: Global, positions: &[Position]) -> Result<Vec<Packed>, N
     Ok(all)
 }
 
+/// Where the ladder's king may stand.
+const LADDER: [&[u8]; 4] = [
+    b"k7/8/8/8/8/8/8/2K3RR w - -",
+    b"1k6/8/8/8/8/8/8/2K3RR w - -",
+    b"2k5/8/8/8/8/8/8/2K3RR w - -",
+    b"3k4/8/8/8/8/8/8/2K3RR w - -",
+];
+
+/// The set of these positions.
+fn ladder(alloc: Global) -> Result<Belief, NoMemory> {
+    let mut positions = Vec::new(alloc);
+    for text in LADDER {
+        if let Ok(p) = read_position(text) {
+            positions.push(p)?;
+        }
+    }
+    Belief::from_positions(alloc, &positions)
+}
+
 impl Material {
     /// The positions that are three plies from that one, one for each game.
     pub fn behind_three(alloc: Global, start: &Position) -> Result<Material, NoMemory> {
@@ -80,10 +103,14 @@ impl Material {
         let positions = one_ply_from(alloc, two.as_slice())?;
         let listed = list_each(alloc, positions.as_slice())?;
         let packed = pack_each(alloc, positions.as_slice())?;
+        let set = Belief::from_positions(alloc, positions.as_slice())?;
+        let ladder = ladder(alloc)?;
         Ok(Material {
             positions,
             listed,
             packed,
+            set,
+            ladder,
         })
     }
 }

@@ -8,6 +8,8 @@ pub enum Mode {
     Perft,
     /// The legal moves are listed.
     List,
+    /// The legal moves are counted.
+    Count,
     /// A legal move is looked for.
     Move,
     /// It is asked whether the side to move is in check.
@@ -20,20 +22,30 @@ pub enum Mode {
     Pack,
     /// The position is unpacked.
     Unpack,
+    /// The set of all positions is parted by each try that is legal in some of them, whatever is heard.
+    Split,
+    /// The same where the try must mate.
+    Mate,
+    /// A plan that mates within two moves is searched for, from four positions of a ladder.
+    Search,
     /// Nothing is done.
     Nothing,
 }
 
 /// The word of each mode.
-pub const WORDS: [(&str, Mode); 9] = [
+pub const WORDS: [(&str, Mode); 13] = [
     ("perft", Mode::Perft),
     ("list", Mode::List),
+    ("count", Mode::Count),
     ("move", Mode::Move),
     ("check", Mode::Check),
     ("words", Mode::Words),
     ("after", Mode::After),
     ("pack", Mode::Pack),
     ("unpack", Mode::Unpack),
+    ("split", Mode::Split),
+    ("mate", Mode::Mate),
+    ("search", Mode::Search),
     ("nothing", Mode::Nothing),
 ];
 

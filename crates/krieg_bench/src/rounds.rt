@@ -2,9 +2,10 @@
 
 use crate::material::{Listed, Material, pack_each};
 use crate::modes::Mode;
+use crate::sets::{mates, searches, splits};
 use crate::sums::{position_number, words_number};
 use krieg_board::{NoMemory, Position};
-use krieg_moves::{after, has_move, in_check, legal_moves};
+use krieg_moves::{after, count_moves, has_move, in_check, legal_moves};
 use krieg_pack::{Packed, unpack};
 use krieg_words::words_of;
 use std::alloc::Global;
@@ -16,6 +17,15 @@ fn list(alloc: Global, positions: &[Position]) -> Result<u64, NoMemory> {
         sum = sum.saturating_add(legal_moves(alloc, p)?.len() as u64);
     }
     Ok(sum)
+}
+
+/// The same number, without a list.
+fn counts(positions: &[Position]) -> u64 {
+    let mut sum = 0u64;
+    for p in positions {
+        sum = sum.saturating_add(count_moves(p) as u64);
+    }
+    sum
 }
 
 /// In how many there is a legal move.
@@ -100,12 +110,16 @@ fn unpacks(packed: &[Packed]) -> u64 {
 fn round(alloc: Global, mode: Mode, material: &Material) -> Result<u64, NoMemory> {
     match mode {
         Mode::List => list(alloc, material.positions.as_slice()),
+        Mode::Count => Ok(counts(material.positions.as_slice())),
         Mode::Move => Ok(moves(material.positions.as_slice())),
         Mode::Check => Ok(checks(material.positions.as_slice())),
         Mode::Words => Ok(words(material.listed.as_slice())),
         Mode::After => Ok(afters(material.listed.as_slice())),
         Mode::Pack => packs(alloc, material.positions.as_slice()),
         Mode::Unpack => Ok(unpacks(material.packed.as_slice())),
+        Mode::Split => splits(alloc, &material.set),
+        Mode::Mate => mates(alloc, &material.set),
+        Mode::Search => searches(alloc, &material.ladder),
         Mode::Perft | Mode::Nothing => Ok(0),
     }
 }

@@ -68,7 +68,7 @@ alike who [] hand = tt
 alike who (p ∷ ps) hand = all_of (λ q. same_hand p q who ≡ true) ps (λ q at. hand p q (inl refl) (inr at))
 
 -- the same side is to move in all of them
-same_turn : (who : Side) (S : List Pos) → HaveOneHand who S → (p q : Pos) → In p S → In q S → p.side ≡ q.side
+pub same_turn : (who : Side) (S : List Pos) → HaveOneHand who S → (p q : Pos) → In p S → In q S → p.side ≡ q.side
 same_turn who S hand p q at other = (same_hand_alike who p q (hand p q at other)).turn
 
 turn_is : (who : Side) (S : List Pos) → HaveOneHand who S → (q : Pos) → In q S → not (is_same_side q.side who) ≡ waits who S

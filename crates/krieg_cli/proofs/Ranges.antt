@@ -48,12 +48,19 @@ solving moves budget limit = go (moves_of moves) refl (budget_of budget) (limit_
         subst IsInRange same (at_most 1 6 m moves (omega arith) em, at_most 1 most_listed l limit (omega arith) el)
 
 making : (what seed : List ℕ) → Ranged (make what seed)
-making what seed = go (made_input what) (seed_of seed)
+making what seed = go (made_input what) (seed_of seed) refl
   where
-    go : (w : Option Made) (s : Option ℕ) → Ranged (w >>= λ w. s >>= λ s. Some (Make w s))
-    go None s = none
-    go (Some w) None = none
-    go (Some w) (Some s) = λ c e. let same : Make w s ≡ c = cc in subst IsInRange same tt
+    go : (w : Option Made) (s : Option ℕ) → seed_of seed ≡ s → Ranged (w >>= λ w. s >>= λ s. Some (Make w s))
+    go None s es = none
+    go (Some w) None es = none
+    go (Some w) (Some s) es = λ c e. let same : Make w s ≡ c = cc in subst IsInRange same (at_most 0 4294967295 s seed (omega arith) es)
+
+of_job : (word : List ℕ) → Ranged (option_map Job (seed_of word))
+of_job word = go (seed_of word) refl
+  where
+    go : (s : Option ℕ) → seed_of word ≡ s → Ranged (option_map Job s)
+    go None es = none
+    go (Some s) es = λ c e. let same : Job s ≡ c = cc in subst IsInRange same (at_most 0 4294967295 s word (omega arith) es)
 
 playing : (asks win wout bin bout : List ℕ) → Ranged (play asks win wout bin bout)
 playing asks win wout bin bout = either _ (option_map Play (words.asks_of asks)) None (mapped Play (words.asks_of asks) (λ n. tt)) none
@@ -63,7 +70,7 @@ of_one name word =
     either (bytes_eq name (codes "check")) _ _ (mapped Check (budget_of word) (λ n. tt))
     (either (bytes_eq name (codes "believe")) _ _ (mapped Believe (limit_of word) (λ n. tt))
     (either (bytes_eq name (codes "umpire")) _ _ (mapped Umpire (words.whose word) (λ who. tt))
-    (either (bytes_eq name (codes "job")) _ _ (mapped Job (seed_of word) (λ n. tt)) none)))
+    (either (bytes_eq name (codes "job")) _ _ (of_job word) none)))
 
 pub in_range : (ws : List (List ℕ)) (c : Command) → command_of ws ≡ Some c → IsInRange c
 in_range [] = none

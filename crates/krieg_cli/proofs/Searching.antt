@@ -29,13 +29,14 @@ few_possible s limit S within possible =
     let same : S ≡ ps = same_members S ps possible.ascending all.ascending (λ p i. (all.exact p).1 ((possible.exact p).0 i)) (λ p i. (possible.exact p).1 ((all.exact p).0 i)) in
     omega (arith, few, ap (λ (ps : List Pos). length ps) same)
 
-module _ (d : Dialect) (who : Side) (S : List Pos) (n budget start left : ℕ) (same : start ≡ budget) where
-  best_file : (w : ℕ) (plan : PlanTrees) → IsBest d who S n w plan → IsBestFile d who S n (file_of d who S w plan)
-  best_file w plan b = record { dialect = refl; side = refl; list = refl; mates = b.worst_case.mates_within; within = b.within; least = b.least; canonical = b.canonical }
+-- the best plan with its worst case is the best file
+pub best_file : (d : Dialect) (who : Side) (S : List Pos) (n w : ℕ) (plan : PlanTrees) → IsBest d who S n w plan → IsBestFile d who S n (file_of d who S w plan)
+best_file d who S n w plan b = record { dialect = refl; side = refl; list = refl; mates = b.worst_case.mates_within; within = b.within; least = b.least; canonical = b.canonical }
 
+module _ (d : Dialect) (who : Side) (S : List Pos) (n budget start left : ℕ) (same : start ≡ budget) where
   pub stop_told : {X : Type 0} (view : X → List ℕ) (stop : Stop2) → IsAnswer d who S n most_nodes (Err stop) → IsCharged d who S n (Err stop) start left → Decides view (Err (of_search stop)) (Searched d who S n budget)
   stop_told view search.Spent answer units = omega (arith, same, units.0)
-  stop_told view search.Large answer units = (omega (arith, same, units.at_least), file_of d who S answer.worst answer.plan, best_file answer.worst answer.plan answer.best, answer.large)
+  stop_told view search.Large answer units = (omega (arith, same, units.at_least), file_of d who S answer.worst answer.plan, best_file d who S n answer.worst answer.plan answer.best, answer.large)
   stop_told view search.NoMemory answer units = tt
 
 module _ (n budget limit : ℕ) (s : SheetState) (S : List Pos) (asks : Asks limit s S) where
@@ -47,7 +48,8 @@ module _ (n budget limit : ℕ) (s : SheetState) (S : List Pos) (asks : Asks lim
   refused refusal.NonePossible h = absurd h
   refused refusal.GameOver h = absurd h
   refused refusal.PlanFails h = absurd h
-  refused refusal.NotBuilt h = absurd h
+  refused (refusal.NoSeat who) h = absurd h
+  refused (refusal.SeatFault who) h = absurd h
 
   answered : {X : Type 0} (view : X → List ℕ) (r : Result X Ending) → Decides view r (Searched s.dialect s.side S n budget) → Decides view r (Solved n budget limit s)
   answered view (Ok x) h = (S, asks, h)

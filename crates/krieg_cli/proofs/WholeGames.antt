@@ -31,6 +31,7 @@ use Rattle.krieg_cli.specs.Refusal.{text_status, refusal_status, OfText}
 use Rattle.krieg_cli.specs.Ending.{status}
 use Rattle.krieg_cli.specs.Believe.{Believed}
 use Rattle.krieg_cli.specs.Umpire.{told_text}
+use Rattle.krieg_cli.specs.Outcome.{Table}
 use Rattle.krieg_cli.specs.Top.{ComesTo, Answers, Ends, Runs}
 use Rattle.krieg_cli.specs.WholeGames.{heard_sheet, standing, stripped, IsUmpired, IsHeard, TellsGame, EndsOnHeard, UmpiresGames, BelievesGames}
 use Rattle.krieg_cli.specs.declared.refusal.Refusal.{Refusal}
@@ -48,7 +49,7 @@ refused : (r : Refusal) → refusal_status r ≡ 0 → ⊥
 refused (BadText line k) h = bad_text k h
 refused _ h = omega (arith, h)
 
-answered : (e : Ending) → status e ≡ 0 → e ≡ ending.Answered
+pub answered : (e : Ending) → status e ≡ 0 → e ≡ ending.Answered
 answered ending.Answered h = refl
 answered (ending.Refused r) h = absurd (refused r h)
 answered _ h = absurd (omega (arith, h))
@@ -79,23 +80,23 @@ session_of given text who (Ok s) is e = (s, record { spelled = is; told = same_a
 session_of given text who (Err (fault.At line kind)) is e = absurd cc
 session_of given text who (Err fault.NoMemory) is e = absurd e
 
-told_game : (who : Side) (before after : World) → Answers (Umpire (Some who)) before after → TellsGame who before after
-told_game who before after (text, (given, read, comes), written) =
+told_game : (table : Table) (who : Side) (before after : World) → Answers table (Umpire (Some who)) before after → TellsGame who before after
+told_game table who before after (text, (given, read, comes), written) =
     let (s, u) = session_of given text who (whole session_at (lines given)) refl comes in
     record { given = given; session = s; text = text; was_read = read; umpired = u; heard = heard given s who text u; same = u.told ∙ same s who; written = written }
 
-pub umpires_games : (e : Ending) (asked : Option Command) (before after : World) (code : ℕ) → Runs e asked before after → code ≡ status e → UmpiresGames asked code before after
-umpires_games e asked before after code runs is who words zero =
-    told_game who before after
-    (subst (λ x. Ends x (Umpire (Some who)) before after) (answered e (sym is ∙ zero)) (subst (λ x. Runs e x before after) words runs))
+pub umpires_games : (table : Table) (e : Ending) (asked : Option Command) (before after : World) (code : ℕ) → Runs table e asked before after → code ≡ status e → UmpiresGames asked code before after
+umpires_games table e asked before after code runs is who words zero =
+    told_game table who before after
+    (subst (λ x. Ends table x (Umpire (Some who)) before after) (answered e (sym is ∙ zero)) (subst (λ x. Runs table e x before after) words runs))
 
 -- What is believed.
 
 -- the text that was read is the one that the input held
-text_read : (before after : Stream) (text read : List ℕ) → before.bytes ≡ Some text → WasRead before after read → read ≡ text
+pub text_read : (before after : Stream) (text read : List ℕ) → before.bytes ≡ Some text → WasRead before after read → read ≡ text
 text_read before after text read holds was = sym (subst (λ b. IfSome b (λ bytes. bytes ≡ read)) holds (Consumes_all before.bytes after.bytes read was.0 was.1))
 
-given_le : (old new : Option (List ℕ)) (text given : List ℕ) → old ≡ Some text → Consumes old new given → length given ≤ length text
+pub given_le : (old new : Option (List ℕ)) (text given : List ℕ) → old ≡ Some text → Consumes old new given → length given ≤ length text
 given_le old new text given holds took = within new (subst (λ b. Consumes b new given) holds took)
   where
     within : (new : Option (List ℕ)) → Consumes (Some text) new given → length given ≤ length text
@@ -103,9 +104,9 @@ given_le old new text given holds took = within new (subst (λ b. Consumes b new
     within (Some rest) h = omega (arith, ap (λ (t : List ℕ). length t) h, length-append given rest)
 
 -- what `believe` comes to on that text
-believed : (limit : ℕ) (given : List ℕ) (s : SessionState) (who : Side) (text : List ℕ) (before after : World) (outcome : Result (List ℕ) Refusal) →
-    IsUmpired given s who text → before.input.bytes ≡ Some text → ComesTo (Believe limit) before after outcome → Believed limit (heard_sheet s who) outcome
-believed limit given s who text before after outcome u holds (read, was, made) =
+believed : (table : Table) (limit : ℕ) (given : List ℕ) (s : SessionState) (who : Side) (text : List ℕ) (before after : World) (outcome : Result (List ℕ) Refusal) →
+    IsUmpired given s who text → before.input.bytes ≡ Some text → ComesTo table (Believe limit) before after outcome → Believed limit (heard_sheet s who) outcome
+believed table limit given s who text before after outcome u holds (read, was, made) =
     subst (λ r. OfText r (Believed limit) outcome)
     (ap (λ t. whole sheet_at (lines t)) (text_read before.input after.input text read holds was) ∙ (heard given s who text u).read)
     made
@@ -115,25 +116,25 @@ refused_on_heard : (r : Refusal) (limit : ℕ) (s : SessionState) (who : Side) (
 refused_on_heard (TooMany line) limit s who text before after h = excess_not_within (heard_sheet s who) limit line h
 refused_on_heard _ limit s who text before after h = h
 
-ends_on_heard : (e : Ending) (limit : ℕ) (given : List ℕ) (s : SessionState) (who : Side) (text : List ℕ) (before after : World) →
-    IsUmpired given s who text → before.input.bytes ≡ Some text → Ends e (Believe limit) before after → EndsOnHeard e limit s who text before after
-ends_on_heard ending.Answered limit given s who text before after u holds (answer, comes, written) =
-    let (list, possible, within, is) = believed limit given s who text before after (Ok answer) u holds comes in
+ends_on_heard : (table : Table) (e : Ending) (limit : ℕ) (given : List ℕ) (s : SessionState) (who : Side) (text : List ℕ) (before after : World) →
+    IsUmpired given s who text → before.input.bytes ≡ Some text → Ends table e (Believe limit) before after → EndsOnHeard e limit s who text before after
+ends_on_heard table ending.Answered limit given s who text before after u holds (answer, comes, written) =
+    let (list, possible, within, is) = believed table limit given s who text before after (Ok answer) u holds comes in
     record {
       list = list;
       possible = possible;
       listed = (possible.exact (standing s)).1 (heard given s who text u).consistent;
       written = subst (Appends before.out.bytes after.out.bytes) is written;
     }
-ends_on_heard ending.TooLong limit given s who text before after u holds ((takes, (took, consumed, long)), out) =
+ends_on_heard table ending.TooLong limit given s who text before after u holds ((takes, (took, consumed, long)), out) =
     omega (arith, long, given_le before.input.bytes after.input.bytes text took holds consumed)
-ends_on_heard ending.ReadFault limit given s who text before after u holds ((takes, came, rose), out) = rose
-ends_on_heard ending.WriteFault limit given s who text before after u holds (answer, comes, front, rose) = rose
-ends_on_heard ending.NoMemory limit given s who text before after u holds e = tt
-ends_on_heard (ending.Refused r) limit given s who text before after u holds e =
-    refused_on_heard r limit s who text before after (believed limit given s who text before after (Err r) u holds e.0)
-ends_on_heard _ limit given s who text before after u holds e = e
+ends_on_heard table ending.ReadFault limit given s who text before after u holds ((takes, came, rose), out) = rose
+ends_on_heard table ending.WriteFault limit given s who text before after u holds (answer, comes, front, rose) = rose
+ends_on_heard table ending.NoMemory limit given s who text before after u holds e = tt
+ends_on_heard table (ending.Refused r) limit given s who text before after u holds e =
+    refused_on_heard r limit s who text before after (believed table limit given s who text before after (Err r) u holds e.0)
+ends_on_heard table _ limit given s who text before after u holds e = e
 
-pub believes_games : (e : Ending) (asked : Option Command) (before after : World) → Runs e asked before after → BelievesGames asked e before after
-believes_games e asked before after runs limit given s who text is u holds =
-    ends_on_heard e limit given s who text before after u holds (subst (λ x. Runs e x before after) is runs)
+pub believes_games : (table : Table) (e : Ending) (asked : Option Command) (before after : World) → Runs table e asked before after → BelievesGames asked e before after
+believes_games table e asked before after runs limit given s who text is u holds =
+    ends_on_heard table e limit given s who text before after u holds (subst (λ x. Runs table e x before after) is runs)

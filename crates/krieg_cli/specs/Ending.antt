@@ -3,7 +3,7 @@ use Rattle.std.specs.Prelude.{ℕ, List, [], ◌∷◌, ◌++◌, Option, Some, 
 use Rattle.krieg_fen.specs.Decimals.{number_text}
 use Rattle.krieg_cli.specs.Refusal.{refusal_status, refusal_reason}
 use Rattle.krieg_cli.specs.declared.ending.Ending.{Ending}
-use Rattle.krieg_cli.specs.declared.ending.Ending.TheVariants.{Answered, Usage, NotBuilt, TooLong, ReadFault, WriteFault, NoMemory, Refused}
+use Rattle.krieg_cli.specs.declared.ending.Ending.TheVariants.{Answered, Usage, TooLong, ReadFault, WriteFault, NoMemory, Refused}
 
 abbrev pub status : Ending → ℕ
 status Answered = 0
@@ -12,7 +12,6 @@ status TooLong = 2
 status ReadFault = 9
 status WriteFault = 10
 status NoMemory = 11
-status NotBuilt = 15
 status (Refused refusal) = refusal_status refusal
 
 -- the line of the input at which it is, where it is at one, and what it is; an answer has no reason
@@ -23,7 +22,6 @@ reason TooLong = (None, codes "input too long")
 reason ReadFault = (None, codes "read fault")
 reason WriteFault = (None, codes "write fault")
 reason NoMemory = (None, codes "want of memory")
-reason NotBuilt = (None, codes "not built")
 reason (Refused refusal) = refusal_reason refusal
 
 abbrev pub place_text : Option ℕ → List ℕ

@@ -6,7 +6,14 @@ pub mod Solve
 pub mod Check
 pub mod Believe
 pub mod Umpire
+pub mod Play
+pub mod Make
+pub mod Tally
+pub mod Job
 pub mod Outcome
 pub mod Top
 pub mod WholeGames
+pub mod WholePlans
+pub mod Headline
+pub mod Complete
 pub mod Parts

@@ -1,5 +1,5 @@
 -- What no public clause cites: the parts of the work answer a value, or the ending of a run that has none.
-use Rattle.std.specs.Prelude.{ℕ, List, Result, Ok, Err}
+use Rattle.std.specs.Prelude.{Result, Ok, Err}
 use Rattle.krieg_fen.specs.declared.fault.TextFault.{TextFault}
 use Rattle.krieg_fen.specs.declared.fault.TextFault.TheVariants as fault
 use Rattle.krieg_ports.specs.declared.transfer.ReadEnd.{ReadEnd}
@@ -11,7 +11,9 @@ use Rattle.krieg_checker.specs.declared.stop.CheckStop.TheVariants as check
 use Rattle.krieg_search.specs.declared.stop.Stop2.{Stop2}
 use Rattle.krieg_search.specs.declared.stop.Stop2.TheVariants as search
 use Rattle.krieg_cli.specs.declared.refusal.Refusal.{Refusal}
-use Rattle.krieg_cli.specs.declared.refusal.Refusal.TheVariants.{BadText, TooMany, BudgetSpent, PlanTooLarge}
+use Rattle.krieg_play.specs.declared.outcome.PlayFault.{PlayFault}
+use Rattle.krieg_play.specs.declared.outcome.PlayFault.TheVariants as played
+use Rattle.krieg_cli.specs.declared.refusal.Refusal.TheVariants.{BadText, TooMany, BudgetSpent, PlanTooLarge, NoSeat, SeatFault}
 use Rattle.krieg_cli.specs.declared.ending.Ending.{Ending}
 use Rattle.krieg_cli.specs.declared.ending.Ending.TheVariants.{Answered, TooLong, ReadFault, NoMemory, Refused}
 
@@ -42,12 +44,18 @@ of_search search.Spent = Refused BudgetSpent
 of_search search.Large = Refused PlanTooLarge
 of_search search.NoMemory = NoMemory
 
+-- a game that was not played to its stop
+abbrev pub of_play : PlayFault → Ending
+of_play (played.Vacant who) = Refused (NoSeat who)
+of_play (played.Seat who) = Refused (SeatFault who)
+of_play played.NoMemory = NoMemory
+
 abbrev pub ending_of : {X : Type 0} → Result X Ending → Ending
 ending_of (Ok x) = Answered
 ending_of (Err ending) = ending
 
 -- what was computed, seen by view, is an outcome, unless memory ran out
-abbrev pub Decides : {X : Type 0} → (X → List ℕ) → Result X Ending → (Result (List ℕ) Refusal → Type 0) → Type 0
+abbrev pub Decides : {X Y : Type 0} → (X → Y) → Result X Ending → (Result Y Refusal → Type 0) → Type 0
 Decides view (Ok x) Outcome = Outcome (Ok (view x))
 Decides view (Err (Refused refusal)) Outcome = Outcome (Err refusal)
 Decides view (Err NoMemory) Outcome = Unit {0}

@@ -7,7 +7,8 @@ use Rattle.krieg_fen.specs.declared.fault.TextFault.TheVariants as fault
 use Rattle.krieg_fen.specs.declared.fault.TextKind.{TextKind}
 use Rattle.krieg_fen.specs.declared.fault.TextKind.TheVariants as kind
 use Rattle.krieg_cli.specs.declared.refusal.Refusal.{Refusal}
-use Rattle.krieg_cli.specs.declared.refusal.Refusal.TheVariants.{BadText, TooMany, NonePossible, GameOver, BudgetSpent, PlanFails, PlanTooLarge, NotBuilt}
+use Rattle.krieg_board.specs.declared.men.Side.TheVariants.{White, Black}
+use Rattle.krieg_cli.specs.declared.refusal.Refusal.TheVariants.{BadText, TooMany, NonePossible, GameOver, BudgetSpent, NoSeat, SeatFault, PlanFails, PlanTooLarge}
 
 -- a position that is not valid, or not of the first one's hand, is told from every other bad line
 abbrev pub text_status : TextKind → ℕ
@@ -27,8 +28,9 @@ refusal_status NonePossible = 5
 refusal_status GameOver = 6
 refusal_status BudgetSpent = 8
 refusal_status PlanFails = 13
+refusal_status (NoSeat who) = 12
+refusal_status (SeatFault who) = 12
 refusal_status PlanTooLarge = 14
-refusal_status NotBuilt = 15
 
 abbrev pub position_reason : BadPosition → List ℕ
 position_reason bad.Kings = codes "kings"
@@ -56,8 +58,11 @@ refusal_reason NonePossible = (None, codes "no consistent position")
 refusal_reason GameOver = (None, codes "not the player's turn")
 refusal_reason BudgetSpent = (None, codes "budget spent")
 refusal_reason PlanFails = (None, codes "plan fails")
+refusal_reason (NoSeat White) = (None, codes "no seat w")
+refusal_reason (NoSeat Black) = (None, codes "no seat b")
+refusal_reason (SeatFault White) = (None, codes "seat fault w")
+refusal_reason (SeatFault Black) = (None, codes "seat fault b")
 refusal_reason PlanTooLarge = (None, codes "plan too large")
-refusal_reason NotBuilt = (None, codes "not built")
 
 -- What comes of a text: an outcome of the value that it spells, or the refusal of its first bad line.
 abbrev pub OfText : {A : Type 0} → Result A TextFault → (A → Result (List ℕ) Refusal → Type 0) → Result (List ℕ) Refusal → Type 0

@@ -20,6 +20,7 @@ use Rattle.krieg_game.specs.Chess.{chess}
 use Rattle.krieg_game.specs.Outset.{outset}
 use Rattle.krieg_plan.specs.Trees.{PlanTrees, plan_size, plan_depth}
 use Rattle.krieg_planfile.specs.PlanFiles.{PlanState, most_nodes, most_on_path}
+use Rattle.krieg_planfile.specs.PlanReading.{plan_at}
 use Rattle.krieg_planfile.specs.PlanText.{plan_text}
 use Rattle.krieg_cli.specs.Refusal.{OfText}
 use Rattle.krieg_cli.specs.declared.refusal.Refusal.{Refusal}
@@ -69,9 +70,16 @@ module _ (d : Dialect) (who : Side) (S : List Pos) where
   abbrev pub most_units : ℕ → ℕ
   most_units n = fresh (chess d) (outset d who) n S
 
+  -- the answer is the text of the best file, and is read as that file again
+  pub record IsBestText (n : ℕ) (answer : List ℕ) : Type 0 where
+    pub file : PlanState
+    pub best : IsBestFile n file
+    pub text : answer ≡ plan_text file
+    pub again : whole plan_at (lines answer) ≡ Ok file
+
   -- the text of the best file, or the line that no plan mates
   abbrev pub Tells : ℕ → List ℕ → Type 0
-  Tells n answer = ((f : PlanState) × IsBestFile n f × (answer ≡ plan_text f)) ⊎ (NoneMates n × (answer ≡ none_text n))
+  Tells n answer = IsBestText n answer ⊎ (NoneMates n × (answer ≡ none_text n))
 
   -- A search tells its answer, or that the best file is too large for a text, where the budget is at least what it must take;
   -- the budget is spent only where it is less than a search may take.

@@ -21,8 +21,6 @@ pub(crate) enum Ending {
     WriteFault,
     /// Memory was not found.
     NoMemory,
-    /// The command is not built yet.
-    NotBuilt,
     /// The command refuses its input.
     Refused(Refusal),
 }
@@ -86,7 +84,6 @@ impl Ending {
             Ending::ReadFault => 9,
             Ending::WriteFault => 10,
             Ending::NoMemory => 11,
-            Ending::NotBuilt => 15,
             Ending::Refused(refusal) => refusal.status(),
         }
     }
@@ -103,7 +100,6 @@ impl Ending {
             Ending::ReadFault => (None, b"read fault"),
             Ending::WriteFault => (None, b"write fault"),
             Ending::NoMemory => (None, b"want of memory"),
-            Ending::NotBuilt => (None, b"not built"),
             Ending::Refused(refusal) => refusal.reason(),
         }
     }

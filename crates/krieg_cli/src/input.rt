@@ -1,4 +1,5 @@
-ghost use Rattle.std.specs.Prelude.{◌≡◌, IfOk, IfErr};
+ghost use Rattle.std.specs.Prelude.{◌≡◌, false, IfOk, IfErr};
+ghost use Rattle.krieg_args.specs.Command.{takes_input};
 ghost use Rattle.krieg_cli.specs.World.{stream};
 ghost use Rattle.krieg_cli.specs.Input.{WasTaken, FailsToTake};
 
@@ -18,6 +19,7 @@ pub(crate) fn taken<S: Source>(
 ) -> Result<Vec<u8>, Ending>
     ensures text { let seen = stream S.left S.faults in IfOk result (λ text. WasTaken command.now (seen input.old) (seen input.new) text.items) }
     ensures fails { let seen = stream S.left S.faults in IfErr result (λ e. FailsToTake e command.now (seen input.old) (seen input.new)) }
+    ensures unread { takes_input command.now ≡ false → input.new ≡ input.old }
 {
     if !command.takes_input() {
         return Ok(Vec::new(alloc));

@@ -1,17 +1,25 @@
 //! The whole program as one call over streams: `run`.
 //!
-//! Built so far are `umpire` on any session, `believe` and `solve` on any sheet, and `check` on any plan file.
-//! The definitions of `specs/` say what is seen of a run before
-//! it and after it (`World`), what comes of its input (`Input`), how it ends (`Ending`, `Refusal`), what each
-//! command makes of its input (`Solve`, `Check`, `Believe`, `Umpire`, and `Outcome` for all), by what causes a run ends
-//! so (`Top`), and that `believe` lists where a game stands, given what `umpire` writes of it (`WholeGames`).
+//! The commands are `umpire` on any session, `believe` and `solve` on any sheet, `check` on any plan file, `play` from
+//! any position, and `make` and `job` on no input. The definitions of `specs/` say what is seen of a run before it and
+//! after it (`World`), what comes of its input (`Input`), how it ends (`Ending`, `Refusal`), what each command makes of its
+//! input (`Solve`, `Check`, `Believe`, `Umpire`, `Play`, `Make`, `Job` with `Tally`, and `Outcome` for all), and by what causes a run
+//! ends so (`Top`).
+//!
+//! `Headline` is the promise of `solve` on one page. `WholePlans` says that `check` finds what `solve` states, and
+//! `WholeGames` that `believe` lists where a game stands, given what `umpire` writes of it. `Complete` says when there must
+//! be an answer.
+//!
+//! `live` has the calls that hold boxed seats: `bench` has the seats of both sides, `telling` what one seat is asked and
+//! told, `team` the turns and reliefs of one side, `table` one pass over both sides, `game` a whole game. They stand here,
+//! over the definitions and lemmas of `krieg_play`, since every caller that is handed a bench stands in one crate.
 //!
 //! ```
 //! // The words are `umpire` and `all`, and the third line of the text is `w e2`.
 //! let mut input = MemSource::new(text, 1000, Vec::new(alloc));
 //! let mut out = MemSink::new(vec![in alloc; 0u8; 1000]?, 1000, Vec::new(alloc));
 //! let mut err = MemSink::new(vec![in alloc; 0u8; 1000]?, 1000, Vec::new(alloc));
-//! let status = run(alloc, &words, &mut input, &mut out, &mut err); // 3
+//! let status = run(alloc, &words, &mut input, &mut out, &mut err, &mut Bench::new(alloc)); // 3
 //! let line = err.bytes(); // "krieg: line 3: syntax\n", and nothing is on `out`
 //! ```
 #![tactic(auto)]
@@ -20,14 +28,23 @@ mod believe;
 mod check;
 mod ending;
 mod input;
+mod job;
+mod live;
+mod make;
 mod outcome;
+mod played;
 mod refusal;
 mod report;
 mod solve;
+mod tally;
 #[cfg(test)]
 mod tests;
 mod top;
 mod umpire;
 
 pub use input::MOST_INPUT;
+pub use krieg_args::{SeatFiles, seat_files};
+pub use krieg_play::{PlayFault, Played};
+pub(crate) use krieg_play::{Turn, fault_of, relieved_turn};
+pub use live::{Bench, play};
 pub use top::run;

@@ -1,7 +1,7 @@
 ghost use Rattle.std.specs.Prelude.{◌≡◌, codes};
 ghost use Rattle.krieg_cli.specs.Refusal as spec;
 
-use krieg_board::BadPosition;
+use krieg_board::{BadPosition, Side};
 use krieg_fen::TextKind;
 
 /// What is refused of an input.
@@ -21,8 +21,10 @@ pub(crate) enum Refusal {
     PlanFails,
     /// The best plan has more nodes than a plan file may have.
     PlanTooLarge,
-    /// It is not built yet for this command.
-    NotBuilt,
+    /// No seat plays for the side.
+    NoSeat(Side),
+    /// The last seat of the side failed.
+    SeatFault(Side),
 }
 
 fn text_status(kind: &TextKind) -> u8
@@ -80,7 +82,7 @@ impl Refusal {
             Refusal::BudgetSpent => 8,
             Refusal::PlanFails => 13,
             Refusal::PlanTooLarge => 14,
-            Refusal::NotBuilt => 15,
+            Refusal::NoSeat(_) | Refusal::SeatFault(_) => 12,
         }
     }
 
@@ -97,7 +99,10 @@ impl Refusal {
             Refusal::BudgetSpent => (None, b"budget spent"),
             Refusal::PlanFails => (None, b"plan fails"),
             Refusal::PlanTooLarge => (None, b"plan too large"),
-            Refusal::NotBuilt => (None, b"not built"),
+            Refusal::NoSeat(Side::White) => (None, b"no seat w"),
+            Refusal::NoSeat(Side::Black) => (None, b"no seat b"),
+            Refusal::SeatFault(Side::White) => (None, b"seat fault w"),
+            Refusal::SeatFault(Side::Black) => (None, b"seat fault b"),
         }
     }
 }

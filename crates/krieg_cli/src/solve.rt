@@ -1,11 +1,14 @@
-ghost use Rattle.std.specs.Prelude.{◌≡◌, ◌∷◌, [], ◌≤◌, ◌⊎◌, false, length, All, IfOk};
+ghost use Rattle.std.specs.Prelude.{◌≡◌, ◌∷◌, [], ◌≤◌, ◌⊎◌, false, length, All, Ok, IfOk};
 ghost use Rattle.krieg_board.specs.Validity.{IsValid};
 ghost use Rattle.krieg_fen.specs.Forms.{most_listed};
+ghost use Rattle.krieg_fen.specs.Lines.{lines};
+ghost use Rattle.krieg_fen.specs.Reading.{whole};
 ghost use Rattle.krieg_fen.specs.Writing.{PutsLines};
 ghost use Rattle.krieg_theory.specs.Sets.{is_nil};
 ghost use Rattle.krieg_belief.specs.Possible.{HaveOneHand};
 ghost use Rattle.krieg_plan.specs.Plans.{plan_of};
 ghost use Rattle.krieg_planfile.specs.PlanFiles.{CanBeWritten};
+ghost use Rattle.krieg_planfile.specs.PlanReading.{plan_at};
 ghost use Rattle.krieg_planfile.specs.PlanText.{plan_text};
 ghost use Rattle.krieg_cli.specs.Parts.{Decides};
 ghost use Rattle.krieg_cli.specs.Solve as spec;
@@ -23,8 +26,8 @@ use krieg_sheet::{Sheet, read_sheet};
 use krieg_words::Dialect;
 use std::alloc::Global;
 
-/// The most nodes of a plan that is written.
-const MOST_NODES: usize = 100_000;
+/// The most nodes of a plan that is found.
+pub(crate) const MOST_NODES: usize = 100_000;
 
 impl From<Stop2> for Ending {
     ghost use Rattle.krieg_cli.specs.Parts.{of_search};
@@ -41,7 +44,7 @@ impl From<Stop2> for Ending {
 }
 
 /// The members of the set as a list.
-fn listed(alloc: Global, set: &Belief) -> Result<Vec<Position>, NoMemory>
+pub(crate) fn listed(alloc: Global, set: &Belief) -> Result<Vec<Position>, NoMemory>
     ensures same { IfOk result (λ list. list.items ≡ set.now) }
     ensures valid { IfOk result (λ list. All IsValid list.items) }
 {
@@ -62,7 +65,8 @@ fn file_text(
     plan: Plan,
 ) -> Result<Vec<u8>, NoMemory>
     requires { CanBeWritten (spec.file_of dialect side list.items worst (plan_of plan)) }
-    ensures { IfOk result (λ text. text.items ≡ plan_text (spec.file_of dialect side list.items worst (plan_of plan))) }
+    ensures text { IfOk result (λ text. text.items ≡ plan_text (spec.file_of dialect side list.items worst (plan_of plan))) }
+    ensures again { IfOk result (λ text. whole plan_at (lines text.items) ≡ Ok (spec.file_of dialect side list.items worst (plan_of plan))) }
 {
     let file = PlanFile {
         dialect,
@@ -77,7 +81,7 @@ fn file_text(
 }
 
 /// Adds the line that no plan mates within so many moves.
-fn put_none(moves: u64, text: &mut Text) -> Result<(), NoMemory>
+pub(crate) fn put_none(moves: u64, text: &mut Text) -> Result<(), NoMemory>
     ensures { PutsLines result text.old text.new (spec.none_line moves ∷ []) }
 {
     text.put(b"none ")?;

@@ -1,17 +1,20 @@
 //! The whole program over streams in memory: each command on worked examples, and every refusal.
 
 mod broad;
+mod chains;
 mod checking;
 mod deep;
 mod games;
 mod large;
+mod making;
+mod playing;
 mod possible;
 mod refusals;
 mod solving;
 mod streams;
 mod umpiring;
 
-use crate::run;
+use crate::{Bench, run};
 use krieg_ports::{MemSink, MemSource};
 use std::alloc::{AllocError, Global};
 
@@ -60,7 +63,14 @@ fn run_to(
     let bytes = text.as_bytes().to_vec(alloc)?;
     let mut input = MemSource::new(bytes, 7, read_fails.to_vec(alloc)?);
     let mut err = sink(alloc, 100, 100, &[])?;
-    let status = run(alloc, &words, &mut input, &mut out, &mut err);
+    let status = run(
+        alloc,
+        &words,
+        &mut input,
+        &mut out,
+        &mut err,
+        &mut Bench::new(alloc),
+    );
     Ok(Ran {
         status,
         out: out.bytes().to_vec(alloc)?,

@@ -1,17 +1,25 @@
-ghost use Rattle.std.specs.Prelude.{◌≡◌, false, map, string_bytes};
-ghost use Rattle.krieg_args.specs.Command.{command_of};
+ghost use Rattle.std.specs.Prelude.{◌≡◌, false, map, string_bytes, Some};
+ghost use Rattle.krieg_args.specs.Command.{command_of, takes_input};
 ghost use Rattle.krieg_cli.specs.World.{stream, world};
 ghost use Rattle.krieg_cli.specs.Outcome.{IsInRange};
 ghost use Rattle.krieg_cli.specs.Parts.{ending_of};
-ghost use Rattle.krieg_cli.specs.Top.{Ends, Runs, Reports, EndsSo, reads};
+ghost use Rattle.krieg_play.specs.Played.{sides};
+ghost use Rattle.krieg_play.specs.Teams.{team_of};
+ghost use Rattle.krieg_cli.specs.Play.{Plays};
+ghost use Rattle.krieg_cli.specs.Top.{Ends, Runs, IsRun, EndsSo, KeepsBench, reads};
 ghost use Rattle.krieg_cli.specs.WholeGames.{UmpiresGames, BelievesGames};
+ghost use Rattle.krieg_cli.specs.WholePlans.{ChecksSolutions};
+ghost use Rattle.krieg_cli.specs.Headline.{SolvesSheets};
+ghost use Rattle.krieg_cli.specs.Complete.{Completes};
 
 use crate::ending::Ending;
 use crate::input::taken;
-use crate::outcome::{is_built, outcome};
+use crate::live::Bench;
+use crate::outcome::outcome;
 use crate::report::report;
 use krieg_args::{Command, command_of};
 use krieg_ports::{Sink, Source, write_all};
+use krieg_seats::Seat;
 use std::alloc::Global;
 
 /// Takes the input of the command, and writes its answer to `out`.
@@ -20,33 +28,50 @@ fn answer<S: Source, O: Sink>(
     command: &Command,
     input: &mut S,
     out: &mut O,
+    bench: &mut Bench,
 ) -> Result<(), Ending>
     requires { IsInRange command.now }
-    ensures { let seen = world S.left S.faults O.got O.faults in
-        Ends (ending_of result) command.now (seen input.old out.old) (seen input.new out.new) }
+    ensures ends { let table = Plays (λ b. account b)
+        (sides (team_of bench.old.white bench.old.white_out) (team_of bench.old.black bench.old.black_out))
+        (sides (team_of bench.new.white bench.new.white_out) (team_of bench.new.black bench.new.black_out)) in
+        let seen = world S.left S.faults O.got O.faults in
+        Ends table (ending_of result) command.now (seen input.old out.old) (seen input.new out.new) }
+    ensures bench { KeepsBench (ending_of result) (Some command.now)
+        (sides (team_of bench.old.white bench.old.white_out) (team_of bench.old.black bench.old.black_out))
+        (sides (team_of bench.new.white bench.new.white_out) (team_of bench.new.black bench.new.black_out)) }
+    ensures unread { takes_input command.now ≡ false → input.new ≡ input.old }
 {
     let text = taken(alloc, command, input)?;
-    let answer = outcome(alloc, command, text)?;
+    let answer = outcome(alloc, command, text, bench)?;
     write_all(out, &answer)?;
     Ok(())
 }
 
 /// Does what the words ask for.
 #[tactic(auto, using(crate::proofs::Ranges::in_range))]
-fn obey<S: Source, O: Sink>(alloc: Global, words: &[String], input: &mut S, out: &mut O) -> Ending
+fn obey<S: Source, O: Sink>(
+    alloc: Global,
+    words: &[String],
+    input: &mut S,
+    out: &mut O,
+    bench: &mut Bench,
+) -> Ending
     ensures runs { let asked = command_of (map string_bytes words.now) in
+        let table = Plays (λ b. account b)
+        (sides (team_of bench.old.white bench.old.white_out) (team_of bench.old.black bench.old.black_out))
+        (sides (team_of bench.new.white bench.new.white_out) (team_of bench.new.black bench.new.black_out)) in
         let seen = world S.left S.faults O.got O.faults in
-        Runs result asked (seen input.old out.old) (seen input.new out.new) }
+        Runs table result asked (seen input.old out.old) (seen input.new out.new) }
+    ensures bench { KeepsBench result (command_of (map string_bytes words.now))
+        (sides (team_of bench.old.white bench.old.white_out) (team_of bench.old.black bench.old.black_out))
+        (sides (team_of bench.new.white bench.new.white_out) (team_of bench.new.black bench.new.black_out)) }
     ensures unread { reads (command_of (map string_bytes words.now)) ≡ false
         → input.new ≡ input.old }
 {
     let Some(command) = command_of(words) else {
         return Ending::Usage;
     };
-    if !is_built(&command) {
-        return Ending::NotBuilt;
-    }
-    match answer(alloc, &command, input, out) {
+    match answer(alloc, &command, input, out, bench) {
         Ok(()) => Ending::Answered,
         Err(ending) => ending,
     }
@@ -54,41 +79,67 @@ fn obey<S: Source, O: Sink>(alloc: Global, words: &[String], input: &mut S, out:
 
 /// Does all that the program does, over streams, and gives the status with which it ends.
 ///
-/// Built so far are `umpire w`, `umpire b` and `umpire all` on any session, for which `out` gets the
+/// The commands are `umpire w`, `umpire b` and `umpire all` on any session, for which `out` gets the
 /// player's sheet or the lines of both, `believe LIMIT` on any sheet, for which it gets a sheet that lists
 /// every position that is still possible, `solve MOVES BUDGET LIMIT` on any sheet, for which it gets the plan
 /// file of the canonical plan that mates from each of these within the fewest own moves, or the line
-/// `none MOVES` exactly where no plan mates within that number, and `check BUDGET` on any plan file, for which
-/// it gets the plan's worst case.
+/// `none MOVES` exactly where no plan mates within that number, `check BUDGET` on any plan file, for which
+/// it gets the plan's worst case, `play ASKS ..` from any position, for which the seats of the bench play a
+/// game and it gets their session, and without an input `make session NUMBER` and `make sheet NUMBER`, for which
+/// it gets the made text, and `job NUMBER`, for which it gets the numbers that the other commands come to on these.
 ///
-/// The status is 0 with the answer; 1 exactly where the words are no command, and 15 where the command
-/// is not built (nothing is read then); 2 exactly where one byte more came than the
-/// [`MOST_INPUT`](crate::MOST_INPUT) that an input may have; 3 or 4 exactly where it has a first bad line;
-/// 7 exactly where more positions are possible after some part of the sheet than the limit allows; then of
-/// `solve` 5 exactly where none is possible, 6 exactly where the game is over, 8 only where the budget is less
-/// than a search may take, and 14 exactly where the best plan is too large for a text and the budget is not
-/// spent; 8 exactly where the check of a plan takes more than the budget, and otherwise 13
-/// exactly where the plan does not mate all that it lists within the number that it claims; 9 where a read
-/// failed, with no more bytes read than an input may have; 10 where a write to `out` failed, which has got a
-/// front part of the answer then; 11 for want of memory. At each status but 0 `err` gets one line, and at each
-/// but 0 and 10 `out` gets nothing.
+/// The status is 0 with the answer; 1 exactly where the words are no command (nothing is read then); 2
+/// exactly where one byte more came than the [`MOST_INPUT`](crate::MOST_INPUT) that an input may have; 3 or 4
+/// exactly where it has a first bad line; 7 exactly where more positions are possible after some part of the
+/// sheet than the limit allows; then of `solve` 5 exactly where none is possible, 6 exactly where the game is
+/// over, 8 only where the budget is less than a search may take, and 14 exactly where the best plan is too
+/// large for a text and the budget is not spent; 8 exactly where the check of a plan takes more than the
+/// budget, and otherwise 13 exactly where the plan does not mate all that it lists within the number that it
+/// claims; of `job` 8 only where 50,000,000 units are less than its search or its check may take, and 14 as
+/// of `solve`; 9 where a read failed, with no more bytes read than an input may have; 10 where a write to
+/// `out` failed, which has got a front part of the answer then; 11 for want of memory; 12 exactly where a
+/// side has no seat, and only where a call of the last seat of a side failed. At each status but 0 `err` gets
+/// one line, and at each but 0 and 10 `out` gets nothing. The bench is as it was for every command but
+/// `play`, and for `play` where no seat was called.
 pub fn run<S: Source, O: Sink, E: Sink>(
     alloc: Global,
     words: &[String],
     input: &mut S,
     out: &mut O,
     err: &mut E,
+    bench: &mut Bench,
 ) -> u8
     ensures ends { let asked = command_of (map string_bytes words.now) in
         let seen = world S.left S.faults O.got O.faults in
         let heard = stream E.got E.faults in
-        EndsSo result (λ ending.
-        Runs ending asked (seen input.old out.old) (seen input.new out.new)
-        × Reports ending (heard err.old) (heard err.new)) }
+        IsRun (λ b. account b)
+        (sides (team_of bench.old.white bench.old.white_out) (team_of bench.old.black bench.old.black_out))
+        (sides (team_of bench.new.white bench.new.white_out) (team_of bench.new.black bench.new.black_out))
+        result asked (seen input.old out.old) (seen input.new out.new) (heard err.old) (heard err.new) }
 
     // Where nothing is read for the words, the input stays as it is.
     ensures unread { reads (command_of (map string_bytes words.now)) ≡ false
         → input.new ≡ input.old }
+
+    // The headline: what `solve` has written is the best plan for the sheet, or that there is none.
+    ensures solves { let asked = command_of (map string_bytes words.now) in
+        let seen = world S.left S.faults O.got O.faults in
+        let heard = stream E.got E.faults in
+        SolvesSheets asked result (seen input.old out.old) (seen input.new out.new) (heard err.old) (heard err.new) }
+
+    // Given a plan that `solve` wrote, `check` writes the number that it states.
+    ensures checks { let asked = command_of (map string_bytes words.now) in
+        let seen = world S.left S.faults O.got O.faults in
+        EndsSo result (λ ending.
+        ChecksSolutions asked ending (seen input.old out.old) (seen input.new out.new)) }
+
+    // Where the input is good and nothing is refused for a cause, there is an answer, or memory ran out.
+    ensures completes { let asked = command_of (map string_bytes words.now) in
+        let seen = world S.left S.faults O.got O.faults in
+        Completes (λ b. account b)
+        (sides (team_of bench.old.white bench.old.white_out) (team_of bench.old.black bench.old.black_out))
+        (sides (team_of bench.new.white bench.new.white_out) (team_of bench.new.black bench.new.black_out))
+        asked result (seen input.old out.old) (seen input.new out.new) }
 
     // What `umpire` writes for a player is his sheet of the game, and it is the same without the other
     // player's tries that are not done.
@@ -102,7 +153,7 @@ pub fn run<S: Source, O: Sink, E: Sink>(
         EndsSo result (λ ending.
         BelievesGames asked ending (seen input.old out.old) (seen input.new out.new)) }
 {
-    let ending = obey(alloc, words, input, out);
+    let ending = obey(alloc, words, input, out, bench);
     report(&ending, err);
     ending.status()
 }

@@ -8,3 +8,4 @@ pub mod Judging
 pub mod Turning
 pub mod Stopping
 pub mod Opening
+pub mod Seen

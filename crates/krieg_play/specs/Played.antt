@@ -1,5 +1,5 @@
 -- What a call of play came to: a game that was played to its stop, or one that was given up.
-use Rattle.std.specs.Prelude.{◌≡◌, ℕ, ◌+◌, ◌-◌, ◌<◌, ◌≤◌, true, false, List, [], length, Option, Some, None}
+use Rattle.std.specs.Prelude.{◌≡◌, ℕ, ◌+◌, ◌-◌, ◌<◌, ◌≤◌, true, false, List, [], length, map, Option, Some, None}
 use Rattle.krieg_board.specs.Pos.{Pos}
 use Rattle.krieg_board.specs.declared.men.Side.{Side}
 use Rattle.krieg_board.specs.declared.men.Side.TheVariants.{White, Black}
@@ -11,7 +11,7 @@ use Rattle.krieg_referee.specs.Games.{GameState}
 use Rattle.krieg_referee.specs.declared.verdict.Stop.{Stop}
 use Rattle.krieg_referee.specs.declared.verdict.Stop.TheVariants.{Ended, Left, AsksUsed}
 use Rattle.krieg_seats.specs.Accounts.{Account}
-use Rattle.krieg_play.specs.Teams.{Team, Course, BrokenCourse, Stays, HasLeft, HasFailed, MayBeShort}
+use Rattle.krieg_play.specs.Teams.{Team, team, Course, BrokenCourse, Stays, HasLeft, HasFailed, MayBeShort}
 use Rattle.krieg_play.specs.Games.{events_of, tries_of, IsGameFrom}
 use Rattle.krieg_play.specs.declared.outcome.PlayFault.{PlayFault}
 use Rattle.krieg_play.specs.declared.outcome.PlayFault.TheVariants.{Vacant, Seat, NoMemory}
@@ -23,6 +23,13 @@ pub record Sides (X : Type 0) : Type 0 where
 
 abbrev pub sides : {X : Type 0} → Team X → Team X → Sides X
 sides white black = record { white = white; black = black }
+
+-- the same with what each seat means in its place
+abbrev pub seen_team : {X : Type 0} → (X → Account) → Team X → Team Account
+seen_team account t = team (map account t.seats) (map account t.out)
+
+abbrev pub seen : {X : Type 0} → (X → Account) → Sides X → Sides Account
+seen account s = sides (seen_team account s.white) (seen_team account s.black)
 
 abbrev pub by_side : {A : Type 0} → A → A → Side → A
 by_side white black White = white

@@ -1,4 +1,4 @@
-//! Words that are no command, commands and inputs that are not built, and texts with a bad line.
+//! Words that are no command, and texts with a bad line.
 
 use super::{ROOK, SOLVE, refuses, run_on};
 use std::alloc::AllocError;
@@ -9,7 +9,7 @@ const ROOK_LIST: &str = "krieg sheet 1\nside w\nlist 1\n1k6/8/1K6/8/8/8/8/7R w -
 /// Words that are no command, and numbers out of their ranges.
 #[test]
 fn tells_the_usage(rt: HostRuntime) -> Result<(), AllocError> {
-    let refused: [&[&str]; 8] = [
+    let refused: [&[&str]; 14] = [
         &[],
         &["solve", "0", "64", "1"],
         &["solve", "7", "64", "1"],
@@ -18,25 +18,16 @@ fn tells_the_usage(rt: HostRuntime) -> Result<(), AllocError> {
         &["check", "01"],
         &["believe", "200001"],
         &["umpire", "x"],
+        &["play", "4097", "a", "b", "c", "d"],
+        &["play", "10", "a", "b", "c"],
+        &["play", "10", "a", "", "c", "d"],
+        &["make", "plan", "0"],
+        &["make", "session", "4294967296"],
+        &["job", "-1"],
     ];
     for words in refused {
         let ran = run_on(rt.alloc(), words, ROOK)?;
         assert!(rt; refuses(&ran, 1, "krieg: usage\n"));
-    }
-    Ok(())
-}
-
-/// Commands that are not built yet.
-#[test]
-fn tells_what_is_not_built(rt: HostRuntime) -> Result<(), AllocError> {
-    let refused: [&[&str]; 3] = [
-        &["play", "4096", "a", "b", "c", "d"],
-        &["make", "session", "4294967295"],
-        &["job", "0"],
-    ];
-    for words in refused {
-        let ran = run_on(rt.alloc(), words, ROOK)?;
-        assert!(rt; refuses(&ran, 15, "krieg: not built\n"));
     }
     Ok(())
 }

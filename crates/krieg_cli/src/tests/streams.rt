@@ -1,7 +1,7 @@
 //! Reads and writes that fail, and an input that is too long.
 
 use super::{ROOK, ROOK_PLAN, SOLVE, run_to, sink, strings};
-use crate::run;
+use crate::{Bench, run};
 use krieg_ports::{MemSink, MemSource};
 use std::alloc::{AllocError, Global};
 
@@ -13,7 +13,14 @@ fn refuses_what_is_too_long(rt: HostRuntime) -> Result<(), AllocError> {
     let mut out = sink(rt.alloc(), 100, 100, &[])?;
     let mut err = sink(rt.alloc(), 100, 100, &[])?;
     let words = strings(rt.alloc(), &SOLVE)?;
-    let status = run(rt.alloc(), &words, &mut input, &mut out, &mut err);
+    let status = run(
+        rt.alloc(),
+        &words,
+        &mut input,
+        &mut out,
+        &mut err,
+        &mut Bench::new(rt.alloc()),
+    );
     assert_eq!(rt; status, 2);
     assert!(rt; out.bytes().is_empty());
     assert!(rt; err.bytes() == b"krieg: input too long\n".as_slice());
@@ -71,7 +78,14 @@ fn tells_a_write_fault_at_each_call(rt: HostRuntime) -> Result<(), AllocError> {
 fn usage_to(alloc: Global, mut err: MemSink) -> Result<(u8, Vec<u8>), AllocError> {
     let mut input = MemSource::new(Vec::new(alloc), 7, Vec::new(alloc));
     let mut out = sink(alloc, 100, 100, &[])?;
-    let status = run(alloc, &[], &mut input, &mut out, &mut err);
+    let status = run(
+        alloc,
+        &[],
+        &mut input,
+        &mut out,
+        &mut err,
+        &mut Bench::new(alloc),
+    );
     Ok((status, err.bytes().to_vec(alloc)?))
 }
 

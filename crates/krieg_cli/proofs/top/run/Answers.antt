@@ -1,8 +1,20 @@
 use Rattle.krieg_cli.proofs.WholeGames.{umpires_games, believes_games}
+use Rattle.krieg_cli.proofs.WholePlans.{checks_solutions}
+use Rattle.krieg_cli.proofs.Headline.{solves_sheets}
+use Rattle.krieg_cli.proofs.Complete.{completes}
 use Rattle.krieg_cli.proofs.top.run.Goals as goal
 
 pub returns-clause-umpires : goal.returns-clause-umpires
-returns-clause-umpires g c = umpires_games _ _ _ _ _ c.obey-ending.ensures.runs c.status.ensures
+returns-clause-umpires g c = umpires_games _ _ _ _ _ _ c.obey-ending.ensures.runs c.status.ensures
 
 pub returns-clause-believes : goal.returns-clause-believes
-returns-clause-believes g c = (c.obey-ending.result, c.status.ensures, believes_games _ _ _ _ c.obey-ending.ensures.runs)
+returns-clause-believes g c = (c.obey-ending.result, c.status.ensures, believes_games _ _ _ _ _ c.obey-ending.ensures.runs)
+
+pub returns-clause-solves : goal.returns-clause-solves
+returns-clause-solves g c = solves_sheets _ _ _ _ _ _ _ _ c.obey-ending.ensures.runs c.report.ensures c.status.ensures
+
+pub returns-clause-checks : goal.returns-clause-checks
+returns-clause-checks g c = (c.obey-ending.result, c.status.ensures, checks_solutions _ _ _ _ _ c.obey-ending.ensures.runs)
+
+pub returns-clause-completes : goal.returns-clause-completes
+returns-clause-completes g c = completes _ _ _ _ _ _ _ _ c.obey-ending.ensures.runs c.status.ensures

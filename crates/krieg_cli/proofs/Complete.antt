@@ -1,0 +1,193 @@
+-- A run on an input that must be answered ends with an answer, or for want of memory.
+use Rattle.std.proofs.Common.{◌≡◌, Bool, ◌⊎◌, inl, inr, ℕ, ◌<◌, ◌≤◌, true, false, List, [], ◌∷◌, ◌++◌, length, drop, map, Option, Some, Result, Ok, Err, refl, sym, ap, subst, ◌∙◌, arith}
+use Rattle.std.specs.Prelude.{MatchBool}
+use Rattle.std.proofs.lemmas.Bool.{both_ways}
+use Rattle.krieg_board.specs.Pos.{Pos}
+use Rattle.krieg_board.specs.declared.men.Side.{Side}
+use Rattle.krieg_board.specs.declared.men.Side.TheVariants.{White, Black}
+use Rattle.krieg_pack.proofs.PositionSets.{same_members}
+use Rattle.krieg_sheet.specs.Sheets.{SheetState}
+use Rattle.krieg_session.specs.Sessions.{SessionState}
+use Rattle.krieg_belief.specs.Possible.{IsPossible}
+use Rattle.krieg_belief.proofs.Prefixes.{excess_not_within}
+use Rattle.krieg_theory.specs.Sets.{is_nil}
+use Rattle.krieg_planfile.specs.PlanFiles.{PlanState}
+use Rattle.krieg_make.specs.MadeSheets.{made_sheet}
+use Rattle.krieg_words.specs.declared.line.Line.{Line}
+use Rattle.krieg_board.specs.declared.men.Move.{Move}
+use Rattle.krieg_seats.specs.Accounts.{Account}
+use Rattle.krieg_play.specs.Teams.{Team, Service, BrokenCourse, HasFailed, entry_of, now_of}
+use Rattle.krieg_play.specs.Played.{Sides}
+use Rattle.krieg_args.specs.Command.{takes_input}
+use Rattle.krieg_args.specs.declared.command.Command.{Command}
+use Rattle.krieg_args.specs.declared.command.Command.TheVariants.{Solve, Check, Believe, Umpire, Play, Make, Job}
+use Rattle.krieg_args.specs.declared.command.Made.{Made}
+use Rattle.krieg_cli.specs.World.{World, FaultsRose}
+use Rattle.krieg_cli.specs.Input.{most_input, WasRead}
+use Rattle.krieg_cli.specs.Refusal.{OfText}
+use Rattle.krieg_cli.specs.Ending.{status}
+use Rattle.krieg_cli.specs.Solve.{most_units, IsBestFile, Asks, Searched, Solved}
+use Rattle.krieg_cli.specs.Check.{Checked}
+use Rattle.krieg_cli.specs.Umpire.{told_text}
+use Rattle.krieg_cli.specs.Believe.{Believed}
+use Rattle.krieg_cli.specs.Play.{PlaysFrom, PlaysWhole, Plays}
+use Rattle.krieg_cli.specs.Make.{Makes}
+use Rattle.krieg_cli.specs.Job.{Plans, Summarizes}
+use Rattle.krieg_cli.specs.Outcome.{Table, HasOutcome}
+use Rattle.krieg_cli.specs.Top.{ComesTo, Ends, Runs}
+use Rattle.krieg_cli.specs.Complete.{CanBeChecked, CanBeSummed, HoldsText, MustAnswer, NoneFailed, seats_since, CanPlay, BenchHolds, Completes}
+use Rattle.krieg_cli.specs.declared.refusal.Refusal.{Refusal}
+use Rattle.krieg_cli.specs.declared.refusal.Refusal.TheVariants as refusal
+use Rattle.krieg_cli.specs.declared.ending.Ending.{Ending}
+use Rattle.krieg_cli.specs.declared.ending.Ending.TheVariants as ending
+use Rattle.krieg_cli.proofs.WholeGames.{text_read, given_le}
+
+-- ---- solve
+
+-- a sheet has one list of possible positions
+one_list : (s : SheetState) (S T : List Pos) → IsPossible s S → IsPossible s T → S ≡ T
+one_list s S T a b =
+    same_members S T a.ascending b.ascending (λ p i. (b.exact p).1 ((a.exact p).0 i)) (λ p i. (a.exact p).1 ((b.exact p).0 i))
+
+module _ (n budget limit : ℕ) (s : SheetState) (S : List Pos) (asks : Asks limit s S) (enough : most_units s.dialect s.side S n ≤ budget)
+    (fits : (f : PlanState) → IsBestFile s.dialect s.side S n f → Rattle.krieg_cli.specs.Solve.IsTooLarge f → ⊥) where
+  searching : (r : Refusal) (T : List Pos) → T ≡ S → Searched s.dialect s.side T n budget (Err r) → ⊥
+  searching refusal.BudgetSpent T same h = let less = subst (λ T. budget < most_units s.dialect s.side T n) same h in omega (arith, less, enough)
+  searching refusal.PlanTooLarge T same (least, f, best, large) = fits f (subst (λ T. IsBestFile s.dialect s.side T n f) same best) large
+  searching (refusal.BadText line kind) T same h = h
+  searching (refusal.TooMany line) T same h = h
+  searching refusal.NonePossible T same h = h
+  searching refusal.GameOver T same h = h
+  searching refusal.PlanFails T same h = h
+  searching (refusal.NoSeat who) T same h = h
+  searching (refusal.SeatFault who) T same h = h
+
+  solving : (r : Refusal) → Solved n budget limit s (Err r) → ⊥
+  solving (refusal.TooMany line) h = excess_not_within s limit line h asks.within
+  solving refusal.NonePossible (none, within) = both_ways (is_nil S) asks.some (ap (λ T. is_nil T) (one_list s S [] asks.possible none))
+  solving refusal.GameOver (T, possible, within, some, over) = both_ways _ asks.goes_on over
+  solving (refusal.BadText line kind) (T, other, h) = searching (refusal.BadText line kind) T (one_list s T S other.possible asks.possible) h
+  solving refusal.BudgetSpent (T, other, h) = searching refusal.BudgetSpent T (one_list s T S other.possible asks.possible) h
+  solving refusal.PlanTooLarge (T, other, h) = searching refusal.PlanTooLarge T (one_list s T S other.possible asks.possible) h
+  solving refusal.PlanFails (T, other, h) = searching refusal.PlanFails T (one_list s T S other.possible asks.possible) h
+  solving (refusal.NoSeat who) (T, other, h) = searching (refusal.NoSeat who) T (one_list s T S other.possible asks.possible) h
+  solving (refusal.SeatFault who) (T, other, h) = searching (refusal.SeatFault who) T (one_list s T S other.possible asks.possible) h
+
+-- ---- umpire, check, and believe
+
+umpiring : (who : Option Side) (s : SessionState) (r : Refusal) → ◌≡◌ {A = Result (List ℕ) Refusal} (Err r) (Ok (told_text s who)) → ⊥
+umpiring who s r e = cc
+
+checking : (budget : ℕ) (text : List ℕ) (can : CanBeChecked budget text) (r : Refusal) → Checked budget can.file (Err r) → ⊥
+checking budget text can refusal.BudgetSpent h = let enough = can.enough in omega (arith, h, enough)
+checking budget text can refusal.PlanFails h = both_ways _ h.1 can.mates
+checking budget text can _ h = h
+
+believing : (limit : ℕ) (s : SheetState) (r : Refusal) → Believed limit s (Err r) → Rattle.krieg_belief.specs.Limits.AllWithin limit s → ⊥
+believing limit s (refusal.TooMany line) h within = excess_not_within s limit line h within
+believing limit s _ h within = h
+
+-- ---- make
+
+making : (what : Made) (number : ℕ) (r : Refusal) → Makes what number (Err r) → ⊥
+making what number r e = cc
+
+-- ---- job
+
+summing : (number : ℕ) → CanBeSummed number → (r : Refusal) → Summarizes number (Err r) → ⊥
+summing number can r (S, possible, h) = go r (subst (λ S. Plans S (Err r)) (one_list (made_sheet number) S can.positions possible can.possible) h)
+  where
+    go : (r : Refusal) → Plans can.positions (Err r) → ⊥
+    go refusal.BudgetSpent (inl less) = let enough = can.enough in omega (arith, less, enough)
+    go refusal.BudgetSpent (inr (f, found, less)) = let enough = can.enough_to_check f found.best in omega (arith, less, enough)
+    go refusal.PlanTooLarge (least, f, best, large) = can.fits f best large
+    go _ h = h
+
+-- ---- play
+
+drop_front : {X : Type 0} (xs ys : List X) → drop (length xs) (xs ++ ys) ≡ ys
+drop_front [] ys = refl
+drop_front (x ∷ xs) ys = drop_front xs ys
+
+-- the seat behind those that were relieved has not failed
+not_failed : {X : Type 0} (account : X → Account) (relieved : List (Service X)) (entry now : X) (behind : List X) →
+    NoneFailed (map account (map entry_of relieved ++ entry ∷ behind)) (map account (map now_of relieved ++ now ∷ behind)) → HasFailed (account entry) (account now) → ⊥
+not_failed account [] entry now behind none failed = none.0 failed.0
+not_failed account (s ∷ ss) entry now behind none failed = not_failed account ss entry now behind none.1 failed
+
+side_holds : {X : Type 0} (account : X → Account) (entry now : Team X) (ls : List Line) (tries : List Move) → CanPlay account entry now → BrokenCourse account HasFailed entry now ls tries → ⊥
+side_holds {X = X} account entry now ls tries can (due, c) =
+    let since : seats_since entry now ≡ map now_of c.relieved ++ c.sitting.now ∷ c.behind =
+    ap (λ out. drop (length entry.out) out ++ now.seats) c.out_now
+    ∙ ap (λ xs. xs ++ now.seats) (drop_front entry.out (map now_of c.relieved))
+    ∙ ap (λ xs. map now_of c.relieved ++ xs) c.seats_now in
+    not_failed account c.relieved c.sitting.entry c.sitting.now c.behind
+    (subst (λ (xs : List X). NoneFailed (map account (map entry_of c.relieved ++ c.sitting.entry ∷ c.behind)) (map account xs)) since
+    (subst (λ (xs : List X). NoneFailed (map account xs) (map account (seats_since entry now))) c.seats_then can.none_failed))
+    c.counts
+
+some_seat : {X : Type 0} (xs : List X) → 0 < length xs → xs ≡ [] → ⊥
+some_seat [] h e = omega arith
+some_seat (x ∷ xs) h e = cc
+
+playing : {X : Type 0} (account : X → Account) (asks : ℕ) (entry now : Sides X) (start : Pos) (r : Refusal) → CanPlay account entry.white now.white → CanPlay account entry.black now.black →
+    PlaysFrom account asks entry now start (Err r) → ⊥
+playing account asks entry now start (refusal.NoSeat White) w b h = some_seat entry.white.seats w.some h.0
+playing account asks entry now start (refusal.NoSeat Black) w b h = some_seat entry.black.seats b.some h.1
+playing account asks entry now start (refusal.SeatFault White) w b h = side_holds account entry.white now.white _ _ w h.white
+playing account asks entry now start (refusal.SeatFault Black) w b h = side_holds account entry.black now.black _ _ b h.black
+playing account asks entry now start _ w b h = h
+
+-- ---- any command
+
+-- no refusal has a cause
+refused : {X : Type 0} (account : X → Account) (entry now : Sides X) (c : Command) (text : List ℕ) (r : Refusal) → HasOutcome (Plays account entry now) c text (Err r) → MustAnswer c text →
+    BenchHolds account c entry now → ⊥
+refused account entry now (Solve n budget limit) text r h can bench =
+    solving n budget limit can.sheet can.positions can.asks can.enough can.fits r (subst (λ x. OfText x (Solved n budget limit) (Err r)) can.spelled h)
+refused account entry now (Check budget) text r h can bench = checking budget text can r (subst (λ x. OfText x (Checked budget) (Err r)) can.spelled h)
+refused account entry now (Believe limit) text r h can bench = believing limit can.sheet r (subst (λ x. OfText x (Believed limit) (Err r)) can.spelled h) can.within
+refused account entry now (Umpire who) text r h (s, spelled) bench = umpiring who s r (subst (λ x. OfText x (λ session told. told ≡ Ok (told_text session who)) (Err r)) spelled h)
+refused account entry now (Play asks) text r h (start, spelled) bench =
+    playing account asks entry now start r bench.0 bench.1 (subst (λ x. PlaysWhole account asks entry now x (Err r)) spelled h)
+refused account entry now (Make what number) text r h can bench = making what number r h
+refused account entry now (Job number) text r h can bench = summing number can r h
+
+-- a command that takes an input has its text
+by_input : {P : Type 0} (Q : Type 0) (takes : Bool) → takes ≡ true → MatchBool takes P Q → P
+by_input Q true e h = h
+by_input Q false e h = absurd cc
+
+module _ {X : Type 0} (account : X → Account) (entry now : Sides X) (before after : World) (text : List ℕ)
+    (no_read_fault : FaultsRose before.input after.input → ⊥) (no_write_fault : FaultsRose before.out after.out → ⊥) where
+  abbrev table : Table
+  table = Plays account entry now
+
+  -- the text that was taken is the one that the input holds, or none where no input is taken
+  same_text : (read : List ℕ) (takes : Bool) → MatchBool takes ((before.input.bytes ≡ Some text) × (length text ≤ most_input)) (text ≡ []) →
+      MatchBool takes (WasRead before.input after.input read) ((read ≡ []) × (after.input ≡ before.input)) → read ≡ text
+  same_text read true holds was = text_read before.input after.input text read holds.0 was
+  same_text read false holds was = was.0 ∙ sym holds
+
+  -- what the command comes to, it comes to on that text
+  on_text : (c : Command) (outcome : Result (List ℕ) Refusal) → HoldsText c before.input text → ComesTo table c before after outcome → HasOutcome table c text outcome
+  on_text c outcome holds (read, was, made) = subst (λ t. HasOutcome table c t outcome) (same_text read (takes_input c) holds was) made
+
+  ends_well : (e : Ending) (c : Command) → HoldsText c before.input text → MustAnswer c text → BenchHolds account c entry now → Ends table e c before after → (status e ≡ 0) ⊎ (status e ≡ 11)
+  ends_well ending.Answered c holds can bench h = inl refl
+  ends_well ending.NoMemory c holds can bench h = inr refl
+  ends_well ending.TooLong c holds can bench ((takes, (took, consumed, long)), out) =
+      let input = by_input _ (takes_input c) takes holds in
+      let le = given_le before.input.bytes after.input.bytes text took input.0 consumed in
+      absurd (omega (arith, long, le, input.1))
+  ends_well ending.ReadFault c holds can bench ((takes, came, rose), out) = absurd (no_read_fault rose)
+  ends_well ending.WriteFault c holds can bench (answer, comes, front, rose) = absurd (no_write_fault rose)
+  ends_well (ending.Refused r) c holds can bench (comes, out) = absurd (refused account entry now c text r (on_text c (Err r) holds comes) can bench)
+  ends_well ending.Usage c holds can bench h = absurd h
+
+pub completes : {X : Type 0} (account : X → Account) (entry now : Sides X) (e : Ending) (asked : Option Command) (before after : World) (code : ℕ) → Runs (Plays account entry now) e asked before after → code ≡ status e →
+    Completes account entry now asked code before after
+completes account entry now e asked before after code runs is c text words holds can no_read no_write bench =
+    subst (λ n. (n ≡ 0) ⊎ (n ≡ 11)) (sym is)
+    (ends_well account entry now before after text no_read no_write e c holds can bench
+    (subst (λ x. Runs (Plays account entry now) e x before after) words runs))

@@ -1,0 +1,68 @@
+-- What a run shows, where more is known of what `play` makes of a text.
+use Rattle.std.proofs.Common.{ℕ, List, Option, Some, None, Result, Ok, Err, ap}
+use Rattle.krieg_board.specs.Pos.{Pos}
+use Rattle.krieg_fen.specs.Lines.{lines}
+use Rattle.krieg_fen.specs.Reading.{whole}
+use Rattle.krieg_fen.specs.declared.fault.TextFault.{TextFault}
+use Rattle.krieg_fen.specs.declared.fault.TextFault.TheVariants as fault
+use Rattle.krieg_session.specs.SessionReading.{start_at}
+use Rattle.krieg_seats.specs.Accounts.{Account}
+use Rattle.krieg_play.specs.Played.{Sides, seen}
+use Rattle.krieg_play.specs.declared.outcome.PlayFault.TheVariants.{Vacant, Seat}
+use Rattle.krieg_play.proofs.Seen.{played_seen, refuses_seen}
+use Rattle.krieg_args.specs.declared.command.Command.{Command}
+use Rattle.krieg_args.specs.declared.command.Command.TheVariants.{Play}
+use Rattle.krieg_cli.specs.World.{World}
+use Rattle.krieg_cli.specs.Outcome.{Table, HasOutcome}
+use Rattle.krieg_cli.specs.Play.{PlaysFrom, PlaysWhole, Plays}
+use Rattle.krieg_cli.specs.Top.{ComesTo, Ends, Runs}
+use Rattle.krieg_cli.specs.declared.refusal.Refusal.{Refusal}
+use Rattle.krieg_cli.specs.declared.refusal.Refusal.TheVariants.{NoSeat, SeatFault}
+use Rattle.krieg_cli.specs.declared.ending.Ending.{Ending}
+use Rattle.krieg_cli.specs.declared.ending.Ending.TheVariants.{Answered, WriteFault, Refused}
+
+abbrev Follows : Table → Table → Type 0
+Follows t u = (asks : ℕ) (text : List ℕ) (outcome : Result (List ℕ) Refusal) → t asks text outcome → u asks text outcome
+
+outcome_as : (t u : Table) → Follows t u → (c : Command) (text : List ℕ) (outcome : Result (List ℕ) Refusal) → HasOutcome t c text outcome → HasOutcome u c text outcome
+outcome_as t u f (Play asks) text outcome h = f asks text outcome h
+outcome_as t u f _ text outcome h = h
+
+comes_as : (t u : Table) → Follows t u → (c : Command) (before after : World) (outcome : Result (List ℕ) Refusal) → ComesTo t c before after outcome → ComesTo u c before after outcome
+comes_as t u f c before after outcome (text, was, made) = (text, was, outcome_as t u f c text outcome made)
+
+ends_as : (t u : Table) → Follows t u → (e : Ending) (c : Command) (before after : World) → Ends t e c before after → Ends u e c before after
+ends_as t u f Answered c before after (answer, comes, written) = (answer, comes_as t u f c before after (Ok answer) comes, written)
+ends_as t u f WriteFault c before after (answer, comes, front, rose) = (answer, comes_as t u f c before after (Ok answer) comes, front, rose)
+ends_as t u f (Refused refusal) c before after (comes, out) = (comes_as t u f c before after (Err refusal) comes, out)
+ends_as t u f _ c before after h = h
+
+pub runs_as : (t u : Table) → Follows t u → (e : Ending) (asked : Option Command) (before after : World) → Runs t e asked before after → Runs u e asked before after
+runs_as t u f e None before after h = h
+runs_as t u f e (Some c) before after h = ends_as t u f e c before after h
+
+-- ---- the bench by what its seats mean
+
+abbrev itself : Account → Account
+itself a = a
+
+from_seen : {X : Type 0} (account : X → Account) (asks : ℕ) (before after : Sides X) (start : Pos) (outcome : Result (List ℕ) Refusal) →
+    PlaysFrom account asks before after start outcome → PlaysFrom itself asks (seen account before) (seen account after) start outcome
+from_seen account asks before after start (Ok answer) h = record {
+  game = h.game;
+  stop = h.stop;
+  is_played = played_seen account start asks before after h.game h.stop h.is_played;
+  is_session = h.is_session;
+}
+from_seen account asks before after start (Err (NoSeat who)) h = refuses_seen account start asks before after (Vacant who) h
+from_seen account asks before after start (Err (SeatFault who)) h = refuses_seen account start asks before after (Seat who) h
+from_seen account asks before after start (Err _) h = h
+
+whole_seen : {X : Type 0} (account : X → Account) (asks : ℕ) (before after : Sides X) (r : Result Pos TextFault) (outcome : Result (List ℕ) Refusal) →
+    PlaysWhole account asks before after r outcome → PlaysWhole itself asks (seen account before) (seen account after) r outcome
+whole_seen account asks before after (Ok start) outcome h = from_seen account asks before after start outcome h
+whole_seen account asks before after (Err (fault.At line kind)) outcome h = (h.0, ap (seen account) h.1)
+whole_seen account asks before after (Err fault.NoMemory) outcome h = h
+
+pub plays_seen : {X : Type 0} (account : X → Account) (before after : Sides X) → Follows (Plays account before after) (Plays itself (seen account before) (seen account after))
+plays_seen account before after asks text outcome h = whole_seen account asks before after (whole start_at (lines text)) outcome h

@@ -1,0 +1,56 @@
+-- A plan file like those that `solve` writes is judged by `check` with the number that it states.
+use Rattle.std.proofs.Common.{◌≡◌, ℕ, List, Option, Some, Result, Ok, Err, ap, subst, ◌∙◌, arith}
+use Rattle.std.proofs.lemmas.Bool.{both_ways}
+use Rattle.std.specs.Io.KnownBytes.{Appends}
+use Rattle.krieg_fen.specs.Lines.{lines}
+use Rattle.krieg_fen.specs.Reading.{whole}
+use Rattle.krieg_planfile.specs.PlanFiles.{PlanState}
+use Rattle.krieg_planfile.specs.PlanReading.{plan_at}
+use Rattle.krieg_args.specs.declared.command.Command.{Command}
+use Rattle.krieg_args.specs.declared.command.Command.TheVariants.{Check}
+use Rattle.krieg_cli.specs.World.{World}
+use Rattle.krieg_cli.specs.Refusal.{OfText}
+use Rattle.krieg_cli.specs.Check.{worst_text, Checked}
+use Rattle.krieg_cli.specs.Outcome.{Table}
+use Rattle.krieg_cli.specs.Top.{ComesTo, Ends, Runs}
+use Rattle.krieg_cli.specs.WholePlans.{IsSolution, EndsOnSolution, ChecksSolutions}
+use Rattle.krieg_cli.specs.declared.refusal.Refusal.{Refusal}
+use Rattle.krieg_cli.specs.declared.refusal.Refusal.TheVariants.{BudgetSpent, PlanFails}
+use Rattle.krieg_cli.specs.declared.ending.Ending.{Ending}
+use Rattle.krieg_cli.specs.declared.ending.Ending.TheVariants as ending
+use Rattle.krieg_cli.proofs.WholeGames.{text_read, given_le}
+
+-- what `check` comes to on that text
+checked : (table : Table) (budget : ℕ) (f : PlanState) (text : List ℕ) (before after : World) (outcome : Result (List ℕ) Refusal) → IsSolution f text → before.input.bytes ≡ Some text →
+    ComesTo table (Check budget) before after outcome → Checked budget f outcome
+checked table budget f text before after outcome solution holds (read, was, made) =
+    subst (λ r. OfText r (Checked budget) outcome) (ap (λ t. whole plan_at (lines t)) (text_read before.input after.input text read holds was) ∙ solution.read) made
+
+-- the worst case that was found is the number that the file states
+same_worst : (f : PlanState) (budget : ℕ) (text answer : List ℕ) → IsSolution f text → Checked budget f (Ok answer) → answer ≡ worst_text f.worst
+same_worst f budget text answer solution (enough, w, worst, within, told) =
+    let least = solution.least f.plan w worst.mates_within in
+    let same : w ≡ f.worst = omega (arith, least, within) in
+    told ∙ ap worst_text same
+
+refused : (r : Refusal) (budget : ℕ) (f : PlanState) (text : List ℕ) (before after : World) → IsSolution f text → Checked budget f (Err r) → EndsOnSolution (ending.Refused r) budget f text before after
+refused BudgetSpent budget f text before after solution h = h
+refused PlanFails budget f text before after solution h = both_ways _ h.1 solution.mates
+refused _ budget f text before after solution h = h
+
+ends_on_solution : (table : Table) (e : Ending) (budget : ℕ) (f : PlanState) (text : List ℕ) (before after : World) → IsSolution f text → before.input.bytes ≡ Some text →
+    Ends table e (Check budget) before after → EndsOnSolution e budget f text before after
+ends_on_solution table ending.Answered budget f text before after solution holds (answer, comes, written) =
+    subst (Appends before.out.bytes after.out.bytes) (same_worst f budget text answer solution (checked table budget f text before after (Ok answer) solution holds comes)) written
+ends_on_solution table ending.TooLong budget f text before after solution holds ((takes, (took, consumed, long)), out) =
+    omega (arith, long, given_le before.input.bytes after.input.bytes text took holds consumed)
+ends_on_solution table ending.ReadFault budget f text before after solution holds ((takes, came, rose), out) = rose
+ends_on_solution table ending.WriteFault budget f text before after solution holds (answer, comes, front, rose) = rose
+ends_on_solution table ending.NoMemory budget f text before after solution holds e = tt
+ends_on_solution table (ending.Refused r) budget f text before after solution holds e =
+    refused r budget f text before after solution (checked table budget f text before after (Err r) solution holds e.0)
+ends_on_solution table _ budget f text before after solution holds e = e
+
+pub checks_solutions : (table : Table) (e : Ending) (asked : Option Command) (before after : World) → Runs table e asked before after → ChecksSolutions asked e before after
+checks_solutions table e asked before after runs budget f text is solution holds =
+    ends_on_solution table e budget f text before after solution holds (subst (λ x. Runs table e x before after) is runs)

@@ -1,0 +1,103 @@
+-- When a command must answer: where its input is good and nothing is refused for a cause, the status is 0, or memory ran out.
+use Rattle.std.specs.Prelude.{◌≡◌, ◌≤◌, ◌<◌, ◌⊎◌, ◌++◌, ℕ, true, List, [], ◌∷◌, length, drop, map, Option, Some, Ok, MatchBool}
+use Rattle.krieg_board.specs.Pos.{Pos}
+use Rattle.krieg_board.specs.declared.men.Side.TheVariants.{White}
+use Rattle.krieg_fen.specs.Lines.{lines}
+use Rattle.krieg_fen.specs.Reading.{whole}
+use Rattle.krieg_ports.specs.Faults.{Rose}
+use Rattle.krieg_words.specs.declared.dialects.Dialect.TheVariants.{Wild16}
+use Rattle.krieg_make.specs.MadeSheets.{made_sheet}
+use Rattle.krieg_sheet.specs.Sheets.{SheetState}
+use Rattle.krieg_sheet.specs.SheetReading.{sheet_at}
+use Rattle.krieg_belief.specs.Possible.{IsPossible}
+use Rattle.krieg_belief.specs.Limits.{AllWithin}
+use Rattle.krieg_session.specs.Sessions.{SessionState}
+use Rattle.krieg_session.specs.SessionReading.{session_at, start_at}
+use Rattle.krieg_planfile.specs.PlanFiles.{PlanState}
+use Rattle.krieg_planfile.specs.PlanReading.{plan_at}
+use Rattle.krieg_seats.specs.Accounts.{Account}
+use Rattle.krieg_play.specs.Teams.{Team}
+use Rattle.krieg_play.specs.Played.{Sides}
+use Rattle.krieg_args.specs.Command.{takes_input}
+use Rattle.krieg_args.specs.declared.command.Command.{Command}
+use Rattle.krieg_args.specs.declared.command.Command.TheVariants.{Solve, Check, Believe, Umpire, Play, Make, Job}
+use Rattle.krieg_cli.specs.World.{Stream, World, FaultsRose}
+use Rattle.krieg_cli.specs.Input.{most_input}
+use Rattle.krieg_cli.specs.Solve.{mates_all, most_units, IsBestFile, IsTooLarge, Asks}
+use Rattle.krieg_cli.specs.Check.{check_cost}
+use Rattle.krieg_cli.specs.Job.{job_moves, job_budget, IsBest}
+
+-- ---- the input
+
+-- the input holds the text that a command takes, and it is not too long; a command that takes none has no text
+abbrev pub HoldsText : Command → Stream → List ℕ → Type 0
+HoldsText c input text = MatchBool (takes_input c) ((input.bytes ≡ Some text) × (length text ≤ most_input)) (text ≡ [])
+
+-- The sheet asks for a plan, the budget is as much as a search may take, and the best plan, where there is one, is not too large.
+pub record CanBeSolved (n budget limit : ℕ) (text : List ℕ) : Type 0 where
+  pub sheet : SheetState
+  pub positions : List Pos
+  pub spelled : whole sheet_at (lines text) ≡ Ok sheet
+  pub asks : Asks limit sheet positions
+  pub enough : most_units sheet.dialect sheet.side positions n ≤ budget
+  pub fits : (f : PlanState) → IsBestFile sheet.dialect sheet.side positions n f → IsTooLarge f → ⊥
+
+-- The plan mates from each listed position within the number that the file states, and the budget is as much as a check takes.
+pub record CanBeChecked (budget : ℕ) (text : List ℕ) : Type 0 where
+  pub file : PlanState
+  pub spelled : whole plan_at (lines text) ≡ Ok file
+  pub enough : check_cost file ≤ budget
+  pub mates : mates_all file.dialect file.side file.list file.plan file.worst ≡ true
+
+-- a sheet of which no part leaves more than the limit possible
+pub record CanBeBelieved (limit : ℕ) (text : List ℕ) : Type 0 where
+  pub sheet : SheetState
+  pub spelled : whole sheet_at (lines text) ≡ Ok sheet
+  pub within : AllWithin limit sheet
+
+-- The budget of a job is as much as a search may take and as much as the check of the best plan takes, and that plan is not too large.
+pub record CanBeSummed (number : ℕ) : Type 0 where
+  pub positions : List Pos
+  pub possible : IsPossible (made_sheet number) positions
+  pub enough : most_units Wild16 White positions job_moves ≤ job_budget
+  pub enough_to_check : (f : PlanState) → IsBest positions f → check_cost f ≤ job_budget
+  pub fits : (f : PlanState) → IsBest positions f → IsTooLarge f → ⊥
+
+-- the input that a command must answer
+abbrev pub MustAnswer : Command → List ℕ → Type 0
+MustAnswer (Solve n budget limit) text = CanBeSolved n budget limit text
+MustAnswer (Check budget) text = CanBeChecked budget text
+MustAnswer (Believe limit) text = CanBeBelieved limit text
+MustAnswer (Umpire who) text = (s : SessionState) × (whole session_at (lines text) ≡ Ok s)
+MustAnswer (Play asks) text = (start : Pos) × (whole start_at (lines text) ≡ Ok start)
+MustAnswer (Make what number) text = Unit {0}
+MustAnswer (Job number) text = CanBeSummed number
+
+-- ---- the bench
+
+-- no count of faults rose, seat by seat
+abbrev pub NoneFailed : List Account → List Account → Type 0
+NoneFailed (x ∷ xs) (y ∷ ys) = (Rose x.faults y.faults → ⊥) × NoneFailed xs ys
+NoneFailed _ _ = Unit {0}
+
+-- the seats that a list had on entry: those that were relieved since, and those that it still has
+abbrev pub seats_since : {X : Type 0} → Team X → Team X → List X
+seats_since entry now = drop (length entry.out) now.out ++ now.seats
+
+-- a side that has a seat, of which no seat failed
+pub record CanPlay {X : Type 0} (account : X → Account) (entry now : Team X) : Type 0 where
+  pub some : 0 < length entry.seats
+  pub none_failed : NoneFailed (map account entry.seats) (map account (seats_since entry now))
+
+-- what is asked of the bench
+abbrev pub BenchHolds : {X : Type 0} → (X → Account) → Command → Sides X → Sides X → Type 0
+BenchHolds account (Play asks) entry now = CanPlay account entry.white now.white × CanPlay account entry.black now.black
+BenchHolds account _ entry now = Unit {0}
+
+-- ---- the run
+
+-- With the words of a command and an input that it must answer, where no stream and no seat fails, the status is 0 or 11.
+abbrev pub Completes : {X : Type 0} → (X → Account) → Sides X → Sides X → Option Command → ℕ → World → World → Type 0
+Completes account entry now asked code before after =
+    (c : Command) (text : List ℕ) → asked ≡ Some c → HoldsText c before.input text → MustAnswer c text →
+    (FaultsRose before.input after.input → ⊥) → (FaultsRose before.out after.out → ⊥) → BenchHolds account c entry now → (code ≡ 0) ⊎ (code ≡ 11)

@@ -1,0 +1,55 @@
+-- The headline. Given the positions in which a game may have started and what one player has heard since, `solve` writes a
+-- plan by which he mates wherever the hidden men are and whatever the opponent plays, within the number of own moves that the
+-- plan states; no plan needs fewer at worst; and it writes that there is none only where no plan mates within the number of
+-- moves that was asked for.
+use Rattle.std.specs.Prelude.{◌≡◌, ◌≤◌, ◌⊎◌, ℕ, true, false, List, Option, Some, Ok}
+use Rattle.std.specs.Io.KnownBytes.{Appends}
+use Rattle.krieg_board.specs.Pos.{Pos}
+use Rattle.krieg_fen.specs.Lines.{lines}
+use Rattle.krieg_fen.specs.Reading.{whole}
+use Rattle.krieg_sheet.specs.Sheets.{SheetState}
+use Rattle.krieg_sheet.specs.SheetReading.{sheet_at}
+use Rattle.krieg_belief.specs.Possible.{IsPossible}
+use Rattle.krieg_theory.specs.Sets.{is_nil}
+use Rattle.krieg_plan.specs.Trees.{PlanTrees}
+use Rattle.krieg_planfile.specs.PlanFiles.{PlanState}
+use Rattle.krieg_planfile.specs.PlanReading.{plan_at}
+use Rattle.krieg_planfile.specs.PlanText.{plan_text}
+use Rattle.krieg_args.specs.declared.command.Command.{Command}
+use Rattle.krieg_args.specs.declared.command.Command.TheVariants.{Solve}
+use Rattle.krieg_cli.specs.World.{Stream, World}
+use Rattle.krieg_cli.specs.Input.{WasRead}
+use Rattle.krieg_cli.specs.Solve.{none_text, mates_all}
+
+-- The input was the text of this sheet, and these are the positions that are consistent with it, each once: there is one.
+pub record HasSheet (s : SheetState) (S : List Pos) (before after : World) : Type 0 where
+  pub text : List ℕ
+  pub was_read : WasRead before.input after.input text
+  pub spelled : whole sheet_at (lines text) ≡ Ok s
+  pub possible : IsPossible s S
+  pub some : is_nil S ≡ false
+
+-- The answer is a plan file for these positions, in the sheet's dialect and for its player, and is read as that file again. The
+-- plan mates from each of them, against every reply, within the number that the file states, which is at most n; and no plan
+-- has a smaller worst case.
+pub record WritesPlan (n : ℕ) (s : SheetState) (S : List Pos) (before after : World) : Type 0 where
+  pub file : PlanState
+  pub dialect : file.dialect ≡ s.dialect
+  pub side : file.side ≡ s.side
+  pub list : file.list ≡ S
+  pub mates : mates_all s.dialect s.side S file.plan file.worst ≡ true
+  pub within : file.worst ≤ n
+  pub least : (plan : PlanTrees) (k : ℕ) → mates_all s.dialect s.side S plan k ≡ true → file.worst ≤ k
+  pub written : Appends before.out.bytes after.out.bytes (plan_text file)
+  pub again : whole plan_at (lines (plan_text file)) ≡ Ok file
+
+-- The answer is that there is none, and no plan mates from each of these positions within n own moves.
+pub record WritesNone (n : ℕ) (s : SheetState) (S : List Pos) (before after : World) : Type 0 where
+  pub none_mates : (plan : PlanTrees) → mates_all s.dialect s.side S plan n ≡ false
+  pub written : Appends before.out.bytes after.out.bytes (none_text n)
+
+-- with the words of `solve`, status 0 answers a sheet so, and err stays as it was
+abbrev pub SolvesSheets : Option Command → ℕ → World → World → Stream → Stream → Type 0
+SolvesSheets asked code before after err err' =
+    (n budget limit : ℕ) → asked ≡ Some (Solve n budget limit) → code ≡ 0 →
+    (s : SheetState) × (S : List Pos) × HasSheet s S before after × (WritesPlan n s S before after ⊎ WritesNone n s S before after) × (err' ≡ err)

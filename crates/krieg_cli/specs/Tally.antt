@@ -1,0 +1,48 @@
+-- How many tries of a game were judged so, and how many so.
+use Rattle.std.specs.Prelude.{ℕ, Bool, true, false, List, [], ◌∷◌, length, codes}
+use Rattle.std.specs.List.{count_by}
+use Rattle.krieg_fen.specs.Decimals.{number_text}
+use Rattle.krieg_fen.specs.Writing.{Pieces}
+use Rattle.krieg_referee.specs.declared.verdict.Judged.{Judged}
+use Rattle.krieg_referee.specs.declared.verdict.Verdict.{Verdict}
+use Rattle.krieg_referee.specs.declared.verdict.Verdict.TheVariants as verdict
+use Rattle.krieg_cli.specs.declared.tally.Tally.{Tally}
+
+abbrev pub is_done : Verdict → Bool
+is_done (verdict.Done words) = true
+is_done _ = false
+
+abbrev pub is_illegal : Verdict → Bool
+is_illegal verdict.Illegal = true
+is_illegal _ = false
+
+abbrev pub is_early : Verdict → Bool
+is_early verdict.Early = true
+is_early _ = false
+
+abbrev pub is_over : Verdict → Bool
+is_over verdict.Over = true
+is_over _ = false
+
+-- how many of the tries were judged so
+abbrev pub count_judged : (Verdict → Bool) → List Judged → ℕ
+count_judged so log = count_by (λ j. so j.verdict) log
+
+-- how many tries there are, and of each verdict
+abbrev pub tally_of : List Judged → Tally
+tally_of log = record {
+  tries = length log;
+  done = count_judged is_done log;
+  illegal = count_judged is_illegal log;
+  early = count_judged is_early log;
+  over = count_judged is_over log;
+}
+
+-- the line that tells them
+abbrev pub tally_line : Tally → Pieces
+tally_line t =
+    codes "tries " ∷ number_text t.tries
+    ∷ codes " done " ∷ number_text t.done
+    ∷ codes " illegal " ∷ number_text t.illegal
+    ∷ codes " early " ∷ number_text t.early
+    ∷ codes " over " ∷ number_text t.over ∷ []

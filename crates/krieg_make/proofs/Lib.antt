@@ -1,0 +1,14 @@
+mod StartText
+mod Numbers
+mod PairNumbers
+mod ValidPositions
+mod MadeLists
+mod Rounds
+mod Distinct
+mod NoMoves
+mod MatingTests
+mod FirstMates
+mod LastMates
+mod Mates
+mod KnightMoves
+mod RoundVerdicts

@@ -1,0 +1,136 @@
+-- Each round of a made session is judged alike.
+use Rattle.std.proofs.Common.{◌≡◌, ℕ, zero, suc, ◌+◌, ◌%◌, ◌==◌, Bool, true, false, not, ◌&&◌, cond, if◌then◌else◌, Option, Some, None, List, [], ◌∷◌, ◌++◌, map, refl, ◌∙◌, ap, inl, inr, arith, add-one}
+use Rattle.std.specs.Prelude.{◌⊎◌, nat_lt, slice_index_or}
+use Rattle.krieg_board.specs.Attacks.{is_king_attacked}
+use Rattle.krieg_board.specs.Board.{man_at, is_of}
+use Rattle.krieg_board.specs.Men.{other, is_same_side}
+use Rattle.krieg_board.specs.Pos.{Pos}
+use Rattle.krieg_board.specs.Squares.{gathered}
+use Rattle.krieg_board.specs.declared.men.Man.{Man}
+use Rattle.krieg_board.specs.declared.men.Move.{Move}
+use Rattle.krieg_board.specs.declared.men.Side.{Side}
+use Rattle.krieg_board.specs.declared.men.Side.TheVariants.{White, Black}
+use Rattle.krieg_board.proofs.MenLemmas.{same_side_self}
+use Rattle.krieg_moves.specs.After.{after}
+use Rattle.krieg_moves.specs.Legal.{is_legal, is_candidate, is_move_of, is_move_of_kind}
+use Rattle.krieg_moves.specs.Moves.{plain_move, is_ended}
+use Rattle.krieg_words.specs.WordsOfMoves.{words}
+use Rattle.krieg_words.specs.WordsReading.{silent}
+use Rattle.krieg_referee.specs.Games.{judge, last}
+use Rattle.krieg_referee.specs.Verdicts.{verdict, next}
+use Rattle.krieg_referee.specs.declared.verdict.Event.{Event}
+use Rattle.krieg_referee.specs.declared.verdict.Verdict.{Verdict}
+use Rattle.krieg_referee.specs.declared.verdict.Verdict.TheVariants.{Early, Illegal, Done}
+use Rattle.krieg_make.specs.Laws.{round_verdicts, RoundsAreAlike}
+use Rattle.krieg_make.specs.MadeSessions.{made_tries, round_of, mover, knight_moves, knight_move, event}
+use Rattle.krieg_make.specs.Named.{g1, f3}
+use Rattle.krieg_make.proofs.KnightMoves.{Leads, p0, p1, p2, p3, leads_0, leads_1, leads_2, leads_3}
+
+-- the verdicts of tries from a position
+abbrev verdicts : Pos → List Event → List Verdict
+verdicts p es = map (λ j. j.verdict) (judge p es)
+
+verdicts-append : (p : Pos) (es fs : List Event) → verdicts p (es ++ fs) ≡ verdicts p es ++ verdicts (last p es) fs
+verdicts-append p [] fs = refl
+verdicts-append p (e ∷ es) fs = ap (λ vs. verdict p e.who e.mv ∷ vs) (verdicts-append (next p e.who e.mv) es fs)
+
+last-append : (p : Pos) (es fs : List Event) → last p (es ++ fs) ≡ last (last p es) fs
+last-append p [] fs = refl
+last-append p (e ∷ es) fs = last-append (next p e.who e.mv) es fs
+
+of_side : (own kind : Bool) → (not own && (own && kind)) ≡ false
+of_side true kind = refl
+of_side false kind = refl
+
+of_man : (p : Pos) (m : Move) (man : Option Man) → (not (is_of p.side man) && is_move_of man p m) ≡ false
+of_man p m None = refl
+of_man p m (Some man) = of_side (is_same_side man.side p.side) (is_move_of_kind man.kind p m)
+
+at_last : (low b : Bool) → b ≡ false → (low && (low && b)) ≡ false
+at_last true b e = e
+at_last false b e = refl
+
+-- no man goes from a square to itself
+nowhere : (p : Pos) (z : ℕ) → is_legal p (plain_move z z) ≡ false
+unfolding is_legal is_candidate
+nowhere p z =
+    let m : Move = plain_move z z in
+    let none : is_candidate p m ≡ false = at_last (nat_lt z 64) (not (is_of p.side (man_at p.board z)) && is_move_of (man_at p.board z) p m) (of_man p m (man_at p.board z)) in
+    ap (λ (b : Bool). b && not (is_king_attacked (after p m).board p.side)) none
+
+not_both : (who : Side) → is_same_side (other who) who ≡ false
+not_both White = refl
+not_both Black = refl
+
+early : (p : Pos) (m : Move) (who : Side) → p.side ≡ who → is_ended p ≡ false → verdict p (other who) m ≡ Early
+unfolding verdict
+early p m who turn goes =
+    rw goes (ap (λ (b : Bool). cond (not b) Early (cond (not (is_legal p m)) Illegal (Done (words p m)))) (ap (is_same_side (other who)) turn ∙ not_both who))
+
+own_turn : (p : Pos) (m : Move) (who : Side) → p.side ≡ who → is_ended p ≡ false → verdict p who m ≡ cond (not (is_legal p m)) Illegal (Done (words p m))
+unfolding verdict
+own_turn p m who turn goes =
+    rw goes (ap (λ (b : Bool). cond (not b) Early (cond (not (is_legal p m)) Illegal (Done (words p m)))) (ap (is_same_side who) turn ∙ same_side_self who))
+
+illegal : (p : Pos) (m : Move) (who : Side) → p.side ≡ who → is_ended p ≡ false → is_legal p m ≡ false → verdict p who m ≡ Illegal
+illegal p m who turn goes none = own_turn p m who turn goes ∙ ap (λ (b : Bool). cond (not b) Illegal (Done (words p m))) none
+
+done : (p q : Pos) (m : Move) (who : Side) → Leads p q m who → verdict p who m ≡ Done silent
+done p q m who l =
+    own_turn p m who l.turn l.goes ∙ (ap (λ (b : Bool). cond (not b) Illegal (Done (words p m))) l.legal ∙ ap (λ w. Done w) l.said)
+
+-- the tries of a round whose mover has this move
+abbrev tries : ℕ → Side → Move → List Event
+tries z who m = event (other who) (plain_move z z) ∷ event who (plain_move z z) ∷ event who m ∷ []
+
+tries_verdicts : (p q : Pos) (z : ℕ) (who : Side) (m : Move) → Leads p q m who → verdicts p (tries z who m) ≡ round_verdicts
+tries_verdicts p q z who m l =
+    rw (early p (plain_move z z) who l.turn l.goes, illegal p (plain_move z z) who l.turn l.goes (nowhere p z), done p q m who l)
+
+tries_last : (p q : Pos) (z : ℕ) (who : Side) (m : Move) → Leads p q m who → last p (tries z who m) ≡ q
+tries_last p q z who m l =
+    rw (early p (plain_move z z) who l.turn l.goes, illegal p (plain_move z z) who l.turn l.goes (nowhere p z), done p q m who l) l.next
+
+-- where the game stands after a number of rounds, by what is left of it when fours are taken away
+stand : ℕ → Pos
+stand zero = p0
+stand (suc zero) = p1
+stand (suc (suc zero)) = p2
+stand (suc (suc (suc r))) = p3
+
+fours : (n : ℕ) → ((n % 4 ≡ 0) × ((n + 1) % 4 ≡ 1) × (n % 2 ≡ 0)) ⊎ (((n % 4 ≡ 1) × ((n + 1) % 4 ≡ 2) × (n % 2 ≡ 1)) ⊎ (((n % 4 ≡ 2) × ((n + 1) % 4 ≡ 3) × (n % 2 ≡ 0)) ⊎ ((n % 4 ≡ 3) × ((n + 1) % 4 ≡ 0) × (n % 2 ≡ 1))))
+fours n = grind arith
+
+round_leads : (n : ℕ) → Leads (stand (n % 4)) (stand ((n + 1) % 4)) (knight_move n) (mover n)
+unfolding stand
+round_leads n = go (n % 4) ((n + 1) % 4) (n % 2) (fours n)
+  where
+    go : (r next half : ℕ) → ((r ≡ 0) × (next ≡ 1) × (half ≡ 0)) ⊎ (((r ≡ 1) × (next ≡ 2) × (half ≡ 1)) ⊎ (((r ≡ 2) × (next ≡ 3) × (half ≡ 0)) ⊎ ((r ≡ 3) × (next ≡ 0) × (half ≡ 1)))) →
+        Leads (stand r) (stand next) (slice_index_or knight_moves r (plain_move g1 f3)) (if half == 0 then White else Black)
+    go r next half (inl (a, b, c)) = rw (a, b, c) leads_0
+    go r next half (inr (inl (a, b, c))) = rw (a, b, c) leads_1
+    go r next half (inr (inr (inl (a, b, c)))) = rw (a, b, c) leads_2
+    go r next half (inr (inr (inr (a, b, c)))) = rw (a, b, c) leads_3
+
+after_rounds : (s n : ℕ) → last p0 (made_tries s n) ≡ stand (n % 4)
+unfolding made_tries stand
+after_rounds s zero = refl
+after_rounds s (suc n) =
+    last-append p0 (gathered (round_of s) n) (round_of s n)
+    ∙ (ap (λ p. last p (round_of s n)) (after_rounds s n)
+    ∙ (tries_last (stand (n % 4)) (stand ((n + 1) % 4)) ((s + n) % 64) (mover n) (knight_move n) (round_leads n)
+    ∙ ap (λ k. stand (k % 4)) (add-one n)))
+
+all_verdicts : (s n : ℕ) → verdicts p0 (made_tries s n) ≡ gathered (λ m. round_verdicts) n
+unfolding made_tries
+all_verdicts s zero = refl
+all_verdicts s (suc n) =
+    verdicts-append p0 (gathered (round_of s) n) (round_of s n)
+    ∙ (ap (λ vs. vs ++ verdicts (last p0 (gathered (round_of s) n)) (round_of s n)) (all_verdicts s n)
+    ∙ ap (λ vs. gathered (λ m. round_verdicts) n ++ vs) (
+    ap (λ p. verdicts p (round_of s n)) (after_rounds s n)
+    ∙ tries_verdicts (stand (n % 4)) (stand ((n + 1) % 4)) ((s + n) % 64) (mover n) (knight_move n) (round_leads n)))
+
+pub rounds_alike : RoundsAreAlike
+unfolding p0
+rounds_alike s n = all_verdicts s n

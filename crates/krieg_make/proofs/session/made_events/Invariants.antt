@@ -1,0 +1,6 @@
+use Rattle.std.proofs.Common.{◌≡◌}
+use Rattle.krieg_make.specs.MadeSessions.{made_tries}
+use Rattle.krieg_make.proofs.session.made_events.Given as goal
+
+abbrev pub invariant-loop-m : goal.invariant-loop-m
+invariant-loop-m l = l.events.items ≡ made_tries l.number l.m

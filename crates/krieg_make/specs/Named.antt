@@ -1,0 +1,21 @@
+-- The squares that are called by their names.
+use Rattle.std.specs.Prelude.{ℕ}
+use Rattle.krieg_board.specs.Squares.{square_at}
+
+abbrev pub c1 : ℕ
+c1 = square_at 2 0
+
+abbrev pub g1 : ℕ
+g1 = square_at 6 0
+
+abbrev pub f3 : ℕ
+f3 = square_at 5 2
+
+abbrev pub f6 : ℕ
+f6 = square_at 5 5
+
+abbrev pub h7 : ℕ
+h7 = square_at 7 6
+
+abbrev pub g8 : ℕ
+g8 = square_at 6 7

@@ -1,0 +1,101 @@
+-- What seats did, told by their accounts alone: what holds of the seats holds of what they mean.
+use Rattle.std.proofs.Common.{◌≡◌, ℕ, ◌+◌, ◌<◌, List, [], ◌∷◌, ◌++◌, length, map, refl, sym, ap, ◌∙◌, subst}
+use Rattle.std.proofs.lemmas.List.{length-map}
+use Rattle.std.specs.List.{flat_map}
+use Rattle.krieg_board.specs.Pos.{Pos}
+use Rattle.krieg_board.specs.declared.men.Move.{Move}
+use Rattle.krieg_board.specs.declared.men.Side.TheVariants.{White, Black}
+use Rattle.krieg_words.specs.declared.line.Line.{Line}
+use Rattle.krieg_referee.specs.Games.{GameState}
+use Rattle.krieg_referee.specs.declared.verdict.Stop.{Stop}
+use Rattle.krieg_referee.specs.declared.verdict.Stop.TheVariants.{Ended, Left, AsksUsed}
+use Rattle.krieg_seats.specs.Accounts.{Account}
+use Rattle.krieg_play.specs.Teams.{Team, Service, entry_of, now_of, said_of, AreRelieved, Course}
+use Rattle.krieg_play.specs.Played.{Sides, seen_team, seen, relieved, all_relieved, StopsBy, IsPlayed, EndsAt, IsBroken, Refuses}
+use Rattle.krieg_play.specs.declared.outcome.PlayFault.{PlayFault}
+use Rattle.krieg_play.specs.declared.outcome.PlayFault.TheVariants.{Vacant, Seat, NoMemory}
+
+abbrev itself : Account → Account
+itself a = a
+
+abbrev seen_service : {X : Type 0} → (X → Account) → Service X → Service Account
+seen_service account s = record { entry = account s.entry; now = account s.now; said = s.said; heard = s.heard }
+
+entries_seen : {X : Type 0} (account : X → Account) (ss : List (Service X)) (x : X) (ys : List X) →
+    map account (map entry_of ss ++ x ∷ ys) ≡ map entry_of (map (seen_service account) ss) ++ account x ∷ map account ys
+entries_seen account [] x ys = refl
+entries_seen account (s ∷ ss) x ys = ap (λ (t : List Account). account s.entry ∷ t) (entries_seen account ss x ys)
+
+nows_seen : {X : Type 0} (account : X → Account) (out : List X) (ss : List (Service X)) → map account (out ++ map now_of ss) ≡ map account out ++ map now_of (map (seen_service account) ss)
+nows_seen account [] [] = refl
+nows_seen account [] (s ∷ ss) = ap (λ (t : List Account). account s.now ∷ t) (nows_seen account [] ss)
+nows_seen account (x ∷ out) ss = ap (λ (t : List Account). account x ∷ t) (nows_seen account out ss)
+
+said_seen : {X : Type 0} (account : X → Account) (ss : List (Service X)) → flat_map said_of (map (seen_service account) ss) ≡ flat_map said_of ss
+said_seen account [] = refl
+said_seen account (s ∷ ss) = ap (λ (t : List Move). s.said ++ t) (said_seen account ss)
+
+relieved_seen : {X : Type 0} (account : X → Account) (lines : List Line) (ss : List (Service X)) → AreRelieved account lines ss → AreRelieved itself lines (map (seen_service account) ss)
+relieved_seen account lines [] h = tt
+relieved_seen account lines (s ∷ ss) h =
+    (record { serves = record { said = h.0.serves.said; heard = h.0.serves.heard }; due = h.0.due; heard = h.0.heard; gone = h.0.gone }, relieved_seen account lines ss h.1)
+
+course_seen : {X : Type 0} (account : X → Account) (C : Account → Account → Type 0) (entry now : Team X) (lines due : List Line) (tries : List Move) →
+    Course account C entry now lines due tries → Course itself C (seen_team account entry) (seen_team account now) lines due tries
+course_seen {X} account C entry now lines due tries c = record {
+  relieved = map (seen_service account) c.relieved;
+  sitting = seen_service account c.sitting;
+  behind = map account c.behind;
+  seats_then = ap (map account) c.seats_then ∙ entries_seen account c.relieved c.sitting.entry c.behind;
+  seats_now = ap (map account) c.seats_now;
+  out_now = ap (map account) c.out_now ∙ nows_seen account entry.out c.relieved;
+  are_relieved = relieved_seen account lines c.relieved c.are_relieved;
+  serves = record { said = c.serves.said; heard = c.serves.heard };
+  heard = c.heard;
+  said = ap (λ (t : List Move). t ++ c.sitting.said) (said_seen account c.relieved) ∙ c.said;
+  counts = c.counts;
+}
+
+count_seen : {X : Type 0} (account : X → Account) (entry now : Team X) → relieved entry now ≡ relieved (seen_team account entry) (seen_team account now)
+count_seen account entry now = rw (length-map now.out account, length-map entry.out account) refl
+
+stops_seen : {X : Type 0} (account : X → Account) (stop : Stop) (p : Pos) (asks used : ℕ) (now : Sides X) → StopsBy stop p asks used now → StopsBy stop p asks used (seen account now)
+stops_seen account Ended p asks used now h = h
+stops_seen account AsksUsed p asks used now h = h
+stops_seen account (Left White) p asks used now h = (h.0, h.1, h.2, length-map now.white.seats account ∙ h.3)
+stops_seen account (Left Black) p asks used now h = (h.0, h.1, h.2, length-map now.black.seats account ∙ h.3)
+
+pub played_seen : {X : Type 0} (account : X → Account) (start : Pos) (asks : ℕ) (entry now : Sides X) (game : GameState) (stop : Stop) →
+    IsPlayed account start asks entry now game stop → IsPlayed itself start asks (seen account entry) (seen account now) game stop
+played_seen account start asks entry now game stop h = record {
+  is_game = h.is_game;
+  white = course_seen account _ _ _ _ _ _ h.white;
+  black = course_seen account _ _ _ _ _ _ h.black;
+  stops = subst (λ (n : ℕ). StopsBy stop game.position asks (length game.log + n) (seen account now))
+      (ap (λ (n : ℕ). n + relieved entry.black now.black) (count_seen account entry.white now.white) ∙ ap (λ (n : ℕ). relieved (seen account entry).white (seen account now).white + n) (count_seen account entry.black now.black))
+      (stops_seen account stop game.position asks (length game.log + all_relieved entry now) now h.stops);
+}
+
+ends_seen : {X : Type 0} (account : X → Account) (fault : PlayFault) (now : Sides X) → EndsAt fault now → EndsAt fault (seen account now)
+ends_seen account (Seat White) now h = length-map now.white.seats account ∙ h
+ends_seen account (Seat Black) now h = length-map now.black.seats account ∙ h
+ends_seen account NoMemory now h = h
+ends_seen account (Vacant who) now h = h
+
+broken_seen : {X : Type 0} (account : X → Account) (start : Pos) (asks : ℕ) (entry now : Sides X) (fault : PlayFault) →
+    IsBroken account start asks entry now fault → IsBroken itself start asks (seen account entry) (seen account now) fault
+broken_seen account start asks entry now fault h = record {
+  game = h.game;
+  is_game = h.is_game;
+  white = (h.white.0, course_seen account _ _ _ _ _ _ h.white.1);
+  black = (h.black.0, course_seen account _ _ _ _ _ _ h.black.1);
+  told_first = h.told_first;
+  ends = ends_seen account fault now h.ends;
+}
+
+pub refuses_seen : {X : Type 0} (account : X → Account) (start : Pos) (asks : ℕ) (entry now : Sides X) (fault : PlayFault) →
+    Refuses account start asks entry now fault → Refuses itself start asks (seen account entry) (seen account now) fault
+refuses_seen account start asks entry now (Vacant White) h = (ap (map account) h.0, ap (seen account) h.1)
+refuses_seen account start asks entry now (Vacant Black) h = (subst (λ (n : ℕ). 0 < n) (sym (length-map entry.white.seats account)) h.0, ap (map account) h.1, ap (seen account) h.2)
+refuses_seen account start asks entry now (Seat who) h = broken_seen account start asks entry now (Seat who) h
+refuses_seen account start asks entry now NoMemory h = broken_seen account start asks entry now NoMemory h
