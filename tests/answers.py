@@ -1,0 +1,115 @@
+"""What the program may answer to a text, whatever the text is: the statuses and the lines of docs/FORMATS.md.
+
+The scripts beside this file use it; it does nothing by itself."""
+
+import collections
+import pathlib
+import re
+import subprocess
+
+TOP = pathlib.Path(__file__).resolve().parent.parent
+
+# No run of a script takes longer.
+SECONDS = 5
+
+AT = rb"krieg: line ([1-9][0-9]*): "
+
+# What stands on standard error at each status.
+LINES = {
+    0: rb"",
+    1: rb"krieg: usage\n",
+    2: rb"krieg: input too long\n",
+    3: AT + rb"(?:version|syntax|count|out of place|deep|large)\n",
+    4: AT + rb"(?:kings|pawn rank|too many men|idle side in check|rights|mark|differs)\n",
+    5: rb"krieg: no consistent position\n",
+    6: rb"krieg: not the player's turn\n",
+    7: AT + rb"too many positions\n",
+    8: rb"krieg: budget spent\n",
+    9: rb"krieg: read fault\n",
+    10: rb"krieg: write fault\n",
+    11: rb"krieg: want of memory\n",
+    12: rb"krieg: (?:no seat|seat fault) [wb]\n",
+    13: rb"krieg: plan fails\n",
+    14: rb"krieg: plan too large\n",
+}
+
+# The statuses with which a command may end where its words are good, its input is short and there is memory.
+STATUSES = {
+    "umpire": {0, 3, 4},
+    "believe": {0, 3, 4, 7},
+    "solve": {0, 3, 4, 5, 6, 7, 8, 14},
+    "check": {0, 3, 4, 8, 13},
+    "play": {0, 3, 4, 12},
+}
+
+# What an answer begins with.
+ANSWERS = {
+    "umpire": rb"krieg sheet [12]\n|[wb] opens ",
+    "believe": rb"krieg sheet [12]\n",
+    "solve": rb"krieg plan [12]\n|none [1-6]\n$",
+    "check": rb"mates [1-9][0-9]*\n$",
+    "play": rb"krieg session 1\n",
+}
+
+# The status is None where the run took too long, and negative where a signal ended it.
+Answer = collections.namedtuple("Answer", "status out err")
+
+
+def program(argument):
+    """The program that is tried: the one that is named, or else the one that `krieg` at the top of this checkout builds."""
+    if argument is not None:
+        return str(pathlib.Path(argument).resolve())
+    # Without words it builds where it must, and then only refuses.
+    subprocess.run([TOP / "krieg"], stdin=subprocess.DEVNULL, stderr=subprocess.DEVNULL)
+    return str(TOP / "crates/krieg/out/krieg")
+
+
+def run(krieg, words, text, folder=None):
+    """What the program answers to the text under these words, in that folder."""
+    try:
+        done = subprocess.run([krieg, *words], input=text, capture_output=True, cwd=folder, timeout=SECONDS)
+    except subprocess.TimeoutExpired:
+        return Answer(None, b"", b"")
+    return Answer(done.returncode, done.stdout, done.stderr)
+
+
+def lines_of(text):
+    """How many lines a text has. The last line feed may be absent."""
+    return text.count(b"\n") + (not text.endswith(b"\n") and text != b"")
+
+
+def bad_line(answer):
+    """The number of the first bad line, where the answer is that there is one."""
+    return int(re.match(AT, answer.err).group(1)) if answer.status in (3, 4) else None
+
+
+def flaw(answer, words, text, statuses=None):
+    """What is wrong with an answer to this text, or None. It may have these statuses, or those of its command."""
+    if answer.status is None:
+        return f"took more than {SECONDS} seconds"
+    if answer.status < 0:
+        return f"ended by signal {-answer.status}"
+    if answer.status not in (statuses or STATUSES[words[0]]):
+        return f"ended with {answer.status}"
+    if not re.fullmatch(LINES[answer.status], answer.err):
+        return f"ended with {answer.status}, and wrote on standard error {answer.err!r}"
+    if answer.status != 0 and answer.out != b"":
+        return f"ended with {answer.status}, and wrote on standard output {answer.out[:200]!r}"
+    if answer.status == 0 and not (re.match(ANSWERS[words[0]], answer.out) and answer.out.endswith(b"\n")):
+        return f"answered {answer.out[:200]!r}"
+    line = bad_line(answer)
+    if line is not None and line > lines_of(text):
+        # All lines are accepted, and the text is not complete.
+        if answer.err != b"krieg: line %d: syntax\n" % (lines_of(text) + 1):
+            return f"says of a text of {lines_of(text)} lines {answer.err!r}"
+    return None
+
+
+def examples():
+    """The name, the kind and the text of each sheet, session and plan below examples/, by their first lines."""
+    for path in sorted((TOP / "examples").rglob("*")):
+        if path.is_file():
+            text = path.read_bytes()
+            kind = re.match(rb"krieg (sheet|session|plan) [12]\n", text)
+            if kind:
+                yield str(path.relative_to(TOP)), kind.group(1).decode(), text
