@@ -11,3 +11,5 @@ pub mod Copying
 pub mod SameMen
 pub mod Picked
 pub mod MoveOrder
+pub mod Ones
+pub mod Faults

@@ -1,6 +1,7 @@
 -- Tests over the 64 squares that agree at each square agree.
 use Rattle.std.proofs.Common.{◌≡◌, ℕ, ◌<◌, Bool, true, false, ◌&&◌, refl, sym, ◌∙◌}
 use Rattle.std.proofs.lemmas.Bool.{and_from, and_parts}
+use Rattle.krieg_board.specs.Men.{is_same_bool}
 use Rattle.krieg_board.specs.Squares.{some_square, every_square}
 use Rattle.krieg_board.proofs.SquareTests.{some_square_at, some_square_tells, every_square_all, every_square_at}
 
@@ -9,6 +10,12 @@ pub same_tests : (a b : Bool) → (a ≡ true → b ≡ true) → (b ≡ true �
 same_tests true b f g = sym (f refl)
 same_tests false true f g = g refl
 same_tests false false f g = refl
+
+pub same_bool_eq : (a b : Bool) → is_same_bool a b ≡ true → a ≡ b
+same_bool_eq true true h = refl
+same_bool_eq false false h = refl
+same_bool_eq true false h = cc
+same_bool_eq false true h = cc
 
 pub every_square_same : (p q : ℕ → Bool) → ((k : ℕ) → k < 64 → p k ≡ q k) → every_square p ≡ every_square q
 every_square_same p q e =

@@ -18,6 +18,7 @@
 mod attack;
 mod bits;
 mod board;
+mod fault;
 mod hand;
 mod memory;
 mod men;

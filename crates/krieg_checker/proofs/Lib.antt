@@ -1,7 +1,6 @@
 mod BoolLaws
 mod Charges
 mod Gathering
-mod MoveCounts
 mod Mating
 mod Ending
 mod Sets

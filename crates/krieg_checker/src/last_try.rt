@@ -29,7 +29,6 @@ fn is_mate(q: &Position, count: usize) -> bool
 }
 
 /// Tries the legal move in one member.
-#[tactic(auto, using(crate::proofs::MoveCounts::few_moves))]
 fn try_legal(
     p: &Position,
     mv: &Move,

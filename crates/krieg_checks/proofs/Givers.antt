@@ -20,7 +20,7 @@ use Rattle.krieg_board.proofs.SquareTests.{every_square_at}
 use Rattle.krieg_board.proofs.SetLemmas.{differ, has_and, has_xor, has_zero}
 use Rattle.krieg_board.proofs.OneKing.{set_empty}
 use Rattle.krieg_rays.specs.Rays.{goes, is_on_file, is_on_rank, is_on_rising, is_on_falling}
-use Rattle.krieg_rays.proofs.Entries.{same_bool_eq}
+use Rattle.krieg_board.proofs.SameTests.{same_bool_eq}
 use Rattle.krieg_rays.proofs.Kings.{king_search}
 use Rattle.krieg_checks.specs.Diagonals.{is_long_diagonal, is_on_long, is_on_short}
 use Rattle.krieg_checks.specs.Kinds.{is_knight, kind_from, is_same_check, checks_from, is_checked_at, is_checked}

@@ -1,44 +1,27 @@
 -- How many moves a list has: the squares where a man may go, counted as bits, and three more for each promotion.
-use Rattle.std.proofs.Common.{◌≡◌, ℕ, zero, suc, ◌+◌, ◌-◌, ◌*◌, ◌/◌, ◌%◌, ◌^◌, ◌<◌, ◌≤◌, Bool, true, false, not, ◌&&◌, ◌==◌, cond, List, [], length, ◌⊎◌, inl, inr, count_ones, refl, sym, ◌∙◌, ap, arith, length-append, mod-eq_of_lt}
+use Rattle.std.proofs.Common.{◌≡◌, ℕ, zero, suc, ◌+◌, ◌-◌, ◌*◌, ◌/◌, ◌%◌, ◌^◌, ◌<◌, ◌≤◌, Bool, true, false, not, ◌&&◌, ◌==◌, cond, List, [], length, ◌⊎◌, inl, inr, bit_and, count_ones, refl, sym, ◌∙◌, ap, arith, length-append, mod-eq_of_lt}
 use Rattle.std.proofs.Math.Nat.{mod-one}
-use Rattle.std.proofs.lemmas.Nat.{mod_below, pow_pos, ones_cat, mod-pow-add, ones-le, zero_from_ones}
+use Rattle.std.proofs.Math.Bool.{and-false, and_comm}
 use Rattle.std.proofs.lemmas.Bool.{eq-eqb, ne_eqb, cases_lt}
-use Rattle.std.proofs.lemmas.Nat.Bits.{bit_at-lt, bit_at-zero, bit_at_ones, bit_at_ones_above, bit_at_cat_low, bit_at_cat_high}
-use Rattle.krieg_board.proofs.SetLemmas.{has_bit, has_no_bit}
+use Rattle.std.proofs.lemmas.Nat.Bits.{bit_at-zero, bit_at_ones, bit_at_ones_above, bit_at_cat_low, bit_at_cat_high}
+use Rattle.krieg_board.proofs.SetLemmas.{has_and, has_bit, has_no_bit, has_zero}
 use Rattle.std.proofs.lemmas.List.Filters.{length-filter_both}
 use Rattle.std.specs.List.{filter}
 use Rattle.std.specs.Int.{bit_at}
 use Rattle.krieg_board.specs.declared.men.Move.{Move}
 use Rattle.krieg_board.specs.Pos.{Pos}
-use Rattle.krieg_board.specs.Squares.{gathered}
+use Rattle.krieg_board.specs.Squares.{gathered, rank_of, last_rank}
+use Rattle.krieg_board.specs.Board.{man_at, is_man, is_of}
+use Rattle.krieg_board.specs.Boards.{is_kind}
+use Rattle.krieg_board.proofs.MenLemmas.{kind_side}
+use Rattle.krieg_board.specs.declared.men.Kind.TheVariants.{Pawn}
 use Rattle.krieg_board.specs.Sets.{has, IsLowest}
 use Rattle.krieg_board.specs.Validity.{IsValid}
+use Rattle.krieg_board.proofs.Ones.{ones_zero, ones_suc, bit_by}
 use Rattle.krieg_board.proofs.Picked.{picked, picked_zero, picked_step}
 use Rattle.krieg_moves.specs.Legal.{is_legal}
-use Rattle.krieg_moves.specs.Moves.{moves_between, moves_from, promotes, can_go}
-use Rattle.krieg_moves.proofs.Listing.{listed_promotions, listed_plain, picked_from}
-
-ones_zero : count_ones 0 ≡ 0
-ones_zero = omega (arith, ones-le 0 0 (omega arith))
-
-ones_bit : (b : ℕ) → b < 2 → count_ones b ≡ b
-ones_bit zero h = ones_zero
-ones_bit (suc zero) h = by_size (count_ones 1) (ones-le 1 1 (omega arith)) (zero_from_ones 1)
-  where
-    by_size : (c : ℕ) → c ≤ 1 → (c ≡ 0 → suc zero ≡ zero) → c ≡ suc zero
-    by_size zero l e = absurd (omega (arith, e refl))
-    by_size (suc zero) l e = refl
-    by_size (suc (suc c)) l e = absurd (omega arith)
-ones_bit (suc (suc b)) h = absurd (omega arith)
-
--- one bit more of a number
-ones_suc : (n k : ℕ) → count_ones (n % 2 ^ suc k) ≡ count_ones (n % 2 ^ k) + bit_at n k
-ones_suc n k =
-    let s : suc k ≡ 1 + k = omega arith in
-    let cat = ones_cat k (bit_at n k) (n % 2 ^ k) (mod_below n (2 ^ k) (pow_pos k)) in
-    let low = ones_bit (bit_at n k) (bit_at-lt n k) in
-    let e : count_ones (n % 2 ^ suc k) ≡ count_ones (bit_at n k * 2 ^ k + n % 2 ^ k) = ap (λ x. count_ones (n % 2 ^ x)) s ∙ ap count_ones (mod-pow-add n 1 k) in
-    omega (arith, e, cat, low)
+use Rattle.krieg_moves.specs.Moves.{moves_between, moves_from, all_moves, moves_of, moves, promotes, can_go}
+use Rattle.krieg_moves.proofs.Listing.{listed_promotions, listed_plain, picked_from, picked_men}
 
 -- lists of one entry for each square of a set, and of three more where it belongs to a second
 counted_below : {A : Type 0} (g : ℕ → List A) (set more n : ℕ) → ((k : ℕ) → k < n → length (g k) ≡ bit_at set k + 3 * bit_at more k) →
@@ -62,17 +45,6 @@ counted_between p f k false promoted valid hf hk g e = refl
 counted_between p f k true true valid hf hk g e = ap length (listed_promotions p f k valid hf hk e g)
 counted_between p f k true false valid hf hk g e = ap length (listed_plain p f k e g)
 
-bit_by : (n k : ℕ) (t : Bool) → has n k ≡ t → bit_at n k ≡ cond t 1 0
-unfolding has
-bit_by n k t h = by_size (bit_at n k) t (bit_at-lt n k) h
-  where
-    by_size : (x : ℕ) (t : Bool) → x < 2 → (x == 1) ≡ t → x ≡ cond t 1 0
-    by_size zero true h e = cc
-    by_size zero false h e = refl
-    by_size (suc zero) true h e = refl
-    by_size (suc zero) false h e = cc
-    by_size (suc (suc x)) t h e = absurd (omega arith)
-
 -- the moves from a square, by the squares where its man may go and those where he is promoted
 pub counted_from : (p : Pos) (f set more : ℕ) → IsValid p → f < 64 → set < 2 ^ 64 → more < 2 ^ 64 → ((k : ℕ) → k < 64 → has set k ≡ can_go p f k) →
     ((k : ℕ) → k < 64 → has more k ≡ (has set k && promotes p f k)) → count_ones set + 3 * count_ones more ≡ length (filter (is_legal p) (moves_from f))
@@ -82,6 +54,54 @@ counted_from p f set more valid hf small fewer goes promoted =
     ∙ sym (λ i. bit_by set k (has set k) refl i + 3 * bit_by more k (has set k && promotes p f k) (promoted k h) i)))
     ∙ ap length (picked_from p set f goes)
 
+-- the moves of a man who is no pawn, by the squares where he may go
+pub counted_plain : (p : Pos) (f set : ℕ) → IsValid p → f < 64 → set < 2 ^ 64 → ((k : ℕ) → k < 64 → has set k ≡ can_go p f k) →
+    is_man p.side Pawn (man_at p.board f) ≡ false → count_ones set ≡ length (filter (is_legal p) (moves_from f))
+counted_plain p f set valid hf small goes off =
+    omega (
+      arith,
+      ones_zero,
+      counted_from p f set 0 valid hf small (omega arith) goes (λ k h.
+          has_zero k ∙ sym (ap (λ x. has set k && (x && rank_of k == last_rank p.side)) off ∙ and-false (has set k))),
+    )
+
+-- a side's men of whom a set has the pawns are its pawns
+pub pawns_of : (p : Pos) (men kind k : ℕ) → has men k ≡ is_of p.side (man_at p.board k) → has kind k ≡ is_kind Pawn (man_at p.board k) →
+    has (bit_and men kind) k ≡ is_man p.side Pawn (man_at p.board k)
+pawns_of p men kind k em ek =
+    has_and men kind k ∙ (λ i. em i && ek i) ∙ and_comm (is_of p.side (man_at p.board k)) (is_kind Pawn (man_at p.board k)) ∙ kind_side Pawn p.side (man_at p.board k)
+
+-- the lists of two sets of squares are together those of a set that has the squares of both, where they share none
+apart_below : {A : Type 0} (g : ℕ → List A) (whole one more n : ℕ) →
+    ((k : ℕ) → k < n → length (cond (has whole k) (g k) []) ≡ length (cond (has one k) (g k) []) + length (cond (has more k) (g k) [])) →
+    length (gathered (λ k. cond (has whole k) (g k) []) n) ≡ length (gathered (λ k. cond (has one k) (g k) []) n) + length (gathered (λ k. cond (has more k) (g k) []) n)
+apart_below g whole one more zero e = refl
+apart_below g whole one more (suc n) e =
+    omega (
+      arith,
+      apart_below g whole one more n (λ k h. e k (omega arith)),
+      e n (omega arith),
+      length-append (gathered (λ k. cond (has whole k) (g k) []) n) (cond (has whole n) (g n) []),
+      length-append (gathered (λ k. cond (has one k) (g k) []) n) (cond (has one n) (g n) []),
+      length-append (gathered (λ k. cond (has more k) (g k) []) n) (cond (has more n) (g n) []),
+    )
+
+-- the moves of a side's pawns and those of its other men are all of its moves
+pub counted_apart : (p : Pos) (men kind pawns officers : ℕ) →
+    ((k : ℕ) → k < 64 → has pawns k ≡ (has men k && has kind k)) → ((k : ℕ) → k < 64 → has officers k ≡ (has men k && not (has pawns k))) →
+    length (moves_of p men) ≡ length (moves_of p pawns) + length (moves_of p officers)
+unfolding moves_of
+counted_apart p men kind pawns officers ep eo =
+    apart_below (λ k. filter (is_legal p) (moves_from k)) men pawns officers 64 (λ k h.
+    one_of_two (has men k) (has kind k) (filter (is_legal p) (moves_from k))
+    ∙ sym (λ i. length (cond (ep k h i) (filter (is_legal p) (moves_from k)) [])
+    + length (cond ((eo k h ∙ ap (λ x. has men k && not x) (ep k h)) i) (filter (is_legal p) (moves_from k)) [])))
+  where
+    one_of_two : (m k : Bool) (xs : List Move) → length (cond m xs []) ≡ length (cond (m && k) xs []) + length (cond (m && not (m && k)) xs [])
+    one_of_two true true xs = omega arith
+    one_of_two true false xs = omega arith
+    one_of_two false k xs = refl
+
 few_gathered : {A : Type 0} (g : ℕ → List A) (c n : ℕ) → ((k : ℕ) → k < n → length (g k) ≤ c) → length (gathered g n) ≤ c * n
 few_gathered g c zero few = omega arith
 few_gathered g c (suc n) few = omega (arith, few_gathered g c n (λ k h. few k (omega arith)), few n (omega arith), length-append (gathered g n) (g n))
@@ -89,18 +109,31 @@ few_gathered g c (suc n) few = omega (arith, few_gathered g c n (λ k h. few k (
 few_filtered : (test : Move → Bool) (xs : List Move) → length (filter test xs) ≤ length xs
 few_filtered test xs = omega (arith, length-filter_both test (λ x. not (test x)) (λ x. refl) xs)
 
-few_from : (test : Move → Bool) (f : ℕ) → length (filter test (moves_from f)) ≤ 320
+few_from : (f : ℕ) → length (moves_from f) ≤ 320
 unfolding moves_from
-few_from test f = omega (arith, few_filtered test (moves_from f), few_gathered (moves_between f) 5 64 (λ k h. omega arith))
+few_from f = few_gathered (moves_between f) 5 64 (λ k h. omega arith)
 
 -- no position has more moves than 64 times 64 times 5
+pub few_moves : (p : Pos) → length (moves p) ≤ 20480
+unfolding moves all_moves
+few_moves p = omega (arith, few_filtered (is_legal p) (gathered moves_from 64), few_gathered moves_from 320 64 (λ k h. few_from k))
+
 pub few_picked : (test : Move → Bool) (set : ℕ) → length (picked set (λ k. filter test (moves_from k))) ≤ 20480
 unfolding picked
-few_picked test set = few_gathered (λ k. cond (has set k) (filter test (moves_from k)) []) 320 64 (λ k h. few_only (has set k) (filter test (moves_from k)) (few_from test k))
+few_picked test set = few_gathered (λ k. cond (has set k) (filter test (moves_from k)) []) 320 64 (λ k h. few_only (has set k) (filter test (moves_from k)) (omega (arith, few_filtered test (moves_from k), few_from k)))
   where
     few_only : (t : Bool) (xs : List Move) → length xs ≤ 320 → length (cond t xs []) ≤ 320
     few_only true xs h = h
     few_only false xs h = omega arith
+
+pub few_moves_of : (p : Pos) (set : ℕ) → length (moves_of p set) ≤ 20480
+unfolding moves_of picked
+few_moves_of p set = few_picked (is_legal p) set
+
+-- the moves of a side's men are all of its moves
+pub all_counted : (p : Pos) (men : ℕ) → ((k : ℕ) → k < 64 → has men k ≡ is_of p.side (man_at p.board k)) → length (moves_of p men) ≡ length (moves p)
+unfolding moves_of moves picked
+all_counted p men e = ap length (picked_men p men e)
 
 -- a loop takes the lowest square of what is left, and adds the number of its moves
 pub counted_taken : {A : Type 0} (g : ℕ → List A) (set t rest : ℕ) → IsLowest set t → ((k : ℕ) → k < 64 → has rest k ≡ (has set k && not (k == t))) →

@@ -1,9 +1,7 @@
 -- Each side has one king, before and after a move that is legal but for its safety, and he decides whether it is in check.
-use Rattle.std.proofs.Common.{◌≡◌, ℕ, ◌<◌, true, ◌==◌, sym, ◌∙◌, ap, length, subst, arith}
-use Rattle.std.proofs.lemmas.Bool.{and_parts, eqb-true}
+use Rattle.std.proofs.Common.{◌≡◌, ℕ, ◌<◌, true, sym, ◌∙◌, ap, length, subst, arith}
 use Rattle.std.specs.Prelude.{Option, Some}
 use Rattle.krieg_board.specs.declared.men.Side.{Side}
-use Rattle.krieg_board.specs.declared.men.Side.TheVariants.{White, Black}
 use Rattle.krieg_board.specs.declared.men.Kind.TheVariants.{King}
 use Rattle.krieg_board.specs.declared.men.Man.{Man}
 use Rattle.krieg_board.specs.declared.men.Move.{Move}
@@ -11,8 +9,9 @@ use Rattle.krieg_board.specs.Men.{other}
 use Rattle.krieg_board.specs.Pos.{Pos}
 use Rattle.krieg_board.specs.Board.{Board, man_at, is_man}
 use Rattle.krieg_board.specs.Attacks.{is_attacked, is_king_attacked}
-use Rattle.krieg_board.specs.Validity.{IsValid, has_kings, count_kind}
+use Rattle.krieg_board.specs.Validity.{IsValid, count_kind}
 use Rattle.krieg_board.proofs.Facts.{facts}
+use Rattle.krieg_board.proofs.Faults.{one_king_each}
 use Rattle.krieg_board.proofs.Counting.{counted}
 use Rattle.krieg_board.proofs.OneKing.{one_king_attacked}
 use Rattle.krieg_moves.specs.After.{board_after}
@@ -22,12 +21,8 @@ use Rattle.krieg_moves.proofs.Arrivals.{arrives}
 use Rattle.krieg_moves.proofs.Keeps.{kings_after}
 use Rattle.krieg_moves.proofs.KeepsValid.{effect}
 
-one_of : (b : Board) → has_kings b ≡ true → (side : Side) → count_kind b side King ≡ 1
-one_of b h White = eqb-true (count_kind b White King) 1 (and_parts (count_kind b White King == 1) (count_kind b Black King == 1) h).0
-one_of b h Black = eqb-true (count_kind b Black King) 1 (and_parts (count_kind b White King == 1) (count_kind b Black King == 1) h).1
-
 pub one_king : (p : Pos) → IsValid p → (side : Side) → count_kind p.board side King ≡ 1
-one_king p v side = one_of p.board (facts p v).kings side
+one_king p v side = one_king_each p.board (facts p v).kings side
 
 same_man : (x : Option Man) (a b : Man) → x ≡ Some a → x ≡ Some b → a ≡ b
 same_man x a b h k = cc
@@ -44,7 +39,7 @@ stands p man m valid is h =
     let same : man' ≡ man = same_man (man_at p.board m.from) man' man v.departs.stands is in
     subst (λ (x : Man). Stands p x m) same (record {
       size = (effect p m man' f v).size ∙ f.squares;
-      kings = λ side. one_of (board_after p.board p.mark man' m) (kings_after p m man' (board_after p.board p.mark man' m) f (arrives p m man' v) (effect p m man' f v)) side;
+      kings = λ side. one_king_each (board_after p.board p.mark man' m) (kings_after p m man' (board_after p.board p.mark man' m) f (arrives p m man' v) (effect p m man' f v)) side;
     })
 
 -- the same of a board, a side and an enemy that the code found

@@ -3,6 +3,7 @@ use Rattle.std.specs.Prelude.{ℕ, Bool, true, false, List, [], ◌∷◌, filte
 use Rattle.krieg_board.specs.Squares.{gathered, rank_of, last_rank}
 use Rattle.krieg_board.specs.Board.{man_at, is_man}
 use Rattle.krieg_board.specs.Pos.{Pos}
+use Rattle.krieg_board.specs.Sets.{has}
 use Rattle.krieg_board.specs.Attacks.{is_king_attacked}
 use Rattle.krieg_board.specs.declared.men.Kind.TheVariants.{Pawn}
 use Rattle.krieg_board.specs.declared.men.Promo.TheVariants as promo
@@ -45,6 +46,10 @@ moves_from f = gathered (moves_between f) 64
 -- all 64 times 64 times 5 moves: by from-square, then by to-square, then by promotion
 unfoldable pub all_moves : List Move
 all_moves = gathered moves_from 64
+
+-- the legal moves of the men on the squares of a set, in order
+unfoldable pub moves_of : Pos → ℕ → List Move
+moves_of p men = gathered (λ f. if has men f then filter (is_legal p) (moves_from f) else []) 64
 
 -- the legal moves, in order
 unfoldable pub moves : Pos → List Move

@@ -6,7 +6,7 @@ ghost use Rattle.krieg_board.specs.Sets as sets;
 ghost use Rattle.krieg_moves.specs.Guarding as spec;
 
 use krieg_board::{Bits, Position, Side, has, king_of, know_valid, lowest, only, without_lowest};
-use krieg_rays::{attackers_at, between_at, is_attacked, pinned};
+use krieg_rays::{attacked_by, attackers_at, between_at, is_attacked, pinned};
 
 /// What keeps the king of the side to move safe. It is made once for a position, and serves all of its
 /// moves.
@@ -53,8 +53,8 @@ pub(crate) fn only_if(here: bool, square: u8) -> u64
     if here { only(square) } else { 0 }
 }
 
-/// Those of the squares that no man of that side attacks.
-pub(crate) fn safe_squares(b: &Bits, squares: u64, by: Side) -> u64
+/// Those of the squares that no man of that side attacks, by a look at each of them.
+fn safe_one_by_one(b: &Bits, squares: u64, by: Side) -> u64
     ensures { (t : ℕ) → t < 64 → sets.has result t ≡ (sets.has squares t && not (attack.is_attacked b.now t by)) }
 {
     let mut rest = squares;
@@ -66,6 +66,17 @@ pub(crate) fn safe_squares(b: &Bits, squares: u64, by: Side) -> u64
         rest = without_lowest(rest);
     }
     safe
+}
+
+/// Those of the squares that no man of that side attacks. It looks at each of the squares or at each of
+/// the men, whichever are fewer.
+pub(crate) fn safe_squares(b: &Bits, squares: u64, by: Side) -> u64
+    ensures { (t : ℕ) → t < 64 → sets.has result t ≡ (sets.has squares t && not (attack.is_attacked b.now t by)) }
+{
+    if squares.count_ones() < b.men_of(by).count_ones() {
+        return safe_one_by_one(b, squares, by);
+    }
+    squares & !attacked_by(b, by)
 }
 
 impl Guard {

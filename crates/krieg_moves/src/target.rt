@@ -1,9 +1,10 @@
-ghost use Rattle.std.specs.Prelude.{◌≡◌, ◌<◌, ◌&&◌, ◌||◌, ◌==◌, ℕ, Some, true, not, is_some};
+ghost use Rattle.std.specs.Prelude.{◌≡◌, ◌<◌, ◌&&◌, ◌||◌, ◌==◌, ℕ, Some, None, true, false, not, is_some};
 ghost use Rattle.krieg_board.specs.Board.{man_at, is_man};
 ghost use Rattle.krieg_board.specs.Attacks as attack;
 ghost use Rattle.krieg_board.specs.Sets as sets;
 ghost use Rattle.krieg_board.specs.declared.men.Kind.TheVariants.{Pawn, King};
 ghost use Rattle.krieg_board.specs.Squares as squares;
+ghost use Rattle.krieg_rays.specs.Pinned.{is_pinned};
 ghost use Rattle.krieg_moves.specs.After as change;
 ghost use Rattle.krieg_moves.specs.Guarding.{IsGuard};
 ghost use Rattle.krieg_moves.specs.Legal as spec;
@@ -19,7 +20,7 @@ use krieg_board::{
     Bits, Kind, Man, Move, Position, Promo, Rights, Side, Square, has, is_of, king_of,
     know_squares, know_valid, pawn_rank, rank_of,
 };
-use krieg_rays::{attacked_from, between_at, is_attacked, pawn_steps};
+use krieg_rays::{attacked_from, between_at, is_attacked, pawn_attacks, pawn_steps};
 
 /// Whether the king of the side to move is safe behind the move of this man, by making it.
 fn leaves_king_safe(p: &Position, man: Man, mv: &Move) -> bool
@@ -234,6 +235,48 @@ pub fn pawn_captures(p: &Position, guard: &Guard, from: Square) -> u64
         kind: Kind::Pawn,
     };
     captures(p, guard, from, man)
+}
+
+/// Where a pawn of the side to move may go that is not pinned, where none may capture in passing: forward, or to an enemy
+/// man that it attacks, so that the checks on its king are answered. No move is made to see it.
+fn targets_of_free_pawn(p: &Position, guard: &Guard, from: Square) -> u64
+    requires guard { IsGuard p.now guard.now }
+    requires pawn { is_man p.now.side Pawn (man_at p.now.board from) ≡ true }
+    requires free { is_pinned p.now.board p.now.side from ≡ false }
+    requires unmarked { p.now.mark ≡ None }
+    ensures { (t : ℕ) → t < 64 → sets.has result t ≡ can_go p.now from t }
+{
+    let bits = p.bits();
+    let side = p.side();
+    let by = side.other();
+    let forward = pawn_moves(bits, side, from);
+    let captures = pawn_attacks(side, from.number()) & bits.men_of(by);
+    (forward | captures) & guard.answers
+}
+
+/// The same for any pawn of the side to move.
+fn targets_of_any_pawn(p: &Position, guard: &Guard, from: Square) -> u64
+    requires guard { IsGuard p.now guard.now }
+    requires pawn { is_man p.now.side Pawn (man_at p.now.board from) ≡ true }
+    ensures { (t : ℕ) → t < 64 → sets.has result t ≡ can_go p.now from t }
+{
+    let man = Man {
+        side: p.side(),
+        kind: Kind::Pawn,
+    };
+    pawn_targets(p, guard, from, man)
+}
+
+/// Where the pawn of the side to move on that square may go.
+pub(crate) fn targets_of_pawn(p: &Position, guard: &Guard, from: Square) -> u64
+    requires guard { IsGuard p.now guard.now }
+    requires pawn { is_man p.now.side Pawn (man_at p.now.board from) ≡ true }
+    ensures { (t : ℕ) → t < 64 → sets.has result t ≡ can_go p.now from t }
+{
+    if p.mark().is_some() || has(guard.pinned, from.number()) {
+        return targets_of_any_pawn(p, guard, from);
+    }
+    targets_of_free_pawn(p, guard, from)
 }
 
 fn officer_targets(p: &Position, guard: &Guard, from: Square, man: Man) -> u64

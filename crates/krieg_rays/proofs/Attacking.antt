@@ -1,7 +1,7 @@
 -- The men that attack a square, from the sets of those that would attack it from there, and where a man attacks.
 use Rattle.std.proofs.Common.{◌≡◌, ℕ, ◌<◌, Bool, true, false, not, ◌&&◌, ◌||◌, ◌==◌, refl, sym, ◌∙◌, ap, subst, bit_and, bit_or}
 use Rattle.std.specs.Prelude.{Option, Some, None, is_some}
-use Rattle.std.proofs.Math.Bool.{and-true, and-false, or-false, and_assoc}
+use Rattle.std.proofs.Math.Bool.{and-true, and-false, or-false, and_assoc, and-or_distrib_right}
 use Rattle.krieg_board.specs.declared.men.Side.{Side}
 use Rattle.krieg_board.specs.declared.men.Side.TheVariants.{White}
 use Rattle.krieg_board.specs.declared.men.Kind.{Kind}
@@ -17,6 +17,7 @@ use Rattle.krieg_board.proofs.MenLemmas.{same_side_eq}
 use Rattle.krieg_board.proofs.SetLemmas.{has_and, has_or}
 use Rattle.krieg_board.proofs.SameTests.{every_square_same}
 use Rattle.krieg_rays.specs.Rays.{goes, is_open}
+use Rattle.krieg_rays.proofs.Sniping.{men_here, of_side}
 use Rattle.krieg_rays.proofs.Spans.{is_between_turned}
 use Rattle.krieg_rays.proofs.Symmetry.{knight_turned, king_turned, rook_turned, bishop_turned, pawn_turned}
 
@@ -38,10 +39,14 @@ open_clear_turned b occupied s k hs hk e =
     every_square_same (λ j. not (is_between s k j && has occupied j)) (λ j. not (is_between k s j && is_some (man_at b j)))
     (λ j hj i. not (is_between_turned s k j hs hk hj i && e j hj i))
 
+-- a pawn, a knight or a king is found by kind
+abbrev pub is_near : Bool → Bool → Bool → Option Man → Bool
+is_near pawn knight king x = (pawn && is_kind Pawn x) || ((knight && is_kind Knight x) || (king && is_kind King x))
+
 -- a man found by kind: the first five say whether a man of that kind would attack from there
 abbrev pub is_found : Bool → Bool → Bool → Bool → Bool → Option Man → Bool
 is_found pawn knight king straight diagonal x =
-    ((pawn && is_kind Pawn x) || ((knight && is_kind Knight x) || (king && is_kind King x)))
+    is_near pawn knight king x
     || ((straight && (is_kind Rook x || is_kind Queen x)) || (diagonal && (is_kind Bishop x || is_kind Queen x)))
 
 -- the same, of a man of that side on k that would attack s
@@ -81,20 +86,31 @@ found_attacks b by s k (Some m) =
 pub attackers_has : (b : Board) (by : Side) (s k : ℕ) → s < 64 → k < 64 → (sets : Sets) → Show sets b →
     (pawn knight king straight diagonal own occupied : ℕ) →
     has pawn k ≡ goes Pawn (other by) s k → has knight k ≡ goes Knight White s k → has king k ≡ goes King White s k →
-    has straight k ≡ (goes Rook White s k && is_open occupied s k) → has diagonal k ≡ (goes Bishop White s k && is_open occupied s k) →
+    has straight k ≡ ((goes Rook White s k && is_open occupied s k) && has (bit_and (bit_or sets.rooks sets.queens) own) k) →
+    has diagonal k ≡ ((goes Bishop White s k && is_open occupied s k) && has (bit_and (bit_or sets.bishops sets.queens) own) k) →
     IsOccupied occupied b → has own k ≡ is_of by (man_at b k) →
-    has (bit_and (bit_or (bit_or (bit_and pawn sets.pawns) (bit_or (bit_and knight sets.knights) (bit_and king sets.kings)))
-    (bit_or (bit_and straight (bit_or sets.rooks sets.queens)) (bit_and diagonal (bit_or sets.bishops sets.queens)))) own) k
+    has (bit_or (bit_and (bit_or (bit_and pawn sets.pawns) (bit_or (bit_and knight sets.knights) (bit_and king sets.kings))) own) (bit_or straight diagonal)) k
     ≡ (is_of by (man_at b k) && attacks b k s)
 unfolding attacks
 attackers_has b by s k hs hk sets show pawn knight king straight diagonal own occupied hp hn hg hr hd ho hown =
-    simp (has_and, has_or)
-    ((λ j. ((((hp ∙ pawn_turned by s k hs hk) j && show.pawns k hk j)
-    || (((hn ∙ knight_turned s k hs hk) j && show.knights k hk j) || ((hg ∙ king_turned s k hs hk) j && show.kings k hk j)))
-    || (((hr ∙ (λ n. rook_turned s k hs hk n && open_clear_turned b occupied s k hs hk ho n)) j && (show.rooks k hk j || show.queens k hk j))
-    || ((hd ∙ (λ n. bishop_turned s k hs hk n && open_clear_turned b occupied s k hs hk ho n)) j && (show.bishops k hk j || show.queens k hk j))))
-    && hown j)
-    ∙ found_attacks b by s k (man_at b k))
+    has_or (bit_and (bit_or (bit_and pawn sets.pawns) (bit_or (bit_and knight sets.knights) (bit_and king sets.kings))) own) (bit_or straight diagonal) k
+    ∙ (λ i. near i || (has_or straight diagonal k ∙ (λ j. (hr ∙ (λ n. (rook_turned s k hs hk n && open_clear_turned b occupied s k hs hk ho n) && men_here sets.rooks sets.queens own k (show.rooks k hk) (show.queens k hk) hown n)) j
+    || (hd ∙ (λ n. (bishop_turned s k hs hk n && open_clear_turned b occupied s k hs hk ho n) && men_here sets.bishops sets.queens own k (show.bishops k hk) (show.queens k hk) hown n)) j)) i)
+    ∙ apart (is_near (goes Pawn by k s) (goes Knight White k s) (goes King White k s) (man_at b k))
+    (goes Rook White k s && is_clear b k s) (is_kind Rook (man_at b k) || is_kind Queen (man_at b k))
+    (goes Bishop White k s && is_clear b k s) (is_kind Bishop (man_at b k) || is_kind Queen (man_at b k)) (is_of by (man_at b k))
+    ∙ found_attacks b by s k (man_at b k)
+  where
+    near : has (bit_and (bit_or (bit_and pawn sets.pawns) (bit_or (bit_and knight sets.knights) (bit_and king sets.kings))) own) k
+        ≡ (is_near (goes Pawn by k s) (goes Knight White k s) (goes King White k s) (man_at b k) && is_of by (man_at b k))
+    near =
+        simp (has_and, has_or)
+        (λ j. (((hp ∙ pawn_turned by s k hs hk) j && show.pawns k hk j)
+        || (((hn ∙ knight_turned s k hs hk) j && show.knights k hk j) || ((hg ∙ king_turned s k hs hk) j && show.kings k hk j)))
+        && hown j)
+
+    apart : (n r x d y o : Bool) → ((n && o) || ((r && (x && o)) || (d && (y && o)))) ≡ ((n || ((r && x) || (d && y))) && o)
+    apart n r x d y o = ap (λ z. (n && o) || z) (of_side r x d y o) ∙ sym (and-or_distrib_right n ((r && x) || (d && y)) o)
 
 of_kind : (b : Board) (man : Man) (f k : ℕ) (which : Kind) → man.kind ≡ which → man_attacks b (Some (record { side = man.side; kind = which })) f k ≡ man_attacks b (Some man) f k
 of_kind b man f k which e = λ i. man_attacks b (Some (record { side = man.side; kind = sym e i })) f k

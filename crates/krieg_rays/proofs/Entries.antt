@@ -1,21 +1,16 @@
 -- The tables say where men go on an empty board and which squares are on a line: each bit of each entry, by evaluation.
-use Rattle.std.proofs.Common.{◌≡◌, ℕ, ◌<◌, Bool, true, false, refl, List, get_or}
+use Rattle.std.proofs.Common.{◌≡◌, ℕ, ◌<◌, Bool, true, refl, List, get_or}
 use Rattle.krieg_board.specs.declared.men.Kind.TheVariants.{Pawn, Knight, King}
 use Rattle.krieg_board.specs.declared.men.Side.TheVariants.{White, Black}
 use Rattle.krieg_board.specs.Men.{is_same_bool}
 use Rattle.krieg_board.specs.Squares.{squares, every_square}
+use Rattle.krieg_board.proofs.SameTests.{same_bool_eq}
 use Rattle.krieg_board.proofs.SquareTests.{every_square_at}
 use Rattle.krieg_board.specs.Sets.{has}
 use Rattle.krieg_rays.specs.Rays.{goes, is_ahead, is_on_file, is_on_rank, is_on_rising, is_on_falling}
 use Rattle.krieg_rays.specs.declared.leap_tables.TheConstants.{KNIGHTS, KINGS}
 use Rattle.krieg_rays.specs.declared.pawn_tables.TheConstants.{WHITE_PAWNS, BLACK_PAWNS, WHITE_STEPS, BLACK_STEPS}
 use Rattle.krieg_rays.specs.declared.line_tables.TheConstants.{FILES, RANKS, RISING, FALLING}
-
-pub same_bool_eq : (a b : Bool) → is_same_bool a b ≡ true → a ≡ b
-same_bool_eq true true h = refl
-same_bool_eq false false h = refl
-same_bool_eq true false h = cc
-same_bool_eq false true h = cc
 
 -- two tests agree on each pair of squares
 unfoldable pub agree : (ℕ → ℕ → Bool) → (ℕ → ℕ → Bool) → Bool

@@ -1,5 +1,5 @@
 -- The lines through a square: what lies between two squares of a line, by evaluation, and what is seen along two lines.
-use Rattle.std.proofs.Common.{◌≡◌, ℕ, ◌<◌, Bool, true, false, not, ◌&&◌, ◌||◌, refl, sym, ◌∙◌, ap, bit_or}
+use Rattle.std.proofs.Common.{◌≡◌, ℕ, ◌<◌, Bool, true, false, not, ◌&&◌, ◌||◌, refl, sym, ◌∙◌, ap, bit_and, bit_or}
 use Rattle.std.proofs.lemmas.Bool.{and_parts, not-true}
 use Rattle.std.proofs.Math.Bool.{and-or_distrib_right}
 use Rattle.krieg_board.specs.declared.men.Kind.TheVariants.{Bishop, Rook}
@@ -9,10 +9,10 @@ use Rattle.krieg_board.specs.Squares.{squares, every_square}
 use Rattle.krieg_board.specs.Attacks.{is_inside, is_between}
 use Rattle.krieg_board.specs.Sets.{has}
 use Rattle.krieg_board.proofs.SquareTests.{every_square_at}
-use Rattle.krieg_board.proofs.SetLemmas.{has_or}
-use Rattle.krieg_board.proofs.SameTests.{every_square_same}
+use Rattle.krieg_board.proofs.SetLemmas.{has_and, has_or, has_zero}
+use Rattle.krieg_board.proofs.SameTests.{every_square_same, same_bool_eq}
 use Rattle.krieg_rays.specs.Rays.{goes, is_seen, is_open, is_on_file, is_on_rank, is_on_rising, is_on_falling}
-use Rattle.krieg_rays.proofs.Entries.{agree, agree_at, same_bool_eq}
+use Rattle.krieg_rays.proofs.Entries.{agree, agree_at}
 
 -- between s and k lie the squares of the line with the numbers between
 abbrev lies_along : (ℕ → ℕ → Bool) → ℕ → ℕ → Bool
@@ -104,3 +104,24 @@ straight_open = two_lines is_on_file is_on_rank file rank (goes Rook White) stra
 pub diagonal_open : (occupied s k l m a b : ℕ) → s < 64 → k < 64 → ((j : ℕ) → j < 64 → has l j ≡ is_on_rising s j) → ((j : ℕ) → j < 64 → has m j ≡ is_on_falling s j) →
     has a k ≡ is_seen l occupied s k → has b k ≡ is_seen m occupied s k → has (bit_or a b) k ≡ (goes Bishop White s k && is_open occupied s k)
 diagonal_open = two_lines is_on_rising is_on_falling rising falling (goes Bishop White) diagonal
+
+-- where no man of a set is on either line, none is seen along them
+none_on_lines : (on up test : ℕ → ℕ → Bool) → agree (λ s k. on s k || up s k) test ≡ true → (s k l m men : ℕ) (way : Bool) → s < 64 → k < 64 →
+    ((j : ℕ) → j < 64 → has l j ≡ on s j) → ((j : ℕ) → j < 64 → has m j ≡ up s j) → bit_and (bit_or l m) men ≡ 0 → ((test s k && way) && has men k) ≡ false
+none_on_lines on up test both s k l m men way hs hk el em z =
+    apart (test s k) way (has men k)
+    (ap (λ x. x && has men k) (sym (agree_at (λ s k. on s k || up s k) test both s k hs hk) ∙ sym (λ i. el k hk i || em k hk i) ∙ sym (has_or l m k))
+    ∙ sym (has_and (bit_or l m) men k) ∙ ap (λ n. has n k) z ∙ has_zero k)
+  where
+    apart : (a b c : Bool) → (a && c) ≡ false → ((a && b) && c) ≡ false
+    apart true true c e = e
+    apart true false c e = refl
+    apart false b c e = refl
+
+pub none_straight : (s k l m men : ℕ) (way : Bool) → s < 64 → k < 64 → ((j : ℕ) → j < 64 → has l j ≡ is_on_file s j) → ((j : ℕ) → j < 64 → has m j ≡ is_on_rank s j) →
+    bit_and (bit_or l m) men ≡ 0 → ((goes Rook White s k && way) && has men k) ≡ false
+none_straight = none_on_lines is_on_file is_on_rank (goes Rook White) straight
+
+pub none_diagonal : (s k l m men : ℕ) (way : Bool) → s < 64 → k < 64 → ((j : ℕ) → j < 64 → has l j ≡ is_on_rising s j) → ((j : ℕ) → j < 64 → has m j ≡ is_on_falling s j) →
+    bit_and (bit_or l m) men ≡ 0 → ((goes Bishop White s k && way) && has men k) ≡ false
+none_diagonal = none_on_lines is_on_rising is_on_falling (goes Bishop White) diagonal

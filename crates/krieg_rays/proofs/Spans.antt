@@ -9,7 +9,7 @@ use Rattle.krieg_board.specs.Sets.{has}
 use Rattle.krieg_board.proofs.SquareTests.{every_square_at}
 use Rattle.krieg_board.proofs.SetLemmas.{differ, has_and, has_or, has_xor}
 use Rattle.krieg_rays.specs.Rays.{is_on_file, is_on_rank, is_on_rising, is_on_falling}
-use Rattle.krieg_rays.proofs.Entries.{same_bool_eq}
+use Rattle.krieg_board.proofs.SameTests.{same_bool_eq}
 use Rattle.krieg_rays.proofs.Ends.{has_before}
 
 -- j is on a line of both squares, and numbered between them

@@ -23,7 +23,7 @@ mod segment;
 #[cfg(test)]
 mod tests;
 
-pub use attack::{attacked_from, attackers, attackers_at, is_attacked};
+pub use attack::{attacked_by, attacked_from, attackers, attackers_at, is_attacked};
 pub use krieg_board::Bits;
 pub use leaps::{king_attacks, knight_attacks, pawn_attacks, pawn_steps};
 pub use lines::{

@@ -99,3 +99,29 @@ pub fn diagonal_from(s: u8, occupied: u64) -> u64
     let on_falling = seen_on(falling_through(s), occupied, s);
     on_rising | on_falling
 }
+
+/// Those of the men that stand where a rook on the square would attack them, where these squares are
+/// occupied. Mostly none of them is on its file or its rank, and then no more is looked at.
+#[inline]
+pub(crate) fn straight_among(s: u8, occupied: u64, men: u64) -> u64
+    requires { s < 64 }
+    ensures { (k : ℕ) → k < 64 → has result k ≡ ((goes Rook White s k && spec.is_open occupied s k) && has men k) }
+{
+    if (file_through(s) | rank_through(s)) & men == 0 {
+        return 0;
+    }
+    straight_from(s, occupied) & men
+}
+
+/// Those of the men that stand where a bishop on the square would attack them, where these squares are
+/// occupied. Mostly none of them is on its diagonals, and then no more is looked at.
+#[inline]
+pub(crate) fn diagonal_among(s: u8, occupied: u64, men: u64) -> u64
+    requires { s < 64 }
+    ensures { (k : ℕ) → k < 64 → has result k ≡ ((goes Bishop White s k && spec.is_open occupied s k) && has men k) }
+{
+    if (rising_through(s) | falling_through(s)) & men == 0 {
+        return 0;
+    }
+    diagonal_from(s, occupied) & men
+}

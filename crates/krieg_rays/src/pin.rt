@@ -5,7 +5,7 @@ ghost use Rattle.krieg_board.specs.declared.men.Kind.TheVariants.{King};
 ghost use Rattle.krieg_rays.specs.Pinned.{is_pinned};
 ghost use Rattle.krieg_rays.specs.Snipers.{is_only, is_sniper};
 
-use crate::lines::{diagonal_from, straight_from};
+use crate::lines::{diagonal_among, straight_among};
 use crate::segment::between_at;
 use krieg_board::{Bits, Side, king_of, lowest, without_lowest};
 
@@ -38,9 +38,9 @@ fn snipers(b: &Bits, s: u8, by: Side) -> u64
 {
     let sets = b.sets();
     let men = b.men_of(by);
-    let straight = straight_from(s, men) & (sets.rooks | sets.queens);
-    let diagonal = diagonal_from(s, men) & (sets.bishops | sets.queens);
-    (straight | diagonal) & men
+    let straight = straight_among(s, men, (sets.rooks | sets.queens) & men);
+    let diagonal = diagonal_among(s, men, (sets.bishops | sets.queens) & men);
+    straight | diagonal
 }
 
 /// The set, where it has just one square; else none.

@@ -51,7 +51,7 @@ fn white_at_the_start() -> Board {
 }
 
 /// At the start of a game g1, e2 and g2 attack f3; a1 attacks b1 and a2 alone, since a pawn blocks its
-/// file.
+/// file; White attacks all squares of the first three ranks but a1 and h1.
 #[test]
 fn attacks_at_the_start(rt: HostRuntime) -> Result<(), Fail> {
     let bits = Bits::from_board(&white_at_the_start());
@@ -67,6 +67,8 @@ fn attacks_at_the_start(rt: HostRuntime) -> Result<(), Fail> {
         kind: Kind::Rook,
     };
     assert_eq!(rt; attacked_from(&bits, rook, 0), set_of(&[1, 8]));
+    assert_eq!(rt; attacked_by(&bits, Side::White), 0xFF_FF7E);
+    assert_eq!(rt; attacked_by(&bits, Side::Black), 0);
     Ok(())
 }
 

@@ -5,7 +5,6 @@ mod Pools
 mod Gathering
 mod PartSizes
 mod Mating
-mod MoveCounts
 mod LastMoves
 mod Renaming
 mod FirstMoves

@@ -37,7 +37,6 @@ fn is_stale_in_some(members: &[Packed], mv: &Move) -> bool
 }
 
 /// How many replies there are to the try in the member.
-#[tactic(auto, using(crate::proofs::MoveCounts::few_moves))]
 fn count_replies(member: &Packed, mv: &Move) -> usize
     ensures value { result ≡ replies mv.now member.now }
     ensures few { result ≤ 20480 }

@@ -1,20 +1,9 @@
-use Rattle.std.proofs.Common.{◌∙◌, sym, ap, subst, arith, ◌&&◌, ◌||◌, not, ℕ}
-use Rattle.krieg_board.specs.Attacks.{is_attacked}
-use Rattle.krieg_board.specs.Sets.{has, IsLowest}
-use Rattle.krieg_board.proofs.SetLemmas.{has_zero}
-use Rattle.krieg_moves.proofs.AnswerSets.{kept_more, kept_all}
+use Rattle.std.proofs.Common.{◌∙◌, ap, not, ◌&&◌, ◌-◌}
+use Rattle.krieg_board.specs.Sets.{has}
+use Rattle.krieg_board.proofs.SetLemmas.{has_and, has_not}
 use Rattle.krieg_moves.proofs.guard.safe_squares.Goals as goal
-
-pub loop-rest-init : goal.loop-rest-init
-loop-rest-init c = λ t h. ap (λ x. x || (has c.args.squares t && not (is_attacked c.args.b.now t c.args.by))) (has_zero t)
-
-pub loop-rest-preserved : goal.loop-rest-preserved
-loop-rest-preserved c = λ t h.
-    let l = subst (λ (s : ℕ). IsLowest c.loop-rest.rest s) (sym c.number-square.ensures.value) c.lowest.ensures in
-    kept_more (λ t. not (is_attacked c.args.b.now t c.args.by)) c.loop-rest.safe c.only_if-safe.result c.loop-rest.rest c.without_lowest-rest.result c.number-square.result t
-    (not c.is_attacked-is_safe.result) l h (c.without_lowest-rest.ensures.others c.number-square.result l) (ap not c.is_attacked-is_safe.ensures) (c.only_if-safe.ensures t h)
-    ∙ c.loop-rest.invariant t h
 
 pub returns : goal.returns
 returns c = λ t h.
-    sym (kept_all (λ t. not (is_attacked c.args.b.now t c.args.by)) c.loop-rest.safe c.loop-rest.rest t (omega (arith, c.loop-rest-test.false))) ∙ c.loop-rest.invariant t h
+    has_and c.args.squares (18446744073709551615 - c.attacked_by.result) t
+    ∙ ap (λ x. has c.args.squares t && x) (has_not c.attacked_by.result t c.attacked_by.type_inv h ∙ ap not (c.attacked_by.ensures t h))

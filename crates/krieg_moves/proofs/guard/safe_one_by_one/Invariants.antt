@@ -1,7 +1,7 @@
 use Rattle.std.proofs.Common.{ℕ, ◌<◌, ◌≡◌, ◌&&◌, ◌||◌, not}
 use Rattle.krieg_board.specs.Attacks.{is_attacked}
 use Rattle.krieg_board.specs.Sets.{has}
-use Rattle.krieg_moves.proofs.guard.safe_squares.Given as goal
+use Rattle.krieg_moves.proofs.guard.safe_one_by_one.Given as goal
 
 abbrev pub decreases-loop-rest : goal.decreases-loop-rest
 decreases-loop-rest l = l.rest

@@ -1,0 +1,137 @@
+ghost use Rattle.std.specs.Prelude.{◌≡◌, ◌<◌, length, true};
+ghost use Rattle.krieg_board.specs.Attacks as attack;
+ghost use Rattle.krieg_board.specs.Validity as spec;
+ghost use Rattle.krieg_board.specs.Validity.{first_fault};
+ghost use Rattle.krieg_board.specs.declared.men.Kind.TheVariants.{Pawn, King};
+
+use crate::attack::is_attacked;
+use crate::bits::{Bits, king_of};
+use crate::board::{Board, is_empty, is_man};
+use crate::men::{Kind, Rights, Side};
+use crate::position::BadPosition;
+use crate::square::{
+    Square, crossed_rank, file_of, home_rank, landing_rank, pawn_rank, rank_of, square_at,
+};
+
+/// The squares of the first and of the last rank.
+const END_RANKS: u64 = 0xFF00_0000_0000_00FF;
+
+fn count_kings(b: &Bits, side: Side) -> usize
+    requires { length b.now ≡ 64 }
+    ensures { result ≡ spec.count_kind b.now side King }
+{
+    (b.sets().kings & b.men_of(side)).count_ones() as usize
+}
+
+fn count_pawns(b: &Bits, side: Side) -> usize
+    requires { length b.now ≡ 64 }
+    ensures { result ≡ spec.count_kind b.now side Pawn }
+{
+    (b.sets().pawns & b.men_of(side)).count_ones() as usize
+}
+
+fn count_side(b: &Bits, side: Side) -> usize
+    requires { length b.now ≡ 64 }
+    ensures { result ≡ spec.count_side b.now side }
+{
+    b.men_of(side).count_ones() as usize
+}
+
+fn has_kings(b: &Bits) -> bool
+    requires { length b.now ≡ 64 }
+    ensures { result ≡ spec.has_kings b.now }
+{
+    count_kings(b, Side::White) == 1 && count_kings(b, Side::Black) == 1
+}
+
+fn has_pawns_inside(b: &Bits) -> bool
+    ensures { result ≡ spec.has_pawns_inside b.now }
+{
+    b.sets().pawns & END_RANKS == 0
+}
+
+fn is_small(b: &Bits, side: Side) -> bool
+    requires { length b.now ≡ 64 }
+    ensures { result ≡ spec.is_small b.now side }
+{
+    count_side(b, side) <= 16 && count_pawns(b, side) <= 8
+}
+
+/// Whether the king of that side is attacked, where each side has one.
+fn is_king_attacked(b: &Bits, board: &Board, side: Side) -> bool
+    requires same { b.now ≡ board.now }
+    requires kings { spec.has_kings board.now ≡ true }
+    ensures { result ≡ attack.is_king_attacked board.now side }
+{
+    let king = king_of(b, side);
+    is_attacked(board, king, side.other())
+}
+
+fn has_castle(board: &Board, held: bool, side: Side, rook_file: u8) -> bool
+    requires { rook_file < 8 }
+    ensures { result ≡ spec.has_castle board.now held side rook_file }
+{
+    let king = square_at(4, home_rank(side));
+    let rook = square_at(rook_file, home_rank(side));
+    !held
+        || is_man(side, Kind::King, board[king as usize])
+            && is_man(side, Kind::Rook, board[rook as usize])
+}
+
+fn has_castles(board: &Board, rights: Rights) -> bool
+    ensures { result ≡ spec.has_castles board.now rights }
+{
+    has_castle(board, rights.white_short, Side::White, 7)
+        && has_castle(board, rights.white_long, Side::White, 0)
+        && has_castle(board, rights.black_short, Side::Black, 7)
+        && has_castle(board, rights.black_long, Side::Black, 0)
+}
+
+fn is_crossed(board: &Board, pawn_side: Side, s: u8) -> bool
+    requires { s < 64 }
+    ensures { result ≡ spec.is_crossed board.now pawn_side s }
+{
+    let landing = square_at(file_of(s), landing_rank(pawn_side));
+    rank_of(s) == crossed_rank(pawn_side)
+        && is_man(pawn_side, Kind::Pawn, board[landing as usize])
+        && is_empty(board, s)
+        && is_empty(board, square_at(file_of(s), pawn_rank(pawn_side)))
+}
+
+fn has_mark(board: &Board, to_move: Side, mark: &Option<Square>) -> bool
+    ensures { result ≡ spec.has_mark board.now to_move mark.now }
+{
+    match mark {
+        None => true,
+        Some(mark) => is_crossed(board, to_move.other(), mark.number()),
+    }
+}
+
+/// The first fault of the position with these parts, where it has one.
+#[tactic(auto, unfolding(crate::specs::Validity::first_fault))]
+pub(crate) fn fault_of(
+    b: &Bits,
+    board: &Board,
+    side: Side,
+    rights: Rights,
+    mark: &Option<Square>,
+) -> Option<BadPosition>
+    requires { b.now ≡ board.now }
+    ensures { result ≡ first_fault (record { board = board.now; side = side; rights = rights; mark = mark.now }) }
+{
+    if !has_kings(b) {
+        Some(BadPosition::Kings)
+    } else if !has_pawns_inside(b) {
+        Some(BadPosition::PawnRank)
+    } else if !(is_small(b, Side::White) && is_small(b, Side::Black)) {
+        Some(BadPosition::TooManyMen)
+    } else if is_king_attacked(b, board, side.other()) {
+        Some(BadPosition::IdleInCheck)
+    } else if !has_castles(board, rights) {
+        Some(BadPosition::Rights)
+    } else if !has_mark(board, side, mark) {
+        Some(BadPosition::Mark)
+    } else {
+        None
+    }
+}
