@@ -1,7 +1,6 @@
 -- Outcomes in the order of their keys are cut into classes, and their order does not matter for these.
-use Rattle.std.proofs.Common.{◌≡◌, ℕ, suc, ◌+◌, ◌<◌, true, false, List, [], ◌∷◌, ◌++◌, ◌⊎◌, inl, inr, map, take, drop, refl, sym, ap, subst, ◌∙◌, arith}
+use Rattle.std.proofs.Common.{◌≡◌, ℕ, suc, ◌+◌, ◌-◌, ◌<◌, true, false, List, [], ◌∷◌, ◌⊎◌, inl, inr, map, length, get_or, take, drop, reverse, refl, sym, ap, subst, ◌∙◌, arith}
 use Rattle.std.specs.Prelude.{slice_index_or, slice_get, Some}
-use Rattle.std.proofs.lemmas.List.{append_assoc, map_push}
 use Rattle.std.specs.List.Sorted.{IsSorted, IsPermutation}
 use Rattle.std.specs.Ordering.{is_lt, ordering_then}
 use Rattle.std.specs.declared.cmp.Ordering.{Ordering}
@@ -18,10 +17,10 @@ use Rattle.krieg_pack.proofs.Membership.{contains_in, in_contains}
 use Rattle.krieg_pack.proofs.PositionSets.{same_sets}
 use Rattle.krieg_game.specs.Keys.{Key, key_cmp, key_lt}
 use Rattle.krieg_game.specs.Outcomes.{KeyedPosition, outcome_cmp, outcome_total}
-use Rattle.krieg_game.specs.Classes.{class_at, classes_in, class_pair}
+use Rattle.krieg_game.specs.Classes.{class_at, classes_in}
 use Rattle.krieg_game.specs.Runs.{Rising, run_length}
-use Rattle.krieg_game.specs.declared.classes.Class.{Class}
 use Rattle.krieg_game.proofs.KeyLaws.{key_order}
+use Rattle.krieg_game.proofs.Popping.{from_end}
 
 -- all of the keys stand after that one
 abbrev After : Key → List KeyedPosition → Type 0
@@ -137,17 +136,13 @@ is_cut first (o ∷ os) n h e up =
     let here : first ≡ o = cc in
     subst (λ p. IsCut p (o ∷ os) n) (sym here) (subst (IsCut o (o ∷ os)) (sym (e ∙ ap (λ (p : KeyedPosition). run_length p.0 (o ∷ os)) here)) (cut_first o os up))
 
--- one class more is made
-pub cut_more : (now done : List Class) (c : Class) (first : KeyedPosition) (all rest run more : List KeyedPosition) (n : ℕ) → IsCut first rest n → run ≡ take n rest → more ≡ drop n rest → now ≡ done ++ c ∷ [] →
-    class_pair c ≡ (first.0, set_of (map (λ (o : KeyedPosition). o.1) run)) → map class_pair done ++ classes_in rest ≡ classes_in all →
-    (map class_pair now ++ classes_in more ≡ classes_in all) × Rising more
-cut_more now done c first all rest run more n h is_run is_more pushed made so_far = (
-  ap (λ cs. map class_pair cs ++ classes_in more) pushed ∙ ap (λ xs. xs ++ classes_in more) (map_push class_pair done c) ∙ append_assoc (map class_pair done) (class_pair c ∷ []) (classes_in more)
-      ∙ ap (λ g. map class_pair done ++ (g ∷ classes_in more)) (made ∙ ap (λ xs. (first.0, set_of (map (λ (o : KeyedPosition). o.1) xs))) is_run)
-      ∙ ap (λ xs. map class_pair done ++ ((first.0, set_of (map (λ (o : KeyedPosition). o.1) (take n rest))) ∷ classes_in xs)) is_more
-      ∙ ap (λ cs. map class_pair done ++ cs) (sym h.classes) ∙ so_far,
-  subst Rising (sym is_more) h.rising,
-)
+-- a run counted from the end: one outcome more, and where it is over
+pub run_more : (key : Key) (os : List KeyedPosition) (n : ℕ) (o : KeyedPosition) → n < length os → o ≡ get_or os (length os - 1 - n) o → same key_lt o.0 key ≡ true →
+    run_length key (drop n (reverse os)) ≡ suc (run_length key (drop (n + 1) (reverse os)))
+run_more key os n o within here alike = ap (run_length key) (from_end os n o within here) ∙ cond-true (same key_lt o.0 key) _ _ alike
+
+pub run_over : (key : Key) (os : List KeyedPosition) (n : ℕ) (o : KeyedPosition) → n < length os → o ≡ get_or os (length os - 1 - n) o → same key_lt o.0 key ≡ false → run_length key (drop n (reverse os)) ≡ 0
+run_over key os n o within here differs = ap (run_length key) (from_end os n o within here) ∙ cond-false (same key_lt o.0 key) _ _ differs
 
 -- lists with the same members have the same classes
 pub same_classes : (os ps : List KeyedPosition) → ((o : KeyedPosition) → In o os → In o ps) → ((o : KeyedPosition) → In o ps → In o os) → classes_in os ≡ classes_in ps

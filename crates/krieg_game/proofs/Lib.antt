@@ -7,6 +7,7 @@ pub mod Starting
 pub mod Theorems
 pub mod WordNumbers
 pub mod PackedOutcomes
+pub mod Popping
 pub mod Cutting
 pub mod Classed
 pub mod OutcomeSets

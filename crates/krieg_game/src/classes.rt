@@ -1,4 +1,5 @@
-ghost use Rattle.std.specs.Prelude.{◌≡◌, ◌++◌, ◌∷◌, [], ◌≤◌, map, length, vec_len, IfOk, OnOk};
+ghost use Rattle.std.specs.Prelude.{◌≡◌, ◌+◌, ◌++◌, ◌∷◌, [], ◌<◌, ◌≤◌, map, take, drop, reverse, length, vec_len, IfNone, IfOk, OnOk};
+ghost use Rattle.std.specs.Option.{option_to_list};
 ghost use Rattle.krieg_board.specs.Pos.{Pos};
 ghost use Rattle.krieg_moves.specs.Moves as list;
 ghost use Rattle.krieg_pack.specs.Members.{set_of};
@@ -12,7 +13,7 @@ ghost use Rattle.krieg_game.specs.Runs.{Rising};
 use crate::outcome::Outcome;
 use krieg_board::{Move, NoMemory, Position};
 use krieg_checks::Kinds;
-use krieg_pack::{Belief, pack};
+use krieg_pack::{Belief, Packed, pack};
 use krieg_words::{Dialect, End, Took, Words, make_move, opening, told};
 use std::alloc::Global;
 
@@ -88,54 +89,95 @@ pub fn trim_outcomes(outcomes: &mut Vec<Outcome>, limit: usize) -> usize
     limit.max(outcomes.len().saturating_mul(2))
 }
 
-/// How many outcomes at the head have the key of the first one.
-fn run_length(first: &Outcome, outcomes: &[Outcome]) -> usize
-    ensures value { result ≡ runs.run_length first.now.0 outcomes.now }
+/// So many outcomes are taken off the end between two times that their room is given back. They fill 3 MB: so it is
+/// done seldom enough to cost next to nothing, and little is held for outcomes that are no longer there.
+const OUTCOMES_TO_FREE: usize = 65_536;
+
+/// Takes the last outcome off. Now and then the room of those that were taken off is given back.
+fn pop_outcome(outcomes: &mut Vec<Outcome>) -> Outcome
+    requires { 0 < vec_len outcomes.old }
+    ensures { outcomes.old.items ≡ outcomes.new.items ++ result ∷ [] }
+{
+    let last = outcomes.pop().unwrap();
+    if outcomes.len() % OUTCOMES_TO_FREE == 0 {
+        outcomes.shrink_to_fit();
+    }
+    last
+}
+
+/// Takes so many outcomes off the end: their positions, that of the last one first.
+fn pop_positions(
+    alloc: Global,
+    count: usize,
+    outcomes: &mut Vec<Outcome>,
+) -> Result<Vec<Packed>, NoMemory>
+    requires { count ≤ vec_len outcomes.old }
+    ensures taken { IfOk result (λ v. v.items ≡ map (λ (o : KeyedPosition). o.1) (take count (reverse outcomes.old.items))) }
+    ensures left { OnOk result (reverse outcomes.new.items ≡ drop count (reverse outcomes.old.items)) }
+{
+    let mut positions = Vec::with_capacity(alloc, count)?;
+    for _ in 0..count {
+        positions.push(pop_outcome(outcomes).after())?;
+    }
+    Ok(positions)
+}
+
+/// How many outcomes at the end have the key of the last one.
+fn run_length(last: &Outcome, outcomes: &[Outcome]) -> usize
+    ensures value { result ≡ runs.run_length last.now.0 (reverse outcomes.now) }
     ensures within { result ≤ length outcomes.now }
 {
     let mut n = 0;
-    while n < outcomes.len() && outcomes[n].has_key_of(first) {
+    while n < outcomes.len() && outcomes[outcomes.len() - 1 - n].has_key_of(last) {
         n += 1;
     }
     n
 }
 
-/// The class of the outcomes of one key.
-fn class_of(alloc: Global, first: &Outcome, run: &[Outcome]) -> Result<Class, NoMemory>
-    ensures { IfOk result (λ c. class_pair c ≡ (first.now.0, set_of (map (λ (o : KeyedPosition). o.1) run.now))) }
+/// Takes the outcomes of the last one's key off the end: their class, if there are any. From the last one to the
+/// first they stand in the order of their keys, so this is the class that comes first.
+fn pop_class(alloc: Global, outcomes: &mut Vec<Outcome>) -> Result<Option<Class>, NoMemory>
+    requires { Rising (reverse outcomes.old.items) }
+    ensures classes { IfOk result (λ c. classes_in (reverse outcomes.old.items) ≡ map class_pair (option_to_list c) ++ classes_in (reverse outcomes.new.items)) }
+    ensures rising { OnOk result (Rising (reverse outcomes.new.items)) }
+    ensures fewer { IfOk result (λ c. length outcomes.new.items + length (option_to_list c) ≤ length outcomes.old.items) }
+    ensures none { IfOk result (λ c. IfNone c (outcomes.new.items ≡ [])) }
 {
-    let mut positions = Vec::with_capacity(alloc, run.len())?;
-    for outcome in run {
-        positions.push(outcome.after())?;
-    }
-    Ok(Class {
-        own: first.own(),
-        reply: first.reply(),
+    let last = match outcomes.last() {
+        Some(last) => *last,
+        None => return Ok(None),
+    };
+    let count = run_length(&last, outcomes.as_slice());
+    let positions = pop_positions(alloc, count, outcomes)?;
+    Ok(Some(Class {
+        own: last.own(),
+        reply: last.reply(),
         belief: Belief::from_packed(positions),
-    })
+    }))
 }
 
-/// A class for each key, of outcomes that stand in the order of their keys.
-fn cut(alloc: Global, outcomes: &[Outcome]) -> Result<Vec<Class>, NoMemory>
-    requires { Rising outcomes.now }
-    ensures { IfOk result (λ v. map class_pair v.items ≡ classes_in outcomes.now) }
+/// A class for each key, of outcomes that stand in the order of their keys from the last one to the first. They are
+/// taken off the end as the classes are made, so that not all of both are held at one time.
+fn cut(alloc: Global, outcomes: Vec<Outcome>) -> Result<Vec<Class>, NoMemory>
+    requires { Rising (reverse outcomes.items) }
+    ensures { IfOk result (λ v. map class_pair v.items ≡ classes_in (reverse outcomes.items)) }
 {
     let mut classes = Vec::new(alloc);
     let mut rest = outcomes;
-    while let Some(first) = rest.first() {
-        let (run, more) = rest.split_at(run_length(first, rest));
-        classes.push(class_of(alloc, first, run)?)?;
-        rest = more;
+    while let Some(class) = pop_class(alloc, &mut rest)? {
+        classes.push(class)?;
     }
     Ok(classes)
 }
 
 /// The classes of the outcomes, which may come in any order and more than once: for each key that occurs the set of
-/// its positions, in the order of keys. The outcomes are sorted once, in their place.
+/// its positions, in the order of keys. The outcomes are sorted once, in their place, and each goes as its position
+/// comes into a class: what all take at one time is the room of the outcomes, and little more.
 pub fn classes_of(alloc: Global, outcomes: Vec<Outcome>) -> Result<Vec<Class>, NoMemory>
     ensures { IfOk result (λ v. map class_pair v.items ≡ classes_in outcomes.items) }
 {
     let mut sorted = outcomes;
     sorted.sort_unstable();
-    cut(alloc, sorted.as_slice())
+    sorted.reverse();
+    cut(alloc, sorted)
 }
