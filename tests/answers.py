@@ -40,6 +40,8 @@ STATUSES = {
     "solve": {0, 3, 4, 5, 6, 7, 8, 14},
     "check": {0, 3, 4, 8, 13},
     "play": {0, 3, 4, 12},
+    "make": {0},
+    "job": {0},
 }
 
 # What an answer begins with.
@@ -49,6 +51,8 @@ ANSWERS = {
     "solve": rb"krieg plan [12]\n|none [1-6]\n$",
     "check": rb"mates [1-9][0-9]*\n$",
     "play": rb"krieg session 1\n",
+    "make": rb"krieg (?:sheet|session) 1\n",
+    "job": rb"listed [1-9][0-9]*\n",
 }
 
 # The status is None where the run took too long, and negative where a signal ended it.
