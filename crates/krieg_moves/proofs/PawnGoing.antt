@@ -21,9 +21,13 @@ use Rattle.krieg_board.proofs.MenLemmas.{same_side_self}
 use Rattle.krieg_moves.specs.After.{is_marked, is_en_passant, crossed}
 use Rattle.krieg_moves.specs.Legal.{is_legal, is_candidate, is_move_of_kind, is_plain, is_step, is_double_step, is_pawn_move, has_promotion}
 use Rattle.krieg_moves.specs.Moves.{plain_move, promotes, can_go}
-use Rattle.krieg_moves.specs.Guarding.{is_answered}
+use Rattle.krieg_moves.specs.Guarding.{is_answered, IsGuard}
+use Rattle.krieg_moves.specs.declared.guard.Guard.{Guard}
+use Rattle.krieg_board.specs.Sets.{has}
+use Rattle.krieg_rays.specs.Pinned.{is_pinned}
+use Rattle.krieg_moves.proofs.Answering.{unpinned_answered}
 use Rattle.krieg_moves.specs.Targets.{is_capture}
-use Rattle.krieg_moves.proofs.Shapes.{attack_reaches}
+use Rattle.krieg_moves.proofs.Shapes.{attack_reaches, found_man}
 use Rattle.krieg_moves.proofs.Pawns.{marked_crossed, other_file}
 use Rattle.krieg_moves.proofs.MoveLists.{any_plain, any_promotions}
 use Rattle.krieg_moves.proofs.Movers.{not_enemy}
@@ -285,3 +289,12 @@ captures_go p f t k man valid hf ht hk king is own pawn = by_file (file_of f == 
         sym (ap (λ x. (x && answered) || is_capture p f k t) (step_off_file p f t e))
         ∙ forward_or_captures p f t k man valid hf ht hk king is own pawn
         ∙ sym (ap (λ x. can_go p f t && not x) e ∙ and-true (can_go p f t))
+
+-- where a pawn arrives that is not pinned, the checks on its king are answered as for any man who is not
+pub free_answered : (p : Pos) (g : Guard) (f t : ℕ) → IsValid p → IsGuard p g → f < 64 → t < 64 → is_man p.side Pawn (man_at p.board f) ≡ true → is_pinned p.board p.side f ≡ false →
+    has g.answers t ≡ is_answered (set p.board f None) (other p.side) g.king t
+free_answered p g f t valid guard hf ht pawn free =
+    let (man, is, own, kind) = found_man p.side Pawn (man_at p.board f) pawn in
+    let mine : is_of p.side (man_at p.board f) ≡ true = ap (is_of p.side) is ∙ ap (λ s. is_same_side s p.side) own ∙ same_side_self p.side in
+    guard.answers t ht
+    ∙ sym (unpinned_answered p.board p.side g.king f t (facts p valid).squares guard.inside hf guard.king mine (not_enemy p.side (man_at p.board f) mine) free)

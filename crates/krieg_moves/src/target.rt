@@ -1,4 +1,4 @@
-ghost use Rattle.std.specs.Prelude.{◌≡◌, ◌<◌, ◌&&◌, ◌||◌, ◌==◌, ℕ, Some, None, true, false, not, is_some};
+ghost use Rattle.std.specs.Prelude.{◌≡◌, ◌<◌, ◌&&◌, ◌||◌, ◌==◌, ℕ, Some, None, true, false, not, is_some, IsTrue};
 ghost use Rattle.krieg_board.specs.Board.{man_at, is_man};
 ghost use Rattle.krieg_board.specs.Attacks as attack;
 ghost use Rattle.krieg_board.specs.Sets as sets;
@@ -223,6 +223,29 @@ fn pawn_targets(p: &Position, guard: &Guard, from: Square, man: Man) -> u64
     forward & guard.answers_from(p, from.number()) | captures
 }
 
+/// Whether no move of this pawn needs to be made to see that the king is safe: it is not pinned, and no square may be
+/// captured in passing.
+fn is_free(p: &Position, guard: &Guard, from: Square) -> bool
+    requires { IsGuard p.now guard.now }
+    ensures free { IsTrue result → is_pinned p.now.board p.now.side from ≡ false }
+    ensures unmarked { IsTrue result → p.now.mark ≡ None }
+{
+    p.mark().is_none() && !has(guard.pinned, from.number())
+}
+
+/// Where a free pawn may capture: an enemy man that it attacks, so that the checks on its king are answered.
+fn free_captures(p: &Position, guard: &Guard, from: Square) -> u64
+    requires guard { IsGuard p.now guard.now }
+    requires pawn { is_man p.now.side Pawn (man_at p.now.board from) ≡ true }
+    requires free { is_pinned p.now.board p.now.side from ≡ false }
+    requires unmarked { p.now.mark ≡ None }
+    ensures { (t : ℕ) → t < 64 → sets.has result t ≡ targets.is_capture p.now from guard.now.king t }
+{
+    let side = p.side();
+    let by = side.other();
+    pawn_attacks(side, from.number()) & p.bits().men_of(by) & guard.answers
+}
+
 /// Where the pawn of the side to move on that square may capture: it goes to another file, plainly or
 /// with a promotion.
 pub fn pawn_captures(p: &Position, guard: &Guard, from: Square) -> u64
@@ -230,15 +253,15 @@ pub fn pawn_captures(p: &Position, guard: &Guard, from: Square) -> u64
     requires pawn { is_man p.now.side Pawn (man_at p.now.board from) ≡ true }
     ensures { (t : ℕ) → t < 64 → sets.has result t ≡ (can_go p.now from t && not (squares.file_of from == squares.file_of t)) }
 {
-    let man = Man {
-        side: p.side(),
-        kind: Kind::Pawn,
-    };
-    captures(p, guard, from, man)
+    let side = p.side();
+    if is_free(p, guard, from) {
+        return free_captures(p, guard, from);
+    }
+    let kind = Kind::Pawn;
+    captures(p, guard, from, Man { side, kind })
 }
 
-/// Where a pawn of the side to move may go that is not pinned, where none may capture in passing: forward, or to an enemy
-/// man that it attacks, so that the checks on its king are answered. No move is made to see it.
+/// Where a free pawn may go: forward, or to capture, so that the checks on its king are answered.
 fn targets_of_free_pawn(p: &Position, guard: &Guard, from: Square) -> u64
     requires guard { IsGuard p.now guard.now }
     requires pawn { is_man p.now.side Pawn (man_at p.now.board from) ≡ true }
@@ -246,12 +269,9 @@ fn targets_of_free_pawn(p: &Position, guard: &Guard, from: Square) -> u64
     requires unmarked { p.now.mark ≡ None }
     ensures { (t : ℕ) → t < 64 → sets.has result t ≡ can_go p.now from t }
 {
-    let bits = p.bits();
-    let side = p.side();
-    let by = side.other();
-    let forward = pawn_moves(bits, side, from);
-    let captures = pawn_attacks(side, from.number()) & bits.men_of(by);
-    (forward | captures) & guard.answers
+    let _from = from.number();
+    let forward = pawn_moves(p.bits(), p.side(), from);
+    forward & guard.answers | free_captures(p, guard, from)
 }
 
 /// The same for any pawn of the side to move.
@@ -273,10 +293,10 @@ pub(crate) fn targets_of_pawn(p: &Position, guard: &Guard, from: Square) -> u64
     requires pawn { is_man p.now.side Pawn (man_at p.now.board from) ≡ true }
     ensures { (t : ℕ) → t < 64 → sets.has result t ≡ can_go p.now from t }
 {
-    if p.mark().is_some() || has(guard.pinned, from.number()) {
-        return targets_of_any_pawn(p, guard, from);
+    if is_free(p, guard, from) {
+        return targets_of_free_pawn(p, guard, from);
     }
-    targets_of_free_pawn(p, guard, from)
+    targets_of_any_pawn(p, guard, from)
 }
 
 fn officer_targets(p: &Position, guard: &Guard, from: Square, man: Man) -> u64
@@ -301,7 +321,7 @@ fn own_targets(p: &Position, guard: &Guard, from: Square, man: Man) -> u64
 {
     match man.kind {
         Kind::King => king_targets(p, from, man),
-        Kind::Pawn => pawn_targets(p, guard, from, man),
+        Kind::Pawn => targets_of_pawn(p, guard, from),
         Kind::Knight | Kind::Bishop | Kind::Rook | Kind::Queen => {
             officer_targets(p, guard, from, man)
         }
