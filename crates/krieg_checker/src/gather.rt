@@ -12,7 +12,7 @@ ghost use Rattle.krieg_checker.specs.Gathering.{IsAdded, IsGathered};
 use crate::stop::{CheckStop, take};
 use krieg_board::{Move, Position, Units};
 use krieg_game::{Outcome, push_outcomes};
-use krieg_moves::{after, in_check, is_legal, legal_moves};
+use krieg_moves::{after_if_legal, in_check, legal_moves};
 use krieg_pack::{Belief, Packed, pack};
 use krieg_words::{Dialect, words_of};
 use std::alloc::Global;
@@ -59,24 +59,25 @@ fn push_replies(
     Ok(())
 }
 
-/// Adds what the legal try makes of one member.
+/// Adds what the legal try, which leads to `q`, makes of one member.
 #[tactic(auto, unfolding(krieg_game::specs::Chess::stalemates, krieg_game::specs::Chess::outcomes))]
 fn add_legal(
     alloc: Global,
     d: Dialect,
     p: &Position,
     mv: &Move,
+    q: &Position,
     parts: &mut Gathered,
     units: &mut Units,
 ) -> Result<(), CheckStop>
-    requires { rule.is_legal p.now mv.now ≡ true }
+    requires legal { rule.is_legal p.now mv.now ≡ true }
+    requires after { q.now ≡ change.after p.now mv.now }
     ensures { Charged result (λ _. IsAdded d parts.old parts.new p.now mv.now) (suc (length (given (chess d) mv.now p.now))) units.old units.new }
 {
-    let q = after(p, *mv);
-    let replies = legal_moves(alloc, &q)?;
+    let replies = legal_moves(alloc, q)?;
     take(units, 1 + replies.len() as u64)?;
-    parts.stale = parts.stale || is_stalemate(&q, replies.as_slice());
-    push_replies(d, p, mv, &q, replies.as_slice(), &mut parts.outcomes)
+    parts.stale = parts.stale || is_stalemate(q, replies.as_slice());
+    push_replies(d, p, mv, q, replies.as_slice(), &mut parts.outcomes)
 }
 
 /// Adds what the try makes of one member, for one unit and one for each reply.
@@ -90,8 +91,8 @@ fn add_member(
 ) -> Result<(), CheckStop>
     ensures { Charged result (λ _. IsAdded d parts.old parts.new p.now mv.now) (suc (length (given (chess d) mv.now p.now))) units.old units.new }
 {
-    if is_legal(p, *mv) {
-        return add_legal(alloc, d, p, mv, parts, units);
+    if let Some(q) = after_if_legal(p, *mv) {
+        return add_legal(alloc, d, p, mv, &q, parts, units);
     }
     take(units, 1)?;
     parts.refused.push(pack(p))?;

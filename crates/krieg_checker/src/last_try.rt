@@ -1,4 +1,5 @@
 ghost use Rattle.std.specs.Prelude.{◌≡◌, true, suc, length};
+ghost use Rattle.krieg_moves.specs.After as change;
 ghost use Rattle.krieg_moves.specs.Legal as rule;
 ghost use Rattle.krieg_moves.specs.Moves as list;
 ghost use Rattle.krieg_checker.specs.Charged.{Charged};
@@ -6,7 +7,7 @@ ghost use Rattle.krieg_checker.specs.Mating.{IsTried, AreTried, replies, looked_
 
 use crate::stop::{CheckStop, take};
 use krieg_board::{Move, Position, Units};
-use krieg_moves::{after, count_moves, in_check, is_legal};
+use krieg_moves::{after_if_legal, count_moves, in_check};
 use krieg_pack::{Belief, Packed, pack};
 use std::alloc::Global;
 
@@ -28,20 +29,21 @@ fn is_mate(q: &Position, count: usize) -> bool
     count == 0 && in_check(q)
 }
 
-/// Tries the legal move in one member.
+/// Tries the legal move in one member, where it leads to `q`.
 fn try_legal(
     p: &Position,
     mv: &Move,
+    q: &Position,
     found: &mut Mating,
     units: &mut Units,
 ) -> Result<(), CheckStop>
-    requires { rule.is_legal p.now mv.now ≡ true }
+    requires legal { rule.is_legal p.now mv.now ≡ true }
+    requires after { q.now ≡ change.after p.now mv.now }
     ensures { Charged result (λ _. IsTried found.old found.new p.now mv.now) (suc (replies mv.now p.now)) units.old units.new }
 {
-    let q = after(p, *mv);
-    let replies = count_moves(&q);
+    let replies = count_moves(q);
     take(units, 1 + replies as u64)?;
-    found.lives = found.lives || !is_mate(&q, replies);
+    found.lives = found.lives || !is_mate(q, replies);
     Ok(())
 }
 
@@ -49,8 +51,8 @@ fn try_legal(
 fn try_in(p: &Position, mv: &Move, found: &mut Mating, units: &mut Units) -> Result<(), CheckStop>
     ensures { Charged result (λ _. IsTried found.old found.new p.now mv.now) (suc (replies mv.now p.now)) units.old units.new }
 {
-    if is_legal(p, *mv) {
-        return try_legal(p, mv, found, units);
+    if let Some(q) = after_if_legal(p, *mv) {
+        return try_legal(p, mv, &q, found, units);
     }
     take(units, 1)?;
     found.refused.push(pack(p))?;

@@ -1,10 +1,10 @@
 -- How many moves a list has: the squares where a man may go, counted as bits, and three more for each promotion.
-use Rattle.std.proofs.Common.{◌≡◌, ℕ, zero, suc, ◌+◌, ◌-◌, ◌*◌, ◌/◌, ◌%◌, ◌^◌, ◌<◌, ◌≤◌, Bool, true, false, not, ◌&&◌, ◌==◌, cond, List, [], length, ◌⊎◌, inl, inr, bit_and, count_ones, refl, sym, ◌∙◌, ap, arith, length-append, mod-eq_of_lt}
+use Rattle.std.proofs.Common.{◌≡◌, ℕ, zero, suc, ◌+◌, ◌-◌, ◌*◌, ◌/◌, ◌%◌, ◌^◌, ◌<◌, ◌≤◌, Bool, true, false, not, ◌&&◌, ◌==◌, cond, List, [], length, ◌⊎◌, inl, inr, count_ones, refl, sym, ◌∙◌, ap, arith, length-append, mod-eq_of_lt}
 use Rattle.std.proofs.Math.Nat.{mod-one}
-use Rattle.std.proofs.Math.Bool.{and-false, and_comm}
+use Rattle.std.proofs.Math.Bool.{and-false}
 use Rattle.std.proofs.lemmas.Bool.{eq-eqb, ne_eqb, cases_lt}
 use Rattle.std.proofs.lemmas.Nat.Bits.{bit_at-zero, bit_at_ones, bit_at_ones_above, bit_at_cat_low, bit_at_cat_high}
-use Rattle.krieg_board.proofs.SetLemmas.{has_and, has_bit, has_no_bit, has_zero}
+use Rattle.krieg_board.proofs.SetLemmas.{has_zero, has_bit, has_no_bit}
 use Rattle.std.proofs.lemmas.List.Filters.{length-filter_both}
 use Rattle.std.specs.List.{filter}
 use Rattle.std.specs.Int.{bit_at}
@@ -12,8 +12,6 @@ use Rattle.krieg_board.specs.declared.men.Move.{Move}
 use Rattle.krieg_board.specs.Pos.{Pos}
 use Rattle.krieg_board.specs.Squares.{gathered, rank_of, last_rank}
 use Rattle.krieg_board.specs.Board.{man_at, is_man, is_of}
-use Rattle.krieg_board.specs.Boards.{is_kind}
-use Rattle.krieg_board.proofs.MenLemmas.{kind_side}
 use Rattle.krieg_board.specs.declared.men.Kind.TheVariants.{Pawn}
 use Rattle.krieg_board.specs.Sets.{has, IsLowest}
 use Rattle.krieg_board.specs.Validity.{IsValid}
@@ -64,12 +62,6 @@ counted_plain p f set valid hf small goes off =
       counted_from p f set 0 valid hf small (omega arith) goes (λ k h.
           has_zero k ∙ sym (ap (λ x. has set k && (x && rank_of k == last_rank p.side)) off ∙ and-false (has set k))),
     )
-
--- a side's men of whom a set has the pawns are its pawns
-pub pawns_of : (p : Pos) (men kind k : ℕ) → has men k ≡ is_of p.side (man_at p.board k) → has kind k ≡ is_kind Pawn (man_at p.board k) →
-    has (bit_and men kind) k ≡ is_man p.side Pawn (man_at p.board k)
-pawns_of p men kind k em ek =
-    has_and men kind k ∙ (λ i. em i && ek i) ∙ and_comm (is_of p.side (man_at p.board k)) (is_kind Pawn (man_at p.board k)) ∙ kind_side Pawn p.side (man_at p.board k)
 
 -- the lists of two sets of squares are together those of a set that has the squares of both, where they share none
 apart_below : {A : Type 0} (g : ℕ → List A) (whole one more n : ℕ) →

@@ -23,3 +23,6 @@ pub mod Going
 pub mod PawnGoing
 pub mod Listing
 pub mod Counting
+pub mod Shifts
+pub mod PawnWays
+pub mod FreePawns

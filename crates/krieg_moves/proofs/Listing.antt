@@ -1,7 +1,6 @@
 -- The legal moves between two squares, by whether a man may go there, and the loops that list them.
 use Rattle.std.proofs.Common.{◌≡◌, ℕ, zero, suc, ◌<◌, ◌^◌, Bool, true, false, not, ◌&&◌, ◌==◌, cond, List, [], ◌∷◌, ◌++◌, length, Ok, Err, refl, sym, ◌∙◌, ap, subst, arith, w64, length-append}
 use Rattle.std.specs.Prelude.{Result, OnErr}
-use Rattle.std.proofs.Math.Bool.{and-true, and-false}
 use Rattle.std.specs.List.{filter, list_any}
 use Rattle.std.specs.Int.{trailing_zeros}
 use Rattle.std.proofs.lemmas.Bool.{and_parts, or_parts}
@@ -18,10 +17,10 @@ use Rattle.krieg_board.specs.Validity.{IsValid}
 use Rattle.krieg_board.proofs.SetLemmas.{lowest}
 use Rattle.krieg_board.proofs.Picked.{picked, picked_zero, picked_step, picked_all}
 use Rattle.krieg_moves.specs.Legal.{is_legal, is_plain}
-use Rattle.krieg_moves.specs.Moves.{plain_move, promotions, moves_between, moves_from, all_moves, promotes, fits, can_go}
+use Rattle.krieg_moves.specs.Moves.{plain_move, promotions, moves_between, moves_from, all_moves, promotes, can_go}
 use Rattle.krieg_moves.proofs.Shapes.{found_man}
 use Rattle.krieg_moves.proofs.Kings.{king_stands}
-use Rattle.krieg_moves.proofs.MoveLists.{any_plain, any_by_filter, filter_plain, filter_promotions, filter_not_own, wrong_promo, no_promotion, moves_from_at, all_moves_at}
+use Rattle.krieg_moves.proofs.MoveLists.{any_plain, any_by_filter, filter_plain, filter_promotions, filter_not_own, moves_from_at, all_moves_at}
 use Rattle.krieg_moves.proofs.PawnGoing.{promoted, go_by_fitting, promotions_alike}
 
 -- each promotion of a pawn that may go to the last rank is legal
@@ -43,28 +42,6 @@ listed_promotions p f t valid hf ht h goes =
 pub listed_plain : (p : Pos) (f t : ℕ) → promotes p f t ≡ false → can_go p f t ≡ true → filter (is_legal p) (moves_between f t) ≡ plain_move f t ∷ []
 unfolding can_go
 listed_plain p f t h goes = filter_plain p f t h ∙ ap (λ x. cond x (plain_move f t ∷ []) []) (sym (any_plain p f t h) ∙ goes)
-
--- a move is legal where its man may go there and its promotion fits
-pub legal_by_go : (p : Pos) (m : Move) → IsValid p → m.from < 64 → m.to < 64 → is_legal p m ≡ (can_go p m.from m.to && fits p m)
-unfolding can_go
-legal_by_go p m valid hf ht = by_promo m.promo (promotes p m.from m.to) refl
-  where
-    by_piece : (r : Promo) (x : Bool) → is_plain r ≡ false → promotes p m.from m.to ≡ x → is_legal p (promoted m.from m.to r) ≡ (can_go p m.from m.to && fits p (promoted m.from m.to r))
-    by_piece r true plain e =
-        promotion_goes p m.from m.to r valid hf ht e plain
-        ∙ sym ((λ i. can_go p m.from m.to && cond (e i) (not (plain i)) (plain i)) ∙ and-true (can_go p m.from m.to))
-    by_piece r false plain e =
-        no_promotion p m.from m.to r e plain ∙ sym ((λ i. can_go p m.from m.to && cond (e i) (not (plain i)) (plain i)) ∙ and-false (can_go p m.from m.to))
-
-    by_promo : (r : Promo) (x : Bool) → promotes p m.from m.to ≡ x → is_legal p (promoted m.from m.to r) ≡ (can_go p m.from m.to && fits p (promoted m.from m.to r))
-    by_promo promo.Plain true e =
-        wrong_promo p (plain_move m.from m.to) true true refl e refl ∙ sym (ap (λ y. can_go p m.from m.to && cond y false true) e ∙ and-false (can_go p m.from m.to))
-    by_promo promo.Plain false e =
-        sym (any_plain p m.from m.to e) ∙ sym (ap (λ y. can_go p m.from m.to && cond y false true) e ∙ and-true (can_go p m.from m.to))
-    by_promo promo.Queen x e = by_piece promo.Queen x refl e
-    by_promo promo.Rook x e = by_piece promo.Rook x refl e
-    by_promo promo.Bishop x e = by_piece promo.Bishop x refl e
-    by_promo promo.Knight x e = by_piece promo.Knight x refl e
 
 none_by_any : (test : Move → Bool) (xs : List Move) → list_any test xs ≡ false → filter test xs ≡ []
 none_by_any test [] h = refl

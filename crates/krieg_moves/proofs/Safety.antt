@@ -1,6 +1,6 @@
 -- Whether a king is safe behind a move, by the board without the man who moves.
-use Rattle.std.proofs.Common.{◌≡◌, ℕ, ◌<◌, Bool, true, false, not, ◌&&◌, refl, sym, ◌∙◌, ap, length, set, subst, ◌≢◌}
-use Rattle.std.proofs.Math.Bool.{not-not}
+use Rattle.std.proofs.Common.{◌≡◌, ℕ, ◌<◌, Bool, true, false, not, ◌&&◌, refl, sym, ◌∙◌, ap, length, set, subst, nat_lt, ◌≢◌}
+use Rattle.std.proofs.Math.Bool.{not-not, and-false}
 use Rattle.std.specs.Prelude.{Option, Some, None}
 use Rattle.std.proofs.lemmas.Bool.{and_from, lt-ltb, both_ways}
 use Rattle.krieg_board.specs.declared.men.Side.{Side}
@@ -36,12 +36,32 @@ mover_is p m man valid is h =
     subst (λ (x : Man). Mover p m x) (same_man (man_at p.board m.from) man' man v.departs.stands is) v
 
 -- the parts of a candidate whose man is known
+pub candidate_of : (p : Pos) (m : Move) (man : Man) → m.from < 64 → m.to < 64 → man_at p.board m.from ≡ Some man →
+    is_candidate p m ≡ (not (is_of p.side (man_at p.board m.to)) && is_move_of (Some man) p m)
+unfolding is_candidate
+candidate_of p m man hf ht is = λ i. lt-ltb m.from 64 hf i && (lt-ltb m.to 64 ht i && (not (is_of p.side (man_at p.board m.to)) && is_move_of (is i) p m))
+
+-- and whose man is of the side to move
 pub candidate_is : (p : Pos) (m : Move) (man : Man) → m.from < 64 → m.to < 64 → man_at p.board m.from ≡ Some man → man.side ≡ p.side →
     is_candidate p m ≡ (not (is_of p.side (man_at p.board m.to)) && is_move_of_kind man.kind p m)
-unfolding is_candidate
 candidate_is p m man hf ht is own =
-    (λ i. lt-ltb m.from 64 hf i && (lt-ltb m.to 64 ht i && (not (is_of p.side (man_at p.board m.to)) && is_move_of (is i) p m)))
+    candidate_of p m man hf ht is
     ∙ ap (λ t. not (is_of p.side (man_at p.board m.to)) && (t && is_move_of_kind man.kind p m)) (ap (λ s. is_same_side s p.side) own ∙ same_side_self p.side)
+
+-- a move that is no candidate is not legal
+pub illegal_off : (p : Pos) (m : Move) → is_candidate p m ≡ false → is_legal p m ≡ false
+unfolding is_legal
+illegal_off p m h = ap (λ x. x && not (is_king_attacked (after p m).board p.side)) h
+
+-- no move departs from where nobody stands
+pub illegal_from_nobody : (p : Pos) (m : Move) → man_at p.board m.from ≡ None → is_legal p m ≡ false
+unfolding is_candidate
+illegal_from_nobody p m none =
+    illegal_off p m
+    ((λ i. nat_lt m.from 64 && (nat_lt m.to 64 && (not (is_of p.side (man_at p.board m.to)) && is_move_of (none i) p m)))
+    ∙ (λ i. nat_lt m.from 64 && (nat_lt m.to 64 && and-false (not (is_of p.side (man_at p.board m.to))) i))
+    ∙ (λ i. nat_lt m.from 64 && and-false (nat_lt m.to 64) i)
+    ∙ and-false (nat_lt m.from 64))
 
 -- a move is legal where it is a candidate and what then decides holds
 pub legal_as : (p : Pos) (m : Move) (c s : Bool) → is_candidate p m ≡ c → (c ≡ true → is_legal p m ≡ s) → is_legal p m ≡ (c && s)

@@ -4,3 +4,4 @@ pub mod Legal
 pub mod Moves
 pub mod Guarding
 pub mod Targets
+pub mod Ways

@@ -9,7 +9,7 @@ use Rattle.krieg_board.specs.declared.men.Kind.TheVariants.{Pawn}
 use Rattle.krieg_board.specs.declared.men.Promo.TheVariants as promo
 use Rattle.krieg_board.specs.declared.men.Move.{Move}
 use Rattle.std.specs.List.{list_any}
-use Rattle.krieg_moves.specs.Legal.{is_legal, is_plain}
+use Rattle.krieg_moves.specs.Legal.{is_legal}
 
 -- the move between two squares that names no promotion
 abbrev pub plain_move : ℕ → ℕ → Move
@@ -30,10 +30,6 @@ moves_between f t = plain_move f t ∷ promotions f t
 -- a pawn of the side to move reaches the last rank
 abbrev pub promotes : Pos → ℕ → ℕ → Bool
 promotes p f t = is_man p.side Pawn (man_at p.board f) && rank_of t == last_rank p.side
-
--- a promotion is named exactly where a pawn reaches the last rank
-abbrev pub fits : Pos → Move → Bool
-fits p m = if promotes p m.from m.to then not (is_plain m.promo) else is_plain m.promo
 
 -- the man on f may go to t: one of the five moves is legal, the plain one or that with one of the four promotions
 unfoldable pub can_go : Pos → ℕ → ℕ → Bool

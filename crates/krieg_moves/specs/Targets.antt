@@ -1,12 +1,13 @@
 -- Where a king steps, and which men have but one way to go.
-use Rattle.std.specs.Prelude.{ℕ, Bool, true, false, Some, None, ◌&&◌, ◌||◌, not, slice_set}
+use Rattle.std.specs.Prelude.{ℕ, Bool, ◌≡◌, true, false, Some, None, ◌&&◌, ◌||◌, not, slice_set}
 use Rattle.krieg_board.specs.Men.{other}
 use Rattle.krieg_board.specs.Pos.{Pos}
-use Rattle.krieg_board.specs.Board.{man_at, is_of}
+use Rattle.krieg_board.specs.Board.{man_at, is_of, is_man}
 use Rattle.krieg_board.specs.Attacks.{attacks, man_attacks, is_attacked}
 use Rattle.krieg_board.specs.declared.men.Kind.{Kind}
 use Rattle.krieg_board.specs.declared.men.Kind.TheVariants.{Pawn, Knight, Bishop, Rook, Queen, King}
 use Rattle.krieg_board.specs.declared.men.Man.{Man}
+use Rattle.krieg_rays.specs.Pinned.{is_pinned}
 use Rattle.krieg_moves.specs.After.{is_marked}
 use Rattle.krieg_moves.specs.Legal.{is_legal}
 use Rattle.krieg_moves.specs.Moves.{plain_move}
@@ -31,3 +32,9 @@ abbrev pub is_capture : Pos → ℕ → ℕ → ℕ → Bool
 is_capture p f k t =
     ((attacks p.board f t && is_of (other p.side) (man_at p.board t)) && is_answered (slice_set p.board f None) (other p.side) k t)
     || (is_marked p.mark t && (attacks p.board f t && is_legal p (plain_move f t)))
+
+-- a pawn of the side to move on k of which no move needs to be made to see that its king is safe: it is not pinned, and nothing may be captured in passing
+pub record IsFreePawn (p : Pos) (k : ℕ) : Type 0 where
+  pub pawn : is_man p.side Pawn (man_at p.board k) ≡ true
+  pub free : is_pinned p.board p.side k ≡ false
+  pub unmarked : p.mark ≡ None

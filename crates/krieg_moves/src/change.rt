@@ -1,4 +1,5 @@
-ghost use Rattle.std.specs.Prelude.{◌≡◌, ◌<◌, ℕ, IsTrue};
+ghost use Rattle.std.specs.Prelude.{◌≡◌, ◌<◌, ℕ, IsTrue, Some};
+ghost use Rattle.krieg_board.specs.Board.{man_at};
 ghost use Rattle.krieg_board.specs.Validity.{IsValid};
 ghost use Rattle.krieg_moves.specs.After as spec;
 ghost use Rattle.krieg_moves.specs.Legal.{is_legal};
@@ -153,6 +154,23 @@ fn mark_after(man: Man, mv: &Move) -> Option<Square>
     }
 }
 
+/// The position after the legal move of this man, which leaves the board `next`.
+#[tactic(auto, unfolding(crate::specs::After::after))]
+pub(crate) fn position_after(p: &Position, man: Man, mv: &Move, next: &Bits) -> Position
+    requires man { man_at p.now.board mv.now.from ≡ Some man }
+    requires legal { IsTrue (is_legal p.now mv.now) }
+    requires next { next.now ≡ spec.board_after p.now.board p.now.mark man mv.now }
+    ensures value { result ≡ spec.after p.now mv.now }
+    ensures valid { IsValid result }
+{
+    Position::from_valid(
+        next,
+        p.side().other(),
+        rights_after(p.rights(), man, mv),
+        mark_after(man, mv),
+    )
+}
+
 /// The position after a legal move (FIDE Laws, articles 3.7 and 3.8): the man or the man to which it
 /// is promoted has moved, what it captured is gone, in castling the rook stands beside the king, the
 /// rights and the mark are those that the move leaves, and the other side is to move.
@@ -166,13 +184,8 @@ pub fn after(p: &Position, mv: Move) -> Position
     match p.man_at(mv.from) {
         None => *p,
         Some(man) => {
-            let board = board_after(p.bits(), &p.mark(), man, mv);
-            Position::from_valid(
-                &board,
-                p.side().other(),
-                rights_after(p.rights(), man, mv),
-                mark_after(man, mv),
-            )
+            let next = board_after(p.bits(), &p.mark(), man, mv);
+            position_after(p, man, mv, &next)
         }
     }
 }

@@ -1,15 +1,17 @@
-ghost use Rattle.std.specs.Prelude.{◌≡◌, ◌<◌, ◌≤◌, ◌==◌, ℕ, true, false, filter, length};
+ghost use Rattle.std.specs.Prelude.{◌≡◌, ◌<◌, ◌≤◌, ◌&&◌, ◌==◌, ℕ, true, filter, length};
 ghost use Rattle.krieg_board.specs.Board.{man_at, is_man};
 ghost use Rattle.krieg_board.specs.Sets as sets;
+ghost use Rattle.krieg_board.specs.declared.men.Kind.TheVariants.{King};
 ghost use Rattle.krieg_board.specs.Squares as squares;
-ghost use Rattle.krieg_board.specs.declared.men.Kind.TheVariants.{Pawn};
 ghost use Rattle.krieg_moves.specs.Guarding.{IsGuard};
 ghost use Rattle.krieg_moves.specs.Legal as spec;
 ghost use Rattle.krieg_moves.specs.Moves as list;
+ghost use Rattle.krieg_moves.specs.Targets.{IsFreePawn};
 
 use crate::guard::Guard;
-use crate::target::{targets, targets_of_pawn};
-use krieg_board::{Position, Side, Square, know_valid, lowest, without_lowest};
+use crate::target::{own_pawns, targets, targets_of_king};
+use crate::ways::count_ways;
+use krieg_board::{Position, Side, Square, has, know_valid, lowest, without_lowest};
 
 /// The squares of the rank on which a side's pawns are promoted.
 fn last_rank_squares(side: Side) -> u64
@@ -21,60 +23,83 @@ fn last_rank_squares(side: Side) -> u64
     }
 }
 
-/// The number of the legal moves of the pawn on that square: one for each square where it may go, and three more where
-/// it is promoted, since it may become any of four.
-fn count_of_pawn(p: &Position, guard: &Guard, from: Square) -> usize
+/// The pawns of the side to move of which no move needs to be made to see that its king is safe: they are not pinned, and
+/// no square may be captured in passing.
+fn free_pawns(p: &Position, guard: &Guard) -> u64
+    requires { IsGuard p.now guard.now }
+    ensures { (k : ℕ) → k < 64 → sets.has result k ≡ true → IsFreePawn p.now k }
+{
+    if p.mark().is_some() {
+        return 0;
+    }
+    own_pawns(p) & !guard.pinned
+}
+
+/// The number of the legal moves of free pawns: one for each way that they have, and three more where they are promoted,
+/// since a pawn may become any of four.
+fn count_of_free_pawns(p: &Position, guard: &Guard, pawns: u64) -> usize
     requires guard { IsGuard p.now guard.now }
-    requires pawn { is_man p.now.side Pawn (man_at p.now.board from) ≡ true }
+    requires pawns { (k : ℕ) → k < 64 → sets.has pawns k ≡ true → IsFreePawn p.now k }
+    ensures { result ≡ length (list.moves_of p.now pawns) }
+{
+    let bits = p.bits();
+    let side = p.side();
+    let by = side.other();
+    let empty = !bits.occupied();
+    let steps = empty & guard.answers;
+    let captures = bits.men_of(by) & guard.answers;
+    let last = last_rank_squares(side);
+    count_ways(side, pawns, empty, steps, captures)
+        + 3 * count_ways(side, pawns, empty, steps & last, captures & last)
+}
+
+/// Those of the squares where a man goes at which he is promoted.
+fn promoting(p: &Position, from: Square, targets: u64) -> u64
+    ensures { (t : ℕ) → t < 64 → sets.has result t ≡ (sets.has targets t && list.promotes p.now from t) }
+{
+    if has(own_pawns(p), from.number()) {
+        targets & last_rank_squares(p.side())
+    } else {
+        0
+    }
+}
+
+/// The number of the legal moves of the king.
+fn count_of_king(p: &Position, from: Square) -> usize
+    requires { is_man p.now.side King (man_at p.now.board from) ≡ true }
     ensures { result ≡ length (filter (spec.is_legal p.now) (list.moves_from from)) }
 {
     know_valid(p);
     let _from = from.number();
-    let targets = targets_of_pawn(p, guard, from);
-    let promoting = targets & last_rank_squares(p.side());
+    targets_of_king(p, from).count_ones() as usize
+}
+
+/// The number of the legal moves from a square: one for each square where its man may go, and three more where he is
+/// promoted.
+fn count_from(p: &Position, guard: &Guard, from: Square) -> usize
+    requires { IsGuard p.now guard.now }
+    ensures { result ≡ length (filter (spec.is_legal p.now) (list.moves_from from)) }
+{
+    know_valid(p);
+    if from.number() == guard.king {
+        return count_of_king(p, from);
+    }
+    let targets = targets(p, guard, from);
+    let promoting = promoting(p, from, targets);
     targets.count_ones() as usize + 3 * promoting.count_ones() as usize
 }
 
-/// The number of the legal moves from a square where no pawn of the side to move stands: one for each square where the
-/// man may go.
-fn count_of_officer(p: &Position, guard: &Guard, from: Square) -> usize
-    requires guard { IsGuard p.now guard.now }
-    requires officer { is_man p.now.side Pawn (man_at p.now.board from) ≡ false }
-    ensures { result ≡ length (filter (spec.is_legal p.now) (list.moves_from from)) }
-{
-    know_valid(p);
-    let _from = from.number();
-    targets(p, guard, from).count_ones() as usize
-}
-
-/// The number of the legal moves of these pawns.
-fn count_of_pawns(p: &Position, guard: &Guard, pawns: u64) -> usize
-    requires guard { IsGuard p.now guard.now }
-    requires pawns { (k : ℕ) → k < 64 → sets.has pawns k ≡ true → is_man p.now.side Pawn (man_at p.now.board k) ≡ true }
-    ensures { result ≡ length (list.moves_of p.now pawns) }
+/// The number of the legal moves of the men on these squares, by a look at each of them.
+fn count_one_by_one(p: &Position, guard: &Guard, men: u64) -> usize
+    requires { IsGuard p.now guard.now }
+    ensures { result ≡ length (list.moves_of p.now men) }
 {
     let mut count = 0usize;
-    let mut rest = pawns;
+    let mut rest = men;
     while rest != 0 {
         let from = lowest(rest);
         rest = without_lowest(rest);
-        count += count_of_pawn(p, guard, from);
-    }
-    count
-}
-
-/// The number of the legal moves from these squares, on which no pawn of the side to move stands.
-fn count_of_officers(p: &Position, guard: &Guard, officers: u64) -> usize
-    requires guard { IsGuard p.now guard.now }
-    requires officers { (k : ℕ) → k < 64 → sets.has officers k ≡ true → is_man p.now.side Pawn (man_at p.now.board k) ≡ false }
-    ensures { result ≡ length (list.moves_of p.now officers) }
-{
-    let mut count = 0usize;
-    let mut rest = officers;
-    while rest != 0 {
-        let from = lowest(rest);
-        rest = without_lowest(rest);
-        count += count_of_officer(p, guard, from);
+        count += count_from(p, guard, from);
     }
     count
 }
@@ -87,7 +112,7 @@ pub fn count_moves(p: &Position) -> usize
 {
     let guard = &Guard::of(p);
     let men = p.bits().men_of(p.side());
-    let pawns = men & p.bits().sets().pawns;
-    let officers = men & !pawns;
-    count_of_pawns(p, guard, pawns) + count_of_officers(p, guard, officers)
+    let free = free_pawns(p, guard);
+    let others = men & !free;
+    count_of_free_pawns(p, guard, free) + count_one_by_one(p, guard, others)
 }

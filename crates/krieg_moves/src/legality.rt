@@ -1,35 +1,63 @@
-ghost use Rattle.std.specs.Prelude.{◌≡◌};
-ghost use Rattle.krieg_moves.specs.Guarding.{IsGuard};
+ghost use Rattle.std.specs.Prelude.{◌≡◌, true, false, Some, IfSome, IfNone};
+ghost use Rattle.krieg_board.specs.Board.{man_at};
+ghost use Rattle.krieg_moves.specs.After as change;
 ghost use Rattle.krieg_moves.specs.Legal as spec;
-ghost use Rattle.krieg_moves.specs.Moves as list;
 
-use crate::guard::Guard;
-use crate::target::targets;
-use krieg_board::{
-    Kind, Move, Position, Promo, Square, has, is_man, know_squares, know_valid, last_rank, rank_of,
-};
+use crate::candidate::is_candidate;
+use crate::change::{board_after, position_after};
+use krieg_board::{Bits, Man, Move, Position, king_of};
+use krieg_rays::is_attacked;
 
-fn is_plain(promo: Promo) -> bool
-    ensures { result ≡ spec.is_plain promo }
+/// Whether the king of the side to move is safe on the board after a candidate, the move of this man: then it is legal.
+fn is_king_safe(p: &Position, man: Man, mv: &Move, next: &Bits) -> bool
+    requires man { man_at p.now.board mv.now.from ≡ Some man }
+    requires candidate { spec.is_candidate p.now mv.now ≡ true }
+    requires next { next.now ≡ change.board_after p.now.board p.now.mark man mv.now }
+    ensures { result ≡ spec.is_legal p.now mv.now }
 {
-    matches!(promo, Promo::Plain)
+    let side = p.side();
+    let by = side.other();
+    let king = king_of(next, side);
+    !is_attacked(next, king, by)
 }
 
-/// Whether a pawn of the side to move would be promoted by going there (FIDE Laws, article 3.7.5.1).
-pub(crate) fn promotes(p: &Position, from: Square, to: Square) -> bool
-    ensures { result ≡ list.promotes p.now from to }
+/// Whether he is safe behind the candidate, by making it.
+pub(crate) fn leaves_king_safe(p: &Position, man: Man, mv: &Move) -> bool
+    requires man { man_at p.now.board mv.now.from ≡ Some man }
+    requires candidate { spec.is_candidate p.now mv.now ≡ true }
+    ensures { result ≡ spec.is_legal p.now mv.now }
 {
-    is_man(p.side(), Kind::Pawn, p.man_at(from)) && rank_of(to.number()) == last_rank(p.side())
+    let next = board_after(p.bits(), &p.mark(), man, mv);
+    is_king_safe(p, man, mv, &next)
 }
 
-/// Whether the move names a promotion exactly where a pawn reaches the last rank.
-fn fits(p: &Position, mv: &Move) -> bool
-    ensures { result ≡ list.fits p.now mv.now }
+/// The position after the move of this man, where it is legal.
+fn after_if_legal_by(p: &Position, man: Man, mv: &Move) -> Option<Position>
+    requires { man_at p.now.board mv.now.from ≡ Some man }
+    ensures legal { IfSome result (λ q. spec.is_legal p.now mv.now ≡ true) }
+    ensures position { IfSome result (λ q. q ≡ change.after p.now mv.now) }
+    ensures illegal { IfNone result (spec.is_legal p.now mv.now ≡ false) }
 {
-    if promotes(p, mv.from, mv.to) {
-        !is_plain(mv.promo)
-    } else {
-        is_plain(mv.promo)
+    if !is_candidate(p, man, mv) {
+        return None;
+    }
+    let next = board_after(p.bits(), &p.mark(), man, mv);
+    if !is_king_safe(p, man, mv, &next) {
+        return None;
+    }
+    Some(position_after(p, man, mv, &next))
+}
+
+/// The position after the move, where it is legal; none, where it is not. The move is made once, and on the board
+/// after it the mover's king is looked at.
+pub fn after_if_legal(p: &Position, mv: Move) -> Option<Position>
+    ensures legal { IfSome result (λ q. spec.is_legal p.now mv ≡ true) }
+    ensures position { IfSome result (λ q. q ≡ change.after p.now mv) }
+    ensures illegal { IfNone result (spec.is_legal p.now mv ≡ false) }
+{
+    match p.man_at(mv.from) {
+        None => None,
+        Some(man) => after_if_legal_by(p, man, &mv),
     }
 }
 
@@ -39,16 +67,5 @@ fn fits(p: &Position, mv: &Move) -> bool
 pub fn is_legal(p: &Position, mv: Move) -> bool
     ensures { result ≡ spec.is_legal p.now mv }
 {
-    is_legal_by(p, &Guard::of(p), &mv)
-}
-
-/// The same, by a caller that has the guard.
-fn is_legal_by(p: &Position, guard: &Guard, mv: &Move) -> bool
-    requires { IsGuard p.now guard.now }
-    ensures { result ≡ spec.is_legal p.now mv.now }
-{
-    know_valid(p);
-    know_squares(mv);
-    let squares = targets(p, guard, mv.from);
-    has(squares, mv.to.number()) && fits(p, mv)
+    after_if_legal(p, mv).is_some()
 }

@@ -17,6 +17,7 @@
 //! ```
 #![tactic(auto)]
 
+mod candidate;
 mod change;
 mod count;
 mod ends;
@@ -26,13 +27,14 @@ mod list;
 mod target;
 #[cfg(test)]
 mod tests;
+mod ways;
 mod wing;
 
 pub use change::{after, is_en_passant, passed_square};
 pub use count::count_moves;
 pub use ends::{has_move, has_move_by, in_check, is_mate, is_stalemate};
 pub use guard::Guard;
-pub use legality::is_legal;
+pub use legality::{after_if_legal, is_legal};
 pub use list::legal_moves;
-pub use target::{pawn_captures, targets};
+pub use target::{own_pawns, pawn_captures, targets};
 pub use wing::Wing;

@@ -4,9 +4,11 @@ ghost use Rattle.krieg_moves.specs.Legal as spec;
 ghost use Rattle.krieg_moves.specs.Moves as list;
 
 use crate::guard::Guard;
-use crate::legality::promotes;
 use crate::target::targets;
-use krieg_board::{Move, NoMemory, Position, Promo, Square, know_valid, lowest, without_lowest};
+use krieg_board::{
+    Kind, Move, NoMemory, Position, Promo, Square, is_man, know_valid, last_rank, lowest, rank_of,
+    without_lowest,
+};
 use smallvec::SmallVec;
 use std::alloc::Global;
 
@@ -36,6 +38,13 @@ fn push_promotions(from: Square, to: Square, moves: &mut SmallVec<Move, 64>) -> 
     push(from, to, Promo::Rook, moves)?;
     push(from, to, Promo::Bishop, moves)?;
     push(from, to, Promo::Knight, moves)
+}
+
+/// Whether a pawn of the side to move would be promoted by going there (FIDE Laws, article 3.7.5.1).
+fn promotes(p: &Position, from: Square, to: Square) -> bool
+    ensures { result ≡ list.promotes p.now from to }
+{
+    is_man(p.side(), Kind::Pawn, p.man_at(from)) && rank_of(to.number()) == last_rank(p.side())
 }
 
 /// Adds the legal moves between two squares, where there are any: four promotions where a pawn reaches

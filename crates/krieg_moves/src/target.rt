@@ -4,76 +4,24 @@ ghost use Rattle.krieg_board.specs.Attacks as attack;
 ghost use Rattle.krieg_board.specs.Sets as sets;
 ghost use Rattle.krieg_board.specs.declared.men.Kind.TheVariants.{Pawn, King};
 ghost use Rattle.krieg_board.specs.Squares as squares;
-ghost use Rattle.krieg_rays.specs.Pinned.{is_pinned};
 ghost use Rattle.krieg_moves.specs.After as change;
 ghost use Rattle.krieg_moves.specs.Guarding.{IsGuard};
 ghost use Rattle.krieg_moves.specs.Legal as spec;
 ghost use Rattle.krieg_moves.specs.Moves.{can_go, plain_move};
 ghost use Rattle.krieg_moves.specs.Wings as wings;
 ghost use Rattle.krieg_moves.specs.Targets as targets;
-ghost use Rattle.krieg_moves.specs.Targets.{is_officer};
+ghost use Rattle.krieg_moves.specs.Targets.{is_officer, IsFreePawn};
 
-use crate::change::{board_after, crossed};
+use crate::candidate::can_castle;
+use crate::change::crossed;
 use crate::guard::{Guard, only_if, safe_squares};
-use crate::wing::{Wing, arrival, corner, crossing, king_square};
+use crate::legality::leaves_king_safe;
+use crate::wing::{Wing, arrival, king_square};
 use krieg_board::{
-    Bits, Kind, Man, Move, Position, Promo, Rights, Side, Square, has, is_of, king_of,
-    know_squares, know_valid, pawn_rank, rank_of,
+    Bits, Kind, Man, Move, Position, Promo, Side, Square, has, is_of, know_squares, know_valid,
+    pawn_rank, rank_of,
 };
-use krieg_rays::{attacked_from, between_at, is_attacked, pawn_attacks, pawn_steps};
-
-/// Whether the king of the side to move is safe behind the move of this man, by making it.
-fn leaves_king_safe(p: &Position, man: Man, mv: &Move) -> bool
-    requires man { man_at p.now.board mv.now.from ≡ Some man }
-    requires candidate { spec.is_candidate p.now mv.now ≡ true }
-    ensures { result ≡ not (attack.is_king_attacked (change.board_after p.now.board p.now.mark man mv.now) p.now.side) }
-{
-    let side = p.side();
-    let by = side.other();
-    let next = board_after(p.bits(), &p.mark(), man, mv);
-    let king = king_of(&next, side);
-    !is_attacked(&next, king, by)
-}
-
-/// Whether each square strictly between the two is empty.
-fn is_clear(b: &Bits, from: u8, to: u8) -> bool
-    requires from { from < 64 }
-    requires to { to < 64 }
-    ensures { result ≡ attack.is_clear b.now from to }
-{
-    between_at(from, to) & b.occupied() == 0
-}
-
-fn holds(rights: Rights, side: Side, wing: Wing) -> bool
-    ensures { result ≡ spec.holds rights side wing }
-{
-    match (side, wing) {
-        (Side::White, Wing::Short) => rights.white_short,
-        (Side::White, Wing::Long) => rights.white_long,
-        (Side::Black, Wing::Short) => rights.black_short,
-        (Side::Black, Wing::Long) => rights.black_long,
-    }
-}
-
-fn is_safe(p: &Position, s: u8) -> bool
-    requires { s < 64 }
-    ensures { result ≡ spec.is_safe p.now s }
-{
-    !is_attacked(p.bits(), s, p.side().other())
-}
-
-fn can_castle(wing: Wing, p: &Position, mv: &Move) -> bool
-    ensures { result ≡ spec.can_castle wing p.now mv.now }
-{
-    let side = p.side();
-    mv.from.number() == king_square(side)
-        && mv.to.number() == arrival(wing, side)
-        && holds(p.rights(), side, wing)
-        && is_clear(p.bits(), king_square(side), corner(wing, side))
-        && is_safe(p, king_square(side))
-        && is_safe(p, crossing(wing, side))
-        && is_safe(p, arrival(wing, side))
-}
+use krieg_rays::{attacked_from, king_attacks, pawn_attacks, pawn_steps};
 
 /// Whether the king castles on that wing by this move, and is safe behind it.
 fn castles(wing: Wing, p: &Position, man: Man, mv: &Move) -> bool
@@ -114,12 +62,13 @@ fn castle(p: &Position, from: Square, man: Man, wing: Wing) -> u64
 /// Where the king may step: to squares next to him that hold no man of his side and that no enemy man
 /// attacks once he has left.
 fn king_steps(p: &Position, from: Square, man: Man) -> u64
+    requires { man.kind ≡ King }
     ensures { (t : ℕ) → t < 64 → sets.has result t ≡ targets.is_king_step p.now from man t }
 {
     let bits = p.bits();
     let side = p.side();
     let by = side.other();
-    let squares = attacked_from(bits, man, from.number()) & !bits.men_of(side);
+    let squares = king_attacks(from.number()) & !bits.men_of(side);
     let lifted = bits.with(from.number(), None);
     safe_squares(&lifted, squares, by)
 }
@@ -137,6 +86,18 @@ fn king_targets(p: &Position, from: Square, man: Man) -> u64
     steps | castle(p, from, man, Wing::Short) | castle(p, from, man, Wing::Long)
 }
 
+/// Where the king of the side to move on that square may go.
+pub(crate) fn targets_of_king(p: &Position, from: Square) -> u64
+    requires { is_man p.now.side King (man_at p.now.board from) ≡ true }
+    ensures { (t : ℕ) → t < 64 → sets.has result t ≡ can_go p.now from t }
+{
+    let man = Man {
+        side: p.side(),
+        kind: Kind::King,
+    };
+    king_targets(p, from, man)
+}
+
 /// Whether a man in front of a pawn on the rank where pawns begin keeps it from stepping.
 fn is_blocked(b: &Bits, side: Side, from: u8) -> bool
     requires { from < 64 }
@@ -146,7 +107,7 @@ fn is_blocked(b: &Bits, side: Side, from: u8) -> bool
 }
 
 /// Where a pawn may step: one square forward, or two from the rank where pawns begin, over empty squares.
-fn pawn_moves(b: &Bits, side: Side, from: Square) -> u64
+pub(crate) fn pawn_moves(b: &Bits, side: Side, from: Square) -> u64
     ensures { (t : ℕ) → t < 64 → sets.has result t ≡ (spec.is_step b.now side (plain_move from t) || spec.is_double_step b.now side (plain_move from t)) }
 {
     let from = from.number();
@@ -223,12 +184,21 @@ fn pawn_targets(p: &Position, guard: &Guard, from: Square, man: Man) -> u64
     forward & guard.answers_from(p, from.number()) | captures
 }
 
+/// Where the pawns of the side to move stand.
+pub fn own_pawns(p: &Position) -> u64
+    ensures { (k : ℕ) → k < 64 → sets.has result k ≡ is_man p.now.side Pawn (man_at p.now.board k) }
+{
+    let bits = p.bits();
+    let side = p.side();
+    bits.sets().pawns & bits.men_of(side)
+}
+
 /// Whether no move of this pawn needs to be made to see that the king is safe: it is not pinned, and no square may be
 /// captured in passing.
 fn is_free(p: &Position, guard: &Guard, from: Square) -> bool
-    requires { IsGuard p.now guard.now }
-    ensures free { IsTrue result → is_pinned p.now.board p.now.side from ≡ false }
-    ensures unmarked { IsTrue result → p.now.mark ≡ None }
+    requires guard { IsGuard p.now guard.now }
+    requires pawn { is_man p.now.side Pawn (man_at p.now.board from) ≡ true }
+    ensures { IsTrue result → IsFreePawn p.now from }
 {
     p.mark().is_none() && !has(guard.pinned, from.number())
 }
@@ -236,9 +206,7 @@ fn is_free(p: &Position, guard: &Guard, from: Square) -> bool
 /// Where a free pawn may capture: an enemy man that it attacks, so that the checks on its king are answered.
 fn free_captures(p: &Position, guard: &Guard, from: Square) -> u64
     requires guard { IsGuard p.now guard.now }
-    requires pawn { is_man p.now.side Pawn (man_at p.now.board from) ≡ true }
-    requires free { is_pinned p.now.board p.now.side from ≡ false }
-    requires unmarked { p.now.mark ≡ None }
+    requires free { IsFreePawn p.now from }
     ensures { (t : ℕ) → t < 64 → sets.has result t ≡ targets.is_capture p.now from guard.now.king t }
 {
     let side = p.side();
@@ -264,9 +232,7 @@ pub fn pawn_captures(p: &Position, guard: &Guard, from: Square) -> u64
 /// Where a free pawn may go: forward, or to capture, so that the checks on its king are answered.
 fn targets_of_free_pawn(p: &Position, guard: &Guard, from: Square) -> u64
     requires guard { IsGuard p.now guard.now }
-    requires pawn { is_man p.now.side Pawn (man_at p.now.board from) ≡ true }
-    requires free { is_pinned p.now.board p.now.side from ≡ false }
-    requires unmarked { p.now.mark ≡ None }
+    requires free { IsFreePawn p.now from }
     ensures { (t : ℕ) → t < 64 → sets.has result t ≡ can_go p.now from t }
 {
     let _from = from.number();

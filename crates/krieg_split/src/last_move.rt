@@ -1,4 +1,5 @@
 ghost use Rattle.std.specs.Prelude.{◌≡◌, true, suc, length, None, Some, IfOk, if◌then◌else◌};
+ghost use Rattle.krieg_moves.specs.After as change;
 ghost use Rattle.krieg_moves.specs.Legal as rule;
 ghost use Rattle.krieg_moves.specs.Moves as list;
 ghost use Rattle.krieg_pack.specs.Members.{set_of};
@@ -10,7 +11,7 @@ ghost use Rattle.krieg_split.specs.Mating.{IsTried, AreTried, replies, looked_at
 
 use crate::stop::{SplitStop, take};
 use krieg_board::{Move, Position, Units};
-use krieg_moves::{after, count_moves, in_check, is_legal};
+use krieg_moves::{after_if_legal, count_moves, in_check};
 use krieg_pack::{Belief, Packed, unpack};
 use krieg_words::Dialect;
 use std::alloc::Global;
@@ -33,20 +34,21 @@ fn is_mate(q: &Position, count: usize) -> bool
     count == 0 && in_check(q)
 }
 
-/// Tries the legal move in one member.
+/// Tries the legal move in one member, where it leads to `q`.
 fn try_legal(
     p: &Position,
     mv: &Move,
+    q: &Position,
     found: &mut Mating,
     units: &mut Units,
 ) -> Result<(), SplitStop>
-    requires { rule.is_legal p.now mv.now ≡ true }
+    requires legal { rule.is_legal p.now mv.now ≡ true }
+    requires after { q.now ≡ change.after p.now mv.now }
     ensures { Charged result (λ _. IsTried found.old found.new p.now mv.now) (suc (replies mv.now p.now)) units.old units.new }
 {
-    let q = after(p, *mv);
-    let replies = count_moves(&q);
+    let replies = count_moves(q);
     take(units, 1 + replies as u64)?;
-    found.lives = found.lives || !is_mate(&q, replies);
+    found.lives = found.lives || !is_mate(q, replies);
     Ok(())
 }
 
@@ -60,8 +62,8 @@ fn try_in(
     ensures { Charged result (λ _. IsTried found.old found.new member.now mv.now) (suc (replies mv.now member.now)) units.old units.new }
 {
     let p = unpack(member);
-    if is_legal(&p, *mv) {
-        return try_legal(&p, mv, found, units);
+    if let Some(q) = after_if_legal(&p, *mv) {
+        return try_legal(&p, mv, &q, found, units);
     }
     take(units, 1)?;
     if !found.lives {

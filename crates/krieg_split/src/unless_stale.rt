@@ -10,7 +10,7 @@ ghost use Rattle.krieg_split.specs.Parted.{IsUnlessStale};
 use crate::parts::{Parted, split};
 use crate::stop::{SplitStop, take};
 use krieg_board::{Move, Units};
-use krieg_moves::{after, count_moves, is_legal, is_stalemate};
+use krieg_moves::{after_if_legal, count_moves, is_stalemate};
 use krieg_pack::{Belief, Packed, unpack};
 use krieg_words::Dialect;
 use std::alloc::Global;
@@ -21,7 +21,10 @@ fn is_stale(member: &Packed, mv: &Move) -> bool
     ensures { result ≡ (rule.is_legal member.now mv.now && stalemates member.now mv.now) }
 {
     let p = unpack(member);
-    is_legal(&p, *mv) && is_stalemate(&after(&p, *mv))
+    match after_if_legal(&p, *mv) {
+        None => false,
+        Some(q) => is_stalemate(&q),
+    }
 }
 
 /// Whether it stalemates in one of the members.
@@ -42,10 +45,9 @@ fn count_replies(member: &Packed, mv: &Move) -> usize
     ensures few { result ≤ 20480 }
 {
     let p = unpack(member);
-    if is_legal(&p, *mv) {
-        count_moves(&after(&p, *mv))
-    } else {
-        0
+    match after_if_legal(&p, *mv) {
+        None => 0,
+        Some(q) => count_moves(&q),
     }
 }
 

@@ -1,22 +1,10 @@
-ghost use Rattle.std.specs.Prelude.{◌≡◌, ◌<◌, ◌≤◌, ◌*◌, ◌&&◌, ◌==◌, not, ℕ, true};
-ghost use Rattle.krieg_board.specs.Sets as sets;
-ghost use Rattle.krieg_board.specs.Board.{man_at, is_man};
-ghost use Rattle.krieg_board.specs.declared.men.Kind.TheVariants.{Pawn};
+ghost use Rattle.std.specs.Prelude.{◌≡◌, ◌≤◌, ◌==◌, not};
 ghost use Rattle.krieg_moves.specs.Guarding.{IsGuard};
 ghost use Rattle.krieg_words.specs.Words.{most_tries};
 ghost use Rattle.krieg_words.specs.PawnTries as spec;
 
 use krieg_board::{Position, know_valid, lowest, without_lowest};
-use krieg_moves::{Guard, pawn_captures};
-
-/// Where the pawns of the side to move stand.
-fn own_pawns(p: &Position) -> u64
-    ensures { (k : ℕ) → k < 64 → sets.has result k ≡ is_man p.now.side Pawn (man_at p.now.board k) }
-{
-    let bits = p.bits();
-    let side = p.side();
-    bits.sets().pawns & bits.men_of(side)
-}
+use krieg_moves::{Guard, own_pawns, pawn_captures};
 
 /// How many pawn tries the side to move has, by a caller that has the guard.
 pub(crate) fn count_tries(p: &Position, guard: &Guard) -> u8

@@ -23,13 +23,13 @@ returns c = λ t h.
     let from = c.args.from in
     let attacked = bit_and c.pawn_attacks.result c.men_of.result in
     let below : from < 64 = omega (arith, c.number.ensures.value, c.number.ensures.below) in
-    let (man, is, own, pawn) = found_man p.side Pawn (man_at p.board from) c.requires.pawn in
+    let (man, is, own, pawn) = found_man p.side Pawn (man_at p.board from) c.requires.free.pawn in
     let captured = (attacks p.board from t && is_of (other p.side) (man_at p.board t)) && is_answered (slice_set p.board from None) (other p.side) c.args.guard.now.king t in
     has_and attacked c.args.guard.now.answers t
     ∙ (λ i. (has_and c.pawn_attacks.result c.men_of.result t
     ∙ (λ n. (c.pawn_attacks.ensures t h ∙ (λ k. goes Pawn ((c.side-side.ensures.value ∙ sym own) k) (c.number.ensures.value k) t)
     ∙ pawn_from p.board man from t pawn ∙ sym (attacks_is p from t man is)) n
     && (c.men_of.ensures t h ∙ (λ k. is_of ((c.other-by.ensures ∙ ap other c.side-side.ensures.value) k) (man_at (c.bits.ensures.value k) t))) n)) i
-    && free_answered p c.args.guard.now from t c.side-side.ensures.valid c.requires.guard below h c.requires.pawn c.requires.free i)
+    && free_answered p c.args.guard.now from t c.side-side.ensures.valid c.requires.guard below h c.requires.free.pawn c.requires.free.free i)
     ∙ sym (or-false captured)
-    ∙ ap (λ m. captured || (is_marked m t && (attacks p.board from t && is_legal p (plain_move from t)))) (sym c.requires.unmarked)
+    ∙ ap (λ m. captured || (is_marked m t && (attacks p.board from t && is_legal p (plain_move from t)))) (sym c.requires.free.unmarked)

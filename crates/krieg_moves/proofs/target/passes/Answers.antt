@@ -3,7 +3,6 @@ use Rattle.krieg_board.specs.Attacks.{attacks}
 use Rattle.krieg_board.specs.Sets.{has}
 use Rattle.krieg_moves.specs.Legal.{is_legal}
 use Rattle.krieg_moves.proofs.PawnGoing.{passing_candidate}
-use Rattle.krieg_moves.proofs.Safety.{legal_by_king}
 use Rattle.krieg_moves.proofs.target.passes.Goals as goal
 
 pub leaves_king_safe-requires-clause-candidate : goal.leaves_king_safe-requires-clause-candidate
@@ -14,7 +13,4 @@ leaves_king_safe-requires-clause-candidate c =
 pub returns-then-has : goal.returns-then-has
 returns-then-has c =
     let hits : attacks c.args.p.now.board c.args.mv.now.from c.args.mv.now.to ≡ true = sym (c.requires.attacked c.args.mv.now.to c.know_squares.ensures.to) ∙ sym (c.has.ensures ∙ ap (has c.args.attacked) c.number.ensures.value) ∙ c.if-has.true in
-    legal_by_king c.args.p.now c.args.mv.now c.args.man c.leaves_king_safe.result c.requires.man
-    (passing_candidate c.args.p.now c.args.mv.now c.args.man c.know_valid.ensures c.know_squares.ensures.from c.know_squares.ensures.to c.requires.man c.requires.own c.requires.pawn c.requires.plain c.requires.marked hits)
-    c.leaves_king_safe.ensures
-    ∙ sym (ap (λ x. x && is_legal c.args.p.now c.args.mv.now) hits)
+    c.leaves_king_safe.ensures ∙ sym (ap (λ x. x && is_legal c.args.p.now c.args.mv.now) hits)
