@@ -1,19 +1,12 @@
 -- One member more was tried, where no edge follows.
-use Rattle.std.proofs.Common.{◌≡◌, ◌==◌, suc, ◌+◌, Bool, false, ◌||◌, List, [], ◌∷◌, ◌++◌, length, filter, refl, ap, sym, ◌∙◌, arith}
+use Rattle.std.proofs.Common.{◌≡◌, suc, ◌+◌, Bool, false, ◌||◌, List, [], ◌∷◌, ◌++◌, filter, ap, sym, ◌∙◌, arith}
 use Rattle.std.proofs.lemmas.List.{append-nil}
-use Rattle.std.proofs.lemmas.Bool.{ne_eqb}
 use Rattle.std.specs.List.{list_any}
 use Rattle.krieg_board.specs.Pos.{Pos}
 use Rattle.krieg_board.specs.declared.men.Move.{Move}
-use Rattle.krieg_moves.specs.Moves.{is_nil}
 use Rattle.krieg_checker.specs.Mating.{lives, refuses, replies, looked_at, IsTried, AreTried}
 use Rattle.krieg_checker.specs.declared.last_try.Mating.{Mating}
 use Rattle.krieg_checker.proofs.Gathering.{kept, or_assoc, or_false}
-
--- a list has no entries where they are none to count
-pub none_listed : (xs : List Move) → (length xs == 0) ≡ is_nil xs
-none_listed [] = refl
-none_listed (x ∷ xs) = ne_eqb (length (x ∷ xs)) 0 (λ e. omega arith)
 
 -- what was found, and what the rest adds, is all
 pub record IsLeft (found : Mating) (rest B : List Pos) (t : Move) : Type 0 where

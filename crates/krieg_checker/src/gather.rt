@@ -12,7 +12,7 @@ ghost use Rattle.krieg_checker.specs.Gathering.{IsAdded, IsGathered};
 use crate::stop::{CheckStop, take};
 use krieg_board::{Move, Position, Units};
 use krieg_game::{Outcome, push_outcomes};
-use krieg_moves::{after_if_legal, in_check, legal_moves};
+use krieg_moves::{after_if_legal, is_stalemate_by, legal_moves};
 use krieg_pack::{Belief, Packed, pack};
 use krieg_words::{Dialect, words_of};
 use std::alloc::Global;
@@ -26,15 +26,6 @@ pub(crate) struct Gathered {
     pub stale: bool,
     /// What comes of it in the others.
     pub outcomes: Vec<Outcome>,
-}
-
-/// Whether the moves are none and the side to move is not in check.
-#[tactic(auto, unfolding(krieg_moves::specs::Moves::is_stalemate, krieg_moves::specs::Moves::is_ended))]
-fn is_stalemate(q: &Position, moves: &[Move]) -> bool
-    requires { moves.now ≡ list.moves q.now }
-    ensures { result ≡ list.is_stalemate q.now }
-{
-    moves.is_empty() && !in_check(q)
 }
 
 /// Adds what comes of the legal try that led to `q`: nothing where there is no reply.
@@ -76,7 +67,7 @@ fn add_legal(
 {
     let replies = legal_moves(alloc, q)?;
     take(units, 1 + replies.len() as u64)?;
-    parts.stale = parts.stale || is_stalemate(q, replies.as_slice());
+    parts.stale = parts.stale || is_stalemate_by(q, replies.len());
     push_replies(d, p, mv, q, replies.as_slice(), &mut parts.outcomes)
 }
 

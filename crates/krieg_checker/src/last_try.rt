@@ -7,7 +7,7 @@ ghost use Rattle.krieg_checker.specs.Mating.{IsTried, AreTried, replies, looked_
 
 use crate::stop::{CheckStop, take};
 use krieg_board::{Move, Position, Units};
-use krieg_moves::{after_if_legal, count_moves, in_check};
+use krieg_moves::{after_if_legal, count_moves, is_mate_by};
 use krieg_pack::{Belief, Packed, pack};
 use std::alloc::Global;
 
@@ -18,15 +18,6 @@ pub(crate) struct Mating {
     pub refused: Vec<Packed>,
     /// Whether in one it is legal and does not mate.
     pub lives: bool,
-}
-
-/// Whether there is no move and the side to move is in check.
-#[tactic(auto, using(crate::proofs::Mating::none_listed), unfolding(krieg_moves::specs::Moves::is_mate, krieg_moves::specs::Moves::is_ended))]
-fn is_mate(q: &Position, count: usize) -> bool
-    requires { count ≡ length (list.moves q.now) }
-    ensures { result ≡ list.is_mate q.now }
-{
-    count == 0 && in_check(q)
 }
 
 /// Tries the legal move in one member, where it leads to `q`.
@@ -43,7 +34,7 @@ fn try_legal(
 {
     let replies = count_moves(q);
     take(units, 1 + replies as u64)?;
-    found.lives = found.lives || !is_mate(q, replies);
+    found.lives = found.lives || !is_mate_by(q, replies);
     Ok(())
 }
 

@@ -1,6 +1,6 @@
 -- The loops over the squares end with the whole list, and what they skip is not legal.
-use Rattle.std.proofs.Common.{◌≡◌, ℕ, zero, suc, ◌+◌, ◌<◌, Bool, true, false, not, ◌||◌, cond, List, [], ◌∷◌, ◌++◌, ap, sym, ◌∙◌, refl, inl, inr, arith, add-one}
-use Rattle.std.proofs.lemmas.Bool.{cond-false, false_from_ne_true, not-true, or_right}
+use Rattle.std.proofs.Common.{◌≡◌, ℕ, zero, suc, ◌+◌, ◌<◌, Bool, true, false, not, ◌||◌, ◌==◌, cond, length, List, [], ◌∷◌, ◌++◌, ap, sym, ◌∙◌, refl, inl, inr, arith, add-one}
+use Rattle.std.proofs.lemmas.Bool.{cond-false, false_from_ne_true, ne_eqb, not-true, or_right}
 use Rattle.std.proofs.Math.Bool.{or-false}
 use Rattle.std.specs.Prelude.{◌⊎◌}
 use Rattle.std.specs.List.{list_any, filter, All}
@@ -128,6 +128,11 @@ list_any_gathered_more test g n h k = rw add-one (list_any-append test (gathered
 pub ruleset any_moves = (list_any_gathered_at, list_any_gathered_more, gathered_moves_from, gathered_all_moves, any_not_own)
 
 pub ruleset any_from_moves = (is_nil_filter)
+
+-- a list has no entries where they are none to count
+pub none_listed : (xs : List Move) → (length xs == 0) ≡ is_nil xs
+none_listed [] = refl
+none_listed (x ∷ xs) = ne_eqb (length (x ∷ xs)) 0 (λ e. omega arith)
 
 pub moves_from_at : (test : Move → Bool) (f k : ℕ) → k < 64 → list_any test (moves_between f k) ≡ true → list_any test (moves_from f) ≡ true
 unfolding moves_from

@@ -1,5 +1,5 @@
 ghost use Rattle.krieg_moves.specs.Guarding.{IsGuard};
-ghost use Rattle.std.specs.Prelude.{◌≡◌, not};
+ghost use Rattle.std.specs.Prelude.{◌≡◌, not, length};
 ghost use Rattle.std.specs.List.{list_any};
 ghost use Rattle.krieg_moves.specs.Legal as spec;
 ghost use Rattle.krieg_moves.specs.Moves as list;
@@ -67,4 +67,22 @@ pub fn is_stalemate(p: &Position) -> bool
     ensures { result ≡ list.is_stalemate p.now }
 {
     !in_check(p) && !has_move(p)
+}
+
+/// The same as `is_mate`, by a caller that has counted the legal moves.
+#[tactic(auto, using(crate::proofs::MoveLists::none_listed), unfolding(crate::specs::Moves::is_mate, crate::specs::Moves::is_ended))]
+pub fn is_mate_by(p: &Position, moves: usize) -> bool
+    requires { moves ≡ length (list.moves p.now) }
+    ensures { result ≡ list.is_mate p.now }
+{
+    moves == 0 && in_check(p)
+}
+
+/// The same as `is_stalemate`, by a caller that has counted the legal moves.
+#[tactic(auto, using(crate::proofs::MoveLists::none_listed), unfolding(crate::specs::Moves::is_stalemate, crate::specs::Moves::is_ended))]
+pub fn is_stalemate_by(p: &Position, moves: usize) -> bool
+    requires { moves ≡ length (list.moves p.now) }
+    ensures { result ≡ list.is_stalemate p.now }
+{
+    moves == 0 && !in_check(p)
 }

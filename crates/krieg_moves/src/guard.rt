@@ -97,8 +97,22 @@ impl Guard {
         }
     }
 
+    /// Where a man on that square must arrive to answer the attacks on his king without him.
+    fn answers_without(&self, p: &Position, from: u8) -> u64
+        requires square { from < 64 }
+        requires guard { spec.IsGuard p.now self.now }
+        ensures { (t : ℕ) → t < 64 → sets.has result t ≡ spec.is_answered (slice_set p.now.board from None) (other p.now.side) self.now.king t }
+    {
+        let bits = p.bits();
+        let side = p.side();
+        let by = side.other();
+        let lifted = bits.with(from, None);
+        answers_on(&lifted, self.king, by)
+    }
+
     /// Where the man on that square must arrive so that his king is safe behind the move. Of a man who is
     /// pinned, the attack that he shuts off is to be answered too.
+    #[inline]
     pub(crate) fn answers_from(&self, p: &Position, from: u8) -> u64
         requires square { from < 64 }
         requires guard { spec.IsGuard p.now self.now }
@@ -106,13 +120,10 @@ impl Guard {
         ensures { (t : ℕ) → t < 64 → sets.has result t ≡ spec.is_answered (slice_set p.now.board from None) (other p.now.side) self.now.king t }
     {
         know_valid(p);
-        if !has(self.pinned, from) {
-            return self.answers;
+        if has(self.pinned, from) {
+            self.answers_without(p, from)
+        } else {
+            self.answers
         }
-        let bits = p.bits();
-        let side = p.side();
-        let by = side.other();
-        let lifted = bits.with(from, None);
-        answers_on(&lifted, self.king, by)
     }
 }

@@ -32,7 +32,9 @@ mod wing;
 
 pub use change::{after, is_en_passant, passed_square};
 pub use count::count_moves;
-pub use ends::{has_move, has_move_by, in_check, is_mate, is_stalemate};
+pub use ends::{
+    has_move, has_move_by, in_check, is_mate, is_mate_by, is_stalemate, is_stalemate_by,
+};
 pub use guard::Guard;
 pub use legality::{after_if_legal, is_legal};
 pub use list::legal_moves;

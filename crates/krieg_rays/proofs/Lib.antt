@@ -9,3 +9,4 @@ pub mod Pinning
 pub mod Taking
 pub mod Sniping
 pub mod Kings
+pub mod ByKind

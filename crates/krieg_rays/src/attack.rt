@@ -1,7 +1,9 @@
-ghost use Rattle.std.specs.Prelude.{◌≡◌, ◌<◌, ◌&&◌, ℕ, Some};
+ghost use Rattle.std.specs.Prelude.{◌≡◌, ◌<◌, ◌&&◌, ℕ, true, Some};
 ghost use Rattle.krieg_board.specs.Attacks.{attacks, man_attacks};
 ghost use Rattle.krieg_board.specs.Attacks as spec;
-ghost use Rattle.krieg_board.specs.Board.{man_at, is_of};
+ghost use Rattle.krieg_board.specs.Board.{man_at, is_of, is_man};
+ghost use Rattle.krieg_board.specs.Boards.{is_kind};
+ghost use Rattle.krieg_board.specs.Squares.{some_square};
 ghost use Rattle.krieg_board.specs.Sets.{has};
 
 use crate::leaps::{king_attacks, knight_attacks, pawn_attacks};
@@ -57,27 +59,42 @@ pub fn attacked_from(b: &Bits, man: Man, from: u8) -> u64
     }
 }
 
-/// The squares that the man on that square attacks; none, where nobody stands there.
-fn attacked_by_man(b: &Bits, from: u8) -> u64
-    requires { from < 64 }
-    ensures { (k : ℕ) → k < 64 → has result k ≡ attacks b.now from k }
+/// The squares that these men attack, each of whom is of that side and kind.
+#[inline]
+fn attacked_by_each(b: &Bits, man: Man, men: u64) -> u64
+    requires { (f : ℕ) → f < 64 → has men f ≡ true → man_at b.now f ≡ Some man }
+    ensures { (k : ℕ) → k < 64 → has result k ≡ some_square (λ f. has men f && attacks b.now f k) }
 {
-    match b.man_at(from) {
-        None => 0,
-        Some(man) => attacked_from(b, man, from),
-    }
-}
-
-/// The squares that men of that side attack.
-pub fn attacked_by(b: &Bits, by: Side) -> u64
-    ensures { (k : ℕ) → k < 64 → has result k ≡ spec.is_attacked b.now k by }
-{
-    let mut rest = b.men_of(by);
+    let mut rest = men;
     let mut attacked = 0;
     while rest != 0 {
         let from = lowest(rest).number();
-        attacked |= attacked_by_man(b, from);
+        attacked |= attacked_from(b, man, from);
         rest = without_lowest(rest);
     }
     attacked
+}
+
+/// The squares that a side's men of one kind attack, where `of_kind` has the squares of both sides' men of that kind.
+#[inline]
+fn attacked_by_kind(b: &Bits, by: Side, kind: Kind, of_kind: u64) -> u64
+    requires { (f : ℕ) → f < 64 → has of_kind f ≡ is_kind kind (man_at b.now f) }
+    ensures { (k : ℕ) → k < 64 → has result k ≡ some_square (λ f. is_man by kind (man_at b.now f) && attacks b.now f k) }
+{
+    let men = of_kind & b.men_of(by);
+    attacked_by_each(b, Man { side: by, kind }, men)
+}
+
+/// The squares that men of that side attack. Men of one kind are looked at together, so that no square is asked who
+/// stands there.
+pub fn attacked_by(b: &Bits, by: Side) -> u64
+    ensures { (k : ℕ) → k < 64 → has result k ≡ spec.is_attacked b.now k by }
+{
+    let sets = b.sets();
+    attacked_by_kind(b, by, Kind::Pawn, sets.pawns)
+        | attacked_by_kind(b, by, Kind::Knight, sets.knights)
+        | attacked_by_kind(b, by, Kind::Bishop, sets.bishops)
+        | attacked_by_kind(b, by, Kind::Rook, sets.rooks)
+        | attacked_by_kind(b, by, Kind::Queen, sets.queens)
+        | attacked_by_kind(b, by, Kind::King, sets.kings)
 }

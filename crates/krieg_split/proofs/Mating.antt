@@ -1,11 +1,10 @@
 -- One member more was tried.
-use Rattle.std.proofs.Common.{◌≡◌, ◌==◌, Bool, false, ◌||◌, List, [], ◌∷◌, ◌++◌, length, filter, refl, ap, sym, ◌∙◌, arith}
+use Rattle.std.proofs.Common.{◌≡◌, Bool, false, ◌||◌, List, [], ◌∷◌, ◌++◌, filter, ap, sym, ◌∙◌}
 use Rattle.std.proofs.lemmas.List.{append-nil}
-use Rattle.std.proofs.lemmas.Bool.{or_parts, ne_eqb}
+use Rattle.std.proofs.lemmas.Bool.{or_parts}
 use Rattle.std.specs.List.{list_any}
 use Rattle.krieg_board.specs.Pos.{Pos}
 use Rattle.krieg_board.specs.declared.men.Move.{Move}
-use Rattle.krieg_moves.specs.Moves.{is_nil}
 use Rattle.krieg_split.specs.Mating.{lives, refuses, IsTried, AreTried}
 use Rattle.krieg_split.specs.declared.last_move.Mating.{Mating}
 use Rattle.krieg_split.proofs.BoolLaws.{or_assoc, or_false}
@@ -37,8 +36,3 @@ left_none found [] B t is l = record {
   refused_part = λ e. sym (append-nil found.refused.items) ∙ l.refused_part e;
 }
 left_none found (p ∷ rest) B t is l = absurd cc
-
--- a list has no entries where they are none to count
-pub none_listed : (xs : List Move) → (length xs == 0) ≡ is_nil xs
-none_listed [] = refl
-none_listed (x ∷ xs) = ne_eqb (length (x ∷ xs)) 0 (λ e. omega arith)

@@ -11,7 +11,7 @@ ghost use Rattle.krieg_split.specs.Mating.{IsTried, AreTried, replies, looked_at
 
 use crate::stop::{SplitStop, take};
 use krieg_board::{Move, Position, Units};
-use krieg_moves::{after_if_legal, count_moves, in_check};
+use krieg_moves::{after_if_legal, count_moves, is_mate_by};
 use krieg_pack::{Belief, Packed, unpack};
 use krieg_words::Dialect;
 use std::alloc::Global;
@@ -23,15 +23,6 @@ pub(crate) struct Mating {
     pub lives: bool,
     /// The members that refuse it. Once one lives, no more are added.
     pub refused: Vec<Packed>,
-}
-
-/// Whether there is no move and the side to move is in check.
-#[tactic(auto, using(crate::proofs::Mating::none_listed), unfolding(krieg_moves::specs::Moves::is_mate, krieg_moves::specs::Moves::is_ended))]
-fn is_mate(q: &Position, count: usize) -> bool
-    requires { count ≡ length (list.moves q.now) }
-    ensures { result ≡ list.is_mate q.now }
-{
-    count == 0 && in_check(q)
 }
 
 /// Tries the legal move in one member, where it leads to `q`.
@@ -48,7 +39,7 @@ fn try_legal(
 {
     let replies = count_moves(q);
     take(units, 1 + replies as u64)?;
-    found.lives = found.lives || !is_mate(q, replies);
+    found.lives = found.lives || !is_mate_by(q, replies);
     Ok(())
 }
 

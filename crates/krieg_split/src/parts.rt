@@ -12,7 +12,7 @@ use crate::pool::Pool;
 use crate::stop::{SplitStop, take};
 use krieg_board::{Move, NoMemory, Position, Units};
 use krieg_game::Class;
-use krieg_moves::{in_check, is_legal, legal_moves};
+use krieg_moves::{is_legal, is_stalemate_by, legal_moves};
 use krieg_pack::{Belief, Packed, unpack};
 use krieg_words::{Dialect, make_move};
 use std::alloc::Global;
@@ -36,15 +36,6 @@ pub(crate) struct Gathered {
     pub pool: Pool,
 }
 
-/// Whether the moves are none and the side to move is not in check.
-#[tactic(auto, unfolding(krieg_moves::specs::Moves::is_stalemate, krieg_moves::specs::Moves::is_ended))]
-fn is_stalemate(q: &Position, moves: &[Move]) -> bool
-    requires { moves.now ≡ list.moves q.now }
-    ensures { result ≡ list.is_stalemate q.now }
-{
-    moves.is_empty() && !in_check(q)
-}
-
 /// Adds what the legal try makes of one member.
 #[tactic(auto, unfolding(krieg_game::specs::Chess::stalemates, krieg_game::specs::Chess::outcomes))]
 fn add_legal(
@@ -61,7 +52,7 @@ fn add_legal(
     let made = make_move(p, *mv);
     let replies = legal_moves(alloc, &made.position)?;
     take(units, 1 + replies.len() as u64)?;
-    parts.stale = parts.stale || is_stalemate(&made.position, replies.as_slice());
+    parts.stale = parts.stale || is_stalemate_by(&made.position, replies.len());
     parts
         .pool
         .add(d, &made.words, &made.position, replies.as_slice())?;
