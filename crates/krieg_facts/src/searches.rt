@@ -1,0 +1,118 @@
+// Facts of searches of the set of the positions that are listed: what they come to, and the units that they take.
+
+use crate::answer::Answer;
+use crate::scene::Scene;
+use crate::stop::Stop;
+use crate::terms::{count_of, halves, number_of, side_of, small_of};
+use krieg_board::{Side, Units};
+use krieg_pack::Belief;
+use krieg_search::{Answer as Solved, Stop2, has_one_turn, solve};
+
+/// What a search comes to.
+#[derive(Clone, Copy, PartialEq, Eq)]
+enum Came {
+    Mates(u8),
+    None,
+    Spent,
+    Large,
+}
+
+/// What a search comes to, and the units that it takes.
+type Outcome = (Came, u64);
+
+/// A search without the units.
+#[derive(Clone, Copy)]
+struct Task {
+    who: Side,
+    moves: u8,
+    nodes: usize,
+}
+
+fn came_of(answer: Result<Solved, Stop2>) -> Result<Came, Stop> {
+    match answer {
+        Ok(Solved::Mates { worst, .. }) => Ok(Came::Mates(worst)),
+        Ok(Solved::None) => Ok(Came::None),
+        Err(Stop2::Spent) => Ok(Came::Spent),
+        Err(Stop2::Large) => Ok(Came::Large),
+        Err(Stop2::NoMemory) => Err(Stop::Memory),
+    }
+}
+
+fn search(scene: &Scene, task: Task, b: &Belief, most: u64) -> Result<Outcome, Stop> {
+    if task.moves > 6 {
+        return Err(Stop::Unread);
+    }
+    if !has_one_turn(b) {
+        return Err(Stop::Unread);
+    }
+    let Task { who, moves, nodes } = task;
+    let mut units = Units::new(most);
+    let came = came_of(solve(scene.alloc, scene.dialect, who, b, moves, nodes, &mut units))?;
+    Ok((came, most.saturating_sub(units.left())))
+}
+
+/// What the search comes to with what is fresh, where it takes units from the floor on; with just so many comes to
+/// the same; and with one less, and with less than the floor, is spent and takes none.
+fn came_between(scene: &Scene, task: Task, floor: u64, fresh: u64) -> Result<Came, Stop> {
+    let b = &scene.belief()?;
+    let enough = search(scene, task, b, fresh)?;
+    let (came, took) = enough;
+    let is_exact = floor <= took && search(scene, task, b, took)? == enough;
+    let few = search(scene, task, b, took.saturating_sub(1))?;
+    let fewer = search(scene, task, b, floor.saturating_sub(1))?;
+    if is_exact && few == (Came::Spent, 0) && fewer == few {
+        Ok(came)
+    } else {
+        Err(Stop::Unread)
+    }
+}
+
+/// The side, the moves and the nodes of a search, and what stands behind them.
+fn task_of(text: &str) -> Result<(Task, &str), Stop> {
+    let (who, rest) = halves(text, " ")?;
+    let (moves, rest) = halves(rest, " ")?;
+    let (nodes, rest) = halves(rest, " ")?;
+    let task = Task {
+        who: side_of(who)?,
+        moves: small_of(moves)?,
+        nodes: count_of(nodes)? as usize,
+    };
+    Ok((task, rest))
+}
+
+fn say_came(came: Came, answer: &mut Answer) -> Result<(), Stop> {
+    match came {
+        Came::Mates(worst) => {
+            answer.put(b"mates ")?;
+            answer.digits(u64::from(worst))
+        }
+        Came::None => answer.put(b"no plan"),
+        Came::Spent => answer.put(b"spent"),
+        Came::Large => answer.put(b"large"),
+    }
+}
+
+/// What a search with so many units comes to, and those that it takes.
+fn searched(scene: &Scene, task: Task, most: &str) -> Result<Outcome, Stop> {
+    search(scene, task, &scene.belief()?, number_of(most)?)
+}
+
+/// What a search comes to, where its units are between two numbers.
+fn say_between(scene: &Scene, task: Task, text: &str, answer: &mut Answer) -> Result<(), Stop> {
+    let (floor, fresh) = halves(text, " ")?;
+    say_came(
+        came_between(scene, task, number_of(floor)?, number_of(fresh)?)?,
+        answer,
+    )
+}
+
+/// Answers a question about a search.
+pub fn ask(scene: &Scene, mark: &str, given: &str, answer: &mut Answer) -> Result<(), Stop> {
+    let (task, rest) = task_of(given)?;
+    match mark {
+        "search" => say_came(searched(scene, task, rest)?.0, answer),
+        "took" => answer.number(searched(scene, task, rest)?.1),
+        "search-between" => say_between(scene, task, rest, answer),
+        _ => Err(Stop::Unread),
+    }
+}

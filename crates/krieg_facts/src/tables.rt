@@ -1,0 +1,80 @@
+// Facts of a table of sets by number, with what is known of each.
+
+use crate::answer::Answer;
+use crate::moves::say_moves;
+use crate::scene::Scene;
+use crate::sets::say_members;
+use crate::stop::Stop;
+use crate::terms::{count_of, halves, move_of, small_of};
+use krieg_pack::Belief;
+use krieg_table::{Known, Table};
+
+/// The number of the set, in a table that is not large.
+fn say_interned(table: &mut Table, b: Belief, answer: &mut Answer) -> Result<(), Stop> {
+    if table.len() >= 1_000 {
+        return Err(Stop::Unread);
+    }
+    answer.number(u64::from(table.intern(b)?))
+}
+
+/// What is known of a set for so many own moves.
+fn say_known(table: &Table, id: u32, moves: u8, answer: &mut Answer) -> Result<(), Stop> {
+    if (id as usize) >= table.len() {
+        return Err(Stop::Unread);
+    }
+    match table.result(id, moves) {
+        Some(Known::Wins(mv)) => say_moves(&[mv], answer),
+        Some(Known::Loses) => answer.put(b"loses"),
+        None => Ok(()),
+    }
+}
+
+/// Notes it.
+fn say_noted(table: &mut Table, id: u32, text: &str, answer: &mut Answer) -> Result<(), Stop> {
+    let (moves, what) = halves(text, " ")?;
+    let known = match what {
+        "loses" => Known::Loses,
+        _ => Known::Wins(move_of(what)?),
+    };
+    let moves = small_of(moves)?;
+    if (id as usize) >= table.len() || moves == 0 || moves > 6 {
+        return Err(Stop::Unread);
+    }
+    table.note(id, moves, known);
+    answer.word(b"done")
+}
+
+/// The members of the set with that number.
+fn say_row(scene: &Scene, table: &Table, id: u32, answer: &mut Answer) -> Result<(), Stop> {
+    if (id as usize) < table.len() {
+        say_members(scene, table.belief(id), answer)
+    } else {
+        Err(Stop::Unread)
+    }
+}
+
+/// Answers a question about the set with the number that is given first.
+fn ask_row(table: &mut Table, mark: &str, given: &str, answer: &mut Answer) -> Result<(), Stop> {
+    let (id, rest) = halves(given, " ")?;
+    match mark {
+        "noted" => say_noted(table, count_of(id)?, rest, answer),
+        "known" => say_known(table, count_of(id)?, small_of(rest)?, answer),
+        _ => Err(Stop::Unread),
+    }
+}
+
+/// Answers a question about the table.
+pub fn ask(
+    scene: &Scene,
+    table: &mut Table,
+    mark: &str,
+    given: &str,
+    answer: &mut Answer,
+) -> Result<(), Stop> {
+    match mark {
+        "interned" => say_interned(table, scene.set_of(given)?, answer),
+        "row" => say_row(scene, table, count_of(given)?, answer),
+        "rows" => answer.number(table.len() as u64),
+        _ => ask_row(table, mark, given, answer),
+    }
+}

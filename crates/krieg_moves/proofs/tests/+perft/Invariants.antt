@@ -1,4 +1,0 @@
-use Rattle.krieg_moves.proofs.tests.+perft.Given as goal
-
-abbrev pub decreases-perft : goal.decreases-perft
-decreases-perft l = l.depth

@@ -1,6 +1,0 @@
-use Rattle.std.proofs.Common.{◌≡◌, map, take}
-use Rattle.krieg_game.specs.ClassLaws.{opened, silence}
-use Rattle.krieg_split.proofs.opening_sets.with_openings.Given as goal
-
-abbrev pub invariant-loop-member : goal.invariant-loop-member
-invariant-loop-member l = l.outcomes.items ≡ map (opened l.d silence) (take l.member-index l.members)

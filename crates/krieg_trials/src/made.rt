@@ -1,0 +1,77 @@
+// Parts of plan files that are too long to be written out: nodes behind words that ascend.
+
+use krieg_board::{NoMemory, Square};
+use krieg_checks::Kinds;
+use krieg_words::{End, Took, Words, write_words};
+
+/// What is captured for a number below 129: nothing, then a pawn and then a piece on each square.
+fn took_at(number: usize) -> Took {
+    let square = Square::new((number.saturating_sub(1) % 64) as u8).unwrap_or_default();
+    match number {
+        0 => Took::Nothing,
+        1..=64 => Took::Pawn(square),
+        _ => Took::Piece(square),
+    }
+}
+
+/// The words of a number below 140,352. Those of a smaller number come before them.
+fn words_at(number: usize) -> Words {
+    let checks = number / 17 % 32;
+    Words {
+        end: if number < 70_176 {
+            End::Goes
+        } else {
+            End::Mate
+        },
+        took: took_at(number / 544 % 129),
+        checks: Kinds {
+            knight: checks / 16 % 2 == 1,
+            short: checks / 8 % 2 == 1,
+            long: checks / 4 % 2 == 1,
+            rank: checks / 2 % 2 == 1,
+            file: checks % 2 == 1,
+        },
+        tries: (number % 17) as u8,
+    }
+}
+
+/// Adds the line that leads to a node: these front words, and those of the number.
+fn add_key(front: &str, number: usize, text: &mut Vec<u8>) -> Result<(), NoMemory> {
+    text.extend_from_slice(front.as_bytes())?;
+    text.push(b' ')?;
+    write_words(words_at(number), text)?;
+    text.push(b'\n')?;
+    Ok(())
+}
+
+/// Adds so many nodes without edges, each with this try, and the line that leads to it.
+pub fn add_leaves(
+    count: usize,
+    tried: &str,
+    front: &str,
+    text: &mut Vec<u8>,
+) -> Result<(), NoMemory> {
+    for number in 0..count {
+        add_key(front, number, text)?;
+        text.extend_from_slice(b"play ")?;
+        text.extend_from_slice(tried.as_bytes())?;
+        text.extend_from_slice(b" 0\n")?;
+    }
+    Ok(())
+}
+
+/// Adds so many nodes with this line, each with so many edges to nodes without edges.
+pub fn add_bushes(
+    count: usize,
+    edges: usize,
+    line: &str,
+    text: &mut Vec<u8>,
+) -> Result<(), NoMemory> {
+    for number in 0..count {
+        add_key("on silent /", number, text)?;
+        text.extend_from_slice(line.as_bytes())?;
+        text.push(b'\n')?;
+        add_leaves(edges, "a1a1", "on silent /", text)?;
+    }
+    Ok(())
+}

@@ -1,0 +1,92 @@
+// The run itself, and what the seats said and heard.
+
+use crate::came::Came;
+use crate::given::Given;
+use crate::player::{Manner, forgetful, scripted, sending};
+use krieg_board::{NoMemory, Side};
+use krieg_cli::{Bench, run};
+use krieg_fen::write_move;
+use krieg_seats::Seat;
+use krieg_words::write_line;
+use std::alloc::Global;
+
+/// Adds a line with the moves that the seat said, behind these words, and one for each line that it heard.
+fn add_seat(words: &str, seat: &Box<dyn Seat>, text: &mut Vec<u8>) -> Result<(), NoMemory> {
+    text.extend_from_slice(words.as_bytes())?;
+    for mv in seat.said() {
+        text.push(b' ')?;
+        write_move(*mv, text)?;
+    }
+    for line in seat.heard() {
+        text.extend_from_slice(b"\nheard ")?;
+        write_line(*line, text)?;
+    }
+    text.push(b'\n')?;
+    Ok(())
+}
+
+/// Adds all seats of a list, the first one behind words of its own.
+fn add_seats(
+    first: &str,
+    others: &str,
+    seats: &[Box<dyn Seat>],
+    text: &mut Vec<u8>,
+) -> Result<(), NoMemory> {
+    let mut words = first;
+    for seat in seats {
+        add_seat(words, seat, text)?;
+        words = others;
+    }
+    Ok(())
+}
+
+/// The seats of both sides: the one that sits, those that wait behind it, and those that were relieved.
+fn seats_of(alloc: Global, bench: &Bench) -> Result<Vec<u8>, NoMemory> {
+    let mut text = Vec::new(alloc);
+    let relieved = "relieved white";
+    add_seats("sits white", "waits white", &bench.white, &mut text)?;
+    add_seats(relieved, relieved, &bench.white_out, &mut text)?;
+    let relieved = "relieved black";
+    add_seats("sits black", "waits black", &bench.black, &mut text)?;
+    add_seats(relieved, relieved, &bench.black_out, &mut text)?;
+    Ok(text)
+}
+
+/// Runs the words with what is given.
+pub fn come(alloc: Global, words: &[String], given: Given) -> Result<Came, NoMemory> {
+    let Given {
+        text,
+        input,
+        out,
+        err,
+        players,
+        dismisses,
+    } = given;
+    let read = text.clone()?;
+    let mut input = input.source(text);
+    let mut out = out.sink(alloc)?;
+    let mut err = err.sink(alloc)?;
+    let mut bench = Bench::new(alloc);
+    for player in &players {
+        let seats = match player.who {
+            Side::White => &mut bench.white,
+            Side::Black => &mut bench.black,
+        };
+        match &player.manner {
+            Manner::Tries { moves, fails } => seats.push(scripted(alloc, moves, fails)?)?,
+            Manner::Sends(text) => seats.push(sending(alloc, text)?)?,
+            Manner::Forgets => seats.push(forgetful(alloc)?)?,
+        }
+    }
+    let status = run(alloc, words, &mut input, &mut out, &mut err, &mut bench);
+    if dismisses {
+        bench.dismiss();
+    }
+    Ok(Came::of(
+        status,
+        read,
+        out.inner.bytes().to_vec(alloc)?,
+        err.inner.bytes().to_vec(alloc)?,
+        seats_of(alloc, &bench)?,
+    ))
+}
