@@ -14,8 +14,6 @@
 
 mod command;
 mod files;
-#[cfg(test)]
-mod tests;
 
 pub use command::{Command, Made, command_of};
 pub use files::{SeatFiles, seat_files};

@@ -18,7 +18,5 @@
 
 mod beliefs;
 mod steps;
-#[cfg(test)]
-mod tests;
 
 pub use beliefs::{BeliefStop, believe};

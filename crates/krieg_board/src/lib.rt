@@ -25,8 +25,6 @@ mod men;
 mod position;
 mod set;
 mod square;
-#[cfg(test)]
-mod tests;
 mod units;
 
 pub use attack::{apart, attacks, is_attacked, is_clear, is_forward, is_king_attacked};

@@ -1,37 +1,31 @@
 -- A node after which no edge follows, in the words of the theory.
-use Rattle.std.proofs.Common.{◌≡◌, ℕ, ◌+◌, ◌≤◌, Bool, true, false, cond, not, ◌&&◌, ◌==◌, List, [], ◌∷◌, ◌⊎◌, inl, inr, length, map, Option, Some, None, refl, sym, ap, subst, ◌∙◌, arith}
-use Rattle.std.specs.List.{list_all, list_any}
-use Rattle.std.proofs.lemmas.Bool.{both_ways, and_parts, and_from, not_from_false, not-true, false_from_ne_true, le-leb, leb-true, eqb-true}
+use Rattle.std.proofs.Common.{◌≡◌, ℕ, ◌≤◌, Bool, true, false, cond, ◌&&◌, ◌==◌, List, [], ◌∷◌, ◌⊎◌, inl, inr, length, map, Option, Some, None, refl, sym, ap, subst, ◌∙◌, arith}
+use Rattle.std.specs.List.{list_all}
+use Rattle.std.proofs.lemmas.Bool.{both_ways, false_from_ne_true, le-leb, leb-true, eqb-true}
 use Rattle.krieg_board.specs.Pos.{Pos}
 use Rattle.krieg_board.specs.declared.men.Move.{Move}
-use Rattle.krieg_moves.specs.Legal.{is_legal}
-use Rattle.krieg_moves.specs.After.{after}
-use Rattle.krieg_moves.specs.Moves.{moves, is_mate}
 use Rattle.krieg_words.specs.declared.dialects.Dialect.{Dialect}
 use Rattle.krieg_pack.proofs.PositionSets.{position_order}
 use Rattle.krieg_theory.specs.Sets.{In, is_nil}
 use Rattle.krieg_theory.specs.Tree.{Try, Maybe, NoEdges}
-use Rattle.krieg_theory.specs.Split.{stale_in_some, given, keys, class, mates_at}
-use Rattle.krieg_theory.proofs.Lists.{any_at, any_from}
-use Rattle.krieg_theory.proofs.Steps.{any_agree}
+use Rattle.krieg_theory.specs.Split.{stale_in_some, keys, class}
 use Rattle.krieg_costs.specs.Sums.{total}
 use Rattle.krieg_costs.specs.Cost.{made}
 use Rattle.krieg_costs.specs.Block.{lives_in_some}
-use Rattle.krieg_costs.proofs.Totals.{total_agree}
 use Rattle.krieg_costs.proofs.Reached.{class_some}
 use Rattle.krieg_costs.proofs.Blocks.{lives_how, lives_by_key}
 use Rattle.krieg_game.specs.Keys.{Key}
 use Rattle.krieg_game.specs.Classes.{class_pair}
-use Rattle.krieg_game.specs.Chess.{chess, outcomes}
+use Rattle.krieg_game.specs.Chess.{chess}
 use Rattle.krieg_game.proofs.ChessLaws.{chess_is_game}
 use Rattle.krieg_game.proofs.KeyLaws.{key_order}
-use Rattle.krieg_game.proofs.Winning.{mates_at_once, outcomes_are_replies}
 use Rattle.krieg_plan.specs.Trees.{NodeTree}
 use Rattle.krieg_checker.specs.Found.{within, Tells, own_need, all_won_other}
-use Rattle.krieg_checker.specs.Mating.{lives, replies, looked_at}
+use Rattle.krieg_parting.proofs.LastMoves.{stale_lives}
 use Rattle.krieg_checker.specs.Tried.{IsTriedAt, IsEnd}
 use Rattle.krieg_checker.specs.Walked.{other_cost, try_in, classes_won, classes_cost}
 use Rattle.krieg_checker.specs.declared.tried.Tried.{Tried}
+use Rattle.krieg_checker.proofs.Sets.{total_none}
 use Rattle.krieg_checker.proofs.NodeTells.{node_tells}
 use Rattle.krieg_checker.proofs.Walking.{some_nil}
 
@@ -44,39 +38,7 @@ pub none_there : {X : Type 0} (xs : List X) (n : ℕ) → n ≡ length xs → (n
 none_there [] n e z = refl
 none_there (x ∷ xs) n e z = absurd (let none = eqb-true n 0 z in omega (arith, e, none))
 
-total_none : {X : Type 0} (xs : List X) → total (λ x. 0) xs ≡ 0
-total_none [] = refl
-total_none (x ∷ xs) = omega (arith, total_none xs)
-
 module _ (d : Dialect) where
-  -- what is looked at is made
-  given_length : (t : Move) (p : Pos) → length (given (chess d) t p) ≡ replies t p
-  given_length t p = go (is_legal p t)
-    where
-      go : (b : Bool) → length (cond b (outcomes d p t) []) ≡ cond b (length (moves (after p t))) 0
-      go true = outcomes_are_replies d p t
-      go false = refl
-
-  looked_is_made : (B : List Pos) (t : Move) → made (chess d) B t ≡ looked_at B t
-  looked_is_made B t = ap (λ n. length B + n) (total_agree (λ p. length (given (chess d) t p)) (replies t) B (λ p i. given_length t p))
-
-  lives_is : (t : Move) (p : Pos) → (is_legal p t && not (mates_at (chess d) p t)) ≡ lives t p
-  lives_is t p = go (is_legal p t) (mates_at_once d p t)
-    where
-      go : (b : Bool) → mates_at (chess d) p t ≡ (b && is_mate (after p t)) → (b && not (mates_at (chess d) p t)) ≡ (b && not (is_mate (after p t)))
-      go true h = ap not h
-      go false h = refl
-
-  some_lives : (B : List Pos) (t : Move) → lives_in_some (chess d) B t ≡ list_any (lives t) B
-  some_lives B t = any_agree (chess d) (chess_is_game d) (λ p. is_legal p t && not (mates_at (chess d) p t)) (lives t) B (lives_is t)
-
-  -- where it stalemates in some member, it lives there
-  stale_lives : (B : List Pos) (t : Move) → stale_in_some (chess d) B t ≡ true → lives_in_some (chess d) B t ≡ true
-  stale_lives B t h =
-      let s = any_at (λ p. is_legal p t && (chess d).stalemates p t) B h in
-      let b = and_parts (is_legal s.0 t) _ s.2 in
-      any_from (λ p. is_legal p t && not (mates_at (chess d) p t)) B s.0 s.1 (and_from _ _ b.0 (not_from_false _ (false_from_ne_true _ (λ m. both_ways _ (not-true _ (and_parts (not ((chess d).stalemates s.0 t)) _ (and_parts (is_legal s.0 t) _ m).1).0) b.1))))
-
   -- what is needed behind no edge: nothing where nothing can be heard
   abbrev below : List Key → Option ℕ
   below [] = Some 0
@@ -89,7 +51,7 @@ module _ (d : Dialect) where
 
   -- one move is enough where the try mates in all members in which it is legal, and no number where it does not
   own_is : (B : List Pos) (t : Move) (stale : Bool) (ks : List Key) → stale_in_some (chess d) B t ≡ stale → keys (chess d) B t ≡ ks → own_need stale (below ks) ≡ cond (lives_in_some (chess d) B t) None (Some 1)
-  own_is B t true ks s e = sym (ap (λ b. cond b None (Some 1)) (stale_lives B t s))
+  own_is B t true ks s e = sym (ap (λ b. cond b None (Some 1)) (stale_lives d B t s))
   own_is B t false (key ∷ ks) s e = sym (ap (λ b. cond b None (Some 1)) (lives_by_key (chess d) (chess_is_game d) B t key (subst (In key) (sym e) (inl refl))))
   own_is B t false [] s e = sym (ap (λ b. cond b None (Some 1)) (false_from_ne_true _ (λ h. dead (lives_how (chess d) (chess_is_game d) B t h))))
     where
@@ -106,7 +68,7 @@ module _ (d : Dialect) where
       go None h = absurd (both_ways _ refl (sym h))
       go (Some w) h = let l = leb-true w 0 (sym h) in let z : w ≡ 0 = omega (arith, l) in ap (λ w. own_need false (Some w)) z
 
-  ends : (t : Move) (other : Maybe Move Key) (B : List Pos) (v : Tried) → IsEnd B t v → IsTriedAt d (Try t other NoEdges) B v
+  ends : (t : Move) (other : Maybe Move Key) (B : List Pos) (v : Tried) → IsEnd d B t v → IsTriedAt d (Try t other NoEdges) B v
   ends t other B v a = record {
     refused_part = a.refused_part;
     won_part = λ some c hc k small.
@@ -121,11 +83,11 @@ module _ (d : Dialect) where
   }
     where
       needed : (c : Option ℕ) → Tells c (classes_won d NoEdges (map class_pair v.classes.items)) → own_need (stale_in_some (chess d) B t) (below (keys (chess d) B t)) ≡ own_need v.fails c
-      needed c hc = sym (need_is B t c v.fails (λ k small. sym (ap (λ cs. classes_won d NoEdges (map class_pair cs) k) a.classes_part) ∙ hc k small) (a.fails_part ∙ sym (some_lives B t)))
+      needed c hc = sym (need_is B t c v.fails (λ k small. sym (ap (λ cs. classes_won d NoEdges (map class_pair cs) k) a.classes_part) ∙ hc k small) a.fails_part)
 
   module _ (here : NodeTree) (t : Move) (other : Maybe Move Key) (is : here ≡ Try t other NoEdges) (B : List Pos) where
-    pub ends_here : (v : Tried) → IsEnd B t v → IsTriedAt d here B v
+    pub ends_here : (v : Tried) → IsEnd d B t v → IsTriedAt d here B v
     ends_here v a = subst (λ x. IsTriedAt d x B v) (sym is) (ends t other B v a)
 
-    pub end_costs : made (chess d) B (try_in here) ≡ looked_at B t
-    end_costs = ap (λ x. made (chess d) B (try_in x)) is ∙ looked_is_made B t
+    pub end_costs : made (chess d) B (try_in here) ≡ made (chess d) B t
+    end_costs = ap (λ x. made (chess d) B (try_in x)) is

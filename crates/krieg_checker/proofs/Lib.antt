@@ -1,7 +1,4 @@
 mod BoolLaws
-mod Charges
-mod Gathering
-mod Mating
 mod Ending
 mod Sets
 mod NodeTells

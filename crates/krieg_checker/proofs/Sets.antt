@@ -1,5 +1,5 @@
 -- Tests and sums over what came of a try, key by key.
-use Rattle.std.proofs.Common.{◌≡◌, ℕ, suc, ◌+◌, Bool, true, false, not, ◌&&◌, ◌||◌, cond, List, [], ◌∷◌, ◌++◌, map, refl, sym, ap, subst, ◌∙◌}
+use Rattle.std.proofs.Common.{◌≡◌, ℕ, suc, ◌+◌, Bool, true, false, not, ◌&&◌, ◌||◌, cond, List, [], ◌∷◌, ◌++◌, map, refl, sym, ap, subst, ◌∙◌, arith}
 use Rattle.std.specs.List.{list_all}
 use Rattle.std.proofs.lemmas.List.Folds.{list_all-append}
 use Rattle.krieg_theory.specs.Sets.{IsOrder, as_set, at_key, keys_in, same}
@@ -22,6 +22,10 @@ all_map f g (x ∷ xs) = ap (λ (b : Bool). f (g x) && b) (all_map f g xs)
 pub total_map : {X Y : Type 0} (f : Y → ℕ) (g : X → Y) (xs : List X) → total f (map g xs) ≡ total (λ x. f (g x)) xs
 total_map f g [] = refl
 total_map f g (x ∷ xs) = ap (λ (n : ℕ). f (g x) + n) (total_map f g xs)
+
+pub total_none : {X : Type 0} (xs : List X) → total (λ x. 0) xs ≡ 0
+total_none [] = refl
+total_none (x ∷ xs) = omega (arith, total_none xs)
 
 pub all_agree : {X : Type 0} (f g : X → Bool) (xs : List X) → ((x : X) → f x ≡ g x) → list_all f xs ≡ list_all g xs
 all_agree f g [] h = refl

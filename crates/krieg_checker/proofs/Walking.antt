@@ -1,5 +1,5 @@
 -- Steps of the walk.
-use Rattle.std.proofs.Common.{◌≡◌, ℕ, suc, ◌+◌, ◌≤◌, Bool, true, false, cond, ◌&&◌, List, [], ◌∷◌, map, Option, Some, None, Result, Ok, Err, refl, sym, ap, subst, ◌∙◌, arith}
+use Rattle.std.proofs.Common.{◌≡◌, ℕ, suc, ◌+◌, ◌≤◌, Bool, true, false, cond, ◌&&◌, List, [], ◌∷◌, map, Option, Some, None, Result, refl, sym, ap, subst, ◌∙◌, arith}
 use Rattle.std.specs.List.{list_all}
 use Rattle.std.proofs.lemmas.Bool.{le-leb}
 use Rattle.krieg_board.specs.Pos.{Pos}
@@ -21,14 +21,14 @@ use Rattle.krieg_plan.specs.declared.node.Node.{Node}
 use Rattle.krieg_plan.specs.declared.node.Edge.TheViews.{out-Node}
 use Rattle.krieg_plan.specs.Nodes.{tree_of}
 use Rattle.krieg_game.proofs.KeyLaws.{key_order}
-use Rattle.krieg_checker.specs.declared.stop.CheckStop.{CheckStop}
-use Rattle.krieg_checker.specs.declared.stop.CheckStop.TheVariants.{Spent, NoMemory}
-use Rattle.krieg_checker.specs.declared.part.Parted.{Parted}
+use Rattle.krieg_parting.specs.declared.stop.PartStop.{PartStop}
+use Rattle.krieg_parting.specs.declared.parts.Parted.{Parted}
+use Rattle.krieg_parting.specs.Charged.{Charged}
+use Rattle.krieg_parting.specs.Parted.{IsParted}
+use Rattle.krieg_parting.proofs.Charges.{said}
 use Rattle.krieg_plan.specs.Ordered.{is_ordered, is_ordered_other}
 use Rattle.krieg_plan.proofs.OrderedTrees.{other_ordered}
-use Rattle.krieg_checker.specs.Charged.{Charged}
 use Rattle.krieg_checker.specs.Found.{within, Tells, worse, own_need, all_won, all_won_other}
-use Rattle.krieg_checker.specs.Parted.{IsParted}
 use Rattle.krieg_game.specs.Classes.{class_pair}
 use Rattle.krieg_checker.specs.Tried.{IsTriedAt}
 use Rattle.krieg_checker.specs.Walked.{node_cost, other_cost, edge_cost, try_in, other_in, classes_won, classes_cost}
@@ -186,9 +186,7 @@ pub no_edge : (d : Dialect) (es : Edges Move Key) (key : Key) (B : List Pos) (r 
     Tells r (λ k. list_all (λ p. wins_at (chess d) es key p k) B) × (units + edge_cost (chess d) es key B ≡ units)
 no_edge d es key B r units is h = (at_edge d es key B Nothing r is h, omega (arith, edge_costs d es key B Nothing is))
 
-pub some_edge : (d : Dialect) (es : Edges Move Key) (key : Key) (B : List Pos) (n : NodeTree) (r : Result (Option ℕ) CheckStop) (old new : ℕ) → first_edge key_lt es key ≡ Just n →
+pub some_edge : (d : Dialect) (es : Edges Move Key) (key : Key) (B : List Pos) (n : NodeTree) (r : Result (Option ℕ) PartStop) (old new : ℕ) → first_edge key_lt es key ≡ Just n →
     Charged r (λ x. Tells x (all_won (chess d) n B)) (node_cost (chess d) n B) old new →
     Charged r (λ x. Tells x (λ k. list_all (λ p. wins_at (chess d) es key p k) B)) (edge_cost (chess d) es key B) old new
-some_edge d es key B n (Ok x) old new is h = (at_edge d es key B (Just n) x is h.0, omega (arith, h.1, edge_costs d es key B (Just n) is))
-some_edge d es key B n (Err Spent) old new is h = omega (arith, h, edge_costs d es key B (Just n) is)
-some_edge d es key B n (Err NoMemory) old new is h = tt
+some_edge d es key B n r old new is h = said r _ _ _ _ _ _ (λ x t. at_edge d es key B (Just n) x is t) (edge_costs d es key B (Just n) is) h

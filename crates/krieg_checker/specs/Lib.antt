@@ -4,9 +4,6 @@ pub mod Laws
 pub mod Charged
 pub mod Found
 pub mod Walked
-pub mod Gathering
-pub mod Parted
-pub mod Mating
 pub mod Tried
 pub mod Starting
 pub mod Verdict

@@ -1,16 +1,15 @@
 -- What the try of a node makes of a set.
 use Rattle.std.specs.Prelude.{◌≡◌, ◌≤◌, ℕ, ◌+◌, ◌&&◌, [], List, Option, map}
-use Rattle.std.specs.List.{list_any, filter}
 use Rattle.krieg_board.specs.Pos.{Pos}
 use Rattle.krieg_board.specs.declared.men.Move.{Move}
 use Rattle.krieg_words.specs.declared.dialects.Dialect.{Dialect}
 use Rattle.krieg_theory.specs.Split.{refused}
 use Rattle.krieg_costs.specs.Cost.{made}
+use Rattle.krieg_costs.specs.Block.{lives_in_some}
 use Rattle.krieg_game.specs.Chess.{chess}
 use Rattle.krieg_game.specs.Classes.{class_pair}
 use Rattle.krieg_plan.specs.Trees.{NodeTree, edges_in}
 use Rattle.krieg_checker.specs.Found.{within, Tells, own_need, all_won, all_won_other}
-use Rattle.krieg_checker.specs.Mating.{lives, refuses}
 use Rattle.krieg_checker.specs.Walked.{node_cost, other_cost, try_in, other_in, classes_won, classes_cost}
 use Rattle.krieg_checker.specs.declared.tried.Tried.{Tried}
 
@@ -23,7 +22,7 @@ pub record IsTriedAt (d : Dialect) (n : NodeTree) (B : List Pos) (r : Tried) : T
   pub cost_part : node_cost (chess d) n B ≡ made (chess d) B (try_in n) + (other_cost (chess d) (other_in n) r.refused + classes_cost d (edges_in n) (map class_pair r.classes.items))
 
 -- where no edge follows nothing is walked, and it fails where in some member it is legal and does not mate
-pub record IsEnd (B : List Pos) (t : Move) (r : Tried) : Type 0 where
-  pub refused_part : r.refused ≡ filter (refuses t) B
-  pub fails_part : r.fails ≡ list_any (lives t) B
+pub record IsEnd (d : Dialect) (B : List Pos) (t : Move) (r : Tried) : Type 0 where
+  pub refused_part : r.refused ≡ refused (chess d) B t
+  pub fails_part : r.fails ≡ lives_in_some (chess d) B t
   pub classes_part : r.classes.items ≡ []

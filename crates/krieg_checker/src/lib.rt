@@ -7,13 +7,13 @@
 //! `laws` has what is proved of the pairs: that they are the least set that is closed, and that none is counted twice;
 //! `toy` has small examples.
 //!
-//! `start` has what comes before the first own turn, `part` what a try makes of a set, over what `gather` finds of
-//! each member, and `last_try` what is found of a try after which no edge follows, where replies are only counted;
-//! `tried` has both for the try of a node. `roots` and `walk` go through the plan. They are internal.
+//! `start` has what comes before the first own turn, and `tried` what the try of a node makes of a set: what
+//! `krieg_parting` gathers, and where no edge follows what it counts. `roots` and `walk` go through the plan. They are
+//! internal.
 //!
-//! A set is let go once it is parted, and a unit is taken for each position before it is stored. The walk is a loop
-//! over the nodes for illegal tries, and calls itself for the edges: what it takes of the stack grows with the edges
-//! on a path.
+//! A set is let go once it is parted. A unit is taken for each position before it is stored, and repeats are dropped
+//! after that. The walk is a loop over the nodes for illegal tries, and calls itself for the edges: what it takes of the
+//! stack grows with the edges on a path.
 //!
 //! ```
 //! let mut units = Units::new(16);
@@ -26,19 +26,13 @@
 //! ```
 #![tactic(auto)]
 
-mod gather;
-mod last_try;
 pub mod laws;
-mod part;
 mod plan_check;
 mod roots;
 mod start;
-mod stop;
-#[cfg(test)]
-mod tests;
 pub mod toy;
 mod tried;
 mod walk;
 
+pub use krieg_parting::PartStop as CheckStop;
 pub use plan_check::{Checked, check, has_one_turn};
-pub use stop::CheckStop;

@@ -1,16 +1,16 @@
 ghost use Rattle.std.specs.Prelude.{◌≡◌, ◌↔◌, IsTrue};
 ghost use Rattle.std.specs.List.{list_all};
 ghost use Rattle.krieg_board.specs.Men.{is_same_side};
-ghost use Rattle.krieg_checker.specs.Charged.{Charged};
+ghost use Rattle.krieg_parting.specs.Charged.{Charged};
 ghost use Rattle.krieg_checker.specs.Starting.{IsOneTurn};
 ghost use Rattle.krieg_checker.specs.Verdict as spec;
 ghost use Rattle.krieg_checker.specs.Verdict.{IsVerdict, check_cost};
 
 use crate::roots::walk_roots;
 use crate::start::start;
-use crate::stop::CheckStop;
 use krieg_board::{Position, Side, Units};
 use krieg_pack::Belief;
+use krieg_parting::PartStop as CheckStop;
 use krieg_plan::PlanFile;
 use std::alloc::Global;
 

@@ -3,16 +3,16 @@ ghost use Rattle.krieg_game.specs.Chess.{chess};
 ghost use Rattle.krieg_game.specs.Classes.{class_pair};
 ghost use Rattle.krieg_plan.specs.Trees.{first_root_in};
 ghost use Rattle.krieg_plan.specs.Plans.{plan_of};
-ghost use Rattle.krieg_checker.specs.Charged.{Charged};
+ghost use Rattle.krieg_parting.specs.Charged.{Charged};
 ghost use Rattle.krieg_checker.specs.Found.{Tells, all_won_other};
 ghost use Rattle.krieg_checker.specs.Starting as spec;
 ghost use Rattle.krieg_checker.specs.Starting.{heard_of, roots_won, roots_cost};
 ghost use Rattle.krieg_checker.specs.Walked.{other_cost};
 
-use crate::stop::CheckStop;
 use crate::walk::{missing, walk, worse};
 use krieg_board::Units;
 use krieg_game::Class;
+use krieg_parting::PartStop as CheckStop;
 use krieg_plan::{Plan, find_root};
 use krieg_words::{Dialect, Words};
 use std::alloc::Global;

@@ -1,30 +1,23 @@
 ghost use Rattle.std.specs.Prelude.{◌≡◌, length};
 ghost use Rattle.krieg_board.specs.Men.{is_same_side};
 ghost use Rattle.krieg_board.specs.Pos.{Pos};
+ghost use Rattle.krieg_board.specs.declared.men.Side.{Side};
 ghost use Rattle.krieg_moves.specs.Moves as list;
 ghost use Rattle.krieg_theory.specs.Sets.{In};
 ghost use Rattle.krieg_costs.specs.Sums.{total};
 ghost use Rattle.krieg_game.specs.Chess.{chess};
 ghost use Rattle.krieg_game.specs.Outset.{outset};
+ghost use Rattle.krieg_parting.specs.Charged.{Charged};
+ghost use Rattle.krieg_parting.specs.Turns.{IsOwnTurn, IsOthersTurn};
 ghost use Rattle.krieg_checker.specs.CheckCost.{first_cost};
-ghost use Rattle.krieg_checker.specs.Charged.{Charged};
-ghost use Rattle.krieg_checker.specs.Starting.{AreFirstMoves, AreOpenings, IsAdvanced, IsBefore, IsOneTurn, IsStarted};
+ghost use Rattle.krieg_checker.specs.Starting.{IsOneTurn, IsStarted};
 
-use crate::stop::{CheckStop, take};
-use krieg_board::{Move, Position, Side, Units};
-use krieg_game::{Class, Outcome, classes_of, push_opening, push_outcomes};
-use krieg_moves::legal_moves;
+use krieg_board::{Side, Units};
+use krieg_game::{Class, classes_of};
 use krieg_pack::Belief;
-use krieg_words::{Dialect, opening};
+use krieg_parting::{FirstMoves, PartStop as CheckStop, first_moves, with_openings};
+use krieg_words::Dialect;
 use std::alloc::Global;
-
-/// What comes before the first own turn.
-#[derive(Drop)]
-pub(crate) struct FirstMoves {
-    /// Whether in some position nothing can start: the opponent is to move and has no move.
-    pub over: bool,
-    pub outcomes: Vec<Outcome>,
-}
 
 /// What is possible at the first own turn.
 #[derive(Drop)]
@@ -46,93 +39,41 @@ fn is_own_turn(b: &Belief, who: Side) -> bool
     b.is_empty() || b.get(0).side() == who
 }
 
-/// The members with their opening words.
-fn own_openings(alloc: Global, d: Dialect, b: &Belief) -> Result<FirstMoves, CheckStop>
-    ensures { Charged result (AreOpenings d b.now) 0 0 0 }
+/// What comes first where the player is to move: nothing but the opening words.
+fn at_own_turn(alloc: Global, d: Dialect, b: Belief) -> Result<Started, CheckStop>
+    ensures { Charged result (λ r. (who : Side) → IsOwnTurn who b → IsStarted d who b r) 0 0 0 }
 {
-    let mut outcomes = Vec::new(alloc);
-    for i in 0..b.len() {
-        push_opening(d, &b.get(i), &mut outcomes)?;
-    }
-    Ok(FirstMoves {
+    let outcomes = with_openings(alloc, d, b.members())?;
+    drop(b);
+    let classes = classes_of(alloc, outcomes)?;
+    Ok(Started {
+        own: true,
         over: false,
-        outcomes,
+        classes,
     })
 }
 
-/// Adds what comes of the moves of one position: that it is over where there is none.
-#[tactic(auto, unfolding(krieg_moves::specs::Moves::is_ended), using(crate::proofs::Starting::advancing))]
-fn push_first_moves(
-    d: Dialect,
-    p: &Position,
-    moves: &[Move],
-    first: &mut FirstMoves,
-) -> Result<(), CheckStop>
-    requires { moves.now ≡ list.moves p.now }
-    ensures { Charged result (λ _. IsAdvanced d first.old first.new p.now) 0 0 0 }
-{
-    if moves.is_empty() {
-        first.over = true;
-        return Ok(());
-    }
-    push_outcomes(d, &opening(p), p, moves, &mut first.outcomes)?;
-    Ok(())
-}
-
-/// Adds the first moves in one position, for a unit each.
-fn add_first_moves(
+/// What comes first where the opponent is: his first moves, for a unit each.
+fn at_others_turn(
     alloc: Global,
     d: Dialect,
-    p: &Position,
-    first: &mut FirstMoves,
+    b: Belief,
     units: &mut Units,
-) -> Result<(), CheckStop>
-    ensures { Charged result (λ _. IsAdvanced d first.old first.new p.now) (length (list.moves p.now)) units.old units.new }
+) -> Result<Started, CheckStop>
+    ensures { Charged result (λ r. (who : Side) → IsOthersTurn who b → IsStarted d who b r) (total (λ p. length (list.moves p)) b) units.old units.new }
 {
-    let moves = legal_moves(alloc, p)?;
-    take(units, moves.len() as u64)?;
-    push_first_moves(d, p, moves.as_slice(), first)
+    let FirstMoves { ended, pool } = first_moves(alloc, d, b.members(), units)?;
+    drop(b);
+    let classes = pool.into_classes(alloc)?;
+    Ok(Started {
+        own: false,
+        over: ended,
+        classes,
+    })
 }
 
-/// The first moves in all members.
-fn first_moves(
-    alloc: Global,
-    d: Dialect,
-    b: &Belief,
-    units: &mut Units,
-) -> Result<FirstMoves, CheckStop>
-    ensures { Charged result (AreFirstMoves d b.now) (total (λ p. length (list.moves p)) b.now) units.old units.new }
-{
-    let mut first = FirstMoves {
-        over: false,
-        outcomes: Vec::new(alloc),
-    };
-    for i in 0..b.len() {
-        add_first_moves(alloc, d, &b.get(i), &mut first, units)?;
-    }
-    Ok(first)
-}
-
-/// What comes before the first own turn: nothing but the opening words, or a first move of the opponent.
-fn before(
-    alloc: Global,
-    d: Dialect,
-    who: Side,
-    own: bool,
-    b: &Belief,
-    units: &mut Units,
-) -> Result<FirstMoves, CheckStop>
-    requires { (p : Pos) → In p b.now → is_same_side p.side who ≡ own }
-    ensures { Charged result (IsBefore d who own b.now) (first_cost (chess d) (outset d who) b.now) units.old units.new }
-{
-    let _members = b.len();
-    if own {
-        return own_openings(alloc, d, b);
-    }
-    first_moves(alloc, d, b, units)
-}
-
-/// What is possible at the first own turn, for a unit for each first move of the opponent.
+/// What is possible at the first own turn, for a unit for each first move of the opponent. The set is let go before
+/// what comes of it is sorted.
 pub(crate) fn start(
     alloc: Global,
     d: Dialect,
@@ -143,9 +84,9 @@ pub(crate) fn start(
     requires { IsOneTurn b }
     ensures { Charged result (IsStarted d who b) (first_cost (chess d) (outset d who) b) units.old units.new }
 {
-    let own = is_own_turn(&b, who);
-    let FirstMoves { over, outcomes } = before(alloc, d, who, own, &b, units)?;
-    drop(b);
-    let classes = classes_of(alloc, outcomes)?;
-    Ok(Started { own, over, classes })
+    let _members = b.len();
+    if is_own_turn(&b, who) {
+        return at_own_turn(alloc, d, b);
+    }
+    at_others_turn(alloc, d, b, units)
 }

@@ -1,17 +1,15 @@
 ghost use Rattle.krieg_costs.specs.Cost.{made};
 ghost use Rattle.krieg_game.specs.Chess.{chess};
 ghost use Rattle.krieg_plan.specs.Nodes.{tree_of};
-ghost use Rattle.krieg_checker.specs.Charged.{Charged};
-ghost use Rattle.krieg_checker.specs.Mating.{looked_at};
+ghost use Rattle.krieg_parting.specs.Charged.{Charged};
+ghost use Rattle.krieg_parting.specs.Parted.{IsParted};
 ghost use Rattle.krieg_checker.specs.Tried.{IsTriedAt, IsEnd};
 ghost use Rattle.krieg_checker.specs.Walked.{try_in};
 
-use crate::last_try::{Mating, try_in_all};
-use crate::part::{Parted, part};
-use crate::stop::CheckStop;
 use krieg_board::{Move, Units};
 use krieg_game::Class;
 use krieg_pack::Belief;
+use krieg_parting::{Mating, PartStop as CheckStop, Parted, gather, parts_of, try_to_mate};
 use krieg_plan::Node;
 use krieg_words::Dialect;
 use std::alloc::Global;
@@ -29,16 +27,37 @@ pub(crate) struct Tried {
 }
 
 /// What a try makes of a set where no edge follows: it must mate wherever it is legal, so replies are only counted.
-fn end(alloc: Global, mv: Move, b: Belief, units: &mut Units) -> Result<Tried, CheckStop>
-    ensures { Charged result (IsEnd b mv) (looked_at b mv) units.old units.new }
+fn end(
+    alloc: Global,
+    d: Dialect,
+    mv: Move,
+    b: Belief,
+    units: &mut Units,
+) -> Result<Tried, CheckStop>
+    ensures { Charged result (IsEnd d b mv) (made (chess d) b mv) units.old units.new }
 {
-    let _members = b.len();
-    let Mating { refused, lives } = try_in_all(alloc, &mv, &b, units)?;
+    let Mating { lives, refused } = try_to_mate(alloc, b.members(), &mv, true, units)?;
     Ok(Tried {
         refused: Belief::from_packed(refused),
         fails: lives,
         classes: Vec::new(alloc),
     })
+}
+
+/// Parts the set by the try. The set is let go before the parts are sorted.
+#[inline(never)]
+fn part(
+    alloc: Global,
+    d: Dialect,
+    mv: Move,
+    b: Belief,
+    units: &mut Units,
+) -> Result<Parted, CheckStop>
+    ensures { Charged result (IsParted d b mv) (made (chess d) b mv) units.old units.new }
+{
+    let parts = gather(alloc, d, b.members(), &mv, units)?;
+    drop(b);
+    Ok(parts_of(alloc, parts)?)
 }
 
 /// What the try of the node makes of the set, for one unit for each member and each reply.
@@ -53,7 +72,7 @@ pub(crate) fn try_node(
     ensures { Charged result (IsTriedAt d (tree_of n.now) b) (made (chess d) b (try_in (tree_of n.now))) units.old units.new }
 {
     if n.edges.is_empty() {
-        return end(alloc, n.mv, b, units);
+        return end(alloc, d, n.mv, b, units);
     }
     let Parted {
         refused,

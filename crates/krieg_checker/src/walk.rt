@@ -6,16 +6,16 @@ ghost use Rattle.krieg_game.specs.Classes.{class_pair};
 ghost use Rattle.krieg_plan.specs.Trees.{edges_in};
 ghost use Rattle.krieg_plan.specs.Ordered.{is_ordered};
 ghost use Rattle.krieg_plan.specs.Nodes.{tree_of};
-ghost use Rattle.krieg_checker.specs.Charged.{Charged};
+ghost use Rattle.krieg_parting.specs.Charged.{Charged};
 ghost use Rattle.krieg_checker.specs.Found as found;
 ghost use Rattle.krieg_checker.specs.Found.{Tells, all_won};
 ghost use Rattle.krieg_checker.specs.Walked.{node_cost, edge_cost, classes_won, classes_cost};
 
-use crate::stop::CheckStop;
 use crate::tried::{Tried, try_node};
 use krieg_board::Units;
 use krieg_game::Class;
 use krieg_pack::Belief;
+use krieg_parting::PartStop as CheckStop;
 use krieg_plan::{Node, find_edge_in_order};
 use krieg_words::Dialect;
 use std::alloc::Global;

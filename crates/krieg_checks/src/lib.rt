@@ -13,8 +13,6 @@
 
 mod diagonals;
 mod kinds;
-#[cfg(test)]
-mod tests;
 
 pub use diagonals::long_diagonal;
 pub use kinds::{CheckKind, Kinds, kinds_of};

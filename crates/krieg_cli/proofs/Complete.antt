@@ -14,9 +14,8 @@ use Rattle.krieg_theory.specs.Sets.{is_nil}
 use Rattle.krieg_planfile.specs.PlanFiles.{PlanState}
 use Rattle.krieg_make.specs.MadeSheets.{made_sheet}
 use Rattle.krieg_words.specs.declared.line.Line.{Line}
-use Rattle.krieg_board.specs.declared.men.Move.{Move}
 use Rattle.krieg_seats.specs.Accounts.{Account}
-use Rattle.krieg_play.specs.Teams.{Team, Service, BrokenCourse, HasFailed, entry_of, now_of}
+use Rattle.krieg_play.specs.Teams.{Team, Turns, Service, BrokenCourse, HasFailed, entry_of, now_of}
 use Rattle.krieg_play.specs.Played.{Sides}
 use Rattle.krieg_args.specs.Command.{takes_input}
 use Rattle.krieg_args.specs.declared.command.Command.{Command}
@@ -115,8 +114,8 @@ not_failed : {X : Type 0} (account : X → Account) (relieved : List (Service X)
 not_failed account [] entry now behind none failed = none.0 failed.0
 not_failed account (s ∷ ss) entry now behind none failed = not_failed account ss entry now behind none.1 failed
 
-side_holds : {X : Type 0} (account : X → Account) (entry now : Team X) (ls : List Line) (tries : List Move) → CanPlay account entry now → BrokenCourse account HasFailed entry now ls tries → ⊥
-side_holds {X = X} account entry now ls tries can (due, c) =
+side_holds : {X : Type 0} (account : X → Account) (entry now : Team X) (ls : List Line) (turns : Turns) → CanPlay account entry now → BrokenCourse account HasFailed entry now ls turns → ⊥
+side_holds {X = X} account entry now ls turns can (due, c) =
     let since : seats_since entry now ≡ map now_of c.relieved ++ c.sitting.now ∷ c.behind =
     ap (λ out. drop (length entry.out) out ++ now.seats) c.out_now
     ∙ ap (λ xs. xs ++ now.seats) (drop_front entry.out (map now_of c.relieved))
@@ -176,7 +175,7 @@ module _ {X : Type 0} (account : X → Account) (entry now : Sides X) (before af
   ends_well : (e : Ending) (c : Command) → HoldsText c before.input text → MustAnswer c text → BenchHolds account c entry now → Ends table e c before after → (status e ≡ 0) ⊎ (status e ≡ 11)
   ends_well ending.Answered c holds can bench h = inl refl
   ends_well ending.NoMemory c holds can bench h = inr refl
-  ends_well ending.TooLong c holds can bench ((takes, (took, consumed, long)), out) =
+  ends_well ending.TooLong c holds can bench ((takes, (took, consumed, long), kept), out) =
       let input = by_input _ (takes_input c) takes holds in
       let le = given_le before.input.bytes after.input.bytes text took input.0 consumed in
       absurd (omega (arith, long, le, input.1))

@@ -50,7 +50,7 @@ of_text n budget limit before after err err' text answer (Err (fault.At line kin
 of_text n budget limit before after err err' text answer (Err fault.NoMemory) is read written quiet e = absurd e
 
 kept : (table : Table) (n budget limit : ℕ) (before after : World) (err err' : Stream) → Answers table (Solve n budget limit) before after → err' ≡ err → Keeps n before after err err'
-kept table n budget limit before after err err' (answer, (text, read, comes), written) quiet =
+kept table n budget limit before after err err' (answer, (text, read, comes), written, no_fault) quiet =
     of_text n budget limit before after err err' text answer (whole sheet_at (lines text)) refl read written quiet comes
 
 pub solves_sheets : (table : Table) (e : Ending) (asked : Option Command) (before after : World) (err err' : Stream) (code : ℕ) → Runs table e asked before after → Reports e err err' → code ≡ status e →

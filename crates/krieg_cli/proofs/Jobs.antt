@@ -30,8 +30,8 @@ use Rattle.krieg_checker.specs.Starting.{IsOneTurn}
 use Rattle.krieg_checker.specs.Verdict.{IsVerdict, check_cost as cost_of}
 use Rattle.krieg_checker.specs.declared.plan_check.Checked.{Checked}
 use Rattle.krieg_checker.specs.declared.plan_check.Checked.TheVariants.{Mates, Fails}
-use Rattle.krieg_checker.specs.declared.stop.CheckStop.{CheckStop}
-use Rattle.krieg_checker.specs.declared.stop.CheckStop.TheVariants as check
+use Rattle.krieg_parting.specs.declared.stop.PartStop.{PartStop as CheckStop}
+use Rattle.krieg_parting.specs.declared.stop.PartStop.TheVariants as check
 use Rattle.krieg_search.specs.Solved.{IsBest}
 use Rattle.krieg_search.specs.Planned.{IsFit}
 use Rattle.krieg_search.specs.declared.stop.Stop2.{Stop2}

@@ -1,3 +1,4 @@
+mod Benches
 mod BestFiles
 mod Checking
 mod Complete

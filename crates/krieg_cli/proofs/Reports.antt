@@ -3,22 +3,23 @@ use Rattle.std.proofs.Common.{◌≡◌, ℕ, List, Result, Ok, Err, refl, inl, 
 use Rattle.std.specs.Prelude.{OnOk, OnErr}
 use Rattle.std.specs.Io.KnownBytes.{Appends}
 use Rattle.krieg_ports.specs.Bytes.{AppendsPrefix}
-use Rattle.krieg_cli.specs.World.{Stream, FaultsRose}
+use Rattle.krieg_cli.specs.World.{Stream, FaultsRose, NoFault}
 use Rattle.krieg_cli.specs.Ending.{line_of}
 use Rattle.krieg_cli.specs.Top.{Gets, Reports}
 use Rattle.krieg_cli.specs.declared.ending.Ending.{Ending}
 use Rattle.krieg_cli.specs.declared.ending.Ending.TheVariants.{Answered}
 
 gets : {A E : Type 0} (r : Result A E) (line : List ℕ) (before after : Stream) →
-    OnOk r (Appends before.bytes after.bytes line) → OnErr r (AppendsPrefix before.bytes after.bytes line) → OnErr r (FaultsRose before after) → Gets line before after
-gets (Ok x) line before after all part rose = inl all
-gets (Err e) line before after all part rose = inr (part, rose)
+    OnOk r (Appends before.bytes after.bytes line) → OnOk r (NoFault before after) → OnErr r (AppendsPrefix before.bytes after.bytes line) → OnErr r (FaultsRose before after) →
+    Gets line before after
+gets (Ok x) line before after all none part rose = inl (all, none)
+gets (Err e) line before after all none part rose = inr (part, rose)
 
 of_line : (ending : Ending) (before after : Stream) → (ending ≡ Answered → ⊥) → Gets (line_of ending) before after → Reports ending before after
 of_line Answered before after unanswered line = absurd (unanswered refl)
 of_line _ before after unanswered line = line
 
 pub reports : {A E : Type 0} (r : Result A E) (ending : Ending) (before after : Stream) → (ending ≡ Answered → ⊥) →
-    OnOk r (Appends before.bytes after.bytes (line_of ending)) → OnErr r (AppendsPrefix before.bytes after.bytes (line_of ending)) → OnErr r (FaultsRose before after) →
+    OnOk r (Appends before.bytes after.bytes (line_of ending)) → OnOk r (NoFault before after) → OnErr r (AppendsPrefix before.bytes after.bytes (line_of ending)) → OnErr r (FaultsRose before after) →
     Reports ending before after
-reports r ending before after unanswered all part rose = of_line ending before after unanswered (gets r (line_of ending) before after all part rose)
+reports r ending before after unanswered all none part rose = of_line ending before after unanswered (gets r (line_of ending) before after all none part rose)

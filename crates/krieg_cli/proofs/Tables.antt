@@ -1,5 +1,5 @@
 -- What a run shows, where more is known of what `play` makes of a text.
-use Rattle.std.proofs.Common.{ℕ, List, Option, Some, None, Result, Ok, Err, ap}
+use Rattle.std.proofs.Common.{ℕ, List, Option, Some, None, Result, Ok, Err, ap, inl, inr}
 use Rattle.krieg_board.specs.Pos.{Pos}
 use Rattle.krieg_fen.specs.Lines.{lines}
 use Rattle.krieg_fen.specs.Reading.{whole}
@@ -8,18 +8,19 @@ use Rattle.krieg_fen.specs.declared.fault.TextFault.TheVariants as fault
 use Rattle.krieg_session.specs.SessionReading.{start_at}
 use Rattle.krieg_seats.specs.Accounts.{Account}
 use Rattle.krieg_play.specs.Played.{Sides, seen}
-use Rattle.krieg_play.specs.declared.outcome.PlayFault.TheVariants.{Vacant, Seat}
+use Rattle.krieg_play.specs.declared.outcome.PlayFault.TheVariants.{Vacant, Seat, NoMemory}
 use Rattle.krieg_play.proofs.Seen.{played_seen, refuses_seen}
 use Rattle.krieg_args.specs.declared.command.Command.{Command}
 use Rattle.krieg_args.specs.declared.command.Command.TheVariants.{Play}
-use Rattle.krieg_cli.specs.World.{World}
+use Rattle.krieg_cli.specs.World.{Stream, World}
 use Rattle.krieg_cli.specs.Outcome.{Table, HasOutcome}
-use Rattle.krieg_cli.specs.Play.{PlaysFrom, PlaysWhole, Plays}
-use Rattle.krieg_cli.specs.Top.{ComesTo, Ends, Runs}
+use Rattle.krieg_cli.specs.Play.{PlaysFrom, PlaysWhole, Plays, HasBegun}
+use Rattle.krieg_cli.specs.Top.{ComesTo, Ends, Runs, LeavesBench, IsRun}
 use Rattle.krieg_cli.specs.declared.refusal.Refusal.{Refusal}
 use Rattle.krieg_cli.specs.declared.refusal.Refusal.TheVariants.{NoSeat, SeatFault}
 use Rattle.krieg_cli.specs.declared.ending.Ending.{Ending}
 use Rattle.krieg_cli.specs.declared.ending.Ending.TheVariants.{Answered, WriteFault, Refused}
+use Rattle.krieg_cli.specs.declared.ending.Ending.TheVariants as ending
 
 abbrev Follows : Table → Table → Type 0
 Follows t u = (asks : ℕ) (text : List ℕ) (outcome : Result (List ℕ) Refusal) → t asks text outcome → u asks text outcome
@@ -32,12 +33,12 @@ comes_as : (t u : Table) → Follows t u → (c : Command) (before after : World
 comes_as t u f c before after outcome (text, was, made) = (text, was, outcome_as t u f c text outcome made)
 
 ends_as : (t u : Table) → Follows t u → (e : Ending) (c : Command) (before after : World) → Ends t e c before after → Ends u e c before after
-ends_as t u f Answered c before after (answer, comes, written) = (answer, comes_as t u f c before after (Ok answer) comes, written)
+ends_as t u f Answered c before after (answer, comes, written, kept) = (answer, comes_as t u f c before after (Ok answer) comes, written, kept)
 ends_as t u f WriteFault c before after (answer, comes, front, rose) = (answer, comes_as t u f c before after (Ok answer) comes, front, rose)
 ends_as t u f (Refused refusal) c before after (comes, out) = (comes_as t u f c before after (Err refusal) comes, out)
 ends_as t u f _ c before after h = h
 
-pub runs_as : (t u : Table) → Follows t u → (e : Ending) (asked : Option Command) (before after : World) → Runs t e asked before after → Runs u e asked before after
+runs_as : (t u : Table) → Follows t u → (e : Ending) (asked : Option Command) (before after : World) → Runs t e asked before after → Runs u e asked before after
 runs_as t u f e None before after h = h
 runs_as t u f e (Some c) before after h = ends_as t u f e c before after h
 
@@ -64,5 +65,26 @@ whole_seen account asks before after (Ok start) outcome h = from_seen account as
 whole_seen account asks before after (Err (fault.At line kind)) outcome h = (h.0, ap (seen account) h.1)
 whole_seen account asks before after (Err fault.NoMemory) outcome h = h
 
-pub plays_seen : {X : Type 0} (account : X → Account) (before after : Sides X) → Follows (Plays account before after) (Plays itself (seen account before) (seen account after))
+plays_seen : {X : Type 0} (account : X → Account) (before after : Sides X) → Follows (Plays account before after) (Plays itself (seen account before) (seen account after))
 plays_seen account before after asks text outcome h = whole_seen account asks before after (whole start_at (lines text)) outcome h
+
+-- the same of a whole run, with what becomes of the bench
+begun_seen : {X : Type 0} (account : X → Account) (asks : ℕ) (entry now : Sides X) (text : List ℕ) → HasBegun account asks entry now text → HasBegun itself asks (seen account entry) (seen account now) text
+begun_seen account asks entry now text (start, is, inl broken) = (start, is, inl (refuses_seen account start asks entry now NoMemory broken))
+begun_seen account asks entry now text (start, is, inr (game, stop, played)) = (start, is, inr (game, stop, played_seen account start asks entry now game stop played))
+
+bench_seen : {X : Type 0} (account : X → Account) (asked : Option Command) (e : Ending) (input input' : Stream) (entry now : Sides X) →
+    LeavesBench account asked e input input' entry now → LeavesBench itself asked e input input' (seen account entry) (seen account now)
+bench_seen account (Some (Play asks)) ending.NoMemory input input' entry now (inl same) = inl (ap (seen account) same)
+bench_seen account (Some (Play asks)) ending.NoMemory input input' entry now (inr (text, was, begun)) = inr (text, was, begun_seen account asks entry now text begun)
+bench_seen account _ _ input input' entry now h = λ none. ap (seen account) (h none)
+
+pub run_seen : {X : Type 0} {account : X → Account} {entry now : Sides X} {asked : Option Command} {code : ℕ} {before after : World} {err err' : Stream} →
+    IsRun account entry now asked code before after err err' → IsRun itself (seen account entry) (seen account now) asked code before after err err'
+run_seen {account = account} {entry = entry} {now = now} {asked = asked} {before = before} {after = after} run = record {
+  ending = run.ending;
+  status_is = run.status_is;
+  runs = runs_as (Plays account entry now) (Plays itself (seen account entry) (seen account now)) (plays_seen account entry now) run.ending asked before after run.runs;
+  reports = run.reports;
+  bench = bench_seen account asked run.ending before.input after.input entry now run.bench;
+}

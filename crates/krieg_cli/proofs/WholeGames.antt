@@ -81,7 +81,7 @@ session_of given text who (Err (fault.At line kind)) is e = absurd cc
 session_of given text who (Err fault.NoMemory) is e = absurd e
 
 told_game : (table : Table) (who : Side) (before after : World) → Answers table (Umpire (Some who)) before after → TellsGame who before after
-told_game table who before after (text, (given, read, comes), written) =
+told_game table who before after (text, (given, read, comes), written, kept) =
     let (s, u) = session_of given text who (whole session_at (lines given)) refl comes in
     record { given = given; session = s; text = text; was_read = read; umpired = u; heard = heard given s who text u; same = u.told ∙ same s who; written = written }
 
@@ -118,7 +118,7 @@ refused_on_heard _ limit s who text before after h = h
 
 ends_on_heard : (table : Table) (e : Ending) (limit : ℕ) (given : List ℕ) (s : SessionState) (who : Side) (text : List ℕ) (before after : World) →
     IsUmpired given s who text → before.input.bytes ≡ Some text → Ends table e (Believe limit) before after → EndsOnHeard e limit s who text before after
-ends_on_heard table ending.Answered limit given s who text before after u holds (answer, comes, written) =
+ends_on_heard table ending.Answered limit given s who text before after u holds (answer, comes, written, kept) =
     let (list, possible, within, is) = believed table limit given s who text before after (Ok answer) u holds comes in
     record {
       list = list;
@@ -126,7 +126,7 @@ ends_on_heard table ending.Answered limit given s who text before after u holds 
       listed = (possible.exact (standing s)).1 (heard given s who text u).consistent;
       written = subst (Appends before.out.bytes after.out.bytes) is written;
     }
-ends_on_heard table ending.TooLong limit given s who text before after u holds ((takes, (took, consumed, long)), out) =
+ends_on_heard table ending.TooLong limit given s who text before after u holds ((takes, (took, consumed, long), kept), out) =
     omega (arith, long, given_le before.input.bytes after.input.bytes text took holds consumed)
 ends_on_heard table ending.ReadFault limit given s who text before after u holds ((takes, came, rose), out) = rose
 ends_on_heard table ending.WriteFault limit given s who text before after u holds (answer, comes, front, rose) = rose
@@ -135,6 +135,6 @@ ends_on_heard table (ending.Refused r) limit given s who text before after u hol
     refused_on_heard r limit s who text before after (believed table limit given s who text before after (Err r) u holds e.0)
 ends_on_heard table _ limit given s who text before after u holds e = e
 
-pub believes_games : (table : Table) (e : Ending) (asked : Option Command) (before after : World) → Runs table e asked before after → BelievesGames asked e before after
-believes_games table e asked before after runs limit given s who text is u holds =
-    ends_on_heard table e limit given s who text before after u holds (subst (λ x. Runs table e x before after) is runs)
+pub believes_games : (table : Table) (e : Ending) (asked : Option Command) (before after : World) (code : ℕ) → Runs table e asked before after → code ≡ status e → BelievesGames asked code before after
+believes_games table e asked before after code runs ended =
+    (e, ended, λ limit given s who text is u holds. ends_on_heard table e limit given s who text before after u holds (subst (λ x. Runs table e x before after) is runs))

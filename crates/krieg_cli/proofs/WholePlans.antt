@@ -10,6 +10,7 @@ use Rattle.krieg_args.specs.declared.command.Command.{Command}
 use Rattle.krieg_args.specs.declared.command.Command.TheVariants.{Check}
 use Rattle.krieg_cli.specs.World.{World}
 use Rattle.krieg_cli.specs.Refusal.{OfText}
+use Rattle.krieg_cli.specs.Ending.{status}
 use Rattle.krieg_cli.specs.Check.{worst_text, Checked}
 use Rattle.krieg_cli.specs.Outcome.{Table}
 use Rattle.krieg_cli.specs.Top.{ComesTo, Ends, Runs}
@@ -40,9 +41,9 @@ refused _ budget f text before after solution h = h
 
 ends_on_solution : (table : Table) (e : Ending) (budget : ℕ) (f : PlanState) (text : List ℕ) (before after : World) → IsSolution f text → before.input.bytes ≡ Some text →
     Ends table e (Check budget) before after → EndsOnSolution e budget f text before after
-ends_on_solution table ending.Answered budget f text before after solution holds (answer, comes, written) =
+ends_on_solution table ending.Answered budget f text before after solution holds (answer, comes, written, kept) =
     subst (Appends before.out.bytes after.out.bytes) (same_worst f budget text answer solution (checked table budget f text before after (Ok answer) solution holds comes)) written
-ends_on_solution table ending.TooLong budget f text before after solution holds ((takes, (took, consumed, long)), out) =
+ends_on_solution table ending.TooLong budget f text before after solution holds ((takes, (took, consumed, long), kept), out) =
     omega (arith, long, given_le before.input.bytes after.input.bytes text took holds consumed)
 ends_on_solution table ending.ReadFault budget f text before after solution holds ((takes, came, rose), out) = rose
 ends_on_solution table ending.WriteFault budget f text before after solution holds (answer, comes, front, rose) = rose
@@ -51,6 +52,6 @@ ends_on_solution table (ending.Refused r) budget f text before after solution ho
     refused r budget f text before after solution (checked table budget f text before after (Err r) solution holds e.0)
 ends_on_solution table _ budget f text before after solution holds e = e
 
-pub checks_solutions : (table : Table) (e : Ending) (asked : Option Command) (before after : World) → Runs table e asked before after → ChecksSolutions asked e before after
-checks_solutions table e asked before after runs budget f text is solution holds =
-    ends_on_solution table e budget f text before after solution holds (subst (λ x. Runs table e x before after) is runs)
+pub checks_solutions : (table : Table) (e : Ending) (asked : Option Command) (before after : World) (code : ℕ) → Runs table e asked before after → code ≡ status e → ChecksSolutions asked code before after
+checks_solutions table e asked before after code runs ended =
+    (e, ended, λ budget f text is solution holds. ends_on_solution table e budget f text before after solution holds (subst (λ x. Runs table e x before after) is runs))

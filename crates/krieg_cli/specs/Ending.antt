@@ -1,5 +1,5 @@
 -- How a run ends: the status, and the line that err gets.
-use Rattle.std.specs.Prelude.{ℕ, List, [], ◌∷◌, ◌++◌, Option, Some, None, codes}
+use Rattle.std.specs.Prelude.{◌≡◌, ℕ, List, [], ◌∷◌, ◌++◌, Option, Some, None, codes}
 use Rattle.krieg_fen.specs.Decimals.{number_text}
 use Rattle.krieg_cli.specs.Refusal.{refusal_status, refusal_reason}
 use Rattle.krieg_cli.specs.declared.ending.Ending.{Ending}
@@ -13,6 +13,10 @@ status ReadFault = 9
 status WriteFault = 10
 status NoMemory = 11
 status (Refused refusal) = refusal_status refusal
+
+-- the run ended with this status by an ending of which this holds
+abbrev pub EndsSo : ℕ → (Ending → Type 0) → Type 0
+EndsSo code Holds = (ending : Ending) × (code ≡ status ending) × Holds ending
 
 -- the line of the input at which it is, where it is at one, and what it is; an answer has no reason
 abbrev pub reason : Ending → Option ℕ × List ℕ

@@ -6,6 +6,7 @@ pub mod Solve
 pub mod Check
 pub mod Believe
 pub mod Umpire
+pub mod Seated
 pub mod Play
 pub mod Make
 pub mod Tally

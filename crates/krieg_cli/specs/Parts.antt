@@ -1,15 +1,20 @@
 -- What no public clause cites: the parts of the work answer a value, or the ending of a run that has none.
-use Rattle.std.specs.Prelude.{Result, Ok, Err}
+use Rattle.std.specs.Prelude.{◌≡◌, ◌⊎◌, ℕ, false, List, Some, Result, Ok, Err}
 use Rattle.krieg_fen.specs.declared.fault.TextFault.{TextFault}
 use Rattle.krieg_fen.specs.declared.fault.TextFault.TheVariants as fault
 use Rattle.krieg_ports.specs.declared.transfer.ReadEnd.{ReadEnd}
 use Rattle.krieg_ports.specs.declared.transfer.ReadEnd.TheVariants as unread
 use Rattle.krieg_belief.specs.declared.beliefs.BeliefStop.{BeliefStop}
 use Rattle.krieg_belief.specs.declared.beliefs.BeliefStop.TheVariants as stop
-use Rattle.krieg_checker.specs.declared.stop.CheckStop.{CheckStop}
-use Rattle.krieg_checker.specs.declared.stop.CheckStop.TheVariants as check
+use Rattle.krieg_parting.specs.declared.stop.PartStop.{PartStop as CheckStop}
+use Rattle.krieg_parting.specs.declared.stop.PartStop.TheVariants as check
 use Rattle.krieg_search.specs.declared.stop.Stop2.{Stop2}
 use Rattle.krieg_search.specs.declared.stop.Stop2.TheVariants as search
+use Rattle.krieg_seats.specs.Accounts.{Account}
+use Rattle.krieg_play.specs.Played.{Sides}
+use Rattle.krieg_args.specs.declared.command.Command.{Command}
+use Rattle.krieg_args.specs.declared.command.Command.TheVariants.{Play}
+use Rattle.krieg_cli.specs.Play.{HasBegun, calls_seats}
 use Rattle.krieg_cli.specs.declared.refusal.Refusal.{Refusal}
 use Rattle.krieg_play.specs.declared.outcome.PlayFault.{PlayFault}
 use Rattle.krieg_play.specs.declared.outcome.PlayFault.TheVariants as played
@@ -60,3 +65,8 @@ Decides view (Ok x) Outcome = Outcome (Ok (view x))
 Decides view (Err (Refused refusal)) Outcome = Outcome (Err refusal)
 Decides view (Err NoMemory) Outcome = Unit {0}
 Decides view (Err _) Outcome = ⊥
+
+-- what becomes of the bench where a command made this of its text
+abbrev pub LeavesSeats : {X : Type 0} → (X → Account) → Command → Ending → List ℕ → Sides X → Sides X → Type 0
+LeavesSeats account (Play asks) NoMemory text entry now = (now ≡ entry) ⊎ HasBegun account asks entry now text
+LeavesSeats account c ending text entry now = calls_seats ending (Some c) ≡ false → now ≡ entry

@@ -1,5 +1,5 @@
 -- What `play` answers to a start, and what becomes of the bench: the session of the game that its seats play.
-use Rattle.std.specs.Prelude.{◌≡◌, ℕ, Bool, true, false, List, Option, Some, Result, Ok, Err}
+use Rattle.std.specs.Prelude.{◌≡◌, ◌⊎◌, ℕ, Bool, true, false, List, Option, Some, Result, Ok, Err}
 use Rattle.krieg_board.specs.Pos.{Pos}
 use Rattle.krieg_fen.specs.Lines.{lines}
 use Rattle.krieg_fen.specs.Reading.{whole}
@@ -13,8 +13,9 @@ use Rattle.krieg_session.specs.SessionReading.{start_at}
 use Rattle.krieg_session.specs.SessionText.{session_text}
 use Rattle.krieg_seats.specs.Accounts.{Account}
 use Rattle.krieg_play.specs.Games.{events_of}
-use Rattle.krieg_play.specs.Played.{Sides, IsPlayed, Refuses}
+use Rattle.krieg_play.specs.Played.{Sides, IsPlayed, IsBroken, Refuses}
 use Rattle.krieg_play.specs.declared.outcome.PlayFault.TheVariants.{Vacant, Seat}
+use Rattle.krieg_play.specs.declared.outcome.PlayFault.TheVariants as played
 use Rattle.krieg_args.specs.declared.command.Command.{Command}
 use Rattle.krieg_args.specs.declared.command.Command.TheVariants.{Play}
 use Rattle.krieg_cli.specs.declared.refusal.Refusal.{Refusal}
@@ -49,6 +50,12 @@ PlaysWhole account asks before after (Err fault.NoMemory) outcome = ⊥
 -- the same of a text that may spell a start
 abbrev pub Plays : {X : Type 0} → (X → Account) → Sides X → Sides X → ℕ → List ℕ → Result (List ℕ) Refusal → Type 0
 Plays account before after asks text outcome = PlaysWhole account asks before after (whole start_at (lines text)) outcome
+
+-- a game was begun from the start that the text spells: it was given up for want of memory, or played until it stopped
+abbrev pub HasBegun : {X : Type 0} → (X → Account) → ℕ → Sides X → Sides X → List ℕ → Type 0
+HasBegun account asks before after text =
+    (start : Pos) × (whole start_at (lines text) ≡ Ok start)
+    × (IsBroken account start asks before after played.NoMemory ⊎ ((game : GameState) × (stop : Stop) × IsPlayed account start asks before after game stop))
 
 -- whether seats may have been called in a run that ends so: `play` calls them once it has its start and both sides have a seat
 abbrev pub calls_seats : Ending → Option Command → Bool

@@ -1,15 +1,16 @@
 -- What a run has read and written when it ends, and by what cause it ends so.
-use Rattle.std.specs.Prelude.{false, ℕ, Bool, ◌≡◌, ◌⊎◌, List, Option, Some, None, Result, Ok, Err}
+use Rattle.std.specs.Prelude.{false, ℕ, Bool, ◌≡◌, ◌⊎◌, List, map, String, string_bytes, Option, Some, None, Result, Ok, Err}
 use Rattle.std.specs.Io.KnownBytes.{Appends}
 use Rattle.krieg_ports.specs.Bytes.{AppendsPrefix}
-use Rattle.krieg_args.specs.Command.{takes_input}
+use Rattle.krieg_args.specs.Command.{command_of, takes_input}
 use Rattle.krieg_args.specs.declared.command.Command.{Command}
-use Rattle.krieg_cli.specs.World.{Stream, World, FaultsRose}
-use Rattle.krieg_cli.specs.Input.{WasTaken, FailsToTake}
+use Rattle.krieg_args.specs.declared.command.Command.TheVariants.{Play}
+use Rattle.krieg_cli.specs.World.{Stream, World, FaultsRose, NoFault}
+use Rattle.krieg_cli.specs.Input.{WasRead, WasTaken, FailsToTake}
 use Rattle.krieg_cli.specs.Outcome.{Table, HasOutcome}
 use Rattle.krieg_seats.specs.Accounts.{Account}
 use Rattle.krieg_play.specs.Played.{Sides}
-use Rattle.krieg_cli.specs.Play.{Plays, calls_seats}
+use Rattle.krieg_cli.specs.Play.{Plays, HasBegun, calls_seats}
 use Rattle.krieg_cli.specs.Ending.{status, line_of}
 use Rattle.krieg_cli.specs.declared.refusal.Refusal.{Refusal}
 use Rattle.krieg_cli.specs.declared.ending.Ending.{Ending}
@@ -19,9 +20,10 @@ use Rattle.krieg_cli.specs.declared.ending.Ending.TheVariants.{Answered, Usage, 
 abbrev pub ComesTo : Table → Command → World → World → Result (List ℕ) Refusal → Type 0
 ComesTo table c before after outcome = (text : List ℕ) × WasTaken c before.input after.input text × HasOutcome table c text outcome
 
--- the whole answer was written
+-- the whole answer was written, and no write of it failed
 abbrev pub Answers : Table → Command → World → World → Type 0
-Answers table c before after = (answer : List ℕ) × ComesTo table c before after (Ok answer) × Appends before.out.bytes after.out.bytes answer
+Answers table c before after =
+    (answer : List ℕ) × ComesTo table c before after (Ok answer) × Appends before.out.bytes after.out.bytes answer × NoFault before.out after.out
 
 -- the sink failed, and got a front part of the answer
 abbrev pub BreaksOff : Table → Command → World → World → Type 0
@@ -43,32 +45,35 @@ abbrev pub Runs : Table → Ending → Option Command → World → World → Ty
 Runs table ending None before after = (ending ≡ Usage) × (after ≡ before)
 Runs table ending (Some c) before after = Ends table ending c before after
 
+-- the command that the words of a run are
+abbrev pub asked_by : {Z : Type 0} → List (String Z) → Option Command
+asked_by words = command_of (map string_bytes words)
+
 -- whether anything is read for the words
 abbrev pub reads : Option Command → Bool
 reads None = false
 reads (Some c) = takes_input c
 
--- a stream got the line, or a front part of it where it failed
+-- a stream got the line without a fault, or a front part of it where it failed
 abbrev pub Gets : List ℕ → Stream → Stream → Type 0
-Gets line before after = Appends before.bytes after.bytes line ⊎ (AppendsPrefix before.bytes after.bytes line × FaultsRose before after)
+Gets line before after = (Appends before.bytes after.bytes line × NoFault before after) ⊎ (AppendsPrefix before.bytes after.bytes line × FaultsRose before after)
 
 -- err stays as it is where the answer was written, and otherwise gets the ending's line
 abbrev pub Reports : Ending → Stream → Stream → Type 0
 Reports Answered before after = after ≡ before
 Reports ending before after = Gets (line_of ending) before after
 
--- the run ended with this status by an ending of which this holds
-abbrev pub EndsSo : ℕ → (Ending → Type 0) → Type 0
-EndsSo code Holds = (ending : Ending) × (code ≡ status ending) × Holds ending
-
--- the bench is as it was, but where seats may have been called
-abbrev pub KeepsBench : {Y : Type 0} → Ending → Option Command → Y → Y → Type 0
-KeepsBench ending asked before after = calls_seats ending asked ≡ false → after ≡ before
+-- What becomes of the bench: it is as it was, but where seats may have been called. Where memory ran out under `play` it is as it
+-- was, or the input was read whole, and a game was begun from the start that it spells.
+abbrev pub LeavesBench : {X : Type 0} → (X → Account) → Option Command → Ending → Stream → Stream → Sides X → Sides X → Type 0
+LeavesBench account (Some (Play asks)) NoMemory input input' entry now =
+    (now ≡ entry) ⊎ ((text : List ℕ) × WasRead input input' text × HasBegun account asks entry now text)
+LeavesBench account asked ending input input' entry now = calls_seats ending asked ≡ false → now ≡ entry
 
 -- A run ended with this status: by an ending whose causes hold, which err tells, with the bench as it was or as `play` left it.
-pub record IsRun {X : Type 0} (account : X → Account) (entry now : Sides X) (code : ℕ) (asked : Option Command) (before after : World) (err err' : Stream) : Type 0 where
+pub record IsRun {X : Type 0} (account : X → Account) (entry now : Sides X) (asked : Option Command) (code : ℕ) (before after : World) (err err' : Stream) : Type 0 where
   pub ending : Ending
   pub status_is : code ≡ status ending
   pub runs : Runs (Plays account entry now) ending asked before after
   pub reports : Reports ending err err'
-  pub keeps : KeepsBench ending asked entry now
+  pub bench : LeavesBench account asked ending before.input after.input entry now

@@ -22,6 +22,7 @@ use Rattle.krieg_args.specs.declared.command.Command.TheVariants.{Believe, Umpir
 use Rattle.krieg_cli.specs.World.{World, FaultsRose}
 use Rattle.krieg_cli.specs.Input.{most_input, WasRead}
 use Rattle.krieg_cli.specs.Umpire.{told_text}
+use Rattle.krieg_cli.specs.Ending.{EndsSo}
 use Rattle.krieg_cli.specs.declared.refusal.Refusal.TheVariants.{TooMany}
 use Rattle.krieg_cli.specs.declared.ending.Ending.{Ending}
 use Rattle.krieg_cli.specs.declared.ending.Ending.TheVariants.{Answered, TooLong, ReadFault, WriteFault, NoMemory, Refused}
@@ -85,7 +86,7 @@ abbrev pub UmpiresGames : Option Command → ℕ → World → World → Type 0
 UmpiresGames asked code before after = (who : Side) → asked ≡ Some (Umpire (Some who)) → code ≡ 0 → TellsGame who before after
 
 -- with the words of `believe` a run ends so on every text that `umpire` writes, where the input holds it
-abbrev pub BelievesGames : Option Command → Ending → World → World → Type 0
-BelievesGames asked ending before after =
+abbrev pub BelievesGames : Option Command → ℕ → World → World → Type 0
+BelievesGames asked code before after = EndsSo code (λ ending.
     (limit : ℕ) (given : List ℕ) (s : SessionState) (who : Side) (text : List ℕ) →
-    asked ≡ Some (Believe limit) → IsUmpired given s who text → before.input.bytes ≡ Some text → EndsOnHeard ending limit s who text before after
+    asked ≡ Some (Believe limit) → IsUmpired given s who text → before.input.bytes ≡ Some text → EndsOnHeard ending limit s who text before after)

@@ -12,6 +12,7 @@ use Rattle.krieg_cli.specs.World.{World, FaultsRose}
 use Rattle.krieg_cli.specs.Input.{most_input}
 use Rattle.krieg_cli.specs.Solve.{mates_all}
 use Rattle.krieg_cli.specs.Check.{check_cost, worst_text}
+use Rattle.krieg_cli.specs.Ending.{EndsSo}
 use Rattle.krieg_cli.specs.declared.refusal.Refusal.TheVariants.{BudgetSpent}
 use Rattle.krieg_cli.specs.declared.ending.Ending.{Ending}
 use Rattle.krieg_cli.specs.declared.ending.Ending.TheVariants.{Answered, TooLong, ReadFault, WriteFault, NoMemory, Refused}
@@ -35,6 +36,6 @@ EndsOnSolution NoMemory budget f text before after = Unit {0}
 EndsOnSolution _ budget f text before after = ⊥
 
 -- with the words of `check` a run ends so on every such text, where the input holds it
-abbrev pub ChecksSolutions : Option Command → Ending → World → World → Type 0
-ChecksSolutions asked ending before after =
-    (budget : ℕ) (f : PlanState) (text : List ℕ) → asked ≡ Some (Check budget) → IsSolution f text → before.input.bytes ≡ Some text → EndsOnSolution ending budget f text before after
+abbrev pub ChecksSolutions : Option Command → ℕ → World → World → Type 0
+ChecksSolutions asked code before after = EndsSo code (λ ending.
+    (budget : ℕ) (f : PlanState) (text : List ℕ) → asked ≡ Some (Check budget) → IsSolution f text → before.input.bytes ≡ Some text → EndsOnSolution ending budget f text before after)

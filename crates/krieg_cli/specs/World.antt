@@ -1,5 +1,5 @@
 -- What is seen of a run before it and after it.
-use Rattle.std.specs.Prelude.{ℕ, List, Option}
+use Rattle.std.specs.Prelude.{◌≡◌, ℕ, List, Option}
 use Rattle.krieg_ports.specs.Faults.{Rose}
 
 -- what a stream shows: the bytes that are left in it, or that it got, where it tells them, and how many of its calls failed
@@ -21,3 +21,7 @@ world left input_faults got out_faults input out = record { input = stream left 
 -- the count of faults rose
 abbrev pub FaultsRose : Stream → Stream → Type 0
 FaultsRose before after = Rose before.faults after.faults
+
+-- no call failed: the count of faults is as it was
+abbrev pub NoFault : Stream → Stream → Type 0
+NoFault before after = after.faults ≡ before.faults

@@ -37,8 +37,6 @@ mod refusal;
 mod report;
 mod solve;
 mod tally;
-#[cfg(test)]
-mod tests;
 mod top;
 mod umpire;
 

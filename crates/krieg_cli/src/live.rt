@@ -6,8 +6,6 @@ mod game;
 mod table;
 mod team;
 mod telling;
-#[cfg(test)]
-mod tests;
 
 pub use bench::Bench;
 pub use game::play;

@@ -1,8 +1,6 @@
-ghost use Rattle.std.specs.Prelude.{◌≡◌, false, Some};
-ghost use Rattle.krieg_play.specs.Played.{sides};
-ghost use Rattle.krieg_play.specs.Teams.{team_of};
-ghost use Rattle.krieg_cli.specs.Parts.{Decides, ending_of};
-ghost use Rattle.krieg_cli.specs.Play.{Plays, calls_seats};
+ghost use Rattle.krieg_cli.specs.Seated.{bench_sides};
+ghost use Rattle.krieg_cli.specs.Parts.{Decides, LeavesSeats, ending_of};
+ghost use Rattle.krieg_cli.specs.Play.{Plays};
 ghost use Rattle.krieg_cli.specs.Outcome as spec;
 
 use crate::ending::Ending;
@@ -21,12 +19,10 @@ pub(crate) fn outcome(
 ) -> Result<Vec<u8>, Ending>
     requires { spec.IsInRange command.now }
     ensures outcome { let table = Plays (λ b. account b)
-        (sides (team_of bench.old.white bench.old.white_out) (team_of bench.old.black bench.old.black_out))
-        (sides (team_of bench.new.white bench.new.white_out) (team_of bench.new.black bench.new.black_out)) in
+        (bench_sides bench.old) (bench_sides bench.new) in
         Decides (λ answer. answer.items) result (spec.HasOutcome table command.now text.items) }
-    ensures kept { calls_seats (ending_of result) (Some command.now) ≡ false →
-        sides (team_of bench.new.white bench.new.white_out) (team_of bench.new.black bench.new.black_out)
-        ≡ sides (team_of bench.old.white bench.old.white_out) (team_of bench.old.black bench.old.black_out) }
+    ensures bench { LeavesSeats (λ b. account b) command.now (ending_of result) text.items
+        (bench_sides bench.old) (bench_sides bench.new) }
 {
     match command {
         Command::Solve(moves, budget, limit) => {

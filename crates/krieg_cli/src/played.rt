@@ -1,9 +1,8 @@
-ghost use Rattle.std.specs.Prelude.{◌≡◌, false, map, IfOk, Some};
+ghost use Rattle.std.specs.Prelude.{◌≡◌, map, IfOk, Some};
 ghost use Rattle.krieg_play.specs.Games.{events_of};
-ghost use Rattle.krieg_play.specs.Played.{sides};
-ghost use Rattle.krieg_play.specs.Teams.{team_of};
 ghost use Rattle.krieg_session.specs.SessionText.{session_text};
-ghost use Rattle.krieg_cli.specs.Parts.{Decides, ending_of};
+ghost use Rattle.krieg_cli.specs.Seated.{bench_sides};
+ghost use Rattle.krieg_cli.specs.Parts.{Decides, LeavesSeats, ending_of};
 ghost use Rattle.krieg_cli.specs.Play as spec;
 ghost use Rattle.krieg_args.specs.declared.command.Command.TheVariants.{Play};
 
@@ -67,12 +66,10 @@ pub(crate) fn answer(
     bench: &mut Bench,
 ) -> Result<Vec<u8>, Ending>
     ensures outcome { Decides (λ answer. answer.items) result (spec.Plays (λ b. account b)
-        (sides (team_of bench.old.white bench.old.white_out) (team_of bench.old.black bench.old.black_out))
-        (sides (team_of bench.new.white bench.new.white_out) (team_of bench.new.black bench.new.black_out))
+        (bench_sides bench.old) (bench_sides bench.new)
         asks text.items) }
-    ensures kept { spec.calls_seats (ending_of result) (Some (Play asks)) ≡ false →
-        sides (team_of bench.new.white bench.new.white_out) (team_of bench.new.black bench.new.black_out)
-        ≡ sides (team_of bench.old.white bench.old.white_out) (team_of bench.old.black bench.old.black_out) }
+    ensures bench { LeavesSeats (λ b. account b) (Play asks) (ending_of result) text.items
+        (bench_sides bench.old) (bench_sides bench.new) }
 {
     let start = match read_start(&text) {
         Ok(start) => start,

@@ -16,6 +16,7 @@ fn write_pieces<E: Sink>(err: &mut E, pieces: &[&[u8]]) -> Result<(), WriteFault
     ensures all { OnOk result (Appends (E.got err.old) (E.got err.new) (flat_map (λ p. p.now) pieces.now)) }
     ensures part { OnErr result (AppendsPrefix (E.got err.old) (E.got err.new) (flat_map (λ p. p.now) pieces.now)) }
     ensures fault { OnErr result (Rose (E.faults err.old) (E.faults err.new)) }
+    ensures kept { OnOk result (E.faults err.new ≡ E.faults err.old) }
 {
     for piece in pieces {
         write_all(err, piece)?;
@@ -27,6 +28,7 @@ fn write_line<E: Sink>(ending: &Ending, err: &mut E) -> Result<(), WriteFault>
     ensures all { OnOk result (Appends (E.got err.old) (E.got err.new) (line_of ending.now)) }
     ensures part { OnErr result (AppendsPrefix (E.got err.old) (E.got err.new) (line_of ending.now)) }
     ensures fault { OnErr result (Rose (E.faults err.old) (E.faults err.new)) }
+    ensures kept { OnOk result (E.faults err.new ≡ E.faults err.old) }
 {
     let (place, what) = ending.reason();
     match place {

@@ -1,12 +1,11 @@
-ghost use Rattle.std.specs.Prelude.{◌≡◌, false, map, string_bytes, Some};
-ghost use Rattle.krieg_args.specs.Command.{command_of, takes_input};
+ghost use Rattle.std.specs.Prelude.{◌≡◌, false, Some};
+ghost use Rattle.krieg_args.specs.Command.{takes_input};
 ghost use Rattle.krieg_cli.specs.World.{stream, world};
 ghost use Rattle.krieg_cli.specs.Outcome.{IsInRange};
+ghost use Rattle.krieg_cli.specs.Seated.{bench_sides};
 ghost use Rattle.krieg_cli.specs.Parts.{ending_of};
-ghost use Rattle.krieg_play.specs.Played.{sides};
-ghost use Rattle.krieg_play.specs.Teams.{team_of};
 ghost use Rattle.krieg_cli.specs.Play.{Plays};
-ghost use Rattle.krieg_cli.specs.Top.{Ends, Runs, IsRun, EndsSo, KeepsBench, reads};
+ghost use Rattle.krieg_cli.specs.Top.{Ends, Runs, IsRun, LeavesBench, asked_by, reads};
 ghost use Rattle.krieg_cli.specs.WholeGames.{UmpiresGames, BelievesGames};
 ghost use Rattle.krieg_cli.specs.WholePlans.{ChecksSolutions};
 ghost use Rattle.krieg_cli.specs.Headline.{SolvesSheets};
@@ -31,14 +30,12 @@ fn answer<S: Source, O: Sink>(
     bench: &mut Bench,
 ) -> Result<(), Ending>
     requires { IsInRange command.now }
-    ensures ends { let table = Plays (λ b. account b)
-        (sides (team_of bench.old.white bench.old.white_out) (team_of bench.old.black bench.old.black_out))
-        (sides (team_of bench.new.white bench.new.white_out) (team_of bench.new.black bench.new.black_out)) in
+    ensures ends { let table = Plays (λ b. account b) (bench_sides bench.old) (bench_sides bench.new) in
         let seen = world S.left S.faults O.got O.faults in
         Ends table (ending_of result) command.now (seen input.old out.old) (seen input.new out.new) }
-    ensures bench { KeepsBench (ending_of result) (Some command.now)
-        (sides (team_of bench.old.white bench.old.white_out) (team_of bench.old.black bench.old.black_out))
-        (sides (team_of bench.new.white bench.new.white_out) (team_of bench.new.black bench.new.black_out)) }
+    ensures bench { let seen = stream S.left S.faults in
+        LeavesBench (λ b. account b) (Some command.now) (ending_of result) (seen input.old) (seen input.new)
+        (bench_sides bench.old) (bench_sides bench.new) }
     ensures unread { takes_input command.now ≡ false → input.new ≡ input.old }
 {
     let text = taken(alloc, command, input)?;
@@ -56,17 +53,13 @@ fn obey<S: Source, O: Sink>(
     out: &mut O,
     bench: &mut Bench,
 ) -> Ending
-    ensures runs { let asked = command_of (map string_bytes words.now) in
-        let table = Plays (λ b. account b)
-        (sides (team_of bench.old.white bench.old.white_out) (team_of bench.old.black bench.old.black_out))
-        (sides (team_of bench.new.white bench.new.white_out) (team_of bench.new.black bench.new.black_out)) in
+    ensures runs { let table = Plays (λ b. account b) (bench_sides bench.old) (bench_sides bench.new) in
         let seen = world S.left S.faults O.got O.faults in
-        Runs table result asked (seen input.old out.old) (seen input.new out.new) }
-    ensures bench { KeepsBench result (command_of (map string_bytes words.now))
-        (sides (team_of bench.old.white bench.old.white_out) (team_of bench.old.black bench.old.black_out))
-        (sides (team_of bench.new.white bench.new.white_out) (team_of bench.new.black bench.new.black_out)) }
-    ensures unread { reads (command_of (map string_bytes words.now)) ≡ false
-        → input.new ≡ input.old }
+        Runs table result (asked_by words.now) (seen input.old out.old) (seen input.new out.new) }
+    ensures bench { let seen = stream S.left S.faults in
+        LeavesBench (λ b. account b) (asked_by words.now) result (seen input.old) (seen input.new)
+        (bench_sides bench.old) (bench_sides bench.new) }
+    ensures unread { reads (asked_by words.now) ≡ false → input.new ≡ input.old }
 {
     let Some(command) = command_of(words) else {
         return Ending::Usage;
@@ -88,19 +81,23 @@ fn obey<S: Source, O: Sink>(
 /// game and it gets their session, and without an input `make session NUMBER` and `make sheet NUMBER`, for which
 /// it gets the made text, and `job NUMBER`, for which it gets the numbers that the other commands come to on these.
 ///
-/// The status is 0 with the answer; 1 exactly where the words are no command (nothing is read then); 2
-/// exactly where one byte more came than the [`MOST_INPUT`](crate::MOST_INPUT) that an input may have; 3 or 4
-/// exactly where it has a first bad line; 7 exactly where more positions are possible after some part of the
-/// sheet than the limit allows; then of `solve` 5 exactly where none is possible, 6 exactly where the game is
-/// over, 8 only where the budget is less than a search may take, and 14 exactly where the best plan is too
-/// large for a text and the budget is not spent; 8 exactly where the check of a plan takes more than the
-/// budget, and otherwise 13 exactly where the plan does not mate all that it lists within the number that it
-/// claims; of `job` 8 only where 50,000,000 units are less than its search or its check may take, and 14 as
-/// of `solve`; 9 where a read failed, with no more bytes read than an input may have; 10 where a write to
-/// `out` failed, which has got a front part of the answer then; 11 for want of memory; 12 exactly where a
-/// side has no seat, and only where a call of the last seat of a side failed. At each status but 0 `err` gets
-/// one line, and at each but 0 and 10 `out` gets nothing. The bench is as it was for every command but
-/// `play`, and for `play` where no seat was called.
+/// The status is 0 with the answer, and no call of `input` or of `out` failed then; 1 exactly where the words
+/// are no command (nothing is read then); 2 exactly where one byte more came than the
+/// [`MOST_INPUT`](crate::MOST_INPUT) that an input may have, before an end or a fault; 3 or 4 exactly where it has
+/// a first bad line; 7 exactly where more positions are possible after some part of the sheet than the limit
+/// allows; then of `solve` 5 exactly where none is possible, 6 exactly where the game is over, 8 only where the
+/// budget is less than a search may take, and 14 exactly where the best plan is too large for a text and the
+/// budget is not spent; 8 exactly where the check of a plan takes more than the budget, and otherwise 13 exactly
+/// where the plan does not mate all that it lists within the number that it claims; of `job` 8 only where
+/// 50,000,000 units are less than its search or its check may take, and 14 as of `solve`; 9 where a read failed,
+/// with no more bytes read than an input may have; 10 where a write to `out` failed, which has got a front part
+/// of the answer then; 11 for want of memory; 12 exactly where a side has no seat, and only where a call of the
+/// last seat of a side failed. At each status but 0 `err` gets one line, and at each but 0 and 10 `out` gets
+/// nothing.
+///
+/// The bench is as it was for every command but `play`, and for `play` where no seat was called: so it is at 1 to
+/// 4 and 9, and at 12 for want of a seat. At 11 it is as it was, or the input was read whole and its seats played
+/// from the start that it spells, until memory ran out or the game stopped.
 pub fn run<S: Source, O: Sink, E: Sink>(
     alloc: Global,
     words: &[String],
@@ -109,49 +106,35 @@ pub fn run<S: Source, O: Sink, E: Sink>(
     err: &mut E,
     bench: &mut Bench,
 ) -> u8
-    ensures ends { let asked = command_of (map string_bytes words.now) in
-        let seen = world S.left S.faults O.got O.faults in
-        let heard = stream E.got E.faults in
-        IsRun (λ b. account b)
-        (sides (team_of bench.old.white bench.old.white_out) (team_of bench.old.black bench.old.black_out))
-        (sides (team_of bench.new.white bench.new.white_out) (team_of bench.new.black bench.new.black_out))
-        result asked (seen input.old out.old) (seen input.new out.new) (heard err.old) (heard err.new) }
+    ensures ends { let seen = world S.left S.faults O.got O.faults in let heard = stream E.got E.faults in
+        IsRun (λ b. account b) (bench_sides bench.old) (bench_sides bench.new) (asked_by words.now) result
+        (seen input.old out.old) (seen input.new out.new) (heard err.old) (heard err.new) }
 
     // Where nothing is read for the words, the input stays as it is.
-    ensures unread { reads (command_of (map string_bytes words.now)) ≡ false
-        → input.new ≡ input.old }
+    ensures unread { reads (asked_by words.now) ≡ false → input.new ≡ input.old }
 
     // The headline: what `solve` has written is the best plan for the sheet, or that there is none.
-    ensures solves { let asked = command_of (map string_bytes words.now) in
-        let seen = world S.left S.faults O.got O.faults in
-        let heard = stream E.got E.faults in
-        SolvesSheets asked result (seen input.old out.old) (seen input.new out.new) (heard err.old) (heard err.new) }
+    ensures solves { let seen = world S.left S.faults O.got O.faults in let heard = stream E.got E.faults in
+        SolvesSheets (asked_by words.now) result
+        (seen input.old out.old) (seen input.new out.new) (heard err.old) (heard err.new) }
 
     // Given a plan that `solve` wrote, `check` writes the number that it states.
-    ensures checks { let asked = command_of (map string_bytes words.now) in
-        let seen = world S.left S.faults O.got O.faults in
-        EndsSo result (λ ending.
-        ChecksSolutions asked ending (seen input.old out.old) (seen input.new out.new)) }
+    ensures checks { let seen = world S.left S.faults O.got O.faults in
+        ChecksSolutions (asked_by words.now) result (seen input.old out.old) (seen input.new out.new) }
 
     // Where the input is good and nothing is refused for a cause, there is an answer, or memory ran out.
-    ensures completes { let asked = command_of (map string_bytes words.now) in
-        let seen = world S.left S.faults O.got O.faults in
-        Completes (λ b. account b)
-        (sides (team_of bench.old.white bench.old.white_out) (team_of bench.old.black bench.old.black_out))
-        (sides (team_of bench.new.white bench.new.white_out) (team_of bench.new.black bench.new.black_out))
-        asked result (seen input.old out.old) (seen input.new out.new) }
+    ensures completes { let seen = world S.left S.faults O.got O.faults in
+        Completes (λ b. account b) (bench_sides bench.old) (bench_sides bench.new) (asked_by words.now) result
+        (seen input.old out.old) (seen input.new out.new) }
 
     // What `umpire` writes for a player is his sheet of the game, and it is the same without the other
     // player's tries that are not done.
-    ensures umpires { let asked = command_of (map string_bytes words.now) in
-        let seen = world S.left S.faults O.got O.faults in
-        UmpiresGames asked result (seen input.old out.old) (seen input.new out.new) }
+    ensures umpires { let seen = world S.left S.faults O.got O.faults in
+        UmpiresGames (asked_by words.now) result (seen input.old out.old) (seen input.new out.new) }
 
     // Given what `umpire` wrote, `believe` lists the position in which the game stands.
-    ensures believes { let asked = command_of (map string_bytes words.now) in
-        let seen = world S.left S.faults O.got O.faults in
-        EndsSo result (λ ending.
-        BelievesGames asked ending (seen input.old out.old) (seen input.new out.new)) }
+    ensures believes { let seen = world S.left S.faults O.got O.faults in
+        BelievesGames (asked_by words.now) result (seen input.old out.old) (seen input.new out.new) }
 {
     let ending = obey(alloc, words, input, out, bench);
     report(&ending, err);

@@ -29,8 +29,6 @@ mod names;
 mod number;
 mod pieces;
 mod ranks;
-#[cfg(test)]
-mod tests;
 mod writing;
 
 pub use cursor::Cursor;

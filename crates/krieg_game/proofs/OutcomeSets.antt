@@ -1,5 +1,5 @@
 -- Sets of outcomes: what they have, and that repeats may be dropped at any time.
-use Rattle.std.proofs.Common.{◌≡◌, ℕ, ◌<◌, nat_lt, length, List, arith}
+use Rattle.std.proofs.Common.{◌≡◌, ℕ, ◌<◌, ◌*◌, max, nat_lt, length, List, arith}
 use Rattle.std.proofs.lemmas.Bool.{cond-true, lt-ltb}
 use Rattle.std.specs.List.{dedup}
 use Rattle.std.specs.List.Sorted.{IsSorted, IsPermutation}
@@ -12,7 +12,7 @@ use Rattle.krieg_theory.specs.Sets.{IsOrder}
 use Rattle.krieg_theory.proofs.Ascending.{same_set, as_set_ascending, in_as_set, as_set_in}
 use Rattle.krieg_game.specs.Keys.{key_cmp}
 use Rattle.krieg_game.specs.Outcomes.{KeyedPosition, outcome_cmp, outcome_eq, outcome_total}
-use Rattle.krieg_game.specs.Classes.{outcome_lt, outcome_set, trimmed}
+use Rattle.krieg_game.specs.Classes.{outcome_lt, outcome_set, trimmed, next_limit}
 use Rattle.krieg_game.specs.ClassLaws.{SetsHaveTheClasses, SetsMayGrow}
 use Rattle.krieg_game.proofs.KeyLaws.{both_equal, key_equal}
 use Rattle.krieg_game.proofs.Cutting.{same_classes}
@@ -50,3 +50,6 @@ set_of_set os =
 -- where there are more than the limit
 pub trimmed_full : (os : List KeyedPosition) (limit n : ℕ) → n ≡ length os → limit < n → trimmed os limit ≡ outcome_set os
 trimmed_full os limit n size over = cond-true (nat_lt limit (length os)) _ _ (lt-ltb limit (length os) (omega (arith, size, over)))
+
+pub next_full : (os : List KeyedPosition) (limit n : ℕ) → n ≡ length os → limit < n → next_limit os limit ≡ max limit (2 * length (outcome_set os))
+next_full os limit n size over = cond-true (nat_lt limit (length os)) _ _ (lt-ltb limit (length os) (omega (arith, size, over)))

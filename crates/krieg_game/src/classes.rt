@@ -1,4 +1,4 @@
-ghost use Rattle.std.specs.Prelude.{◌≡◌, ◌+◌, ◌++◌, ◌∷◌, [], ◌<◌, ◌≤◌, map, take, drop, reverse, length, vec_len, IfNone, IfOk, OnOk};
+ghost use Rattle.std.specs.Prelude.{◌≡◌, ◌+◌, ◌++◌, ◌∷◌, [], ◌<◌, ◌≤◌, map, take, drop, reverse, length, vec_len, IfNone, IfOk, OnOk, OnErr};
 ghost use Rattle.std.specs.Option.{option_to_list};
 ghost use Rattle.krieg_board.specs.Pos.{Pos};
 ghost use Rattle.krieg_moves.specs.Moves as list;
@@ -6,7 +6,7 @@ ghost use Rattle.krieg_pack.specs.Members.{set_of};
 ghost use Rattle.krieg_game.specs.Chess as spec;
 ghost use Rattle.krieg_game.specs.Outcomes.{KeyedPosition};
 ghost use Rattle.krieg_game.specs.ClassLaws.{opened, silence};
-ghost use Rattle.krieg_game.specs.Classes.{class_pair, classes_in, outcome_set, trimmed};
+ghost use Rattle.krieg_game.specs.Classes.{class_pair, classes_in, outcome_set, trimmed, next_limit, AddsFront};
 ghost use Rattle.krieg_game.specs.Runs as runs;
 ghost use Rattle.krieg_game.specs.Runs.{Rising};
 
@@ -26,7 +26,7 @@ pub struct Class {
 }
 
 /// Adds what comes of a move of those words that led to `p`, for each of the replies, which are the legal moves of
-/// `p`: what the dialect tells of both, and the position after the reply.
+/// `p`: what the dialect tells of both, and the position after the reply. With an error a front part of it was added.
 #[tactic(auto, using(krieg_moves::proofs::MoveLists::moves_legal))]
 pub fn push_outcomes(
     d: Dialect,
@@ -36,7 +36,8 @@ pub fn push_outcomes(
     outcomes: &mut Vec<Outcome>,
 ) -> Result<(), NoMemory>
     requires { replies.now ≡ list.moves p.now }
-    ensures { OnOk result (outcomes.new.items ≡ outcomes.old.items ++ map (spec.outcome d own.now p.now) (list.moves p.now)) }
+    ensures added { OnOk result (outcomes.new.items ≡ outcomes.old.items ++ map (spec.outcome d own.now p.now) (list.moves p.now)) }
+    ensures part { OnErr result (AddsFront (map (spec.outcome d own.now p.now) (list.moves p.now)) outcomes.old.items outcomes.new.items) }
 {
     let own = told(d, *own);
     for r in replies {
@@ -62,9 +63,10 @@ const SILENCE: Words = Words {
 };
 
 /// Adds a position at the player's turn: what the dialect tells of it at the start of a game, and silence in place of
-/// a reply's words.
+/// a reply's words. With an error nothing was added.
 pub fn push_opening(d: Dialect, p: &Position, outcomes: &mut Vec<Outcome>) -> Result<(), NoMemory>
-    ensures { OnOk result (outcomes.new.items ≡ outcomes.old.items ++ opened d silence p.now ∷ []) }
+    ensures added { OnOk result (outcomes.new.items ≡ outcomes.old.items ++ opened d silence p.now ∷ []) }
+    ensures same { OnErr result (outcomes.new.items ≡ outcomes.old.items) }
 {
     let opens = told(d, opening(p));
     outcomes.push(Outcome::new(&opens, &SILENCE, pack(p)))?;
@@ -73,10 +75,11 @@ pub fn push_opening(d: Dialect, p: &Position, outcomes: &mut Vec<Outcome>) -> Re
 
 /// Keeps a buffer of outcomes small: where it holds more than `limit`, repeats are dropped. It takes no memory.
 ///
-/// It gives the limit for the next time: at least twice as many as are left, so that between two sorts at least as
-/// many outcomes come as are kept. The set of what is in the buffer stays.
+/// It gives the limit for the next time: the same, but after a sort at least twice as many as are left, so that before
+/// the next one at least as many outcomes come as were kept. The set of what is in the buffer stays.
 pub fn trim_outcomes(outcomes: &mut Vec<Outcome>, limit: usize) -> usize
     ensures value { outcomes.new.items ≡ trimmed outcomes.old.items limit }
+    ensures limit { result ≡ next_limit outcomes.old.items limit }
     ensures same { outcome_set outcomes.new.items ≡ outcome_set outcomes.old.items }
     ensures small { vec_len outcomes.new ≤ result }
     ensures grows { limit ≤ result }
@@ -86,7 +89,7 @@ pub fn trim_outcomes(outcomes: &mut Vec<Outcome>, limit: usize) -> usize
     }
     outcomes.sort_unstable();
     outcomes.dedup();
-    limit.max(outcomes.len().saturating_mul(2))
+    limit.max(2 * outcomes.len())
 }
 
 /// So many outcomes are taken off the end between two times that their room is given back. They fill 3 MB: so it is

@@ -14,8 +14,6 @@
 mod classes;
 pub mod laws;
 mod outcome;
-#[cfg(test)]
-mod tests;
 mod word_numbers;
 
 pub use classes::{Class, classes_of, push_opening, push_outcomes, trim_outcomes};

@@ -19,8 +19,6 @@ mod position;
 mod session;
 mod sheet;
 mod start;
-#[cfg(test)]
-mod tests;
 mod text;
 
 pub use laws::{lists_law, positions_law, rounds_law};

@@ -25,8 +25,6 @@ mod guard;
 mod legality;
 mod list;
 mod target;
-#[cfg(test)]
-mod tests;
 mod ways;
 mod wing;
 

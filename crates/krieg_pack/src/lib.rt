@@ -25,8 +25,6 @@ mod buffer;
 mod codes;
 mod packed;
 mod planes;
-#[cfg(test)]
-mod tests;
 
 pub use belief::Belief;
 pub use buffer::{TooMany, trim};

@@ -20,8 +20,6 @@ mod ordered;
 mod plan;
 mod roots;
 mod size;
-#[cfg(test)]
-mod tests;
 
 pub use depth::depth_within;
 pub use edges::{find_edge, find_edge_in_order};

@@ -21,8 +21,6 @@ mod nodes;
 mod plan_writing;
 mod reading;
 mod roots;
-#[cfg(test)]
-mod tests;
 mod writing;
 
 pub use plan_writing::write_plan;

@@ -2,12 +2,11 @@
 use Rattle.std.proofs.Common.{◌≡◌, List, [], length, refl, sym, ap, ◌∙◌, subst, arith, Result, Ok, Err}
 use Rattle.krieg_board.specs.declared.men.Side.{Side}
 use Rattle.krieg_board.specs.declared.men.Side.TheVariants.{White, Black}
-use Rattle.krieg_board.specs.declared.men.Move.{Move}
 use Rattle.krieg_words.specs.declared.line.Line.{Line}
 use Rattle.krieg_seats.specs.Accounts.{Account}
 use Rattle.krieg_seats.specs.declared.seat.SeatFault.{SeatFault}
 use Rattle.krieg_seats.specs.declared.seat.SeatFault.TheVariants.{Failed, NoMemory}
-use Rattle.krieg_play.specs.Teams.{Team, Stays, MayBeShort, Course, BrokenCourse}
+use Rattle.krieg_play.specs.Teams.{Team, Turns, Stays, MayBeShort, Course, BrokenCourse}
 use Rattle.krieg_play.specs.Played.{Sides}
 use Rattle.krieg_play.specs.Calls.{AfterTelling, Tells, TakesTurn, seat_counts}
 use Rattle.krieg_play.specs.Passes.{Breaks, TellsBoth, AfterAsk, AsksOne, fault_of}
@@ -19,67 +18,67 @@ use Rattle.krieg_play.proofs.Courses.{course_weakens}
 may_be_short : (a b : Account) → Stays a b → MayBeShort a b
 may_be_short a b h = (omega (arith, h.0), h.1)
 
-pub short_course : {X : Type 0} {account : X → Account} {entry now : Team X} {lines due : List Line} {tries : List Move} →
-    Course account Stays entry now lines due tries → Course account MayBeShort entry now lines due tries
+pub short_course : {X : Type 0} {account : X → Account} {entry now : Team X} {lines due : List Line} {turns : Turns} →
+    Course account Stays entry now lines due turns → Course account MayBeShort entry now lines due turns
 short_course c = course_weakens may_be_short c
 
 -- a call of one side met a fault, where the other side's course goes on
-pub white_breaks : {X : Type 0} (account : X → Account) (fault : SeatFault) (entry now : Sides X) (lines : Side → List Line) (tries : Side → List Move) (due : List Line) →
-    BrokenCourse account (seat_counts fault) entry.white now.white (lines White) (tries White) → (fault ≡ Failed → length now.white.seats ≡ 1) →
-    Course account Stays entry.black now.black (lines Black) due (tries Black) → Breaks account (fault_of fault White) entry now lines tries
-white_breaks account Failed entry now lines tries due h only c = record { white = h; black = (due, c); told_first = tt; ends = only refl }
-white_breaks account NoMemory entry now lines tries due h only c = record { white = h; black = (due, short_course c); told_first = tt; ends = tt }
+pub white_breaks : {X : Type 0} (account : X → Account) (fault : SeatFault) (entry now : Sides X) (lines : Side → List Line) (turns : Side → Turns) (due : List Line) →
+    BrokenCourse account (seat_counts fault) entry.white now.white (lines White) (turns White) → (fault ≡ Failed → length now.white.seats ≡ 1) →
+    Course account Stays entry.black now.black (lines Black) due (turns Black) → Breaks account (fault_of fault White) entry now lines turns
+white_breaks account Failed entry now lines turns due h only c = record { white = h; black = (due, c); told_first = tt; ends = only refl }
+white_breaks account NoMemory entry now lines turns due h only c = record { white = h; black = (due, short_course c); told_first = tt; ends = tt }
 
-pub black_breaks : {X : Type 0} (account : X → Account) (fault : SeatFault) (entry now : Sides X) (lines : Side → List Line) (tries : Side → List Move) →
-    BrokenCourse account (seat_counts fault) entry.black now.black (lines Black) (tries Black) → (fault ≡ Failed → length now.black.seats ≡ 1) →
-    Course account Stays entry.white now.white (lines White) [] (tries White) → Breaks account (fault_of fault Black) entry now lines tries
-black_breaks account Failed entry now lines tries h only c = record { white = ([], c); black = h; told_first = refl; ends = only refl }
-black_breaks account NoMemory entry now lines tries h only c = record { white = ([], short_course c); black = h; told_first = tt; ends = tt }
+pub black_breaks : {X : Type 0} (account : X → Account) (fault : SeatFault) (entry now : Sides X) (lines : Side → List Line) (turns : Side → Turns) →
+    BrokenCourse account (seat_counts fault) entry.black now.black (lines Black) (turns Black) → (fault ≡ Failed → length now.black.seats ≡ 1) →
+    Course account Stays entry.white now.white (lines White) [] (turns White) → Breaks account (fault_of fault Black) entry now lines turns
+black_breaks account Failed entry now lines turns h only c = record { white = ([], c); black = h; told_first = refl; ends = only refl }
+black_breaks account NoMemory entry now lines turns h only c = record { white = ([], short_course c); black = h; told_first = tt; ends = tt }
 
 -- ---- telling both
 
-told_as : {X : Type 0} (account : X → Account) (r s : Result (Unit {0}) SeatFault) (entry now : Team X) (lines : List Line) (tries : List Move) → r ≡ s → AfterTelling account r entry now lines tries → AfterTelling account s entry now lines tries
-told_as account r s entry now lines tries e h = subst (λ (x : Result (Unit {0}) SeatFault). AfterTelling account x entry now lines tries) e h
+told_as : {X : Type 0} (account : X → Account) (r s : Result (Unit {0}) SeatFault) (entry now : Team X) (lines : List Line) (turns : Turns) → r ≡ s → AfterTelling account r entry now lines turns → AfterTelling account s entry now lines turns
+told_as account r s entry now lines turns e h = subst (λ (x : Result (Unit {0}) SeatFault). AfterTelling account x entry now lines turns) e h
 
 -- White could not be told
 pub white_untold : {X : Type 0} (account : X → Account) (r : Result (Unit {0}) SeatFault) (fault : SeatFault) (p : PlayFault) (before now : Sides X) (lines due : Side → List Line) →
     p ≡ fault_of fault White → r ≡ Err fault → Tells account r before.white now.white (lines White) (due White) → (r ≡ Err Failed → length now.white.seats ≡ 1) → now.black ≡ before.black →
     TellsBoth account (Err p) before now lines due
-white_untold account r fault p before now lines due p_is e tells only same entry tries white black =
-    subst (λ (x : PlayFault). Breaks account x entry now lines tries) (sym p_is) (white_breaks account fault entry now lines tries (due Black)
-    (told_as account r (Err fault) entry.white now.white (lines White) (tries White) e (tells entry.white (tries White) white))
+white_untold account r fault p before now lines due p_is e tells only same entry turns white black =
+    subst (λ (x : PlayFault). Breaks account x entry now lines turns) (sym p_is) (white_breaks account fault entry now lines turns (due Black)
+    (told_as account r (Err fault) entry.white now.white (lines White) (turns White) e (tells entry.white (turns White) white))
     (λ failed. only (e ∙ ap Err failed))
-    (subst (λ (t : Team _). Course account Stays entry.black t (lines Black) (due Black) (tries Black)) (sym same) black))
+    (subst (λ (t : Team _). Course account Stays entry.black t (lines Black) (due Black) (turns Black)) (sym same) black))
 
 -- White was told, and Black could not be
 pub black_untold : {X : Type 0} (account : X → Account) (r s : Result (Unit {0}) SeatFault) (fault : SeatFault) (p : PlayFault) (before now : Sides X) (lines due : Side → List Line) →
     p ≡ fault_of fault Black → r ≡ Ok tt → Tells account r before.white now.white (lines White) (due White) →
     s ≡ Err fault → Tells account s before.black now.black (lines Black) (due Black) → (s ≡ Err Failed → length now.black.seats ≡ 1) →
     TellsBoth account (Err p) before now lines due
-black_untold account r s fault p before now lines due p_is ok told e tells only entry tries white black =
-    subst (λ (x : PlayFault). Breaks account x entry now lines tries) (sym p_is) (black_breaks account fault entry now lines tries
-    (told_as account s (Err fault) entry.black now.black (lines Black) (tries Black) e (tells entry.black (tries Black) black))
+black_untold account r s fault p before now lines due p_is ok told e tells only entry turns white black =
+    subst (λ (x : PlayFault). Breaks account x entry now lines turns) (sym p_is) (black_breaks account fault entry now lines turns
+    (told_as account s (Err fault) entry.black now.black (lines Black) (turns Black) e (tells entry.black (turns Black) black))
     (λ failed. only (e ∙ ap Err failed))
-    (told_as account r (Ok tt) entry.white now.white (lines White) (tries White) ok (told entry.white (tries White) white)))
+    (told_as account r (Ok tt) entry.white now.white (lines White) (turns White) ok (told entry.white (turns White) white)))
 
 pub both_told : {X : Type 0} (account : X → Account) (r s : Result (Unit {0}) SeatFault) (before now : Sides X) (lines due : Side → List Line) →
     r ≡ Ok tt → Tells account r before.white now.white (lines White) (due White) → s ≡ Ok tt → Tells account s before.black now.black (lines Black) (due Black) →
     TellsBoth account (Ok tt) before now lines due
-both_told account r s before now lines due e told f tells entry tries white black = (
-  told_as account r (Ok tt) entry.white now.white (lines White) (tries White) e (told entry.white (tries White) white),
-  told_as account s (Ok tt) entry.black now.black (lines Black) (tries Black) f (tells entry.black (tries Black) black),
+both_told account r s before now lines due e told f tells entry turns white black = (
+  told_as account r (Ok tt) entry.white now.white (lines White) (turns White) e (told entry.white (turns White) white),
+  told_as account s (Ok tt) entry.black now.black (lines Black) (turns Black) f (tells entry.black (turns Black) black),
 )
 
 -- ---- asking one
 
 pub asks_white : {X : Type 0} (account : X → Account) (who : Side) (r : Result Turn SeatFault) (before now : Sides X) (lines : Side → List Line) → who ≡ White →
-    TakesTurn account Stays r before.white now.white (lines White) → now.black ≡ before.black → AsksOne account who r before now lines
-asks_white {X} account who r before now lines who_is takes same entry tries white black =
-    subst (λ (s : Side). AfterAsk account s r entry now lines tries) (sym who_is)
-    (takes entry.white (tries White) white, subst (λ (t : Team X). Course account Stays entry.black t (lines Black) [] (tries Black)) (sym same) black)
+    TakesTurn account r before.white now.white (lines White) → now.black ≡ before.black → AsksOne account who r before now lines
+asks_white {X} account who r before now lines who_is takes same entry turns white black =
+    subst (λ (s : Side). AfterAsk account s r entry now lines turns) (sym who_is)
+    (takes entry.white (turns White) white, subst (λ (t : Team X). Course account Stays entry.black t (lines Black) [] (turns Black)) (sym same) black)
 
 pub asks_black : {X : Type 0} (account : X → Account) (who : Side) (r : Result Turn SeatFault) (before now : Sides X) (lines : Side → List Line) → who ≡ Black →
-    TakesTurn account Stays r before.black now.black (lines Black) → now.white ≡ before.white → AsksOne account who r before now lines
-asks_black {X} account who r before now lines who_is takes same entry tries white black =
-    subst (λ (s : Side). AfterAsk account s r entry now lines tries) (sym who_is)
-    (takes entry.black (tries Black) black, subst (λ (t : Team X). Course account Stays entry.white t (lines White) [] (tries White)) (sym same) white)
+    TakesTurn account r before.black now.black (lines Black) → now.white ≡ before.white → AsksOne account who r before now lines
+asks_black {X} account who r before now lines who_is takes same entry turns white black =
+    subst (λ (s : Side). AfterAsk account s r entry now lines turns) (sym who_is)
+    (takes entry.black (turns Black) black, subst (λ (t : Team X). Course account Stays entry.white t (lines White) [] (turns White)) (sym same) white)

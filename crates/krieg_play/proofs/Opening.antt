@@ -12,7 +12,7 @@ use Rattle.krieg_play.specs.Teams.{team}
 use Rattle.krieg_play.specs.Games.{IsGameFrom}
 use Rattle.krieg_play.specs.Played.{Sides, sides, by_side, IsPlayed, IsBroken, Refuses}
 use Rattle.krieg_play.specs.Calls.{lines_to}
-use Rattle.krieg_play.specs.Passes.{IsUnderway, AfterBoth, TellsBoth, PlaysOn, ComesTo}
+use Rattle.krieg_play.specs.Passes.{turns_so_far, IsUnderway, AfterBoth, TellsBoth, PlaysOn, ComesTo}
 use Rattle.krieg_play.specs.declared.outcome.PlayFault.{PlayFault}
 use Rattle.krieg_play.specs.declared.outcome.PlayFault.TheVariants.{Vacant, Seat, NoMemory}
 use Rattle.krieg_play.proofs.BothSides.{short_course}
@@ -34,12 +34,12 @@ is_fresh start asks = record { log = refl; position = refl; on_turn = tt; places
 opened : {X : Type 0} (account : X → Account) (r : Result (Unit {0}) PlayFault) (start : Pos) (before now : Sides X) (logged : List Judged) (w b : Line) →
     logged ≡ [] → w ≡ Opens (opening start) → b ≡ Opens (opening start) → 0 < length before.white.seats → 0 < length before.black.seats →
     TellsBoth account r before now (λ who. lines_to start who logged) (by_side (option_to_list (Some w)) (option_to_list (Some b))) →
-    AfterBoth account r before now (λ who. lines_to start who []) (λ who. [])
+    AfterBoth account r before now (λ who. lines_to start who []) (turns_so_far 0 0 [])
 opened account r start before now logged w b logged_is w_is b_is white black tells =
     let told = subst (λ (ls : List Judged). TellsBoth account r before now (λ who. lines_to start who ls) (by_side (Opens (opening start) ∷ []) (Opens (opening start) ∷ []))) logged_is
     (subst (λ (l : Line). TellsBoth account r before now (λ who. lines_to start who logged) (by_side (l ∷ []) (Opens (opening start) ∷ []))) w_is
     (subst (λ (l : Line). TellsBoth account r before now (λ who. lines_to start who logged) (by_side (w ∷ []) (l ∷ []))) b_is tells)) in
-    told before (λ who. [])
+    told before (turns_so_far 0 0 [])
     (course_starts account before.white.seats before.white.out (Opens (opening start) ∷ []) white)
     (course_starts account before.black.seats before.black.out (Opens (opening start) ∷ []) black)
 
@@ -50,9 +50,9 @@ pub opens_and_plays : {X : Type 0} (account : X → Account) (r : Result (Unit {
     TellsBoth account r before middle (λ who. lines_to start who logged) (by_side (option_to_list (Some w)) (option_to_list (Some b))) →
     PlaysOn account s start seats middle now game game' → ComesTo account s start asks before now game'
 opens_and_plays account r s start asks seats before middle now game game' logged w b game_is logged_is w_is b_is white black seats_is ok tells plays =
-    let told = subst (λ (x : Result (Unit {0}) PlayFault). AfterBoth account x before middle (λ who. lines_to start who []) (λ who. [])) ok
+    let told = subst (λ (x : Result (Unit {0}) PlayFault). AfterBoth account x before middle (λ who. lines_to start who []) (turns_so_far 0 0 [])) ok
     (opened account r start before middle logged w b logged_is w_is b_is white black tells) in
-    let under : IsUnderway account None start asks before middle (fresh_game start asks) = record { is_game = is_fresh start asks; white = told.0; black = told.1 } in
+    let under : IsUnderway account None start asks before middle (fresh_game start asks) = record { is_game = is_fresh start asks; white_asks = 0; black_asks = 0; white = told.0; black = told.1; asked = (omega arith, omega arith) } in
     plays asks before (subst (λ (x : GameState). IsUnderway account None start asks before middle x) (sym game_is) under) (sym seats_is)
 
 -- the opening words could not be told to both
@@ -60,15 +60,15 @@ pub opens_not : {X : Type 0} (account : X → Account) (r : Result (Unit {0}) Pl
     logged ≡ [] → w ≡ Opens (opening start) → b ≡ Opens (opening start) → 0 < length before.white.seats → 0 < length before.black.seats → r ≡ Err fault →
     TellsBoth account r before now (λ who. lines_to start who logged) (by_side (option_to_list (Some w)) (option_to_list (Some b))) → IsBroken account start asks before now fault
 opens_not account r fault start asks before now logged w b logged_is w_is b_is white black e tells =
-    is_broken account start asks before now fault (fresh_game start asks) (is_fresh start asks)
-    (subst (λ (x : Result (Unit {0}) PlayFault). AfterBoth account x before now (λ who. lines_to start who []) (λ who. [])) e
+    is_broken account start asks before now fault (fresh_game start asks) 0 0 (is_fresh start asks) (omega arith, omega arith)
+    (subst (λ (x : Result (Unit {0}) PlayFault). AfterBoth account x before now (λ who. lines_to start who []) (turns_so_far 0 0 [])) e
     (opened account r start before now logged w b logged_is w_is b_is white black tells))
 
 -- no seat was called
 pub unbegun : {X : Type 0} (account : X → Account) (start : Pos) (asks : ℕ) (before now : Sides X) → now ≡ before → 0 < length before.white.seats → 0 < length before.black.seats → IsBroken account start asks before now NoMemory
 unbegun account start asks before now same white black =
     subst (λ (x : Sides _). IsBroken account start asks before x NoMemory) (sym same)
-    (is_broken account start asks before before NoMemory (fresh_game start asks) (is_fresh start asks)
+    (is_broken account start asks before before NoMemory (fresh_game start asks) 0 0 (is_fresh start asks) (omega arith, omega arith)
     (record {
       white = (Opens (opening start) ∷ [], short_course (course_starts account before.white.seats before.white.out (Opens (opening start) ∷ []) white));
       black = (Opens (opening start) ∷ [], short_course (course_starts account before.black.seats before.black.out (Opens (opening start) ∷ []) black));

@@ -10,8 +10,8 @@ use Rattle.krieg_referee.specs.Games.{GameState}
 use Rattle.krieg_referee.specs.declared.verdict.Stop.{Stop}
 use Rattle.krieg_referee.specs.declared.verdict.Stop.TheVariants.{Ended, Left, AsksUsed}
 use Rattle.krieg_seats.specs.Accounts.{Account}
-use Rattle.krieg_play.specs.Teams.{Team, Service, entry_of, now_of, said_of, AreRelieved, Course}
-use Rattle.krieg_play.specs.Played.{Sides, seen_team, seen, relieved, all_relieved, StopsBy, IsPlayed, EndsAt, IsBroken, Refuses}
+use Rattle.krieg_play.specs.Teams.{Team, Service, entry_of, now_of, all_asks, said_of, Turns, AreRelieved, Course}
+use Rattle.krieg_play.specs.Played.{Sides, seen_team, seen, relieved, used_up, IsAskedWithin, leaver, last_ask, StopsBy, IsPlayed, EndsAt, IsBroken, Refuses}
 use Rattle.krieg_play.specs.declared.outcome.PlayFault.{PlayFault}
 use Rattle.krieg_play.specs.declared.outcome.PlayFault.TheVariants.{Vacant, Seat, NoMemory}
 
@@ -19,7 +19,7 @@ abbrev itself : Account → Account
 itself a = a
 
 abbrev seen_service : {X : Type 0} → (X → Account) → Service X → Service Account
-seen_service account s = record { entry = account s.entry; now = account s.now; said = s.said; heard = s.heard }
+seen_service account s = record { entry = account s.entry; now = account s.now; asks = s.asks; said = s.said; heard = s.heard }
 
 entries_seen : {X : Type 0} (account : X → Account) (ss : List (Service X)) (x : X) (ys : List X) →
     map account (map entry_of ss ++ x ∷ ys) ≡ map entry_of (map (seen_service account) ss) ++ account x ∷ map account ys
@@ -35,14 +35,18 @@ said_seen : {X : Type 0} (account : X → Account) (ss : List (Service X)) → f
 said_seen account [] = refl
 said_seen account (s ∷ ss) = ap (λ (t : List Move). s.said ++ t) (said_seen account ss)
 
+asks_seen : {X : Type 0} (account : X → Account) (ss : List (Service X)) → all_asks (map (seen_service account) ss) ≡ all_asks ss
+asks_seen account [] = refl
+asks_seen account (s ∷ ss) = ap (λ (n : ℕ). s.asks + n) (asks_seen account ss)
+
 relieved_seen : {X : Type 0} (account : X → Account) (lines : List Line) (ss : List (Service X)) → AreRelieved account lines ss → AreRelieved itself lines (map (seen_service account) ss)
 relieved_seen account lines [] h = tt
 relieved_seen account lines (s ∷ ss) h =
-    (record { serves = record { said = h.0.serves.said; heard = h.0.serves.heard }; due = h.0.due; heard = h.0.heard; gone = h.0.gone }, relieved_seen account lines ss h.1)
+    (record { serves = record { asks = h.0.serves.asks; said = h.0.serves.said; heard = h.0.serves.heard }; due = h.0.due; heard = h.0.heard; gone = h.0.gone }, relieved_seen account lines ss h.1)
 
-course_seen : {X : Type 0} (account : X → Account) (C : Account → Account → Type 0) (entry now : Team X) (lines due : List Line) (tries : List Move) →
-    Course account C entry now lines due tries → Course itself C (seen_team account entry) (seen_team account now) lines due tries
-course_seen {X} account C entry now lines due tries c = record {
+course_seen : {X : Type 0} (account : X → Account) (C : Account → Account → Type 0) (entry now : Team X) (lines due : List Line) (turns : Turns) →
+    Course account C entry now lines due turns → Course itself C (seen_team account entry) (seen_team account now) lines due turns
+course_seen {X} account C entry now lines due turns c = record {
   relieved = map (seen_service account) c.relieved;
   sitting = seen_service account c.sitting;
   behind = map account c.behind;
@@ -50,8 +54,9 @@ course_seen {X} account C entry now lines due tries c = record {
   seats_now = ap (map account) c.seats_now;
   out_now = ap (map account) c.out_now ∙ nows_seen account entry.out c.relieved;
   are_relieved = relieved_seen account lines c.relieved c.are_relieved;
-  serves = record { said = c.serves.said; heard = c.serves.heard };
+  serves = record { asks = c.serves.asks; said = c.serves.said; heard = c.serves.heard };
   heard = c.heard;
+  asked = ap (λ (n : ℕ). n + c.sitting.asks) (asks_seen account c.relieved) ∙ c.asked;
   said = ap (λ (t : List Move). t ++ c.sitting.said) (said_seen account c.relieved) ∙ c.said;
   counts = c.counts;
 }
@@ -65,15 +70,21 @@ stops_seen account AsksUsed p asks used now h = h
 stops_seen account (Left White) p asks used now h = (h.0, h.1, h.2, length-map now.white.seats account ∙ h.3)
 stops_seen account (Left Black) p asks used now h = (h.0, h.1, h.2, length-map now.black.seats account ∙ h.3)
 
+used_seen : {X : Type 0} (account : X → Account) (entry now : Sides X) (game : GameState) → used_up entry now game ≡ used_up (seen account entry) (seen account now) game
+used_seen account entry now game = ap (λ (n : ℕ). length game.log + n)
+    (ap (λ (n : ℕ). n + relieved entry.black now.black) (count_seen account entry.white now.white) ∙ ap (λ (n : ℕ). relieved (seen account entry).white (seen account now).white + n) (count_seen account entry.black now.black))
+
 pub played_seen : {X : Type 0} (account : X → Account) (start : Pos) (asks : ℕ) (entry now : Sides X) (game : GameState) (stop : Stop) →
     IsPlayed account start asks entry now game stop → IsPlayed itself start asks (seen account entry) (seen account now) game stop
 played_seen account start asks entry now game stop h = record {
   is_game = h.is_game;
+  white_asks = h.white_asks;
+  black_asks = h.black_asks;
   white = course_seen account _ _ _ _ _ _ h.white;
   black = course_seen account _ _ _ _ _ _ h.black;
-  stops = subst (λ (n : ℕ). StopsBy stop game.position asks (length game.log + n) (seen account now))
-      (ap (λ (n : ℕ). n + relieved entry.black now.black) (count_seen account entry.white now.white) ∙ ap (λ (n : ℕ). relieved (seen account entry).white (seen account now).white + n) (count_seen account entry.black now.black))
-      (stops_seen account stop game.position asks (length game.log + all_relieved entry now) now h.stops);
+  asked = subst (λ (n : ℕ). IsAskedWithin asks n (last_ask (leaver stop)) (h.white_asks + h.black_asks)) (used_seen account entry now game) h.asked;
+  stops = subst (λ (n : ℕ). StopsBy stop game.position asks n (seen account now)) (used_seen account entry now game)
+      (stops_seen account stop game.position asks (used_up entry now game) now h.stops);
 }
 
 ends_seen : {X : Type 0} (account : X → Account) (fault : PlayFault) (now : Sides X) → EndsAt fault now → EndsAt fault (seen account now)
@@ -87,8 +98,11 @@ broken_seen : {X : Type 0} (account : X → Account) (start : Pos) (asks : ℕ) 
 broken_seen account start asks entry now fault h = record {
   game = h.game;
   is_game = h.is_game;
+  white_asks = h.white_asks;
+  black_asks = h.black_asks;
   white = (h.white.0, course_seen account _ _ _ _ _ _ h.white.1);
   black = (h.black.0, course_seen account _ _ _ _ _ _ h.black.1);
+  asked = subst (λ (n : ℕ). IsAskedWithin asks n 1 (h.white_asks + h.black_asks)) (used_seen account entry now h.game) h.asked;
   told_first = h.told_first;
   ends = ends_seen account fault now h.ends;
 }

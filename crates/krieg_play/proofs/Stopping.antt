@@ -1,5 +1,5 @@
 -- How a game stops.
-use Rattle.std.proofs.Common.{◌≡◌, ℕ, ◌+◌, ◌-◌, ◌<◌, ◌≤◌, Bool, true, false, not, List, [], length, refl, sym, ap, ◌∙◌, subst, arith, Result, Ok, Err, Option, Some, None}
+use Rattle.std.proofs.Common.{◌≡◌, ℕ, ◌-◌, ◌<◌, ◌≤◌, Bool, true, false, not, List, [], length, refl, sym, ap, ◌∙◌, subst, arith, Result, Ok, Err, Option, Some, None}
 use Rattle.krieg_board.specs.Pos.{Pos}
 use Rattle.krieg_board.specs.declared.men.Side.{Side}
 use Rattle.krieg_board.specs.declared.men.Side.TheVariants.{White, Black}
@@ -9,69 +9,68 @@ use Rattle.krieg_referee.specs.Games.{GameState}
 use Rattle.krieg_referee.specs.declared.verdict.Stop.{Stop}
 use Rattle.krieg_referee.specs.declared.verdict.Stop.TheVariants.{Ended, Left, AsksUsed}
 use Rattle.krieg_seats.specs.Accounts.{Account}
-use Rattle.krieg_play.specs.Teams.{Course}
+use Rattle.krieg_play.specs.Teams.{turns_of, Course}
 use Rattle.krieg_play.specs.Games.{events_of, tries_of}
-use Rattle.krieg_play.specs.Played.{Sides, seats_of, all_relieved, leaver, played_counts, StopsBy, IsPlayed}
-use Rattle.krieg_play.specs.Passes.{IsUnderway, AfterPass, Passes, PlaysOn}
+use Rattle.krieg_play.specs.Played.{Sides, seats_of, used_up, leaver, played_counts, StopsBy, IsPlayed}
+use Rattle.krieg_play.specs.Passes.{seat_count, IsUnderway, AfterPass, Passes, PlaysOn}
 use Rattle.krieg_play.specs.declared.outcome.PlayFault.{PlayFault}
-use Rattle.krieg_play.proofs.Courses.{course_counts}
+use Rattle.krieg_play.proofs.Courses.{both_counted}
 use Rattle.krieg_play.proofs.HeardLines.{heard_is}
 
 is_played : {X : Type 0} (account : X → Account) (start : Pos) (asks : ℕ) (entry now : Sides X) (game : GameState) (stop : Stop) → IsUnderway account (leaver stop) start asks entry now game →
-    StopsBy stop game.position asks (length game.log + all_relieved entry now) now → IsPlayed account start asks entry now game stop
+    StopsBy stop game.position asks (used_up entry now game) now → IsPlayed account start asks entry now game stop
 is_played account start asks entry now game stop u h = record {
   is_game = u.is_game;
-  white = subst (λ (ls : List Line). Course account (played_counts (leaver stop) White) entry.white now.white ls [] (tries_of White (events_of game.log))) (heard_is start White game.log u.is_game.log) u.white;
-  black = subst (λ (ls : List Line). Course account (played_counts (leaver stop) Black) entry.black now.black ls [] (tries_of Black (events_of game.log))) (heard_is start Black game.log u.is_game.log) u.black;
+  white_asks = u.white_asks;
+  black_asks = u.black_asks;
+  white = subst (λ (ls : List Line). Course account (played_counts (leaver stop) White) entry.white now.white ls [] (turns_of u.white_asks (tries_of White (events_of game.log)))) (heard_is start White game.log u.is_game.log) u.white;
+  black = subst (λ (ls : List Line). Course account (played_counts (leaver stop) Black) entry.black now.black ls [] (turns_of u.black_asks (tries_of Black (events_of game.log)))) (heard_is start Black game.log u.is_game.log) u.black;
+  asked = u.asked;
   stops = h;
 }
-
-all_counted : {X : Type 0} {account : X → Account} {left : Option Side} {start : Pos} {asks : ℕ} {entry now : Sides X} {game : GameState} → IsUnderway account left start asks entry now game →
-    length entry.white.seats + length entry.black.seats ≡ all_relieved entry now + (length now.white.seats + length now.black.seats)
-all_counted u = omega (arith, course_counts u.white, course_counts u.black)
 
 pub stops_ended : {X : Type 0} (account : X → Account) (start : Pos) (seats : ℕ) (now : Sides X) (game : GameState) → is_ended game.position ≡ true → PlaysOn account (Ok Ended) start seats now now game game
 stops_ended account start seats now game h asks entry u seats_is = is_played account start asks entry now game Ended u h
 
 pub stops_used : {X : Type 0} (account : X → Account) (start : Pos) (seats : ℕ) (now : Sides X) (game : GameState) → is_ended game.position ≡ false →
-    game.spare ≤ seats - (length now.white.seats + length now.black.seats) → PlaysOn account (Ok AsksUsed) start seats now now game game
+    game.spare ≤ seats - seat_count now → PlaysOn account (Ok AsksUsed) start seats now now game game
 stops_used account start seats now game h few asks entry u seats_is =
-    is_played account start asks entry now game AsksUsed u (h, omega (arith, few, seats_is, all_counted u, u.is_game.places))
+    is_played account start asks entry now game AsksUsed u (h, omega (arith, few, seats_is, both_counted u.white u.black, u.is_game.places))
 
 pub stops_left : {X : Type 0} (account : X → Account) (start : Pos) (seats : ℕ) (who : Side) (before now : Sides X) (game : GameState) → is_ended game.position ≡ false →
-    seats - (length now.white.seats + length now.black.seats) < game.spare → who ≡ game.position.side → length (seats_of who now) ≡ 1 →
-    Passes account (Ok (Some who)) start before now game game → PlaysOn account (Ok (Left who)) start seats before now game game
+    seats - seat_count now < game.spare → who ≡ game.position.side → length (seats_of who now) ≡ 1 →
+    Passes account (Ok (Some who)) start seats before now game game → PlaysOn account (Ok (Left who)) start seats before now game game
 stops_left account start seats who before now game h many turn one passes asks entry u seats_is =
-    let v = passes asks entry u in
-    is_played account start asks entry now game (Left who) v (h, omega (arith, many, seats_is, all_counted v, v.is_game.places), turn, one)
+    let v = passes asks entry u seats_is in
+    is_played account start asks entry now game (Left who) v (h, omega (arith, many, seats_is, both_counted v.white v.black, v.is_game.places), turn, one)
 
 -- the same from what the pass says
 pub stops_left_at : {X : Type 0} (account : X → Account) (start : Pos) (seats : ℕ) (who : Side) (p : Result (Option Side) PlayFault) (before now : Sides X) (game game' : GameState) → is_ended game.position ≡ false →
-    seats - (length now.white.seats + length now.black.seats) < game.spare → p ≡ Ok (Some who) → game' ≡ game → who ≡ game.position.side → length (seats_of who now) ≡ 1 →
-    Passes account p start before now game game' → PlaysOn account (Ok (Left who)) start seats before now game game'
+    seats - seat_count now < game.spare → p ≡ Ok (Some who) → game' ≡ game → who ≡ game.position.side → length (seats_of who now) ≡ 1 →
+    Passes account p start seats before now game game' → PlaysOn account (Ok (Left who)) start seats before now game game'
 stops_left_at account start seats who p before now game game' h many p_is same turn one passes =
     subst (λ (x : GameState). PlaysOn account (Ok (Left who)) start seats before now game x) (sym same)
     (stops_left account start seats who before now game h many turn one
-    (subst (λ (x : GameState). Passes account (Ok (Some who)) start before now game x) same (subst (λ (x : Result (Option Side) PlayFault). Passes account x start before now game game') p_is passes)))
+    (subst (λ (x : GameState). Passes account (Ok (Some who)) start seats before now game x) same (subst (λ (x : Result (Option Side) PlayFault). Passes account x start seats before now game game') p_is passes)))
 
 pub stops_fault : {X : Type 0} (account : X → Account) (start : Pos) (seats : ℕ) (fault : PlayFault) (before now : Sides X) (game game' : GameState) →
-    Passes account (Err fault) start before now game game' → PlaysOn account (Err fault) start seats before now game game'
-stops_fault account start seats fault before now game game' passes asks entry u seats_is = passes asks entry u
+    Passes account (Err fault) start seats before now game game' → PlaysOn account (Err fault) start seats before now game game'
+stops_fault account start seats fault before now game game' passes asks entry u seats_is = passes asks entry u seats_is
 
 -- a pass, and then the rest
 pub goes_on : {X : Type 0} (account : X → Account) (p : Result (Option Side) PlayFault) (r : Result Stop PlayFault) (start : Pos) (seats : ℕ) (before middle now : Sides X) (game game' game'' : GameState) → p ≡ Ok None →
-    Passes account p start before middle game game' → PlaysOn account r start seats middle now game' game'' → PlaysOn account r start seats before now game game''
+    Passes account p start seats before middle game game' → PlaysOn account r start seats middle now game' game'' → PlaysOn account r start seats before now game game''
 goes_on account p r start seats before middle now game game' game'' e passes plays asks entry u seats_is =
-    plays asks entry (subst (λ (x : Result (Option Side) PlayFault). AfterPass account x start asks entry middle game') e (passes asks entry u)) seats_is
+    plays asks entry (subst (λ (x : Result (Option Side) PlayFault). AfterPass account x start asks entry middle game') e (passes asks entry u seats_is)) seats_is
 
-pub passes_then : {X : Type 0} (account : X → Account) (p : Result (Option Side) PlayFault) (start : Pos) (before middle now : Sides X) (game game' game'' : GameState) → p ≡ Ok None →
-    Passes account (Ok None) start before middle game game' → Passes account p start middle now game' game'' → Passes account (Ok None) start before now game game''
-passes_then account p start before middle now game game' game'' e first second asks entry u =
-    subst (λ (x : Result (Option Side) PlayFault). AfterPass account x start asks entry now game'') e (second asks entry (first asks entry u))
+pub passes_then : {X : Type 0} (account : X → Account) (p : Result (Option Side) PlayFault) (start : Pos) (seats : ℕ) (before middle now : Sides X) (game game' game'' : GameState) → p ≡ Ok None →
+    Passes account (Ok None) start seats before middle game game' → Passes account p start seats middle now game' game'' → Passes account (Ok None) start seats before now game game''
+passes_then account p start seats before middle now game game' game'' e first second asks entry u seats_is =
+    subst (λ (x : Result (Option Side) PlayFault). AfterPass account x start asks entry now game'') e (second asks entry (first asks entry u seats_is) seats_is)
 
-pub passes_as : {X : Type 0} (account : X → Account) (p q : Result (Option Side) PlayFault) (start : Pos) (before now : Sides X) (game game' : GameState) → p ≡ q →
-    Passes account p start before now game game' → Passes account q start before now game game'
-passes_as account p q start before now game game' e h = subst (λ (x : Result (Option Side) PlayFault). Passes account x start before now game game') e h
+pub passes_as : {X : Type 0} (account : X → Account) (p q : Result (Option Side) PlayFault) (start : Pos) (seats : ℕ) (before now : Sides X) (game game' : GameState) → p ≡ q →
+    Passes account p start seats before now game game' → Passes account q start seats before now game game'
+passes_as account p q start seats before now game game' e h = subst (λ (x : Result (Option Side) PlayFault). Passes account x start seats before now game game') e h
 
 not_true : (b r : Bool) → r ≡ not b → r ≡ true → b ≡ false
 not_true true r e h = absurd (cc)

@@ -12,7 +12,7 @@ use Rattle.krieg_referee.specs.declared.verdict.Judged.{Judged}
 use Rattle.krieg_seats.specs.Accounts.{Account}
 use Rattle.krieg_seats.specs.declared.seat.SeatFault.{SeatFault}
 use Rattle.krieg_seats.specs.declared.seat.SeatFault.TheVariants.{Failed, NoMemory}
-use Rattle.krieg_play.specs.Teams.{Team, Course, BrokenCourse, Stays, HasLeft, HasFailed, MayBeShort}
+use Rattle.krieg_play.specs.Teams.{Team, Turns, Course, BrokenCourse, Stays, HasLeft, HasFailed, MayBeShort}
 use Rattle.krieg_play.specs.declared.turn.Turn.{Turn}
 use Rattle.krieg_play.specs.declared.turn.Turn.TheVariants.{Tried, Relieved, Left}
 
@@ -56,31 +56,43 @@ seat_counts Failed = HasFailed
 seat_counts NoMemory = MayBeShort
 
 -- what a side did when a call that tells it has answered: its sitting seat has heard all, or met this fault
-abbrev pub AfterTelling : {X : Type 0} → (X → Account) → Result (Unit {0}) SeatFault → Team X → Team X → List Line → List Move → Type 0
-AfterTelling account (Ok _) entry now lines tries = Course account Stays entry now lines [] tries
-AfterTelling account (Err fault) entry now lines tries = BrokenCourse account (seat_counts fault) entry now lines tries
+abbrev pub AfterTelling : {X : Type 0} → (X → Account) → Result (Unit {0}) SeatFault → Team X → Team X → List Line → Turns → Type 0
+AfterTelling account (Ok _) entry now lines turns = Course account Stays entry now lines [] turns
+AfterTelling account (Err fault) entry now lines turns = BrokenCourse account (seat_counts fault) entry now lines turns
 
 -- a relief, from any course so far whose sitting seat has these counts
 abbrev pub Relieves : {X : Type 0} → (X → Account) → (Account → Account → Type 0) → Result (Unit {0}) SeatFault → Team X → Team X → List Line → Type 0
 Relieves {X} account Counts r before now lines =
-    (entry : Team X) (due : List Line) (tries : List Move) → Course account Counts entry before lines due tries → AfterTelling account r entry now lines tries
+    (entry : Team X) (due : List Line) (turns : Turns) → Course account Counts entry before lines due turns → AfterTelling account r entry now lines turns
 
 -- telling these lines, from any course so far of which they are due
 abbrev pub Tells : {X : Type 0} → (X → Account) → Result (Unit {0}) SeatFault → Team X → Team X → List Line → List Line → Type 0
 Tells {X} account r before now lines due =
-    (entry : Team X) (tries : List Move) → Course account Stays entry before lines due tries → AfterTelling account r entry now lines tries
+    (entry : Team X) (turns : Turns) → Course account Stays entry before lines due turns → AfterTelling account r entry now lines turns
+
+-- a side that was asked once more, and one that said one more try
+abbrev pub once_more : Turns → Turns
+once_more turns = record turns { asks = turns.asks + 1 }
+
+abbrev pub one_try : Move → Turns → Turns
+one_try m turns = record turns { tries = turns.tries ++ m ∷ [] }
 
 -- what a side did when its sitting seat was asked
-abbrev pub AfterTurn : {X : Type 0} → (X → Account) → Result Turn SeatFault → Team X → Team X → List Line → List Move → Type 0
-AfterTurn account (Ok (Tried m)) entry now lines tries = Course account Stays entry now lines [] (tries ++ m ∷ [])
-AfterTurn account (Ok Relieved) entry now lines tries = Course account Stays entry now lines [] tries
-AfterTurn account (Ok Left) entry now lines tries = Course account HasLeft entry now lines [] tries
-AfterTurn account (Err fault) entry now lines tries = BrokenCourse account (seat_counts fault) entry now lines tries
+abbrev pub AfterTurn : {X : Type 0} → (X → Account) → Result Turn SeatFault → Team X → Team X → List Line → Turns → Type 0
+AfterTurn account (Ok (Tried m)) entry now lines turns = Course account Stays entry now lines [] (one_try m turns)
+AfterTurn account (Ok Relieved) entry now lines turns = Course account Stays entry now lines [] turns
+AfterTurn account (Ok Left) entry now lines turns = Course account HasLeft entry now lines [] turns
+AfterTurn account (Err fault) entry now lines turns = BrokenCourse account (seat_counts fault) entry now lines turns
 
--- a turn, from any course so far whose sitting seat has heard all and has these counts
-abbrev pub TakesTurn : {X : Type 0} → (X → Account) → (Account → Account → Type 0) → Result Turn SeatFault → Team X → Team X → List Line → Type 0
-TakesTurn {X} account Counts r before now lines =
-    (entry : Team X) (tries : List Move) → Course account Counts entry before lines [] tries → AfterTurn account r entry now lines tries
+-- a turn, from any course so far whose sitting seat has heard all: the side was asked once more
+abbrev pub TakesTurn : {X : Type 0} → (X → Account) → Result Turn SeatFault → Team X → Team X → List Line → Type 0
+TakesTurn {X} account r before now lines =
+    (entry : Team X) (turns : Turns) → Course account Stays entry before lines [] turns → AfterTurn account r entry now lines (once_more turns)
+
+-- the rest of a turn in which the sitting seat has left, from any course so far
+abbrev pub EndsTurn : {X : Type 0} → (X → Account) → Result Turn SeatFault → Team X → Team X → List Line → Type 0
+EndsTurn {X} account r before now lines =
+    (entry : Team X) (turns : Turns) → Course account HasLeft entry before lines [] turns → AfterTurn account r entry now lines turns
 
 -- the turn of a side whose sitting seat was relieved
 abbrev pub relieved_turn : Result (Unit {0}) SeatFault → Result Turn SeatFault

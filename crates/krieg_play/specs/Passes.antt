@@ -1,7 +1,6 @@
 -- What no public clause cites: what each call of both sides makes of them and of their game.
 use Rattle.std.specs.Prelude.{◌≡◌, ℕ, ◌+◌, List, [], ◌∷◌, ◌++◌, length, Option, None, Result, Ok, Err}
 use Rattle.krieg_board.specs.Pos.{Pos}
-use Rattle.krieg_board.specs.declared.men.Move.{Move}
 use Rattle.krieg_board.specs.declared.men.Side.{Side}
 use Rattle.krieg_board.specs.declared.men.Side.TheVariants.{White, Black}
 use Rattle.krieg_words.specs.declared.line.Line.{Line}
@@ -11,10 +10,10 @@ use Rattle.krieg_referee.specs.declared.verdict.Stop.{Stop}
 use Rattle.krieg_seats.specs.Accounts.{Account}
 use Rattle.krieg_seats.specs.declared.seat.SeatFault.{SeatFault}
 use Rattle.krieg_seats.specs.declared.seat.SeatFault.TheVariants as fault
-use Rattle.krieg_play.specs.Teams.{Course, BrokenCourse, Stays}
+use Rattle.krieg_play.specs.Teams.{Turns, turns_of, Course, BrokenCourse, Stays}
 use Rattle.krieg_play.specs.Games.{events_of, tries_of, IsGameFrom}
-use Rattle.krieg_play.specs.Played.{Sides, played_counts, fault_counts, IsToldFirst, EndsAt, IsPlayed, IsBroken}
-use Rattle.krieg_play.specs.Calls.{lines_to, AfterTurn}
+use Rattle.krieg_play.specs.Played.{Sides, by_side, used_up, IsAskedWithin, last_ask, played_counts, fault_counts, IsToldFirst, EndsAt, IsPlayed, IsBroken}
+use Rattle.krieg_play.specs.Calls.{lines_to, once_more, AfterTurn}
 use Rattle.krieg_play.specs.declared.outcome.PlayFault.{PlayFault}
 use Rattle.krieg_play.specs.declared.outcome.PlayFault.TheVariants.{Seat, NoMemory}
 use Rattle.krieg_play.specs.declared.turn.Turn.{Turn}
@@ -27,61 +26,75 @@ fault_of fault.NoMemory who = NoMemory
 -- ---- both sides
 
 -- what both sides did where a call ends with a fault
-pub record Breaks {X : Type 0} (account : X → Account) (fault : PlayFault) (entry now : Sides X) (lines : Side → List Line) (tries : Side → List Move) : Type 0 where
-  pub white : BrokenCourse account (fault_counts fault White) entry.white now.white (lines White) (tries White)
-  pub black : BrokenCourse account (fault_counts fault Black) entry.black now.black (lines Black) (tries Black)
+pub record Breaks {X : Type 0} (account : X → Account) (fault : PlayFault) (entry now : Sides X) (lines : Side → List Line) (turns : Side → Turns) : Type 0 where
+  pub white : BrokenCourse account (fault_counts fault White) entry.white now.white (lines White) (turns White)
+  pub black : BrokenCourse account (fault_counts fault Black) entry.black now.black (lines Black) (turns Black)
   pub told_first : IsToldFirst fault white.0
   pub ends : EndsAt fault now
 
 -- what both sides did where lines that were due were told
-abbrev pub AfterBoth : {X : Type 0} → (X → Account) → Result (Unit {0}) PlayFault → Sides X → Sides X → (Side → List Line) → (Side → List Move) → Type 0
-AfterBoth account (Ok _) entry now lines tries =
-    Course account Stays entry.white now.white (lines White) [] (tries White) × Course account Stays entry.black now.black (lines Black) [] (tries Black)
-AfterBoth account (Err fault) entry now lines tries = Breaks account fault entry now lines tries
+abbrev pub AfterBoth : {X : Type 0} → (X → Account) → Result (Unit {0}) PlayFault → Sides X → Sides X → (Side → List Line) → (Side → Turns) → Type 0
+AfterBoth account (Ok _) entry now lines turns =
+    Course account Stays entry.white now.white (lines White) [] (turns White) × Course account Stays entry.black now.black (lines Black) [] (turns Black)
+AfterBoth account (Err fault) entry now lines turns = Breaks account fault entry now lines turns
 
 -- telling both sides, from any courses so far of which these lines are due
 abbrev pub TellsBoth : {X : Type 0} → (X → Account) → Result (Unit {0}) PlayFault → Sides X → Sides X → (Side → List Line) → (Side → List Line) → Type 0
 TellsBoth {X} account r before now lines due =
-    (entry : Sides X) (tries : Side → List Move) → Course account Stays entry.white before.white (lines White) (due White) (tries White) →
-    Course account Stays entry.black before.black (lines Black) (due Black) (tries Black) → AfterBoth account r entry now lines tries
+    (entry : Sides X) (turns : Side → Turns) → Course account Stays entry.white before.white (lines White) (due White) (turns White) →
+    Course account Stays entry.black before.black (lines Black) (due Black) (turns Black) → AfterBoth account r entry now lines turns
 
 -- what asking one side makes of both
-abbrev pub AfterAsk : {X : Type 0} → (X → Account) → Side → Result Turn SeatFault → Sides X → Sides X → (Side → List Line) → (Side → List Move) → Type 0
-AfterAsk account White r entry now lines tries =
-    AfterTurn account r entry.white now.white (lines White) (tries White) × Course account Stays entry.black now.black (lines Black) [] (tries Black)
-AfterAsk account Black r entry now lines tries =
-    AfterTurn account r entry.black now.black (lines Black) (tries Black) × Course account Stays entry.white now.white (lines White) [] (tries White)
+abbrev pub AfterAsk : {X : Type 0} → (X → Account) → Side → Result Turn SeatFault → Sides X → Sides X → (Side → List Line) → (Side → Turns) → Type 0
+AfterAsk account White r entry now lines turns =
+    AfterTurn account r entry.white now.white (lines White) (once_more (turns White)) × Course account Stays entry.black now.black (lines Black) [] (turns Black)
+AfterAsk account Black r entry now lines turns =
+    AfterTurn account r entry.black now.black (lines Black) (once_more (turns Black)) × Course account Stays entry.white now.white (lines White) [] (turns White)
 
 -- asking one side, from any courses so far
 abbrev pub AsksOne : {X : Type 0} → (X → Account) → Side → Result Turn SeatFault → Sides X → Sides X → (Side → List Line) → Type 0
 AsksOne {X} account who r before now lines =
-    (entry : Sides X) (tries : Side → List Move) → Course account Stays entry.white before.white (lines White) [] (tries White) →
-    Course account Stays entry.black before.black (lines Black) [] (tries Black) → AfterAsk account who r entry now lines tries
+    (entry : Sides X) (turns : Side → Turns) → Course account Stays entry.white before.white (lines White) [] (turns White) →
+    Course account Stays entry.black before.black (lines Black) [] (turns Black) → AfterAsk account who r entry now lines turns
 
 -- ---- their game
 
--- a game under way: each side has heard its lines of it, and has said its tries
+-- each side's turns, where they were asked so often and these are the tries
+abbrev pub turns_so_far : ℕ → ℕ → List Event → Side → Turns
+turns_so_far white_asks black_asks events who = turns_of (by_side white_asks black_asks who) (tries_of who events)
+
+-- a game under way: each side has heard its lines of it, has said its tries, and was asked so often
 pub record IsUnderway {X : Type 0} (account : X → Account) (left : Option Side) (start : Pos) (asks : ℕ) (entry now : Sides X) (game : GameState) : Type 0 where
   pub is_game : IsGameFrom start asks game
-  pub white : Course account (played_counts left White) entry.white now.white (lines_to start White game.log) [] (tries_of White (events_of game.log))
-  pub black : Course account (played_counts left Black) entry.black now.black (lines_to start Black game.log) [] (tries_of Black (events_of game.log))
+  pub white_asks : ℕ
+  pub black_asks : ℕ
+  pub white : Course account (played_counts left White) entry.white now.white (lines_to start White game.log) [] (turns_of white_asks (tries_of White (events_of game.log)))
+  pub black : Course account (played_counts left Black) entry.black now.black (lines_to start Black game.log) [] (turns_of black_asks (tries_of Black (events_of game.log)))
+  pub asked : IsAskedWithin asks (used_up entry now game) (last_ask left) (white_asks + black_asks)
 
 -- the same where the side to move has said one more try, which is not judged yet
 pub record HasTried {X : Type 0} (account : X → Account) (start : Pos) (asks : ℕ) (entry now : Sides X) (game : GameState) (e : Event) : Type 0 where
   pub is_game : IsGameFrom start asks game
   pub on_turn : e.who ≡ game.position.side
-  pub white : Course account Stays entry.white now.white (lines_to start White game.log) [] (tries_of White (events_of game.log ++ e ∷ []))
-  pub black : Course account Stays entry.black now.black (lines_to start Black game.log) [] (tries_of Black (events_of game.log ++ e ∷ []))
+  pub white_asks : ℕ
+  pub black_asks : ℕ
+  pub white : Course account Stays entry.white now.white (lines_to start White game.log) [] (turns_of white_asks (tries_of White (events_of game.log ++ e ∷ [])))
+  pub black : Course account Stays entry.black now.black (lines_to start Black game.log) [] (turns_of black_asks (tries_of Black (events_of game.log ++ e ∷ [])))
+  pub asked : IsAskedWithin asks (used_up entry now game) 1 (white_asks + black_asks)
 
 -- what one pass makes of a game under way: it is still under way, with a side that left or none, or it is broken off
 abbrev pub AfterPass : {X : Type 0} → (X → Account) → Result (Option Side) PlayFault → Pos → ℕ → Sides X → Sides X → GameState → Type 0
 AfterPass account (Ok left) start asks entry now game = IsUnderway account left start asks entry now game
 AfterPass account (Err fault) start asks entry now game = IsBroken account start asks entry now fault
 
--- a pass, from any game under way
-abbrev pub Passes : {X : Type 0} → (X → Account) → Result (Option Side) PlayFault → Pos → Sides X → Sides X → GameState → GameState → Type 0
-Passes {X} account r start before now game game' =
-    (asks : ℕ) (entry : Sides X) → IsUnderway account None start asks entry before game → AfterPass account r start asks entry now game'
+-- how many seats stand in both lists
+abbrev pub seat_count : {X : Type 0} → Sides X → ℕ
+seat_count s = length s.white.seats + length s.black.seats
+
+-- a pass, from any game under way for whose call so many seats stood in both lists
+abbrev pub Passes : {X : Type 0} → (X → Account) → Result (Option Side) PlayFault → Pos → ℕ → Sides X → Sides X → GameState → GameState → Type 0
+Passes {X} account r start seats before now game game' =
+    (asks : ℕ) (entry : Sides X) → IsUnderway account None start asks entry before game → seat_count entry ≡ seats → AfterPass account r start asks entry now game'
 
 -- judging a try, from any game in which it was said
 abbrev pub Judges : {X : Type 0} → (X → Account) → Result (Option Side) PlayFault → Pos → Event → Sides X → Sides X → GameState → GameState → Type 0
@@ -96,5 +109,5 @@ ComesTo account (Err fault) start asks entry now game = IsBroken account start a
 -- playing on, from any game under way for whose call so many seats stood in both lists
 abbrev pub PlaysOn : {X : Type 0} → (X → Account) → Result Stop PlayFault → Pos → ℕ → Sides X → Sides X → GameState → GameState → Type 0
 PlaysOn {X} account r start seats before now game game' =
-    (asks : ℕ) (entry : Sides X) → IsUnderway account None start asks entry before game → length entry.white.seats + length entry.black.seats ≡ seats →
+    (asks : ℕ) (entry : Sides X) → IsUnderway account None start asks entry before game → seat_count entry ≡ seats →
     ComesTo account r start asks entry now game'

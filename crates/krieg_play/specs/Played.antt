@@ -11,7 +11,7 @@ use Rattle.krieg_referee.specs.Games.{GameState}
 use Rattle.krieg_referee.specs.declared.verdict.Stop.{Stop}
 use Rattle.krieg_referee.specs.declared.verdict.Stop.TheVariants.{Ended, Left, AsksUsed}
 use Rattle.krieg_seats.specs.Accounts.{Account}
-use Rattle.krieg_play.specs.Teams.{Team, team, Course, BrokenCourse, Stays, HasLeft, HasFailed, MayBeShort}
+use Rattle.krieg_play.specs.Teams.{Team, team, turns_of, Course, BrokenCourse, Stays, HasLeft, HasFailed, MayBeShort}
 use Rattle.krieg_play.specs.Games.{events_of, tries_of, IsGameFrom}
 use Rattle.krieg_play.specs.declared.outcome.PlayFault.{PlayFault}
 use Rattle.krieg_play.specs.declared.outcome.PlayFault.TheVariants.{Vacant, Seat, NoMemory}
@@ -46,6 +46,15 @@ relieved entry now = length now.out - length entry.out
 abbrev pub all_relieved : {X : Type 0} → Sides X → Sides X → ℕ
 all_relieved entry now = relieved entry.white now.white + relieved entry.black now.black
 
+-- how many tries were judged and seats relieved
+abbrev pub used_up : {X : Type 0} → Sides X → Sides X → GameState → ℕ
+used_up entry now game = length game.log + all_relieved entry now
+
+-- All seats together were asked so often: no more often than they may be asked, and no more often than tries were judged and
+-- seats relieved, but for so many asks of which neither came.
+abbrev pub IsAskedWithin : ℕ → ℕ → ℕ → ℕ → Type 0
+IsAskedWithin asks used vain asked = (asked ≤ asks) × (asked ≤ used + vain)
+
 -- ---- a game that was played
 
 -- the side that left
@@ -53,6 +62,11 @@ abbrev pub leaver : Stop → Option Side
 leaver Ended = None
 leaver AsksUsed = None
 leaver (Left who) = Some who
+
+-- one ask of which no try came and no relief: that of the last seat of a side that left
+abbrev pub last_ask : Option Side → ℕ
+last_ask None = 0
+last_ask (Some who) = 1
 
 -- what the counts of each side's sitting seat came to: they stay, but the leaves of a side that left rose
 abbrev pub played_counts : Option Side → Side → Account → Account → Type 0
@@ -67,12 +81,16 @@ StopsBy Ended p asks used now = is_ended p ≡ true
 StopsBy AsksUsed p asks used now = (is_ended p ≡ false) × (asks ≤ used)
 StopsBy (Left who) p asks used now = (is_ended p ≡ false) × (used < asks) × (who ≡ p.side) × (length (seats_of who now) ≡ 1)
 
--- The seats played this game from the start until it stopped: each side heard its lines of it, and its tries are what it said.
+-- The seats played this game from the start until it stopped: each side heard its lines of it, and its tries are what it said, and
+-- its seats were asked so often.
 pub record IsPlayed {X : Type 0} (account : X → Account) (start : Pos) (asks : ℕ) (entry now : Sides X) (game : GameState) (stop : Stop) : Type 0 where
   pub is_game : IsGameFrom start asks game
-  pub white : Course account (played_counts (leaver stop) White) entry.white now.white (heard Wild16 start (events_of game.log) White) [] (tries_of White (events_of game.log))
-  pub black : Course account (played_counts (leaver stop) Black) entry.black now.black (heard Wild16 start (events_of game.log) Black) [] (tries_of Black (events_of game.log))
-  pub stops : StopsBy stop game.position asks (length game.log + all_relieved entry now) now
+  pub white_asks : ℕ
+  pub black_asks : ℕ
+  pub white : Course account (played_counts (leaver stop) White) entry.white now.white (heard Wild16 start (events_of game.log) White) [] (turns_of white_asks (tries_of White (events_of game.log)))
+  pub black : Course account (played_counts (leaver stop) Black) entry.black now.black (heard Wild16 start (events_of game.log) Black) [] (turns_of black_asks (tries_of Black (events_of game.log)))
+  pub asked : IsAskedWithin asks (used_up entry now game) (last_ask (leaver stop)) (white_asks + black_asks)
+  pub stops : StopsBy stop game.position asks (used_up entry now game) now
 
 -- ---- a game that was given up
 
@@ -94,13 +112,16 @@ abbrev pub IsToldFirst : PlayFault → List Line → Type 0
 IsToldFirst (Seat Black) due = due ≡ []
 IsToldFirst _ due = Unit {0}
 
--- The seats played this game from the start until it was given up: its tries are what each side said, and of its lines each
--- sitting seat heard a front part.
+-- The seats played this game from the start until it was given up: its tries are what each side said, its seats were asked so
+-- often, and of its lines each sitting seat heard a front part.
 pub record IsBroken {X : Type 0} (account : X → Account) (start : Pos) (asks : ℕ) (entry now : Sides X) (fault : PlayFault) : Type 0 where
   pub game : GameState
   pub is_game : IsGameFrom start asks game
-  pub white : BrokenCourse account (fault_counts fault White) entry.white now.white (heard Wild16 start (events_of game.log) White) (tries_of White (events_of game.log))
-  pub black : BrokenCourse account (fault_counts fault Black) entry.black now.black (heard Wild16 start (events_of game.log) Black) (tries_of Black (events_of game.log))
+  pub white_asks : ℕ
+  pub black_asks : ℕ
+  pub white : BrokenCourse account (fault_counts fault White) entry.white now.white (heard Wild16 start (events_of game.log) White) (turns_of white_asks (tries_of White (events_of game.log)))
+  pub black : BrokenCourse account (fault_counts fault Black) entry.black now.black (heard Wild16 start (events_of game.log) Black) (turns_of black_asks (tries_of Black (events_of game.log)))
+  pub asked : IsAskedWithin asks (used_up entry now game) 1 (white_asks + black_asks)
   pub told_first : IsToldFirst fault white.0
   pub ends : EndsAt fault now
 

@@ -1,7 +1,7 @@
 -- The seats of one side, and what they did since a call began.
-use Rattle.std.specs.Prelude.{◌≡◌, ◌≤◌, ◌⊎◌, List, [], ◌∷◌, ◌++◌, map, Vec}
+use Rattle.std.specs.Prelude.{◌≡◌, ◌+◌, ◌≤◌, ◌⊎◌, ℕ, List, [], ◌∷◌, ◌++◌, map, Vec}
 use Rattle.std.specs.List.{flat_map}
-use Rattle.krieg_ports.specs.Faults.{Rose}
+use Rattle.krieg_ports.specs.Faults.{many_more, Rose}
 use Rattle.krieg_board.specs.declared.men.Move.{Move}
 use Rattle.krieg_words.specs.declared.line.Line.{Line}
 use Rattle.krieg_seats.specs.Accounts.{Account}
@@ -19,10 +19,11 @@ team_of seats out = team seats.items out.items
 
 -- ---- one seat
 
--- a seat as it was on entry and as it is now, and what it said and heard in between
+-- a seat as it was on entry and as it is now, how often it was asked in between, and what it said and heard
 pub record Service (X : Type 0) : Type 0 where
   pub entry : X
   pub now : X
+  pub asks : ℕ
   pub said : List Move
   pub heard : List Line
 
@@ -35,8 +36,14 @@ now_of s = s.now
 abbrev pub said_of : {X : Type 0} → Service X → List Move
 said_of s = s.said
 
--- it said and heard this beyond what it had on entry
+-- how often these seats were asked together
+abbrev pub all_asks : {X : Type 0} → List (Service X) → ℕ
+all_asks [] = 0
+all_asks (s ∷ ss) = s.asks + all_asks ss
+
+-- it was asked so often, and said and heard this, beyond what it had on entry
 pub record IsService {X : Type 0} (account : X → Account) (s : Service X) : Type 0 where
+  pub asks : (account s.now).asks ≡ many_more s.asks (account s.entry).asks
   pub said : (account s.now).said ≡ (account s.entry).said ++ s.said
   pub heard : (account s.now).heard ≡ (account s.entry).heard ++ s.heard
 
@@ -64,6 +71,14 @@ MayBeShort entry now = (entry.faults ≤ now.faults) × (now.leaves ≡ entry.le
 
 -- ---- a side
 
+-- a side's turns: how often its seats were asked, and the moves that they tried
+pub record Turns : Type 0 where
+  pub asks : ℕ
+  pub tries : List Move
+
+abbrev pub turns_of : ℕ → List Move → Turns
+turns_of asks tries = record { asks = asks; tries = tries }
+
 -- a relieved seat heard a front part of the lines, and failed or left
 pub record IsRelieved {X : Type 0} (account : X → Account) (lines : List Line) (s : Service X) : Type 0 where
   pub serves : IsService account s
@@ -76,9 +91,9 @@ AreRelieved account lines [] = Unit {0}
 AreRelieved account lines (s ∷ ss) = IsRelieved account lines s × AreRelieved account lines ss
 
 -- What a side did since the call began, where these are its lines so far, of which its sitting seat has heard all but those
--- that are due, and these are its tries. The first seats of its list were relieved and stand in order at the end of its out
+-- that are due, and these are its turns. The first seats of its list were relieved and stand in order at the end of its out
 -- list, the next one sits, and all others are as they were. Counts is what the sitting seat's counts came to.
-pub record Course {X : Type 0} (account : X → Account) (Counts : Account → Account → Type 0) (entry now : Team X) (lines due : List Line) (tries : List Move) : Type 0 where
+pub record Course {X : Type 0} (account : X → Account) (Counts : Account → Account → Type 0) (entry now : Team X) (lines due : List Line) (turns : Turns) : Type 0 where
   pub relieved : List (Service X)
   pub sitting : Service X
   pub behind : List X
@@ -88,9 +103,10 @@ pub record Course {X : Type 0} (account : X → Account) (Counts : Account → A
   pub are_relieved : AreRelieved account lines relieved
   pub serves : IsService account sitting
   pub heard : sitting.heard ++ due ≡ lines
-  pub said : flat_map said_of relieved ++ sitting.said ≡ tries
+  pub asked : all_asks relieved + sitting.asks ≡ turns.asks
+  pub said : flat_map said_of relieved ++ sitting.said ≡ turns.tries
   pub counts : Counts (account sitting.entry) (account sitting.now)
 
 -- the same, where the sitting seat has heard some front part of the lines
-abbrev pub BrokenCourse : {X : Type 0} → (X → Account) → (Account → Account → Type 0) → Team X → Team X → List Line → List Move → Type 0
-BrokenCourse account Counts entry now lines tries = (due : List Line) × Course account Counts entry now lines due tries
+abbrev pub BrokenCourse : {X : Type 0} → (X → Account) → (Account → Account → Type 0) → Team X → Team X → List Line → Turns → Type 0
+BrokenCourse account Counts entry now lines turns = (due : List Line) × Course account Counts entry now lines due turns

@@ -1,6 +1,6 @@
 // A source over a reader of std and a sink over a writer: the edge where the system's streams come
 // in. The clauses of std are trusted for what a reader gives and a writer takes.
-ghost use Rattle.std.specs.Prelude.{◌≡◌, ◌≤◌, OnErr, is_ok, if◌then◌else◌};
+ghost use Rattle.std.specs.Prelude.{◌≡◌, ◌≤◌, OnOk, OnErr, is_ok, if◌then◌else◌};
 ghost use Rattle.std.specs.Io.{ReadsAtMost, WritesAtMost};
 ghost use Rattle.std.specs.Io.KnownBytes.{ReadConsumes, WriteAppends};
 ghost use Rattle.krieg_ports.specs.Adapters.{inner_reader, inner_writer, read_faults, write_faults};
@@ -43,6 +43,7 @@ impl<R: Read> Source for Adapter<R> {
         ensures bound { ReadsAtMost result buf.new }
         ensures bytes { ReadConsumes (R.remaining (inner_reader self.old))
             (R.remaining (inner_reader self.new)) result buf.new }
+        ensures kept { OnOk result (read_faults self.new ≡ read_faults self.old) }
         ensures failed { OnErr result (Rose (read_faults self.old) (read_faults self.new)) }
         ensures later { read_faults self.old ≤ read_faults self.new }
 
@@ -101,6 +102,7 @@ impl<W: Write> Sink for AdapterOut<W> {
         ensures takes { TakesSome result piece.now }
         ensures bytes { WriteAppends (W.contents (inner_writer self.old))
             (W.contents (inner_writer self.new)) result piece.now }
+        ensures kept { OnOk result (write_faults self.new ≡ write_faults self.old) }
         ensures failed { OnErr result (Rose (write_faults self.old) (write_faults self.new)) }
         ensures later { write_faults self.old ≤ write_faults self.new }
 

@@ -19,8 +19,6 @@
 mod adapters;
 mod memory;
 mod ports;
-#[cfg(test)]
-mod tests;
 mod transfer;
 
 pub use adapters::{Adapter, AdapterOut};

@@ -1,7 +1,7 @@
 // A source and a sink in memory, for tests and for callers that have their bytes already. Nothing
 // here takes memory.
 ghost use Rattle.std.specs.Prelude.{◌≡◌, ℕ, ◌+◌, ◌-◌, ◌<◌, ◌≤◌, ◌↔◌, [], ◌++◌, length, take, drop};
-ghost use Rattle.std.specs.Prelude.{min, Some, IfOk, OnErr, IsErr, vec_len};
+ghost use Rattle.std.specs.Prelude.{min, Some, IfOk, OnOk, OnErr, IsErr, vec_len};
 ghost use Rattle.std.specs.Io.{ReadsAtMost};
 ghost use Rattle.std.specs.Io.KnownBytes.{ReadConsumes, WriteAppends};
 ghost use Rattle.krieg_ports.specs.Bytes.{TakesSome};
@@ -73,6 +73,7 @@ impl Source for MemSource {
     fn read(&mut self, buf: &mut [u8]) -> Result<usize, Failed>
         ensures bound { ReadsAtMost result buf.new }
         ensures bytes { ReadConsumes (Some self.old.left) (Some self.new.left) result buf.new }
+        ensures kept { OnOk result (self.new.faults ≡ self.old.faults) }
         ensures failed { OnErr result (Rose self.old.faults self.new.faults) }
         ensures later { self.old.faults ≤ self.new.faults }
 
@@ -180,6 +181,7 @@ impl Sink for MemSink {
     fn write(&mut self, piece: &[u8]) -> Result<usize, Failed>
         ensures takes { TakesSome result piece.now }
         ensures bytes { WriteAppends (Some self.old.got) (Some self.new.got) result piece.now }
+        ensures kept { OnOk result (self.new.faults ≡ self.old.faults) }
         ensures failed { OnErr result (Rose self.old.faults self.new.faults) }
         ensures later { self.old.faults ≤ self.new.faults }
 

@@ -1,5 +1,5 @@
 // The traits of what gives bytes and of what takes them.
-ghost use Rattle.std.specs.Prelude.{◌≡◌, ℕ, ◌≤◌, List, Option, OnErr};
+ghost use Rattle.std.specs.Prelude.{◌≡◌, ℕ, ◌≤◌, List, Option, OnOk, OnErr};
 ghost use Rattle.std.specs.Io.{ReadsAtMost};
 ghost use Rattle.std.specs.Io.KnownBytes.{ReadConsumes, WriteAppends};
 ghost use Rattle.krieg_ports.specs.Bytes.{TakesSome};
@@ -10,8 +10,8 @@ ghost use Rattle.krieg_ports.specs.Faults.{one_more, Rose};
 #[derive(Clone, Copy, Debug, PartialEq, Eq)]
 pub struct Failed;
 
-/// Where bytes come from: the bytes that are left, where it tells them, and a count of faults that
-/// never falls.
+/// Where bytes come from: the bytes that are left, where it tells them, and a count of faults, which
+/// rises in the calls that fail and in no others.
 pub trait Source {
     // The bytes that are left, or `None` where the source does not tell them.
     ghost left: { Self → Option (List ℕ) };
@@ -28,12 +28,13 @@ pub trait Source {
     fn read(&mut self, buf: &mut [u8]) -> Result<usize, Failed>
         ensures bound { ReadsAtMost result buf.new }
         ensures bytes { ReadConsumes (left self.old) (left self.new) result buf.new }
+        ensures kept { OnOk result (faults self.new ≡ faults self.old) }
         ensures failed { OnErr result (Rose (faults self.old) (faults self.new)) }
         ensures later { faults self.old ≤ faults self.new };
 }
 
-/// Where bytes go to: the bytes that it has got, where it tells them, and a count of faults that
-/// never falls.
+/// Where bytes go to: the bytes that it has got, where it tells them, and a count of faults, which
+/// rises in the calls that fail and in no others.
 pub trait Sink {
     // The bytes that it has got, or `None` where the sink does not tell them.
     ghost got: { Self → Option (List ℕ) };
@@ -49,6 +50,7 @@ pub trait Sink {
     fn write(&mut self, piece: &[u8]) -> Result<usize, Failed>
         ensures takes { TakesSome result piece.now }
         ensures bytes { WriteAppends (got self.old) (got self.new) result piece.now }
+        ensures kept { OnOk result (faults self.new ≡ faults self.old) }
         ensures failed { OnErr result (Rose (faults self.old) (faults self.new)) }
         ensures later { faults self.old ≤ faults self.new };
 }

@@ -1,5 +1,5 @@
 // Reading a source to its end, and writing a whole text.
-ghost use Rattle.std.specs.Prelude.{◌≡◌, ◌≤◌, ◌<◌, length, vec_len};
+ghost use Rattle.std.specs.Prelude.{◌≡◌, ◌≢◌, ◌≤◌, ◌<◌, length, vec_len};
 ghost use Rattle.std.specs.Prelude.{IfOk, IfErr, IfSome, OnOk, OnErr};
 ghost use Rattle.std.specs.Io.KnownBytes.{Appends, Consumes, IsAtEnd};
 ghost use Rattle.krieg_ports.specs.Bytes.{AppendsPrefix, Gave};
@@ -33,7 +33,7 @@ const CHUNK: usize = 65_536;
 ///
 /// `TooLong` comes exactly where more than `max` bytes came before an end or a fault, and
 /// `ReadFault` only where the source's count of faults rose in this call, or stands at its last
-/// value. The bytes that came before an error are gone from the source: `max + 1` of them before
+/// value. After every other answer the count is as it was: nothing is read after a fault. The bytes that came before an error are gone from the source: `max + 1` of them before
 /// `TooLong`, and at most `max` before the others.
 pub fn read_all<S: Source>(alloc: Global, src: &mut S, max: usize) -> Result<Vec<u8>, ReadEnd>
     ensures all { IfOk result (λ found. Consumes (S.left src.old) (S.left src.new) found.items) }
@@ -46,8 +46,9 @@ pub fn read_all<S: Source>(alloc: Global, src: &mut S, max: usize) -> Result<Vec
     ensures long { result ≡ Err ReadEnd.TooLong →
         IfSome (S.left src.old) (λ bytes. max < length bytes) }
 
-    // A fault only by the source's own count, which never falls.
+    // A fault exactly by the source's own count: after no other answer has it risen.
     ensures fault { result ≡ Err ReadEnd.ReadFault → Rose (S.faults src.old) (S.faults src.new) }
+    ensures kept { result ≢ Err ReadEnd.ReadFault → S.faults src.new ≡ S.faults src.old }
     ensures later { S.faults src.old ≤ S.faults src.new }
 {
     let mut found = Vec::new(alloc);
@@ -73,11 +74,13 @@ pub fn read_all<S: Source>(alloc: Global, src: &mut S, max: usize) -> Result<Vec
 /// # Errors
 ///
 /// `WriteFault` comes only where the sink's count of faults rose in this call, or stands at its last
-/// value. The sink has got a front part of the bytes then.
+/// value. The sink has got a front part of the bytes then. Where all bytes were written the count is
+/// as it was.
 pub fn write_all<O: Sink>(sink: &mut O, bytes: &[u8]) -> Result<(), WriteFault>
     ensures all { OnOk result (Appends (O.got sink.old) (O.got sink.new) bytes.now) }
     ensures prefix { OnErr result (AppendsPrefix (O.got sink.old) (O.got sink.new) bytes.now) }
     ensures fault { OnErr result (Rose (O.faults sink.old) (O.faults sink.new)) }
+    ensures kept { OnOk result (O.faults sink.new ≡ O.faults sink.old) }
     ensures later { O.faults sink.old ≤ O.faults sink.new }
 {
     let mut sent = 0;

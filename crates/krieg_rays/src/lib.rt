@@ -20,8 +20,6 @@ mod lines;
 mod pawn_tables;
 mod pin;
 mod segment;
-#[cfg(test)]
-mod tests;
 
 pub use attack::{attacked_by, attacked_from, attackers, attackers_at, is_attacked};
 pub use krieg_board::Bits;

@@ -18,8 +18,6 @@
 
 mod game;
 mod hearing;
-#[cfg(test)]
-mod tests;
 mod verdict;
 
 pub use game::Game;

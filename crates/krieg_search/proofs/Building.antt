@@ -24,7 +24,7 @@ use Rattle.krieg_game.specs.Chess.{chess}
 use Rattle.krieg_game.specs.Classes.{class_pair}
 use Rattle.krieg_game.proofs.ChessLaws.{chess_is_game}
 use Rattle.krieg_split.specs.Parted.{IsParted}
-use Rattle.krieg_split.specs.declared.parts.Parted.{Parted}
+use Rattle.krieg_parting.specs.declared.parts.Parted.{Parted}
 use Rattle.krieg_plan.specs.Trees.{NodeTree}
 use Rattle.krieg_table.specs.Interned.{Interned}
 use Rattle.krieg_table.specs.Entries.{entries}

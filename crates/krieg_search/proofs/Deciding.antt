@@ -1,34 +1,37 @@
 -- What is decided over the opening sets, and what it takes.
-use Rattle.std.proofs.Common.{◌≡◌, ℕ, ◌+◌, ◌≤◌, Bool, true, false, not, ◌&&◌, List, [], ◌∷◌, map, Option, Result, Ok, Err, refl, sym, ap, subst, ◌∙◌, arith, Vec, Some}
+use Rattle.std.proofs.Common.{◌≡◌, ℕ, ◌+◌, ◌≤◌, Bool, true, false, not, ◌&&◌, ◌⊎◌, inl, inr, List, [], ◌∷◌, map, Option, Some, None, Result, Ok, Err, refl, sym, ap, subst, ◌∙◌, arith, Vec}
 use Rattle.std.specs.declared.alloc.Global.{Global}
 use Rattle.std.specs.List.{list_all, list_any}
 use Rattle.std.specs.Result.{IsErrAnd}
-use Rattle.std.proofs.lemmas.Bool.{cond-true}
+use Rattle.std.proofs.lemmas.Bool.{both_ways}
 use Rattle.krieg_board.specs.Pos.{Pos}
+use Rattle.krieg_board.specs.declared.men.Move.{Move}
 use Rattle.krieg_board.specs.declared.men.Side.{Side}
 use Rattle.krieg_words.specs.declared.dialects.Dialect.{Dialect}
 use Rattle.krieg_theory.specs.Sets.{In}
 use Rattle.krieg_theory.specs.Can.{can}
 use Rattle.krieg_theory.specs.Plans.{openings, opening_set, is_over, can_plan}
 use Rattle.krieg_theory.proofs.Lists.{all_at}
-use Rattle.krieg_costs.specs.Sums.{total, once}
+use Rattle.krieg_costs.specs.Sums.{IsOnce, once}
 use Rattle.krieg_costs.specs.Cost.{first_made}
-use Rattle.krieg_costs.specs.Reach.{fresh}
-use Rattle.krieg_costs.specs.Backing.{floor, floor_price}
-use Rattle.krieg_accounts.specs.Sound.{IsSound}
+use Rattle.krieg_costs.specs.Reach.{reach_of, fresh}
+use Rattle.krieg_costs.proofs.Pairs.{once_in}
+use Rattle.krieg_accounts.specs.Stored.{pairs}
+use Rattle.krieg_accounts.specs.Sound.{known, IsSound}
 use Rattle.krieg_accounts.specs.Charges.{charged}
 use Rattle.krieg_accounts.specs.Stretch.{IsStretch, FallsShort, CoversSets}
-use Rattle.krieg_accounts.specs.Answers.{AnswersSets, opening_sets}
+use Rattle.krieg_accounts.specs.Answers.{AnswersSets, opening_sets, AnswersPlan}
 use Rattle.krieg_accounts.proofs.Canonical.{by_least}
-use Rattle.krieg_accounts.proofs.Searches.{empty_sound, fresh_is_enough, short_is_below_fresh, floor_is_taken, sets_answer_plan}
+use Rattle.krieg_accounts.proofs.Searches.{empty_sound, reach_covers, short_is_below_fresh, sets_answer_plan}
+use Rattle.krieg_accounts.proofs.Tables.{in_known}
 use Rattle.krieg_accounts.proofs.TryEnds.{all_map}
 use Rattle.krieg_game.specs.Keys.{RootKey}
 use Rattle.krieg_game.specs.Chess.{chess}
 use Rattle.krieg_game.specs.Outset.{outset}
 use Rattle.krieg_game.specs.ClassLaws as game
 use Rattle.krieg_game.proofs.ChessLaws.{chess_is_game, outset_is_lawful}
-use Rattle.krieg_split.specs.declared.stop.SplitStop.{SplitStop}
-use Rattle.krieg_split.specs.declared.stop.SplitStop.TheVariants as split
+use Rattle.krieg_parting.specs.declared.stop.PartStop.{PartStop as SplitStop}
+use Rattle.krieg_parting.specs.declared.stop.PartStop.TheVariants as split
 use Rattle.krieg_split.specs.Units.{Charged}
 use Rattle.krieg_table.specs.Interned.{Interned}
 use Rattle.krieg_table.specs.Entries.{entries}
@@ -41,7 +44,7 @@ use Rattle.krieg_search.specs.Stops.{stop_of}
 use Rattle.krieg_search.specs.Searched.{AreCounted, IsReady, IsSearched, Searches, TellsSets}
 use Rattle.krieg_search.specs.Opened.{opening_in, AreNumbered, AreAdded, IsOpened}
 use Rattle.krieg_search.specs.Built.{WonBy}
-use Rattle.krieg_search.specs.Decided.{sets_in, IsBetween, IsWon, IsDecided}
+use Rattle.krieg_search.specs.Decided.{sets_in, IsAccount, IsWon, IsDecided}
 use Rattle.krieg_search.proofs.Searching.{ready_from}
 use Rattle.krieg_search.proofs.Opening.{same_openings, numbered_more}
 
@@ -83,12 +86,18 @@ module _ (d : Dialect) (who : Side) (S : List Pos) (n : ℕ) where
   are_opened T T1 r os e f o = subst (λ (T : Interned). IsOpened d who S T T1 (Some os)) e (subst (λ (r : Option (Vec Opening Global)). IsOpened d who S T T1 r) f o)
 
   -- some listed position is over
-  pub over : (u0 u1 : ℕ) → list_any (is_over (chess d) (outset d who)) S ≡ true → u1 + first_made (chess d) (outset d who) S ≡ u0 → (can_plan (chess d) (outset d who) n S ≡ false) × IsBetween d who S n u0 u1
+  pub over : (u0 u1 : ℕ) → list_any (is_over (chess d) (outset d who)) S ≡ true → u1 + first_made (chess d) (outset d who) S ≡ u0 → (can_plan (chess d) (outset d who) n S ≡ false) × IsAccount d who S n u0 u1
   over u0 u1 o e =
-      let w = first_within in
-      let f : floor (chess d) (outset d who) n S ≡ first_made (chess d) (outset d who) S + total (floor_price (chess d)) (once (chess d) []) = ap (λ R. first_made (chess d) (outset d who) S + total (floor_price (chess d)) (once (chess d) R)) (cond-true (list_any (is_over (chess d) (outset d who)) S) [] _ o) in (
-        ap (λ b. not b && list_all (λ key. can (chess d) n (opening_set (chess d) (outset d who) S key)) (openings (chess d) (outset d who) S)) o,
-        record { at_least = omega arith; at_most = omega arith },
+      let none : can_plan (chess d) (outset d who) n S ≡ false = ap (λ b. not b && list_all (λ key. can (chess d) n (opening_set (chess d) (outset d who) S key)) (openings (chess d) (outset d who) S)) o in (
+        none,
+        record {
+          results = [];
+          sound = empty_sound (chess d);
+          answer = record { all_won = λ c. absurd (both_ways _ none c); one_lost = λ q. absurd (both_ways _ q o) };
+          once = tt;
+          reached = λ q i. absurd i;
+          exact = omega arith;
+        },
       )
 
   -- the openings are there, and their sets are searched
@@ -120,7 +129,7 @@ module _ (d : Dialect) (who : Side) (S : List Pos) (n : ℕ) where
         go Large v = absurd v
         go NoMemory v = tt
 
-    module _ (T2 : Interned) (yes : Bool) (u0 u1 u2 : ℕ) (none : list_any (is_over (chess d) (outset d who)) S ≡ false) (taken : u1 + first_made (chess d) (outset d who) S ≡ u0) (w : TellsSets d T2 (sets_in T1 os) n yes) (s : IsSearched d (CoversSets (chess d) (sets_in T1 os) n) 0 T1 T2 u1 u2) where
+    module _ (T2 : Interned) (yes : Bool) (u0 u1 u2 : ℕ) (none : list_any (is_over (chess d) (outset d who)) S ≡ false) (taken : u1 + first_made (chess d) (outset d who) S ≡ u0) (w : TellsSets d T2 (sets_in T1 os) n yes) (s : IsSearched d (CoversSets (chess d) (sets_in T1 os) n) 0 T1 T2 u1 u2) (o : IsOnce (pairs (entries T2))) where
       stretch : IsStretch (chess d) (CoversSets (chess d) (opening_sets (chess d) (outset d who) S) n) 0 [] (entries T2) u1 u2
       stretch = subst (λ E. IsStretch (chess d) (CoversSets (chess d) (opening_sets (chess d) (outset d who) S) n) 0 E (entries T2) u1 u2) none_stored (subst (λ (Cs : List (List Pos)). IsStretch (chess d) (CoversSets (chess d) Cs n) 0 (entries T1) (entries T2) u1 u2) at_sets s.stretch)
 
@@ -132,19 +141,29 @@ module _ (d : Dialect) (who : Side) (S : List Pos) (n : ℕ) where
           tells.right ∙ all_map (opening_set (chess d) (outset d who) S) (can (chess d) n) (openings (chess d) (outset d who) S)
           ∙ ap (λ b. not b && list_all (λ key. can (chess d) n (opening_set (chess d) (outset d who) S key)) (openings (chess d) (outset d who) S)) (sym none)
 
-      between : IsBetween d who S n u0 u2
-      between =
-          let plan = sets_answer_plan (chess d) (chess_is_game d) (outset d who) (outset_is_lawful d who) n S (entries T2) none (subst (λ b. AnswersSets (chess d) (entries T2) (opening_sets (chess d) (outset d who) S) n b) answer tells.stored) in
-          let f = floor_is_taken (chess d) (chess_is_game d) (outset d who) (outset_is_lawful d who) n S (entries T2) u1 u2 stretch plan in
-          let g = fresh_is_enough (chess d) (chess_is_game d) (outset d who) (outset_is_lawful d who) n S (entries T2) u1 u2 stretch in
-          record { at_least = omega arith; at_most = omega arith }
+      plan : AnswersPlan (chess d) (outset d who) (entries T2) n S
+      plan = sets_answer_plan (chess d) (chess_is_game d) (outset d who) (outset_is_lawful d who) n S (entries T2) none (subst (λ b. AnswersSets (chess d) (entries T2) (opening_sets (chess d) (outset d who) S) n b) answer tells.stored)
+
+      -- a result has come for nothing but what is reached
+      reached : (q : List Pos × ℕ) → In q (pairs (entries T2)) → In q (reach_of (chess d) (outset d who) n S)
+      reached q i =
+          let R = reach_of (chess d) (outset d who) n S in
+          let k = in_known (chess d) (chess_is_game d) (entries T2) q i in
+          there k.0 (stretch.news (once (chess d) R) (reach_covers (chess d) (chess_is_game d) (outset d who) (outset_is_lawful d who) n S) q k.0 k.1)
+        where
+          there : (x : Option Move) → (known (chess d) [] q ≡ Some x) ⊎ In q (once (chess d) (reach_of (chess d) (outset d who) n S)) → In q (reach_of (chess d) (outset d who) n S)
+          there x (inl k) = absurd (let e : ◌≡◌ {A = Option (Option Move)} None (Some x) = k in cc)
+          there x (inr i) = once_in (chess d) (chess_is_game d) (reach_of (chess d) (outset d who) n S) q i
+
+      account : IsAccount d who S n u0 u2
+      account = record { results = entries T2; sound = stretch.sound; answer = plan; once = o; reached = reached; exact = (let x = stretch.exact in omega arith) }
 
       -- some opening set cannot be won
-      pub not_won : yes ≡ false → (can_plan (chess d) (outset d who) n S ≡ false) × IsBetween d who S n u0 u2
-      not_won e = (sym answer ∙ e, between)
+      pub not_won : yes ≡ false → (can_plan (chess d) (outset d who) n S ≡ false) × IsAccount d who S n u0 u2
+      not_won e = (sym answer ∙ e, account)
 
       -- all can
-      pub all_are_won : yes ≡ true → (won : Won) → won.table ≡ T2 → won.openings.items ≡ os → IsWon d who S n won u0 × IsBetween d who S n u0 u2
+      pub all_are_won : yes ≡ true → (won : Won) → won.table ≡ T2 → won.openings.items ≡ os → IsWon d who S n won u0 × IsAccount d who S n u0 u2
       all_are_won e won t o = (
         record {
           can = sym answer ∙ e;
@@ -154,7 +173,7 @@ module _ (d : Dialect) (who : Side) (S : List Pos) (n : ℕ) where
           sets = subst (λ (T : Interned). map (opening_in T) won.openings.items ≡ game.opening_sets d who S) (sym t) (subst (λ (xs : List Opening). map (opening_in T2) xs ≡ game.opening_sets d who S) (sym o) (same_openings T1 T2 os s.more a.numbered ∙ a.are));
           won = subst (λ (T : Interned). (C : List Pos) → In C (sets_in T won.openings.items) → WonBy T C n) (sym t) (subst (λ (xs : List Opening). (C : List Pos) → In C (sets_in T2 xs) → WonBy T2 C n) (sym o) each);
         },
-        between,
+        account,
       )
         where
           ready : IsReady d T2

@@ -16,7 +16,7 @@ use Rattle.krieg_game.specs.declared.classes.Class.{Class}
 use Rattle.krieg_game.proofs.ChessLaws.{chess_is_game}
 use Rattle.krieg_split.specs.Parted.{IsParted}
 use Rattle.krieg_split.specs.LastMove.{SomeLives, AllMate}
-use Rattle.krieg_split.specs.declared.parts.Parted.{Parted}
+use Rattle.krieg_parting.specs.declared.parts.Parted.{Parted}
 use Rattle.krieg_search.specs.Searched.{sets_of}
 use Rattle.krieg_search.specs.Leaving.{FailsAtOnce, Leaves}
 use Rattle.krieg_search.specs.declared.left.Left.{Left}

@@ -7,6 +7,7 @@ mod Noting
 mod Checking
 mod Asking
 mod Opening
+mod Accounting
 mod Deciding
 mod Building
 mod Edging
@@ -14,3 +15,4 @@ mod Rooting
 mod Ordering
 mod Solving
 mod Turning
+mod ChessLaws

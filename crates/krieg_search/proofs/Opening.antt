@@ -17,8 +17,8 @@ use Rattle.krieg_game.specs.Outset.{outset, starts, waits}
 use Rattle.krieg_game.proofs.Starting.{own_start}
 use Rattle.krieg_split.specs.Turns.{IsOwnTurn, IsOthersTurn}
 use Rattle.krieg_split.specs.Units.{IsPaid, Charged}
-use Rattle.krieg_split.specs.declared.stop.SplitStop.{SplitStop}
-use Rattle.krieg_split.specs.declared.stop.SplitStop.TheVariants.{Spent, NoMemory}
+use Rattle.krieg_parting.specs.declared.stop.PartStop.{PartStop as SplitStop}
+use Rattle.krieg_parting.specs.declared.stop.PartStop.TheVariants.{Spent, NoMemory}
 use Rattle.krieg_table.specs.Interned.{Interned}
 use Rattle.krieg_table.specs.Table.{IsMore}
 use Rattle.krieg_search.specs.declared.openings.Opening.{Opening}

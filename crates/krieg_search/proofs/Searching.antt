@@ -4,8 +4,8 @@ use Rattle.std.specs.Result.{IsErrAnd}
 use Rattle.krieg_board.specs.Pos.{Pos}
 use Rattle.krieg_board.specs.declared.men.Move.{Move}
 use Rattle.krieg_words.specs.declared.dialects.Dialect.{Dialect}
-use Rattle.krieg_split.specs.declared.stop.SplitStop.{SplitStop}
-use Rattle.krieg_split.specs.declared.stop.SplitStop.TheVariants as split
+use Rattle.krieg_parting.specs.declared.stop.PartStop.{PartStop as SplitStop}
+use Rattle.krieg_parting.specs.declared.stop.PartStop.TheVariants as split
 use Rattle.krieg_split.specs.Units.{IsPaid}
 use Rattle.krieg_accounts.specs.Stored.{Entries}
 use Rattle.krieg_accounts.specs.Stretch.{IsStretch, FallsShort}

@@ -5,9 +5,14 @@ use Rattle.krieg_board.specs.declared.men.Side.{Side}
 use Rattle.krieg_words.specs.declared.dialects.Dialect.{Dialect}
 use Rattle.krieg_theory.specs.Sets.{In}
 use Rattle.krieg_theory.specs.Plans.{can_plan}
-use Rattle.krieg_costs.specs.Reach.{fresh}
+use Rattle.krieg_costs.specs.Sums.{IsOnce}
+use Rattle.krieg_costs.specs.Cost.{first_made}
+use Rattle.krieg_costs.specs.Reach.{reach_of, fresh}
 use Rattle.krieg_costs.specs.Backing.{floor}
+use Rattle.krieg_accounts.specs.Stored.{pairs}
+use Rattle.krieg_accounts.specs.Sound.{Table, IsSound}
 use Rattle.krieg_accounts.specs.Charges.{charged}
+use Rattle.krieg_accounts.specs.Answers.{AnswersPlan}
 use Rattle.krieg_game.specs.Chess.{chess}
 use Rattle.krieg_game.specs.Outset.{outset}
 use Rattle.krieg_game.specs.ClassLaws.{opening_sets}
@@ -26,6 +31,17 @@ abbrev pub sets_in : Interned → List Opening → List (List Pos)
 sets_in T os = map (λ o. set_at T o.set) os
 
 module _ (d : Dialect) (who : Side) (S : List Pos) (n : ℕ) where
+  -- What was taken, result by result. Each result is of a set with a number of moves, no two are of the same, and all of
+  -- these are reached. The results are right, and tell whether some plan mates. What was taken is what the first replies
+  -- take, and for each result the splits of its tries up to the first that wins.
+  pub record IsAccount (had has : ℕ) : Type 0 where
+    pub results : Table (chess d)
+    pub sound : IsSound (chess d) results
+    pub answer : AnswersPlan (chess d) (outset d who) results n S
+    pub once : IsOnce (pairs results)
+    pub reached : (q : List Pos × ℕ) → In q (pairs results) → In q (reach_of (chess d) (outset d who) n S)
+    pub exact : had ≡ has + first_made (chess d) (outset d who) S + charged (chess d) results
+
   -- at least the floor and at most what is fresh was taken
   pub record IsBetween (had has : ℕ) : Type 0 where
     pub at_least : has + floor (chess d) (outset d who) n S ≤ had
@@ -41,8 +57,8 @@ module _ (d : Dialect) (who : Side) (S : List Pos) (n : ℕ) where
     pub won : (C : List Pos) → In C (sets_in w.table w.openings.items) → WonBy w.table C n
 
   abbrev pub IsDecided : Result (Option Won) Stop2 → ℕ → ℕ → Type 0
-  IsDecided (Ok None) had has = (can_plan (chess d) (outset d who) n S ≡ false) × IsBetween had has
-  IsDecided (Ok (Some w)) had has = IsWon w had × IsBetween had has
+  IsDecided (Ok None) had has = (can_plan (chess d) (outset d who) n S ≡ false) × IsAccount had has
+  IsDecided (Ok (Some w)) had has = IsWon w had × IsAccount had has
   IsDecided (Err Spent) had has = had < fresh (chess d) (outset d who) n S
   IsDecided (Err Large) had has = ⊥
   IsDecided (Err NoMemory) had has = ⊤

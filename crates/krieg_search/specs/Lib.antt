@@ -7,3 +7,4 @@ pub mod Leaving
 pub mod Built
 pub mod Rooted
 pub mod Stops
+pub mod Laws

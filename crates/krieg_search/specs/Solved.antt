@@ -13,7 +13,7 @@ use Rattle.krieg_search.specs.declared.best_plan.Answer.{Answer}
 use Rattle.krieg_search.specs.declared.best_plan.Answer.TheVariants.{Mates, None}
 use Rattle.krieg_search.specs.declared.stop.Stop2.{Stop2}
 use Rattle.krieg_search.specs.declared.stop.Stop2.TheVariants.{Spent, Large, NoMemory}
-use Rattle.krieg_search.specs.Decided.{IsBetween}
+use Rattle.krieg_search.specs.Decided.{IsBetween, IsAccount}
 use Rattle.krieg_search.specs.Planned.{IsFit, IsUnfit}
 
 module _ (d : Dialect) (who : Side) (S : List Pos) (n : ℕ) where
@@ -52,3 +52,10 @@ module _ (d : Dialect) (who : Side) (S : List Pos) (n : ℕ) where
   IsCharged (Err Large) had has = IsBetween d who S n had has
   IsCharged (Err Spent) had has = (had < fresh (chess d) (outset d who) n S) × (has ≡ had)
   IsCharged (Err NoMemory) had has = has ≡ had
+
+  -- and there is an account of it: each set that was searched with some number of moves stands there once, with what it took
+  abbrev pub HasAccount : Result Answer Stop2 → ℕ → ℕ → Type 0
+  HasAccount (Ok a) had has = IsAccount d who S n had has
+  HasAccount (Err Large) had has = IsAccount d who S n had has
+  HasAccount (Err Spent) had has = ⊤
+  HasAccount (Err NoMemory) had has = ⊤

@@ -1,4 +1,4 @@
-ghost use Rattle.std.specs.Prelude.{◌≡◌, ◌<◌, ◌⊎◌, true, List, map, Err};
+ghost use Rattle.std.specs.Prelude.{◌≡◌, ◌<◌, ◌≤◌, ◌⊎◌, true, List, map, Err};
 ghost use Rattle.krieg_board.specs.Pos.{Pos};
 ghost use Rattle.krieg_theory.specs.Sets.{In};
 ghost use Rattle.krieg_costs.specs.Cost.{cost_of};
@@ -11,7 +11,7 @@ ghost use Rattle.krieg_search.specs.Opened.{AreNumbered, opening_in};
 ghost use Rattle.krieg_search.specs.Decided.{sets_in};
 ghost use Rattle.krieg_search.specs.Built.{WonBy, IsPaidFor, roots_for};
 ghost use Rattle.krieg_search.specs.Planned.{IsPlanned};
-ghost use Rattle.krieg_search.specs.Solved.{IsAnswer, IsCharged};
+ghost use Rattle.krieg_search.specs.Solved.{IsAnswer, IsCharged, HasAccount};
 
 use crate::decide::{Won, decide};
 use crate::roots::{Roots, build_roots};
@@ -59,13 +59,15 @@ fn build_plan(alloc: Global, d: Dialect, won: Won, moves: u8, nodes: usize) -> R
 /// mates within `moves`, and `Large` only where the canonical plan does and has more than `nodes` nodes, or more than
 /// 2,500 on a path: since these exclude each other, each comes exactly then, if neither units nor memory are wanting.
 ///
-/// The units are those of krieg_costs: for each set and number that is searched, one for each listed position and each
-/// reply by which a try is split. An answer, and `Large`, take at least the floor and at most what is fresh.
-/// `Spent` comes only where fewer units are left than are fresh, and so fewer than the cost. It takes none, and
-/// neither does `NoMemory`.
+/// The units are those of krieg_costs. An answer, and `Large`, take exactly what their `account` says: what the first
+/// replies take, and for each set that was searched with some number of moves, for each of its tries up to the first that
+/// wins, one unit for each position and one for each reply. The account has no set twice with the same number, and only what
+/// is reached. So it is at least the floor and at most what is fresh. `Spent` comes only where fewer units are left than are
+/// fresh, and so fewer than the cost. It takes none, and neither does `NoMemory`.
 ///
-/// The table of results has room for 6 moves: with more, `NoMemory` may come for that. It says nothing otherwise.
-/// The same side is to move in all listed positions; `has_one_turn` tells.
+/// No more than 6 moves may be asked for; within 0 no plan mates a list that has a position. The same side is to move in all
+/// listed positions; `has_one_turn` tells. `NoMemory` comes for want of memory, and for more than 100,000,000 different sets,
+/// which are all that a table keeps: each but the sets of openings takes a unit at least.
 pub fn solve(
     alloc: Global,
     d: Dialect,
@@ -75,9 +77,11 @@ pub fn solve(
     nodes: usize,
     units: &mut Units,
 ) -> Result<Answer, Stop2>
-    requires { IsOwnTurn who b.now ⊎ IsOthersTurn who b.now }
+    requires six { moves ≤ 6 }
+    requires turn { IsOwnTurn who b.now ⊎ IsOthersTurn who b.now }
     ensures answer { IsAnswer d who b.now moves nodes result }
     ensures units { IsCharged d who b.now moves result units.old units.new }
+    ensures account { HasAccount d who b.now moves result units.old units.new }
     ensures cost { result ≡ Err Spent → units.old < cost_of (chess d) (outset d who) moves b.now }
 {
     let mut left = Units::new(units.left());

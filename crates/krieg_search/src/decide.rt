@@ -1,4 +1,4 @@
-ghost use Rattle.std.specs.Prelude.{◌⊎◌, map};
+ghost use Rattle.std.specs.Prelude.{◌≤◌, ◌⊎◌, map};
 ghost use Rattle.krieg_accounts.specs.Stretch.{CoversSets};
 ghost use Rattle.krieg_game.specs.Chess.{chess};
 ghost use Rattle.krieg_split.specs.Turns.{IsOwnTurn, IsOthersTurn};
@@ -31,6 +31,7 @@ fn all_openings_win(
     moves: u8,
     units: &mut Units,
 ) -> Result<bool, Stop2>
+    requires six { moves ≤ 6 }
     requires ready { IsReady d table.old }
     requires numbered { AreNumbered table.old openings.now }
     ensures { Searches d result (TellsSets d table.new (sets_in table.old openings.now) moves) (CoversSets (chess d) (sets_in table.old openings.now) moves) 0 table.old table.new units.old units.new }
@@ -52,14 +53,17 @@ pub(crate) fn decide(
     moves: u8,
     units: &mut Units,
 ) -> Result<Option<Won>, Stop2>
-    requires { IsOwnTurn who b.now ⊎ IsOthersTurn who b.now }
+    requires six { moves ≤ 6 }
+    requires turn { IsOwnTurn who b.now ⊎ IsOthersTurn who b.now }
     ensures { IsDecided d who b.now moves result units.old units.new }
 {
     let mut table = Table::new(alloc);
     let Some(openings) = find_openings(alloc, d, who, b, &mut table, units)? else {
         return Ok(None);
     };
-    if !all_openings_win(alloc, d, &mut table, &openings, moves, units)? {
+    let all_win = all_openings_win(alloc, d, &mut table, &openings, moves, units)?;
+    table.know_once();
+    if !all_win {
         return Ok(None);
     }
     Ok(Some(Won { table, openings }))

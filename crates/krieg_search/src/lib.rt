@@ -3,8 +3,8 @@
 //! It tells how a side mates every listed position, whichever of them is on the board, within a number of own moves;
 //! or that no plan does. What stands in a clause of `solve` is in the terms of krieg_theory and krieg_costs: read
 //! `Solved` in `specs/` (what each answer says, and what it takes), then `Decided` and `Planned` (the two halves:
-//! whether some plan mates, and the plan that is built), then `Searched` and `Built` (a stretch of the search, and
-//! a node of the plan).
+//! whether some plan mates, with the account of what that took, and the plan that is built), then `Searched` and `Built`
+//! (a stretch of the search, and a node of the plan). `laws` has the theorems of krieg_theory and krieg_costs for chess.
 //!
 //! `openings` has what may be heard before the first own turn, with the set of what is possible then. `decide` asks
 //! for one opening after the other whether its set can be won, by `search`: one number of moves after the other; for
@@ -38,14 +38,13 @@
 mod best_plan;
 mod build;
 mod decide;
+pub mod laws;
 mod left;
 mod number;
 mod openings;
 mod roots;
 mod search;
 mod stop;
-#[cfg(test)]
-mod tests;
 mod turn;
 
 pub use best_plan::{Answer, solve};

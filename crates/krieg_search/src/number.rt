@@ -5,7 +5,7 @@ use krieg_board::NoMemory;
 use krieg_pack::Belief;
 use krieg_table::Table;
 
-/// A table with so many sets is full. The units do not suffice for as many.
+/// A table with so many sets is full.
 const FULL: usize = 100_000_000;
 
 /// The number of the set, which is put into the table if it is new there. A table that is full is want of memory.

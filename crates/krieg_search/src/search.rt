@@ -1,4 +1,4 @@
-ghost use Rattle.std.specs.Prelude.{◌≡◌, ◌<◌, true, length, map};
+ghost use Rattle.std.specs.Prelude.{◌≡◌, ◌<◌, ◌≤◌, true, length, map};
 ghost use Rattle.krieg_theory.specs.Split.{legal_in_some};
 ghost use Rattle.krieg_costs.specs.Cost.{made};
 ghost use Rattle.krieg_accounts.specs.Answers.{LostBelow};
@@ -29,6 +29,7 @@ pub(crate) fn can_win(
     units: &mut Units,
 ) -> Result<bool, Stop2>
     requires within { set < length table.old }
+    requires six { moves ≤ 6 }
     requires ready { IsReady d table.old }
     ensures { Searches d result (TellsSet d table.new (set_at table.old set) moves) (CoversSet (chess d) (set_at table.old set) moves) 0 table.old table.new units.old units.new }
 {
@@ -53,6 +54,7 @@ fn can_win_in(
 ) -> Result<bool, Stop2>
     requires some { 0 < moves }
     requires within { set < length table.old }
+    requires six { moves ≤ 6 }
     requires ready { IsReady d table.old }
     requires below { LostBelow (chess d) (entries table.old) (set_at table.old set) moves }
     ensures { Searches d result (TellsSet d table.new (set_at table.old set) moves) (CoversPair (chess d) (set_at table.old set) moves) 0 table.old table.new units.old units.new }
@@ -65,11 +67,11 @@ fn can_win_in(
     let tries = tries(alloc, table.belief(set))?;
     for mv in &tries {
         if begins(alloc, d, table, set, *mv, moves, units)? {
-            table.note(set, moves, Known::Wins(*mv))?;
+            table.note(set, moves, Known::Wins(*mv));
             return Ok(true);
         }
     }
-    table.note(set, moves, Known::Loses)?;
+    table.note(set, moves, Known::Loses);
     Ok(false)
 }
 
@@ -89,6 +91,7 @@ fn begins(
 ) -> Result<bool, Stop2>
     requires some { 0 < moves }
     requires within { set < length table.old }
+    requires six { moves ≤ 6 }
     requires ready { IsReady d table.old }
     requires legal { legal_in_some (chess d) (set_at table.old set) mv ≡ true }
     ensures { Searches d result (TellsTry d table.new (set_at table.old set) moves mv) (CoversTry (chess d) (set_at table.old set) moves mv) (made (chess d) (set_at table.old set) mv) table.old table.new units.old units.new }
@@ -117,6 +120,7 @@ fn all_can_win(
     moves: u8,
     units: &mut Units,
 ) -> Result<bool, Stop2>
+    requires six { moves ≤ 6 }
     requires ready { IsReady d table.old }
     ensures { Searches d result (TellsSets d table.new (sets_of classes.items) moves) (CoversSets (chess d) (sets_of classes.items) moves) 0 table.old table.new units.old units.new }
 {

@@ -1,6 +1,6 @@
 -- What a seat has said and heard, and what one call makes of it.
 use Rattle.std.specs.Prelude.{◌≡◌, ℕ, ◌≤◌, List, [], ◌∷◌, ◌++◌, Result, Ok, Err}
-use Rattle.krieg_ports.specs.Faults.{Rose}
+use Rattle.krieg_ports.specs.Faults.{one_more, Rose}
 use Rattle.krieg_board.specs.declared.men.Move.{Move}
 use Rattle.krieg_words.specs.declared.line.Line.{Line}
 use Rattle.krieg_seats.specs.declared.seat.Say.{Say}
@@ -12,13 +12,14 @@ pub record Account : Type 0 where
   -- the moves that it said and the lines that it heard, in order
   pub said : List Move
   pub heard : List Line
-  -- how many of its calls failed, and how often it left
+  -- how often it was asked, how many of its calls failed, and how often it left
+  pub asks : ℕ
   pub faults : ℕ
   pub leaves : ℕ
 
 -- a seat that nothing was asked of and nothing told to
 abbrev pub fresh : Account
-fresh = record { said = []; heard = []; faults = 0; leaves = 0 }
+fresh = record { said = []; heard = []; asks = 0; faults = 0; leaves = 0 }
 
 -- a call that failed: the count of faults rose, and nothing else changed
 abbrev pub Fails : Account → Account → Type 0
@@ -32,12 +33,16 @@ RunsShort before now = (before.faults ≤ now.faults) × (now ≡ record before 
 abbrev pub Leaves : Account → Account → Type 0
 Leaves before now = Rose before.leaves now.leaves × (now ≡ record before { leaves = now.leaves })
 
--- what a call that asks makes of a seat, by its answer
+-- the same seat, asked once more
+abbrev pub once_asked : Account → Account
+once_asked a = record a { asks = one_more a.asks }
+
+-- what a call that asks makes of a seat, by its answer: it is asked once more, and nothing changes beside that but this
 abbrev pub Asked : Result Say SeatFault → Account → Account → Type 0
-Asked (Ok (Try m)) before now = now ≡ record before { said = before.said ++ m ∷ [] }
-Asked (Ok Leave) before now = Leaves before now
-Asked (Err Failed) before now = Fails before now
-Asked (Err NoMemory) before now = RunsShort before now
+Asked (Ok (Try m)) before now = now ≡ record (once_asked before) { said = before.said ++ m ∷ [] }
+Asked (Ok Leave) before now = Leaves (once_asked before) now
+Asked (Err Failed) before now = Fails (once_asked before) now
+Asked (Err NoMemory) before now = RunsShort (once_asked before) now
 
 -- what a call that tells the line makes of a seat, by its answer
 abbrev pub Told : Line → Result (Unit {0}) SeatFault → Account → Account → Type 0

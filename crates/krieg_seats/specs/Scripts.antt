@@ -3,7 +3,7 @@ use Rattle.std.specs.Prelude.{ℕ, List, [], ◌∷◌, ◌++◌, Contains}
 use Rattle.krieg_ports.specs.Faults.{one_more}
 use Rattle.krieg_board.specs.declared.men.Move.{Move}
 use Rattle.krieg_words.specs.declared.line.Line.{Line}
-use Rattle.krieg_seats.specs.Accounts.{Account}
+use Rattle.krieg_seats.specs.Accounts.{Account, once_asked}
 use Rattle.krieg_seats.specs.declared.seat.Say.{Say}
 use Rattle.krieg_seats.specs.declared.seat.Say.TheVariants.{Try, Leave}
 
@@ -21,6 +21,10 @@ pub record Script : Type 0 where
 abbrev pub FailsNext : Script → Type 0
 FailsNext s = Contains s.fails (one_more s.calls)
 
+-- the seat once it is asked, before it answers
+abbrev pub when_asked : Script → Script
+when_asked s = record s { account = once_asked s.account }
+
 -- the seat after a call that failed
 abbrev pub after_failed : Script → Script
 after_failed s = record s { account = record s.account { faults = one_more s.account.faults }; calls = one_more s.calls }
@@ -36,7 +40,7 @@ after_saying s (m ∷ ms) = record s { account = record s.account { said = s.acc
 
 -- the seat after a call that asked it and did not fail
 abbrev pub after_asked : Script → Script
-after_asked s = after_saying s s.left
+after_asked s = after_saying (when_asked s) s.left
 
 -- the seat after a call that told it the line
 abbrev pub after_told : Script → Line → Script

@@ -1,8 +1,8 @@
 -- What a clause reads of a seat over two streams of the system, and what a call makes of the streams.
-use Rattle.std.specs.Prelude.{◌≡◌, ℕ, ◌⊎◌, Bool, List, Option, None, Result, Ok, Err, is_some, option_and_then}
+use Rattle.std.specs.Prelude.{◌≡◌, ℕ, ◌⊎◌, Bool, false, List, Option, None, Result, Ok, Err, is_some, option_and_then}
 use Rattle.std.specs.Option.{option_map_or}
 use Rattle.std.specs.Io.KnownBytes.{Appends, Keeps}
-use Rattle.krieg_ports.specs.Adapters.{inner_reader, inner_writer, read_faults}
+use Rattle.krieg_ports.specs.Adapters.{inner_reader, inner_writer, read_faults, write_faults}
 use Rattle.krieg_ports.specs.Bytes.{AppendsPrefix}
 use Rattle.krieg_ports.specs.Faults.{Rose}
 use Rattle.krieg_ports.specs.declared.adapters.Adapter.{Adapter}
@@ -27,6 +27,10 @@ faults_from from = option_map_or read_faults from 0
 abbrev pub bytes_to : {W : Type 0} → (W → Option (List ℕ)) → Option (AdapterOut W) → Option (List ℕ)
 bytes_to contents to = option_and_then (λ a. contents (inner_writer a)) to
 
+-- how many of its calls failed
+abbrev pub faults_to : {W : Type 0} → Option (AdapterOut W) → ℕ
+faults_to to = option_map_or write_faults to 0
+
 -- a line says nothing, a call of the reader failed, or a line that is passed over has no end within reach
 abbrev pub SaysNothing : {R : Type 0} → (R → Option (List ℕ)) → Bool → Bool → Option (Adapter R) → Option (Adapter R) → Type 0
 SaysNothing remaining inside inside' from from' =
@@ -39,11 +43,15 @@ Writes (Ok _) before now text = Appends before now text
 Writes (Err Failed) before now text = AppendsPrefix before now text
 Writes (Err NoMemory) before now text = Keeps before now
 
+-- there is no writer, or a call of it failed
+abbrev pub FailsToWrite : {W : Type 0} → Option (AdapterOut W) → Option (AdapterOut W) → Type 0
+FailsToWrite to to' = (is_some to ≡ false) ⊎ Rose (faults_to to) (faults_to to')
+
 -- ---- a seat
 
 -- what it has said and heard, and its counts
 abbrev pub stream_account : {R W : Type 0} → StreamSeat R W → Account
-stream_account s = record { said = s.said.items; heard = s.heard.items; faults = s.faults; leaves = s.leaves }
+stream_account s = record { said = s.said.items; heard = s.heard.items; asks = s.asks; faults = s.faults; leaves = s.leaves }
 
 -- whether it has a reader, and a writer
 abbrev pub has_reader : {R W : Type 0} → StreamSeat R W → Bool

@@ -1,7 +1,7 @@
 //! Players as boxed objects: what the umpire may ask of a player and tell him, and two kinds of player.
 //!
 //! - `seat`: the trait `Seat`, what a player says, and its faults. In contracts every seat is an `Account`:
-//!   what it has said and heard, and two counts, of the calls that failed and of the times that it left.
+//!   what it has said and heard, and three counts: of its asks, of the calls that failed, and of the times that it left.
 //! - `script`: a player who says given moves in order, and fails at the calls that he is told.
 //! - `stream`: a player behind two streams of the system: he writes his tries, and reads what he is told.
 //! - `saying`: what a player says by the bytes that he sends, over any source. It is internal.
@@ -25,8 +25,6 @@ mod saying;
 mod script;
 mod seat;
 mod stream;
-#[cfg(test)]
-mod tests;
 
 pub use script::ScriptSeat;
 pub use seat::{Say, Seat, SeatFault};

@@ -3,7 +3,7 @@ ghost use Rattle.std.specs.Prelude.{◌≡◌, ◌≢◌, ◌↔◌, IsTrue, Con
 ghost use Rattle.krieg_ports.specs.Faults.{one_more};
 ghost use Rattle.krieg_seats.specs.Accounts.{fresh, Asked, Told};
 ghost use Rattle.krieg_seats.specs.Scripts.{FailsNext, next_say};
-ghost use Rattle.krieg_seats.specs.Scripts.{after_asked, after_told, after_failed, after_short};
+ghost use Rattle.krieg_seats.specs.Scripts.{when_asked, after_asked, after_told, after_failed, after_short};
 
 use crate::seat::{Say, Seat, SeatFault};
 use krieg_board::Move;
@@ -21,6 +21,7 @@ pub struct ScriptSeat {
     heard: Vec<Line>,
     fails: Vec<u64>,
     calls: u64,
+    asks: u64,
     faults: u64,
     leaves: u64,
 }
@@ -35,6 +36,7 @@ impl Model for ScriptSeat {
       account = record {
         said = take s.at s.script.items;
         heard = s.heard.items;
+        asks = s.asks;
         faults = s.faults;
         leaves = s.leaves;
       };
@@ -64,6 +66,7 @@ impl ScriptSeat {
             heard: Vec::new(alloc),
             fails,
             calls: 0,
+            asks: 0,
             faults: 0,
             leaves: 0,
         }
@@ -98,8 +101,9 @@ impl Seat for ScriptSeat {
 
         // What becomes of the seat.
         ensures ok { OnOk result (self.new ≡ after_asked self.old) }
-        ensures failed { result ≡ Err SeatFault.Failed → self.new ≡ after_failed self.old }
+        ensures failed { result ≡ Err SeatFault.Failed → self.new ≡ after_failed (when_asked self.old) }
     {
+        self.asks = self.asks.saturating_add(1);
         if fails_now(&mut self.calls, &mut self.faults, &self.fails) {
             return Err(SeatFault::Failed);
         }

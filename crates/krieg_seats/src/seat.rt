@@ -24,14 +24,15 @@ pub enum SeatFault {
 }
 
 /// A player, or what stands for one. In contracts it is an `Account`: the moves that it has said and the lines
-/// that it has heard, in order, how many of its calls failed, and how often it left. No call lets any of these
-/// fall.
+/// that it has heard, in order, how often it was asked, how many of its calls failed, and how often it left. No
+/// call lets any of these fall.
 pub trait Seat: Drop {
     // What the seat has said and heard, and its counts.
     ghost account: { Self → Account };
 
-    /// Asks for a try. A move that is said is added to those that it has said; the count of leaves rises where
-    /// it leaves, and in no other call.
+    /// Asks for a try. The count of asks rises by one in each of these calls, whatever comes of it, and in no other. A
+    /// move that is said is added to those that it has said; the count of leaves rises where it leaves, and in no
+    /// other call.
     ///
     /// # Errors
     ///

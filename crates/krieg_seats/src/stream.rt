@@ -9,7 +9,7 @@ ghost use Rattle.krieg_words.specs.Line.{line_text};
 ghost use Rattle.krieg_words.specs.declared.dialects.Dialect.TheVariants.{Wild16};
 ghost use Rattle.krieg_seats.specs.Accounts.{fresh, Asked, Told};
 ghost use Rattle.krieg_seats.specs.Saying.{lines_left, ReadsLine};
-ghost use Rattle.krieg_seats.specs.Streams.{bytes_from, bytes_to, SaysNothing, Writes};
+ghost use Rattle.krieg_seats.specs.Streams.{bytes_from, bytes_to, SaysNothing, Writes, FailsToWrite};
 ghost use Rattle.krieg_seats.specs.Streams.{stream_account, has_reader, has_writer, KeepsEnds, lines_of, written_of, HearsNothing};
 
 use crate::saying::next_say;
@@ -32,6 +32,7 @@ pub struct StreamSeat<R, W> {
     heard: Vec<Line>,
     /// The text of the last line that was told.
     text: Vec<u8>,
+    asks: u64,
     faults: u64,
     leaves: u64,
 }
@@ -53,6 +54,7 @@ impl<R: Read + Drop, W: Write + Drop> StreamSeat<R, W> {
             said: Vec::new(alloc),
             heard: Vec::new(alloc),
             text: Vec::new(alloc),
+            asks: 0,
             faults: 0,
             leaves: 0,
         }
@@ -102,6 +104,7 @@ fn put_line(line: Line, text: &mut Vec<u8>) -> Result<(), SeatFault>
 fn write_to<W: Write + Drop>(to: &mut Option<AdapterOut<W>>, text: &[u8]) -> Result<(), Failed>
     ensures all { OnOk result (Appends (bytes_to W.contents to.old) (bytes_to W.contents to.new) text.now) }
     ensures front { OnErr result (AppendsPrefix (bytes_to W.contents to.old) (bytes_to W.contents to.new) text.now) }
+    ensures fault { OnErr result (FailsToWrite to.old to.new) }
     ensures missing { is_some to.old ≡ false → IsErr result }
     ensures kept { is_some to.new ≡ is_some to.old }
 {
@@ -136,6 +139,7 @@ impl<R: Read + Drop, W: Write + Drop> Seat for StreamSeat<R, W> {
         ensures ends { KeepsEnds self.old self.new }
         ensures unwritten { written_of W.contents self.new ≡ written_of W.contents self.old }
     {
+        self.asks = self.asks.saturating_add(1);
         if self.said.reserve(1).is_err() {
             return Err(SeatFault::NoMemory);
         }
@@ -157,13 +161,14 @@ impl<R: Read + Drop, W: Write + Drop> Seat for StreamSeat<R, W> {
     ///
     /// # Errors
     ///
-    /// An error of the writer, a write that takes no byte, and a missing writer are faults.
+    /// An error of the writer, a write that takes no byte, and a missing writer are faults, and nothing else is.
     fn tell(&mut self, line: Line) -> Result<(), SeatFault>
         ensures told { Told line result (stream_account self.old) (stream_account self.new) }
 
         // What the writer got, where it tells its bytes.
         ensures writes { Writes result (written_of W.contents self.old) (written_of W.contents self.new)
             (ended_line (line_text Wild16 line)) }
+        ensures fault { result ≡ Err SeatFault.Failed → FailsToWrite self.old.to self.new.to }
 
         ensures missing { has_writer self.old ≡ false → IsErr result }
         ensures ends { KeepsEnds self.old self.new }

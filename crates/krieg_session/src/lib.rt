@@ -19,8 +19,6 @@ mod laws;
 mod reading;
 mod session;
 mod telling;
-#[cfg(test)]
-mod tests;
 mod writing;
 
 pub use laws::{lines_law, reading_law, sheet_law};

@@ -19,8 +19,6 @@
 mod list;
 mod reading;
 mod sheet;
-#[cfg(test)]
-mod tests;
 mod turns;
 mod writing;
 

@@ -1,21 +1,36 @@
 -- How the program ends, whatever words the system gives.
-use Rattle.std.specs.Prelude.{ℕ, ◌≡◌, ◌⊎◌, List, codes}
-use Rattle.krieg_seats.specs.Accounts.{Account}
-use Rattle.krieg_play.specs.Played.{Sides}
+use Rattle.std.specs.Prelude.{ℕ, ◌≡◌, ◌⊎◌, List, [], ◌∷◌, Option, Some, None, codes}
+use Rattle.krieg_seats.specs.Accounts.{Account, fresh}
+use Rattle.krieg_play.specs.Teams.{team}
+use Rattle.krieg_play.specs.Played.{Sides, sides}
 use Rattle.krieg_args.specs.Command.{command_of}
-use Rattle.krieg_cli.specs.Play.{Plays}
+use Rattle.krieg_args.specs.Files.{Files, seat_files}
 use Rattle.krieg_cli.specs.World.{Stream, World}
-use Rattle.krieg_cli.specs.Top.{EndsSo, Runs, Reports, Gets}
+use Rattle.krieg_cli.specs.Top.{IsRun, Gets}
 
--- a run of some words, with players of whom these are the accounts before it and after it
-abbrev pub RunsSo : ℕ → World → World → Stream → Stream → Type 0
-RunsSo code before after err err' =
-    (words : List (List ℕ)) × (entry now : Sides Account) ×
-    EndsSo code (λ ending. Runs (Plays (λ account. account) entry now) ending (command_of words) before after × Reports ending err err')
+-- what a player is, by the names of the two files that he is made of: where his tries come from, and where he is told
+abbrev pub Made : Type 0
+Made = List ℕ → List ℕ → Account
 
--- there was no memory for the words, and nothing was read or written but the line that says so
-abbrev pub HasNoWords : ℕ → World → World → Stream → Stream → Type 0
-HasNoWords code before after err err' = (code ≡ 11) × (after ≡ before) × Gets (codes "krieg: want of memory\n") err err'
+-- Who sits when a run begins: with the words of `play` one player on each side, White's made of the first two files that the words
+-- name, and Black's of the last two; and nobody otherwise.
+abbrev pub seated : Made → Option Files → Sides Account
+seated made (Some files) = sides (team (made files.win files.wout ∷ []) []) (team (made files.bin files.bout ∷ []) [])
+seated made None = sides (team [] []) (team [] [])
 
+-- a run of these words, with these players
+abbrev pub RunsSo : Made → List (List ℕ) → ℕ → World → World → Stream → Stream → Type 0
+RunsSo made words code before after err err' =
+    (now : Sides Account) × IsRun (λ account. account) (seated made (seat_files words)) now (command_of words) code before after err err'
+
+-- there was no memory for the words or the players, and nothing was read or written but the line that says so
+abbrev pub HasNoMemory : ℕ → World → World → Stream → Stream → Type 0
+HasNoMemory code before after err err' = (code ≡ 11) × (after ≡ before) × Gets (codes "krieg: want of memory\n") err err'
+
+abbrev pub StartsWith : Made → List (List ℕ) → ℕ → World → World → Stream → Stream → Type 0
+StartsWith made words code before after err err' = RunsSo made words code before after err err' ⊎ HasNoMemory code before after err err'
+
+-- a start with some words, whose players have said and heard nothing yet
 abbrev pub Starts : ℕ → World → World → Stream → Stream → Type 0
-Starts code before after err err' = RunsSo code before after err err' ⊎ HasNoWords code before after err err'
+Starts code before after err err' =
+    ((words : List (List ℕ)) × StartsWith (λ tries told. fresh) words code before after err err') ⊎ HasNoMemory code before after err err'

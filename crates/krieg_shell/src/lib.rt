@@ -14,7 +14,5 @@
 #![tactic(auto)]
 
 mod shell;
-#[cfg(test)]
-mod tests;
 
 pub use shell::start;

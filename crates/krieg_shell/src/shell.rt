@@ -1,7 +1,9 @@
-ghost use Rattle.std.specs.Prelude.{◌≡◌, codes};
+ghost use Rattle.std.specs.Prelude.{◌≡◌, ℕ, List, map, string_bytes, codes};
 ghost use Rattle.krieg_cli.specs.Top.{Gets};
 ghost use Rattle.krieg_cli.specs.World.{stream, world};
-ghost use Rattle.krieg_shell.specs.Start.{Starts};
+ghost use Rattle.krieg_seats.specs.Accounts.{Account, fresh};
+ghost use Rattle.krieg_seats.specs.Streams.{stream_account};
+ghost use Rattle.krieg_shell.specs.Start.{StartsWith, Starts};
 
 use krieg_cli::{Bench, run, seat_files};
 use krieg_ports::{Sink, Source, write_all};
@@ -27,16 +29,41 @@ fn words<R: Env + AllocGlobal>(rt: &R) -> io::Result<Vec<String>> {
     Ok(words)
 }
 
-/// The player behind these two files. A file that cannot be opened is a missing reader or writer; the file in which
-/// he is told is made, and what it held is gone.
-fn player<R: Files<File = File>>(
-    rt: &R,
-    alloc: Global,
-    tries: &str,
-    told: &str,
-) -> StreamSeat<File, File> {
-    StreamSeat::new(alloc, fs::open(rt, tries).ok(), fs::create(rt, told).ok())
+/// Where players come from.
+trait Players {
+    // What the player is whose tries come from the first of these files, and who is told in the second.
+    ghost made: { List ℕ → List ℕ → Account };
+
+    /// The player at these two files.
+    fn player(&self, alloc: Global, tries: &str, told: &str) -> StreamSeat<File, File>
+        ensures { stream_account result ≡ made tries.now told.now };
 }
+
+/// Players at files of the system.
+#[derive(Drop)]
+struct FilePlayers<'a, R> {
+    rt: &'a R,
+}
+
+impl<'a, R: Files<File = File>> Players for FilePlayers<'a, R> {
+    ghost made = { λ _ _. fresh };
+
+    /// A file that cannot be opened is a missing reader or writer; the file in which he is told is made, and what it
+    /// held is gone.
+    fn player(&self, alloc: Global, tries: &str, told: &str) -> StreamSeat<File, File> {
+        StreamSeat::new(
+            alloc,
+            fs::open(self.rt, tries).ok(),
+            fs::create(self.rt, told).ok(),
+        )
+    }
+}
+
+/// Tells a proof that a boxed player is the one who was made of these two files.
+fn know_player<P: Players>(players: &P, seat: &Box<dyn Seat>, tries: &str, told: &str)
+    requires { account seat.now ≡ P.made tries.now told.now }
+    ensures { account seat.now ≡ P.made tries.now told.now }
+{}
 
 fn tell_memory<E: Sink>(err: &mut E) -> u8
     ensures line { let heard = stream E.got E.faults in Gets (codes "krieg: want of memory\n") (heard err.old) (heard err.new) }
@@ -44,6 +71,42 @@ fn tell_memory<E: Sink>(err: &mut E) -> u8
 {
     let _ = write_all(err, b"krieg: want of memory\n");
     11
+}
+
+/// Does all that the program does with these words, over these streams. With the words of `play` White's player is made of
+/// the first two files that they name, and Black's of the last two.
+fn start_with<P: Players, S: Source, O: Sink, E: Sink>(
+    players: &P,
+    alloc: Global,
+    words: &[String],
+    input: &mut S,
+    out: &mut O,
+    err: &mut E,
+) -> u8
+    ensures { let seen = world S.left S.faults O.got O.faults in let heard = stream E.got E.faults in
+        StartsWith P.made (map string_bytes words.now) result (seen input.old out.old) (seen input.new out.new)
+        (heard err.old) (heard err.new) }
+{
+    let mut bench = Bench::new(alloc);
+    let Some(files) = seat_files(words) else {
+        return run(alloc, words, input, out, err, &mut bench);
+    };
+    let Ok(white) = Box::new(alloc, players.player(alloc, files.win, files.wout)) else {
+        return tell_memory(err);
+    };
+    let Ok(black) = Box::new(alloc, players.player(alloc, files.bin, files.bout)) else {
+        return tell_memory(err);
+    };
+    let white: Box<dyn Seat> = white;
+    let black: Box<dyn Seat> = black;
+    know_player(players, &white, files.win, files.wout);
+    know_player(players, &black, files.bin, files.bout);
+    if bench.white.push(white).is_err() || bench.black.push(black).is_err() {
+        return tell_memory(err);
+    }
+    let status = run(alloc, words, input, out, err, &mut bench);
+    bench.dismiss();
+    status
 }
 
 /// Does all that the program does with the words that the system gives, over these streams, and gives the
@@ -66,20 +129,5 @@ pub fn start<R: Env + AllocGlobal + Files<File = File>, S: Source, O: Sink, E: S
     let Ok(words) = words(rt) else {
         return tell_memory(err);
     };
-    let alloc = rt.alloc();
-    let mut bench = Bench::new(alloc);
-    if let Some(files) = seat_files(&words) {
-        let Ok(white) = Box::new(alloc, player(rt, alloc, files.win, files.wout)) else {
-            return tell_memory(err);
-        };
-        let Ok(black) = Box::new(alloc, player(rt, alloc, files.bin, files.bout)) else {
-            return tell_memory(err);
-        };
-        if bench.white.push(white).is_err() || bench.black.push(black).is_err() {
-            return tell_memory(err);
-        }
-    }
-    let status = run(alloc, &words, input, out, err, &mut bench);
-    bench.dismiss();
-    status
+    start_with(&FilePlayers { rt }, rt.alloc(), &words, input, out, err)
 }

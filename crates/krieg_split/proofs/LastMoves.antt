@@ -1,54 +1,27 @@
 -- A try that must mate, in the words of the theory.
-use Rattle.std.proofs.Common.{◌≡◌, ◌+◌, Bool, true, false, cond, not, ◌&&◌, ◌||◌, List, [], ◌∷◌, ◌⊎◌, inl, inr, length, Option, Some, None, refl, sym, ap, ◌∙◌, subst}
-use Rattle.std.specs.List.{list_all, list_any}
-use Rattle.std.proofs.lemmas.Bool.{both_ways, and_parts, and_from, not_from_false, not-true, false_from_ne_true}
+use Rattle.std.proofs.Common.{◌≡◌, Bool, true, false, cond, not, ◌&&◌, ◌||◌, List, [], ◌∷◌, ◌⊎◌, inl, inr, Option, Some, None, refl, sym, ap, ◌∙◌, subst}
+use Rattle.std.specs.List.{list_all}
+use Rattle.std.proofs.lemmas.Bool.{both_ways, and_parts, not-true, false_from_ne_true}
 use Rattle.krieg_board.specs.Pos.{Pos}
 use Rattle.krieg_board.specs.declared.men.Move.{Move}
-use Rattle.krieg_moves.specs.Legal.{is_legal}
-use Rattle.krieg_moves.specs.After.{after}
-use Rattle.krieg_moves.specs.Moves.{moves, is_mate}
 use Rattle.krieg_words.specs.declared.dialects.Dialect.{Dialect}
 use Rattle.krieg_pack.specs.Members.{IsAscending, set_of}
 use Rattle.krieg_pack.proofs.PositionSets.{set_of_ascending}
 use Rattle.krieg_theory.specs.Sets.{In, is_nil}
-use Rattle.krieg_theory.specs.Split.{refused, legal_in_some, stale_in_some, given, keys, class, mates_at}
+use Rattle.krieg_theory.specs.Split.{refused, legal_in_some, stale_in_some, keys, class}
 use Rattle.krieg_theory.specs.Can.{can, begins}
-use Rattle.krieg_theory.proofs.Lists.{any_at, any_from, all_at, nil_or_member}
-use Rattle.krieg_theory.proofs.Steps.{any_agree}
-use Rattle.krieg_costs.specs.Cost.{made}
+use Rattle.krieg_theory.proofs.Lists.{all_at, nil_or_member}
 use Rattle.krieg_costs.specs.Block.{lives_in_some}
-use Rattle.krieg_costs.proofs.Totals.{total_agree}
 use Rattle.krieg_costs.proofs.Blocks.{lives_how, lives_by_key}
-use Rattle.krieg_game.specs.Chess.{chess, outcomes}
+use Rattle.krieg_game.specs.Chess.{chess}
 use Rattle.krieg_game.proofs.ChessLaws.{chess_is_game}
-use Rattle.krieg_game.proofs.Winning.{mates_at_once, outcomes_are_replies}
 use Rattle.krieg_game.proofs.Splitting.{refused_ascends}
 use Rattle.krieg_split.specs.LastMove.{AllMate, IsLastMove}
-use Rattle.krieg_split.specs.Mating.{lives, replies, looked_at, AreTried}
-use Rattle.krieg_split.specs.declared.last_move.Mating.{Mating}
+use Rattle.krieg_parting.specs.Mating.{IsMating}
+use Rattle.krieg_parting.specs.declared.last_move.Mating.{Mating}
+use Rattle.krieg_parting.proofs.LastMoves.{stale_lives}
 
 module _ (d : Dialect) where
-  -- what is looked at is made
-  given_length : (t : Move) (p : Pos) → length (given (chess d) t p) ≡ replies t p
-  given_length t p = go (is_legal p t)
-    where
-      go : (b : Bool) → length (cond b (outcomes d p t) []) ≡ cond b (length (moves (after p t))) 0
-      go true = outcomes_are_replies d p t
-      go false = refl
-
-  pub looked_is_made : (B : List Pos) (t : Move) → looked_at B t ≡ made (chess d) B t
-  looked_is_made B t = ap (λ n. length B + n) (sym (total_agree (λ p. length (given (chess d) t p)) (replies t) B (λ p i. given_length t p)))
-
-  lives_is : (t : Move) (p : Pos) → (is_legal p t && not (mates_at (chess d) p t)) ≡ lives t p
-  lives_is t p = go (is_legal p t) (mates_at_once d p t)
-    where
-      go : (b : Bool) → mates_at (chess d) p t ≡ (b && is_mate (after p t)) → (b && not (mates_at (chess d) p t)) ≡ (b && not (is_mate (after p t)))
-      go true h = ap not h
-      go false h = refl
-
-  some_lives : (B : List Pos) (t : Move) → lives_in_some (chess d) B t ≡ list_any (lives t) B
-  some_lives B t = any_agree (chess d) (chess_is_game d) (λ p. is_legal p t && not (mates_at (chess d) p t)) (lives t) B (lives_is t)
-
   -- where some member lives the try does not begin to win: it stalemates, or what can be heard cannot be won
   fails : (B : List Pos) (t : Move) → lives_in_some (chess d) B t ≡ true → begins (chess d) 1 B t ≡ false
   fails B t h = false_from_ne_true _ (λ e. wrong e (lives_how (chess d) (chess_is_game d) B t h))
@@ -62,13 +35,6 @@ module _ (d : Dialect) where
       wrong : begins (chess d) 1 B t ≡ true → (stale_in_some (chess d) B t ≡ true) ⊎ ((key : (chess d).Key) × In key (keys (chess d) B t)) → ⊥
       wrong e (inl s) = both_ways _ (conditions e).0 s
       wrong e (inr k) = both_ways false refl (all_at (λ key. can (chess d) 0 (class (chess d) B t key)) (keys (chess d) B t) (conditions e).1 k.0 k.1)
-
-  -- where none lives it stalemates in none
-  stale_lives : (B : List Pos) (t : Move) → stale_in_some (chess d) B t ≡ true → lives_in_some (chess d) B t ≡ true
-  stale_lives B t h =
-      let s = any_at (λ p. is_legal p t && (chess d).stalemates p t) B h in
-      let b = and_parts (is_legal s.0 t) _ s.2 in
-      any_from (λ p. is_legal p t && not (mates_at (chess d) p t)) B s.0 s.1 (and_from _ _ b.0 (not_from_false _ (false_from_ne_true _ (λ m. both_ways _ (not-true _ (and_parts (not ((chess d).stalemates s.0 t)) _ (and_parts (is_legal s.0 t) _ m).1).0) b.1))))
 
   nil_is : {X : Type 0} (xs : List X) → is_nil xs ≡ true → xs ≡ []
   nil_is [] e = refl
@@ -91,16 +57,16 @@ module _ (d : Dialect) where
 
   all_mate : (B rest : List Pos) (t : Move) → rest ≡ refused (chess d) B t → lives_in_some (chess d) B t ≡ false → AllMate d B t rest
   all_mate B rest t is h =
-      let s = false_from_ne_true (stale_in_some (chess d) B t) (λ e. both_ways _ h (stale_lives B t e)) in
+      let s = false_from_ne_true (stale_in_some (chess d) B t) (λ e. both_ways _ h (stale_lives d B t e)) in
       let k = no_keys B t h in
       record { refused_part = is; none_lives = h; none_stale = s; no_keys = k; begins_by_rest = by_rest B t s k }
 
-  pub last_move : (B : List Pos) (t : Move) (found : Mating) (r : Option (List Pos)) → IsAscending B → AreTried B t found → r ≡ cond found.lives None (Some (set_of found.refused.items)) → IsLastMove d B t r
-  last_move B t found r up tried is = subst (IsLastMove d B t) (sym is) (go found.lives refl)
+  pub last_move : (B : List Pos) (t : Move) (found : Mating) (r : Option (List Pos)) → IsAscending B → IsMating d false B t found → r ≡ cond found.lives None (Some (set_of found.refused.items)) → IsLastMove d B t r
+  last_move B t found r up m is = subst (IsLastMove d B t) (sym is) (go found.lives refl)
     where
       go : (b : Bool) → found.lives ≡ b → IsLastMove d B t (cond b None (Some (set_of found.refused.items)))
-      go true e = let l = some_lives B t ∙ sym tried.lives_part ∙ e in record { lives = l; fails = fails B t l }
+      go true e = let l = sym m.lives_part ∙ e in record { lives = l; fails = fails B t l }
       go false e =
           all_mate B (set_of found.refused.items) t
-          (ap set_of (tried.refused_part e) ∙ set_of_ascending (refused (chess d) B t) (refused_ascends d B t up))
-          (some_lives B t ∙ sym tried.lives_part ∙ e)
+          (ap set_of (m.refused_part (ap not e)) ∙ set_of_ascending (refused (chess d) B t) (refused_ascends d B t up))
+          (sym m.lives_part ∙ e)

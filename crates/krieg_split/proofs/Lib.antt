@@ -1,10 +1,5 @@
-mod Items
-mod BoolLaws
 mod Charges
-mod Pools
-mod Gathering
 mod PartSizes
-mod Mating
 mod LastMoves
 mod Renaming
 mod FirstMoves

@@ -1,14 +1,12 @@
 -- The parts of a set, and how large they are.
-use Rattle.std.proofs.Common.{suc, ◌≤◌, Bool, true, false, cond, List, [], ◌∷◌, length, ap, ◌∙◌, arith}
+use Rattle.std.proofs.Common.{suc, ◌≤◌, Bool, true, false, cond, List, [], ◌∷◌, length, arith}
 use Rattle.krieg_board.specs.Pos.{Pos}
 use Rattle.krieg_board.specs.declared.men.Move.{Move}
 use Rattle.krieg_words.specs.declared.dialects.Dialect.{Dialect}
 use Rattle.krieg_pack.specs.Order.{position_lt}
-use Rattle.krieg_pack.specs.Members.{IsAscending, set_of}
 use Rattle.krieg_pack.proofs.Counts.{as_set_le}
-use Rattle.krieg_pack.proofs.PositionSets.{set_of_ascending}
 use Rattle.krieg_theory.specs.Sets.{same, at_key}
-use Rattle.krieg_theory.specs.Split.{refused, given, all_outcomes, class}
+use Rattle.krieg_theory.specs.Split.{given, all_outcomes, class}
 use Rattle.krieg_theory.proofs.Steps.{refused_lt}
 use Rattle.krieg_costs.specs.Cost.{made}
 use Rattle.krieg_costs.proofs.Totals.{length_flat}
@@ -16,21 +14,8 @@ use Rattle.krieg_game.specs.Keys.{Key, key_lt}
 use Rattle.krieg_game.specs.Outcomes.{KeyedPosition}
 use Rattle.krieg_game.specs.Chess.{chess}
 use Rattle.krieg_game.proofs.ChessLaws.{chess_is_game}
-use Rattle.krieg_game.proofs.Classed.{outcomes_are_classed}
 use Rattle.krieg_game.proofs.Splitting.{refused_ascends, classes_come_about}
-use Rattle.krieg_split.specs.Gathering.{IsGathered, IsSorted}
-use Rattle.krieg_split.specs.Parted.{IsParted}
 use Rattle.krieg_split.specs.Laws.{ClassesAreSets, RefusedIsSet}
-use Rattle.krieg_split.specs.declared.parts.Gathered.{Gathered}
-use Rattle.krieg_split.specs.declared.parts.Parted.{Parted}
-use Rattle.krieg_split.proofs.Pools.{same_classes}
-
-pub parted : (d : Dialect) (B : List Pos) (t : Move) (parts : Gathered) (r : Parted) → IsAscending B → IsGathered d B t parts → IsSorted parts r → IsParted d B t r
-parted d B t parts r up g s = record {
-  refused_part = s.refused_part ∙ ap set_of g.refused_part ∙ set_of_ascending (refused (chess d) B t) (refused_ascends d B t up);
-  stale_part = s.stale_part ∙ g.stale_part;
-  classes_part = s.classes_part ∙ same_classes parts.pool (all_outcomes (chess d) B t) g.pool_part ∙ outcomes_are_classed d B t;
-}
 
 at_key_le : (key : Key) (os : List KeyedPosition) → length (at_key key_lt key os) ≤ length os
 at_key_le key [] = omega arith

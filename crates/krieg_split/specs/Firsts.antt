@@ -1,22 +1,19 @@
 -- What comes of the opponent's first moves in a set.
-use Rattle.std.specs.Prelude.{◌≡◌, ℕ, suc, ◌||◌, ◌++◌, List, length, map, Some}
+use Rattle.std.specs.Prelude.{◌≡◌, ℕ, suc, List, length, map, Some}
 use Rattle.std.specs.List.{list_any}
 use Rattle.krieg_board.specs.Pos.{Pos}
 use Rattle.krieg_board.specs.declared.men.Side.{Side}
 use Rattle.krieg_moves.specs.Moves.{moves, is_ended}
-use Rattle.krieg_words.specs.WordsOfMoves.{opening}
 use Rattle.krieg_words.specs.declared.dialects.Dialect.{Dialect}
 use Rattle.krieg_theory.specs.Plans.{is_over}
 use Rattle.krieg_costs.specs.Sums.{total}
 use Rattle.krieg_game.specs.Keys.{Key, RootKey}
-use Rattle.krieg_game.specs.Chess.{chess, outcome}
+use Rattle.krieg_game.specs.Chess.{chess}
 use Rattle.krieg_game.specs.Outset.{outset}
 use Rattle.krieg_game.specs.Classes.{classes_in}
 use Rattle.krieg_game.specs.ClassLaws.{first_outcomes, opening_sets}
-use Rattle.krieg_split.specs.Pools.{Holds}
 use Rattle.krieg_split.specs.declared.firsts.First.{First}
 use Rattle.krieg_split.specs.declared.firsts.Firsts.{Firsts}
-use Rattle.krieg_split.specs.declared.firsts.FirstMoves.{FirstMoves}
 
 -- one unit for each member, and one for each of its moves
 abbrev pub first_cost : List Pos → ℕ
@@ -29,16 +26,6 @@ first_pair c = ((c.opens, c.reply), c.belief)
 -- the same as an opening set
 abbrev pub first_set : First → RootKey × List Pos
 first_set c = ((c.opens, Some c.reply), c.belief)
-
--- what the first moves in one member add
-pub record IsAdvanced (d : Dialect) (old new : FirstMoves) (p : Pos) : Type 0 where
-  pub ended_part : new.ended ≡ (old.ended || is_ended p)
-  pub pool_part : Holds new.pool (old.pool.outcomes.items ++ map (outcome d (opening p) p) (moves p))
-
--- those in all members
-pub record AreFirstMoves (d : Dialect) (B : List Pos) (found : FirstMoves) : Type 0 where
-  pub ended_part : found.ended ≡ list_any is_ended B
-  pub pool_part : Holds found.pool (first_outcomes d B)
 
 -- whether some member has no move, and the classes of the moves, ascending
 pub record AreFirsts (d : Dialect) (B : List Pos) (r : Firsts) : Type 0 where

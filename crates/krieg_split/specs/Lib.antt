@@ -5,7 +5,4 @@ pub mod Turns
 pub mod Firsts
 pub mod Openings
 pub mod Laws
-pub mod Pools
-pub mod Gathering
-pub mod Mating
 pub mod MoveSets

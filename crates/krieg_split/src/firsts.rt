@@ -1,21 +1,20 @@
-ghost use Rattle.std.specs.Prelude.{◌≡◌, suc, length, map, IfOk};
+ghost use Rattle.std.specs.Prelude.{◌≡◌, map, IfOk};
 ghost use Rattle.krieg_board.specs.declared.men.Side.{Side};
-ghost use Rattle.krieg_moves.specs.Moves as list;
 ghost use Rattle.krieg_costs.specs.Cost.{first_made};
 ghost use Rattle.krieg_game.specs.Chess.{chess};
 ghost use Rattle.krieg_game.specs.Outset.{outset};
 ghost use Rattle.krieg_game.specs.Classes.{class_pair};
-ghost use Rattle.krieg_split.specs.Units.{Charged, IsPaid};
+ghost use Rattle.krieg_parting.specs.Charged.{Charged};
+ghost use Rattle.krieg_parting.specs.FirstMoves.{AreFirstMoves};
+ghost use Rattle.krieg_split.specs.Units.{IsPaid};
 ghost use Rattle.krieg_split.specs.Turns.{IsOthersTurn};
-ghost use Rattle.krieg_split.specs.Firsts.{IsAdvanced, AreFirstMoves, AreFirsts, AreOpeningSets, first_pair, first_cost};
+ghost use Rattle.krieg_split.specs.Firsts.{AreFirsts, AreOpeningSets, first_pair, first_cost};
 
-use crate::pool::Pool;
-use crate::stop::{SplitStop, take};
 use krieg_board::{NoMemory, Units};
 use krieg_game::Class;
-use krieg_moves::legal_moves;
-use krieg_pack::{Belief, Packed, unpack};
-use krieg_words::{Dialect, Words, opening};
+use krieg_pack::{Belief, Packed};
+use krieg_parting::{FirstMoves, PartStop as SplitStop, first_moves, take};
+use krieg_words::{Dialect, Words};
 use std::alloc::Global;
 
 /// What is possible once the opening words and those of the opponent's first move were heard.
@@ -35,34 +34,8 @@ pub struct Firsts {
     pub classes: Vec<First>,
 }
 
-/// What is known of the members that were looked at.
-#[derive(Drop)]
-pub(crate) struct FirstMoves {
-    pub ended: bool,
-    pub pool: Pool,
-}
-
-/// Adds the first moves in one member, for one unit and one for each of them.
-#[tactic(auto, unfolding(krieg_moves::specs::Moves::is_ended))]
-fn add_first_moves(
-    alloc: Global,
-    d: Dialect,
-    member: &Packed,
-    found: &mut FirstMoves,
-    units: &mut Units,
-) -> Result<(), SplitStop>
-    ensures { Charged result (λ _. IsAdvanced d found.old found.new member.now) (suc (length (list.moves member.now))) units.old units.new }
-{
-    let p = unpack(member);
-    let moves = legal_moves(alloc, &p)?;
-    take(units, 1 + moves.len() as u64)?;
-    found.ended = found.ended || moves.is_empty();
-    found.pool.add(d, &opening(&p), &p, moves.as_slice())?;
-    Ok(())
-}
-
-/// The first moves in all members.
-fn first_moves(
+/// The first moves in all members, for one unit each and one for each member.
+fn moves_of_all(
     alloc: Global,
     d: Dialect,
     members: &[Packed],
@@ -70,14 +43,8 @@ fn first_moves(
 ) -> Result<FirstMoves, SplitStop>
     ensures { Charged result (AreFirstMoves d members.now) (first_cost members.now) units.old units.new }
 {
-    let mut found = FirstMoves {
-        ended: false,
-        pool: Pool::new(alloc),
-    };
-    for member in members {
-        add_first_moves(alloc, d, member, &mut found, units)?;
-    }
-    Ok(found)
+    take(units, members.len() as u64)?;
+    first_moves(alloc, d, members, units)
 }
 
 /// The classes under their names.
@@ -116,7 +83,7 @@ pub fn first_replies(
     ensures cost { (who : Side) → IsOthersTurn who b.now → first_made (chess d) (outset d who) b.now ≡ first_cost b.now }
 {
     let mut left = Units::new(units.left());
-    let FirstMoves { ended, pool } = first_moves(alloc, d, b.members(), &mut left)?;
+    let FirstMoves { ended, pool } = moves_of_all(alloc, d, b.members(), &mut left)?;
     let classes = firsts_of(alloc, pool.into_classes(alloc)?)?;
     *units = left;
     Ok(Firsts { ended, classes })

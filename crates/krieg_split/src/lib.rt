@@ -2,15 +2,15 @@
 //!
 //! `split` tries a move on a set: it gives the members that refuse it, whether it stalemates in some, and the set for
 //! each pair of words that may be heard next. `split_unless_stale` does it where the move may not stalemate, and
-//! `split_to_mate` where it must mate. `tries` lists the moves
-//! that make sense in a set. `openings` parts a set by its opening words, and `first_replies` by these and by what is
-//! heard of the opponent's first move. What is made is counted in units, exactly.
+//! `split_to_mate` where it must mate. `tries` lists the moves that make sense in a set. `openings` parts a set by its
+//! opening words, and `first_replies` by these and by what is heard of the opponent's first move. What is made is
+//! counted in units, exactly.
 //!
 //! What the answers mean is said by the theory of plans, for chess under an umpire: `Parted`, `LastMove`, `Firsts` and
 //! `Openings` in `specs/`, and `Units` for what they take. `laws` has theorems on the sizes of the parts.
 //!
-//! `pool` gathers what comes of a try and drops repeats; it is internal. Each member is looked at once, outcomes are
-//! sorted once, and a set is made for each key in one pass.
+//! What a try makes of a set is `krieg_parting`'s: here an error takes no units, and the answers are those that a search
+//! asks for.
 //!
 //! ```
 //! let mut units = Units::new(1_000);
@@ -26,17 +26,13 @@ mod last_move;
 pub mod laws;
 mod opening_sets;
 mod parts;
-mod pool;
-mod stop;
-#[cfg(test)]
-mod tests;
 mod try_list;
 mod unless_stale;
 
 pub use firsts::{First, Firsts, first_replies};
+pub use krieg_parting::{PartStop as SplitStop, Parted};
 pub use last_move::split_to_mate;
 pub use opening_sets::{Opened, openings};
-pub use parts::{Parted, split};
-pub use stop::SplitStop;
+pub use parts::split;
 pub use try_list::tries;
 pub use unless_stale::split_unless_stale;

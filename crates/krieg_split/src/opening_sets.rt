@@ -6,8 +6,9 @@ ghost use Rattle.krieg_split.specs.Turns.{IsOwnTurn};
 ghost use Rattle.krieg_split.specs.Openings.{opened_pair, opened_set, heard_first};
 
 use krieg_board::NoMemory;
-use krieg_game::{Class, Outcome, classes_of, push_opening};
-use krieg_pack::{Belief, Packed, unpack};
+use krieg_game::{Class, classes_of};
+use krieg_pack::Belief;
+use krieg_parting::with_openings;
 use krieg_words::{Dialect, Words};
 use std::alloc::Global;
 
@@ -16,17 +17,6 @@ use std::alloc::Global;
 pub struct Opened {
     pub opens: Words,
     pub belief: Belief,
-}
-
-/// All members with their opening words.
-fn with_openings(alloc: Global, d: Dialect, members: &[Packed]) -> Result<Vec<Outcome>, NoMemory>
-    ensures { IfOk result (λ v. v.items ≡ map (opened d silence) members.now) }
-{
-    let mut outcomes = Vec::with_capacity(alloc, members.len())?;
-    for member in members {
-        push_opening(d, &unpack(member), &mut outcomes)?;
-    }
-    Ok(outcomes)
 }
 
 /// The classes by their opening words alone.

@@ -1,121 +1,14 @@
-ghost use Rattle.std.specs.Prelude.{◌≡◌, true, suc, length, IfOk};
-ghost use Rattle.krieg_moves.specs.Legal as rule;
-ghost use Rattle.krieg_moves.specs.Moves as list;
-ghost use Rattle.krieg_theory.specs.Split.{given};
+ghost use Rattle.std.specs.Prelude.{IfOk};
 ghost use Rattle.krieg_costs.specs.Cost.{made};
 ghost use Rattle.krieg_game.specs.Chess.{chess};
-ghost use Rattle.krieg_split.specs.Units.{Charged, IsPaid};
-ghost use Rattle.krieg_split.specs.Gathering.{IsAdded, IsGathered, IsSorted};
-ghost use Rattle.krieg_split.specs.Parted.{IsParted};
+ghost use Rattle.krieg_parting.specs.Parted.{IsParted};
+ghost use Rattle.krieg_split.specs.Units.{IsPaid};
 
-use crate::pool::Pool;
-use crate::stop::{SplitStop, take};
-use krieg_board::{Move, NoMemory, Position, Units};
-use krieg_game::Class;
-use krieg_moves::{is_legal, is_stalemate_by, legal_moves};
-use krieg_pack::{Belief, Packed, unpack};
-use krieg_words::{Dialect, make_move};
+use krieg_board::{Move, Units};
+use krieg_pack::Belief;
+use krieg_parting::{PartStop as SplitStop, Parted, gather, parts_of};
+use krieg_words::Dialect;
 use std::alloc::Global;
-
-/// What a try makes of a set: for each position in it, it is illegal, or it is made and the opponent replies.
-#[derive(Drop)]
-pub struct Parted {
-    /// The members in which it is illegal.
-    pub refused: Belief,
-    /// Whether it stalemates in some member.
-    pub stale: bool,
-    /// What is possible once the words of the try and of a reply were heard, for all that may be heard, ascending.
-    pub classes: Vec<Class>,
-}
-
-/// What is known of the members that were looked at.
-#[derive(Drop)]
-pub(crate) struct Gathered {
-    pub refused: Vec<Packed>,
-    pub stale: bool,
-    pub pool: Pool,
-}
-
-/// Adds what the legal try makes of one member.
-#[tactic(auto, unfolding(krieg_game::specs::Chess::stalemates, krieg_game::specs::Chess::outcomes))]
-fn add_legal(
-    alloc: Global,
-    d: Dialect,
-    p: &Position,
-    mv: &Move,
-    parts: &mut Gathered,
-    units: &mut Units,
-) -> Result<(), SplitStop>
-    requires { rule.is_legal p.now mv.now ≡ true }
-    ensures { Charged result (λ _. IsAdded d parts.old parts.new p.now mv.now) (suc (length (given (chess d) mv.now p.now))) units.old units.new }
-{
-    let made = make_move(p, *mv);
-    let replies = legal_moves(alloc, &made.position)?;
-    take(units, 1 + replies.len() as u64)?;
-    parts.stale = parts.stale || is_stalemate_by(&made.position, replies.len());
-    parts
-        .pool
-        .add(d, &made.words, &made.position, replies.as_slice())?;
-    Ok(())
-}
-
-/// Adds what the try makes of one member, for one unit and one for each reply.
-fn add_member(
-    alloc: Global,
-    d: Dialect,
-    member: &Packed,
-    mv: &Move,
-    parts: &mut Gathered,
-    units: &mut Units,
-) -> Result<(), SplitStop>
-    ensures { Charged result (λ _. IsAdded d parts.old parts.new member.now mv.now) (suc (length (given (chess d) mv.now member.now))) units.old units.new }
-{
-    let p = unpack(member);
-    if is_legal(&p, *mv) {
-        return add_legal(alloc, d, &p, mv, parts, units);
-    }
-    take(units, 1)?;
-    parts.refused.push(*member)?;
-    Ok(())
-}
-
-/// Gathers what the try makes of all members.
-fn gather(
-    alloc: Global,
-    d: Dialect,
-    members: &[Packed],
-    mv: &Move,
-    units: &mut Units,
-) -> Result<Gathered, SplitStop>
-    ensures { Charged result (IsGathered d members.now mv.now) (made (chess d) members.now mv.now) units.old units.new }
-{
-    let mut parts = Gathered {
-        refused: Vec::new(alloc),
-        stale: false,
-        pool: Pool::new(alloc),
-    };
-    for member in members {
-        add_member(alloc, d, member, mv, &mut parts, units)?;
-    }
-    Ok(parts)
-}
-
-/// The parts of what was gathered.
-fn sorted(alloc: Global, parts: Gathered) -> Result<Parted, NoMemory>
-    ensures { IfOk result (IsSorted parts) }
-{
-    let Gathered {
-        refused,
-        stale,
-        pool,
-    } = parts;
-    let classes = pool.into_classes(alloc)?;
-    Ok(Parted {
-        refused: Belief::from_packed(refused),
-        stale,
-        classes,
-    })
-}
 
 /// Parts the set by the try.
 ///
@@ -134,7 +27,7 @@ pub fn split(
 {
     let mut left = Units::new(units.left());
     let parts = gather(alloc, d, b.members(), &mv, &mut left)?;
-    let parted = sorted(alloc, parts)?;
+    let parted = parts_of(alloc, parts)?;
     *units = left;
     Ok(parted)
 }

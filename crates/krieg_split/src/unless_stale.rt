@@ -3,15 +3,16 @@ ghost use Rattle.std.specs.List.{list_any};
 ghost use Rattle.krieg_moves.specs.Legal as rule;
 ghost use Rattle.krieg_costs.specs.Cost.{made};
 ghost use Rattle.krieg_game.specs.Chess.{chess, stalemates};
-ghost use Rattle.krieg_split.specs.Units.{Charged, IsPaid};
-ghost use Rattle.krieg_split.specs.Mating.{replies, looked_at};
+ghost use Rattle.krieg_parting.specs.Charged.{Charged};
+ghost use Rattle.krieg_parting.specs.Mating.{replies, looked_at};
+ghost use Rattle.krieg_split.specs.Units.{IsPaid};
 ghost use Rattle.krieg_split.specs.Parted.{IsUnlessStale};
 
-use crate::parts::{Parted, split};
-use crate::stop::{SplitStop, take};
+use crate::parts::split;
 use krieg_board::{Move, Units};
 use krieg_moves::{after_if_legal, count_moves, is_stalemate};
 use krieg_pack::{Belief, Packed, unpack};
+use krieg_parting::{PartStop as SplitStop, Parted, take};
 use krieg_words::Dialect;
 use std::alloc::Global;
 

@@ -1,10 +1,10 @@
 -- What the map's calls give, in the words of the table.
 use Rattle.std.proofs.Common.{◌≡◌, ℕ, zero, suc, ◌+◌, ◌≤◌, ◌<◌, Bool, true, false, cond, not, ◌⊎◌, inl, inr, List, [], ◌∷◌, length, Option, Some, None, refl, sym, ap, subst, ◌∙◌, arith, length-set}
-use Rattle.std.specs.Prelude.{slice_get, unwrap_or, map, Result, Ok, Err, OnOk, OnErr, IsErr, ◌↔◌}
+use Rattle.std.specs.Prelude.{slice_get, unwrap_or, map, Result, Ok, Err, OnErr}
 use Rattle.std.specs.Map.{lookup, keys_of}
 use Rattle.std.specs.List.{position_or_len}
 use Rattle.std.specs.Cmp.Lexicographic.{pointwise}
-use Rattle.std.proofs.lemmas.Bool.{cases_Bool, cases_lt, cond-true, cond-false, both_ways}
+use Rattle.std.proofs.lemmas.Bool.{cases_Bool, cond-true, cond-false, both_ways}
 use Rattle.indexmap.specs.IndexMap.{insert_entry}
 use Rattle.indexmap.specs.Layout.{set_value_at}
 use Rattle.krieg_board.specs.Pos.{Pos}
@@ -15,7 +15,6 @@ use Rattle.krieg_table.specs.declared.known.Known.{Known}
 use Rattle.krieg_table.specs.Results.{Results, nothing, with_known}
 use Rattle.krieg_table.specs.Interned.{Row, Interned, sets, row_at, number_of, interned, with_result}
 use Rattle.krieg_table.specs.Table.{IsTable, IsInterned, IsNoted}
-use Rattle.krieg_board.specs.declared.memory.NoMemory.{NoMemory}
 use Rattle.krieg_table.proofs.Sets.{test_is, set_itself}
 use Rattle.krieg_table.proofs.Interning.{interned_is, stays_table}
 use Rattle.krieg_table.proofs.Noting.{row_in, noted_is}
@@ -67,12 +66,6 @@ put_at [] id moves k = refl
 put_at (r ∷ T) zero moves k = refl
 put_at (r ∷ T) (suc id) moves k = ap (λ (x : Interned). r ∷ x) (put_at T id moves k)
 
--- of what is there changes nothing
-pub put_same : (T : Interned) (id : ℕ) → set_value_at T id (row_at T id).1 ≡ T
-put_same [] id = refl
-put_same (r ∷ T) zero = refl
-put_same (r ∷ T) (suc id) = ap (λ (x : Interned). r ∷ x) (put_same T id)
-
 pub with_length : (rs : Results) (moves : ℕ) (k : Known) → length (with_known rs moves k) ≡ length rs
 with_length rs zero k = refl
 with_length rs (suc i) k = length-set rs i (Some k)
@@ -115,50 +108,15 @@ on_err (Ok a) p = tt
 on_err (Err x) p = p
 
 -- what is owed where a result was put in: T is the table before, now the row's results, and new what they became
-module _ (T : Interned) (id moves : ℕ) (k : Known) (now new : Results) (r : Result (Unit {0}) NoMemory) (at : (row_at T id).1 ≡ now) (ok : OnOk r (new ≡ with_known now moves k)) (kept : OnErr r (new ≡ now)) where
-  put_ok : new ≡ with_known now moves k → set_value_at T id new ≡ with_result T id moves k
-  put_ok e = ap (set_value_at T id) (e ∙ ap (λ (x : Results). with_known x moves k) (sym at)) ∙ put_at T id moves k
-
-  pub rows_put : (S : Interned) → T ≡ S → OnOk r (set_value_at T id new ≡ with_result S id moves k)
-  rows_put S s = go r ok
-    where
-      go : (r : Result (Unit {0}) NoMemory) → OnOk r (new ≡ with_known now moves k) → OnOk r (set_value_at T id new ≡ with_result S id moves k)
-      go (Ok a) e = put_ok e ∙ ap (λ (x : Interned). with_result x id moves k) s
-      go (Err x) e = tt
-
-  pub rows_kept : (S : Interned) → T ≡ S → OnErr r (set_value_at T id new ≡ S)
-  rows_kept S s = go r kept
-    where
-      go : (r : Result (Unit {0}) NoMemory) → OnErr r (new ≡ now) → OnErr r (set_value_at T id new ≡ S)
-      go (Ok a) e = tt
-      go (Err x) e = ap (set_value_at T id) (e ∙ sym at) ∙ put_same T id ∙ s
-
-  put_length : length new ≡ length now
-  put_length = go r ok kept
-    where
-      go : (r : Result (Unit {0}) NoMemory) → OnOk r (new ≡ with_known now moves k) → OnErr r (new ≡ now) → length new ≡ length now
-      go (Ok a) e f = ap (λ (x : Results). length x) e ∙ with_length now moves k
-      go (Err x) e f = ap (λ (x : Results). length x) f
+module _ (T : Interned) (id moves : ℕ) (k : Known) (now new : Results) (at : (row_at T id).1 ≡ now) (put : new ≡ with_known now moves k) where
+  pub rows_put : (S : Interned) → T ≡ S → set_value_at T id new ≡ with_result S id moves k
+  rows_put S s = ap (set_value_at T id) (put ∙ ap (λ (x : Results). with_known x moves k) (sym at)) ∙ put_at T id moves k ∙ ap (λ (x : Interned). with_result x id moves k) s
 
   pub table_put : IsTable T → id < length T → IsTable (set_value_at T id new)
-  table_put t l = put_table T id new t (put_length ∙ ap (λ (x : Results). length x) (sym at) ∙ t.six (row_at T id) (row_in T id l))
+  table_put t l =
+      let same : length new ≡ length now = ap (λ (x : Results). length x) put ∙ with_length now moves k in
+      put_table T id new t (same ∙ ap (λ (x : Results). length x) (sym at) ∙ t.six (row_at T id) (row_in T id l))
 
-  pub noted_put : (S : Interned) → T ≡ S → IsTable T → id < length T → (IsErr r ↔ ((moves ≡ 0) ⊎ (6 < moves))) → OnOk r (IsNoted S (set_value_at T id new) id moves k)
-  noted_put S s t l err = go r ok err
-    where
-      within : ((moves ≡ 0) ⊎ (6 < moves) → ⊥) → (0 < moves) × (moves ≤ 6)
-      within n = (some moves (λ e. n (inl e)), at_most (cases_lt 6 moves))
-        where
-          some : (m : ℕ) → (m ≡ 0 → ⊥) → 0 < m
-          some zero h = absurd (h refl)
-          some (suc m) h = omega arith
-
-          at_most : (6 < moves) ⊎ (moves ≤ 6) → moves ≤ 6
-          at_most (inl h) = absurd (n (inr h))
-          at_most (inr h) = h
-
-      go : (r : Result (Unit {0}) NoMemory) → OnOk r (new ≡ with_known now moves k) → (IsErr r ↔ ((moves ≡ 0) ⊎ (6 < moves))) → OnOk r (IsNoted S (set_value_at T id new) id moves k)
-      go (Ok a) e f =
-          let w = within (λ x. both_ways false refl (f.1 x)) in
-          subst (λ (x : Interned). IsNoted x (set_value_at T id new) id moves k) s (subst (λ (x : Interned). IsNoted T x id moves k) (sym (put_ok e)) (noted_is T id moves k t l w.0 w.1))
-      go (Err x) e f = tt
+  pub noted_put : (S : Interned) → T ≡ S → IsTable T → id < length T → 0 < moves → moves ≤ 6 → IsNoted S (set_value_at T id new) id moves k
+  noted_put S s t l a b =
+      subst (λ (x : Interned). IsNoted S x id moves k) (sym (rows_put S s)) (noted_is S id moves k (subst IsTable s t) (subst (λ (x : Interned). id < length x) s l) a b)

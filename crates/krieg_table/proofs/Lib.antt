@@ -2,4 +2,5 @@ pub mod Sets
 pub mod Interning
 pub mod RowEntries
 pub mod Noting
+pub mod Onces
 pub mod Calls

@@ -12,7 +12,7 @@
 //! let mut table = Table::new(alloc);
 //! let id = table.intern(set)?; // 0: the first set
 //! let unknown = table.result(id, 2); // None
-//! table.note(id, 2, Known::Wins(mv))?;
+//! table.note(id, 2, Known::Wins(mv));
 //! let again = table.intern(copy)?; // 0 once more
 //! let found = table.result(again, 2); // Some(Known::Wins(mv)), and still None with 1 or 3 moves
 //! ```
@@ -21,8 +21,6 @@
 mod known;
 mod results;
 mod table;
-#[cfg(test)]
-mod tests;
 
 pub use known::Known;
 pub use table::Table;

@@ -1,10 +1,9 @@
 //! What is known of one set, for each number of own moves.
 
-ghost use Rattle.std.specs.Prelude.{◌≡◌, ◌<◌, ◌↔◌, ◌⊎◌, IsErr, OnOk, OnErr};
+ghost use Rattle.std.specs.Prelude.{◌≡◌, ◌<◌, ◌≤◌};
 ghost use Rattle.krieg_table.specs.Results.{nothing, known_for, with_known};
 
 use crate::known::Known;
-use krieg_board::NoMemory;
 use std::marker::Model;
 
 /// What is known of a set, for the numbers of own moves from 1 to 6. In contracts it is the list of the six.
@@ -45,16 +44,12 @@ impl Results {
         self.by_moves.get(place).copied().flatten()
     }
 
-    /// Puts in what is known for a number of moves. The error comes exactly where this is 0 or more than 6.
-    pub(crate) fn put(&mut self, moves: u8, known: Known) -> Result<(), NoMemory>
-        ensures ok { OnOk result (self.new ≡ with_known self.old moves known) }
-        ensures unchanged { OnErr result (self.new ≡ self.old) }
-        ensures err { IsErr result ↔ ((moves ≡ 0) ⊎ (6 < moves)) }
+    /// Puts in what is known for a number of moves.
+    pub(crate) fn put(&mut self, moves: u8, known: Known)
+        requires some { 0 < moves }
+        requires six { moves ≤ 6 }
+        ensures { self.new ≡ with_known self.old moves known }
     {
-        if moves == 0 || moves > 6 {
-            return Err(NoMemory);
-        }
         self.by_moves[usize::from(moves) - 1] = Some(known);
-        Ok(())
     }
 }

@@ -1,7 +1,8 @@
-ghost use Rattle.std.specs.Prelude.{◌≡◌, ◌<◌, ◌↔◌, ◌⊎◌, [], length, IfOk, OnOk, OnErr, IsErr, option_map};
+ghost use Rattle.std.specs.Prelude.{◌≡◌, ◌<◌, ◌≤◌, [], length, IfOk, OnOk, OnErr, option_map};
 ghost use Rattle.krieg_theory.specs.Sets.{In};
 ghost use Rattle.krieg_pack.specs.Order.{position_lt};
-ghost use Rattle.krieg_accounts.specs.Stored.{stored};
+ghost use Rattle.krieg_costs.specs.Sums.{IsOnce};
+ghost use Rattle.krieg_accounts.specs.Stored.{stored, pairs};
 ghost use Rattle.krieg_table.specs.Interned.{sets, set_at, known_at, number_of, interned, with_result};
 ghost use Rattle.krieg_table.specs.Entries.{try_of, entries};
 ghost use Rattle.krieg_table.specs.Table.{IsInterned, IsNoted};
@@ -51,6 +52,13 @@ impl Table {
         self.rows.len()
     }
 
+    /// Tells a proof that no two results are of the same set with the same number of moves.
+    pub fn know_once(&self)
+        ensures { IsOnce (pairs (entries self.now)) }
+    {
+        let _rows = self.rows.len();
+    }
+
     /// The number of the set, from 0 in the order of the first calls. A set that is there keeps its number and what is
     /// known of it, and the new copy is dropped.
     ///
@@ -89,18 +97,15 @@ impl Table {
         self.rows[id as usize].get(moves)
     }
 
-    /// Notes what is known of the set with that number and the number of own moves. All other results stay. It takes no
-    /// memory.
-    ///
-    /// A table has room for 1 to 6 moves: `NoMemory` comes exactly where `moves` is 0 or more than 6, and leaves the
-    /// table as it was.
-    pub fn note(&mut self, id: u32, moves: u8, known: Known) -> Result<(), NoMemory>
-        requires { id < length self.old }
-        ensures rows { OnOk result (self.new ≡ with_result self.old id moves known) }
-        ensures ok { OnOk result (IsNoted self.old self.new id moves known) }
-        ensures unchanged { OnErr result (self.new ≡ self.old) }
-        ensures err { IsErr result ↔ ((moves ≡ 0) ⊎ (6 < moves)) }
+    /// Notes what is known of the set with that number and the number of own moves, from 1 to 6. All other results stay. It
+    /// takes no memory.
+    pub fn note(&mut self, id: u32, moves: u8, known: Known)
+        requires within { id < length self.old }
+        requires some { 0 < moves }
+        requires six { moves ≤ 6 }
+        ensures rows { self.new ≡ with_result self.old id moves known }
+        ensures noted { IsNoted self.old self.new id moves known }
     {
-        self.rows[id as usize].put(moves, known)
+        self.rows[id as usize].put(moves, known);
     }
 }

@@ -28,8 +28,6 @@ mod line;
 mod line_reading;
 mod parts;
 mod pawn_tries;
-#[cfg(test)]
-mod tests;
 mod told_moves;
 mod told_words;
 mod versions;

@@ -1,7 +1,7 @@
 // A whole game: the opening words, turn after turn, until it stops.
 ghost use Rattle.std.specs.Prelude.{◌≡◌, ◌↔◌, ◌+◌, ◌<◌, ◌≤◌, [], Ok, Err, IfOk, IfErr, OnOk, vec_len};
-ghost use Rattle.krieg_play.specs.Teams.{team_of};
-ghost use Rattle.krieg_play.specs.Played.{sides, IsPlayed, Refuses};
+ghost use Rattle.krieg_play.specs.Played.{IsPlayed, Refuses};
+ghost use Rattle.krieg_cli.specs.Seated.{bench_sides};
 ghost use Rattle.krieg_play.specs.Calls.{IsReady};
 ghost use Rattle.krieg_play.specs.Passes.{PlaysOn, ComesTo};
 
@@ -26,8 +26,7 @@ fn play_on(
     requires black { IsReady bench.old.black bench.old.black_out }
     requires seats { vec_len bench.old.white + vec_len bench.old.black ≤ seats }
     ensures plays { PlaysOn (λ b. account b) result start.now seats
-        (sides (team_of bench.old.white bench.old.white_out) (team_of bench.old.black bench.old.black_out))
-        (sides (team_of bench.new.white bench.new.white_out) (team_of bench.new.black bench.new.black_out))
+        (bench_sides bench.old) (bench_sides bench.new)
         game.old game.new }
 {
     'turns: loop {
@@ -52,8 +51,7 @@ fn play_game(bench: &mut Bench, start: &Position, game: &mut Game) -> Result<Sto
     requires position { game.old.position ≡ start.now }
     requires log { game.old.log ≡ [] }
     ensures plays { ComesTo (λ b. account b) result start.now game.old.spare
-        (sides (team_of bench.old.white bench.old.white_out) (team_of bench.old.black bench.old.black_out))
-        (sides (team_of bench.new.white bench.new.white_out) (team_of bench.new.black bench.new.black_out))
+        (bench_sides bench.old) (bench_sides bench.new)
         game.new }
 {
     let seats = bench.white.len() + bench.black.len();
@@ -92,6 +90,9 @@ fn reserve(bench: &mut Bench, game: &mut Game, asks: usize) -> Result<(), NoMemo
 /// list, and nothing more is asked of it or told to it. The next seat is told all lines of its side so far, and is
 /// itself relieved where it fails then. The game goes on with what follows.
 ///
+/// So all seats together are asked at most `asks` times, and at most as often as tries are judged and seats
+/// relieved, but for one ask by which a side leaves or the game is given up.
+///
 /// Room for all tries and reliefs is taken before the first call of a seat.
 ///
 /// # Errors
@@ -107,12 +108,10 @@ pub fn play(
     asks: usize,
 ) -> Result<Played, PlayFault>
     ensures played { IfOk result (λ p. IsPlayed (λ b. account b) start asks
-        (sides (team_of bench.old.white bench.old.white_out) (team_of bench.old.black bench.old.black_out))
-        (sides (team_of bench.new.white bench.new.white_out) (team_of bench.new.black bench.new.black_out))
+        (bench_sides bench.old) (bench_sides bench.new)
         p.game p.stop) }
     ensures refused { IfErr result (Refuses (λ b. account b) start asks
-        (sides (team_of bench.old.white bench.old.white_out) (team_of bench.old.black bench.old.black_out))
-        (sides (team_of bench.new.white bench.new.white_out) (team_of bench.new.black bench.new.black_out))) }
+        (bench_sides bench.old) (bench_sides bench.new)) }
 
     // A side without a seat is the only cause of its fault, and always one.
     ensures no_white { (result ≡ Err (PlayFault.Vacant Side.White)) ↔ (bench.old.white.items ≡ []) }

@@ -1,9 +1,9 @@
 // Both sides at the table: one of them is asked, and both are told what they hear of its try.
 ghost use Rattle.std.specs.Prelude.{◌≡◌, ◌+◌, ◌-◌, ◌<◌, ◌≤◌, None, Some, IfOk, IfSome, Ok, length, option_to_list, vec_len};
-ghost use Rattle.krieg_play.specs.Teams.{team_of};
-ghost use Rattle.krieg_play.specs.Played.{sides, by_side};
+ghost use Rattle.krieg_play.specs.Played.{by_side};
 ghost use Rattle.krieg_play.specs.Calls.{lines_to, IsReady, IsLastOnes};
 ghost use Rattle.krieg_play.specs.Passes.{TellsBoth, AsksOne, Judges, Passes};
+ghost use Rattle.krieg_cli.specs.Seated.{bench_sides};
 
 use crate::live::bench::Bench;
 use crate::live::team::{ask_side, tell_due};
@@ -32,8 +32,7 @@ pub(crate) fn tell_both(
     requires white { IsReady bench.old.white bench.old.white_out }
     requires black { IsReady bench.old.black bench.old.black_out }
     ensures tells { TellsBoth (λ b. account b) result
-        (sides (team_of bench.old.white bench.old.white_out) (team_of bench.old.black bench.old.black_out))
-        (sides (team_of bench.new.white bench.new.white_out) (team_of bench.new.black bench.new.black_out))
+        (bench_sides bench.old) (bench_sides bench.new)
         (λ who. lines_to start.now who log.now) (by_side (option_to_list white) (option_to_list black)) }
     ensures no_more { vec_len bench.new.white + vec_len bench.new.black
         ≤ vec_len bench.old.white + vec_len bench.old.black }
@@ -75,8 +74,7 @@ fn judge_try(
     requires black { IsReady bench.old.black bench.old.black_out }
     requires spare { 0 < game.old.spare }
     ensures judges { Judges (λ b. account b) result start.now event.now
-        (sides (team_of bench.old.white bench.old.white_out) (team_of bench.old.black bench.old.black_out))
-        (sides (team_of bench.new.white bench.new.white_out) (team_of bench.new.black bench.new.black_out))
+        (bench_sides bench.old) (bench_sides bench.new)
         game.old game.new }
     ensures goes_on { IfOk result (λ left. left ≡ None) }
     ensures no_more { vec_len bench.new.white + vec_len bench.new.black
@@ -103,8 +101,7 @@ fn ask(bench: &mut Bench, who: Side, start: &Position, log: &[Judged]) -> Result
     requires white { IsReady bench.old.white bench.old.white_out }
     requires black { IsReady bench.old.black bench.old.black_out }
     ensures asks { AsksOne (λ b. account b) who result
-        (sides (team_of bench.old.white bench.old.white_out) (team_of bench.old.black bench.old.black_out))
-        (sides (team_of bench.new.white bench.new.white_out) (team_of bench.new.black bench.new.black_out))
+        (bench_sides bench.old) (bench_sides bench.new)
         (λ side. lines_to start.now side log.now) }
     ensures no_more { vec_len bench.new.white + vec_len bench.new.black
         ≤ vec_len bench.old.white + vec_len bench.old.black }
@@ -148,9 +145,8 @@ pub(crate) fn take_turn(
     requires black { IsReady bench.old.black bench.old.black_out }
     requires seats { vec_len bench.old.white + vec_len bench.old.black ≤ seats }
     requires asks { seats - (vec_len bench.old.white + vec_len bench.old.black) < game.old.spare }
-    ensures passes { Passes (λ b. account b) result start.now
-        (sides (team_of bench.old.white bench.old.white_out) (team_of bench.old.black bench.old.black_out))
-        (sides (team_of bench.new.white bench.new.white_out) (team_of bench.new.black bench.new.black_out))
+    ensures passes { Passes (λ b. account b) result start.now seats
+        (bench_sides bench.old) (bench_sides bench.new)
         game.old game.new }
     ensures no_more { vec_len bench.new.white + vec_len bench.new.black
         ≤ vec_len bench.old.white + vec_len bench.old.black }

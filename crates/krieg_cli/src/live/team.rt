@@ -1,8 +1,8 @@
 // One side: its turns, what it is told, and its reliefs.
 ghost use Rattle.std.specs.Prelude.{◌≡◌, ◌↔◌, ◌+◌, ◌<◌, ◌≤◌, ◌++◌, ◌∷◌, [], IsTrue, Ok, Err, option_to_list, vec_len, vec_capacity};
 ghost use Rattle.krieg_seats.specs.Accounts.{Asked, Told};
-ghost use Rattle.krieg_play.specs.Teams.{team_of, Stays, HasFailed, HasLeft, IsGone};
-ghost use Rattle.krieg_play.specs.Calls.{lines_to, ToldAll, FirstChanges, IsReady, Relieves, Tells, TakesTurn, IsLastOnes};
+ghost use Rattle.krieg_play.specs.Teams.{team_of, HasFailed, IsGone};
+ghost use Rattle.krieg_play.specs.Calls.{lines_to, ToldAll, FirstChanges, IsReady, Relieves, Tells, TakesTurn, EndsTurn, IsLastOnes};
 
 use crate::live::telling::{ask_seat, tell_all, tell_seat};
 use crate::{Turn, relieved_turn};
@@ -138,7 +138,7 @@ fn relieve_left(
     log: &[Judged],
 ) -> Result<Turn, SeatFault>
     requires { IsReady seats.old out.old }
-    ensures takes { TakesTurn (λ b. account b) HasLeft result (team_of seats.old out.old)
+    ensures ends { EndsTurn (λ b. account b) result (team_of seats.old out.old)
         (team_of seats.new out.new) (lines_to start.now who log.now) }
     ensures fewer { result ≡ Ok Turn.Relieved → vec_len seats.new < vec_len seats.old }
     ensures no_more { vec_len seats.new ≤ vec_len seats.old }
@@ -162,7 +162,7 @@ pub(crate) fn ask_side(
     log: &[Judged],
 ) -> Result<Turn, SeatFault>
     requires { IsReady seats.old out.old }
-    ensures takes { TakesTurn (λ b. account b) Stays result (team_of seats.old out.old)
+    ensures takes { TakesTurn (λ b. account b) result (team_of seats.old out.old)
         (team_of seats.new out.new) (lines_to start.now who log.now) }
     ensures fewer { result ≡ Ok Turn.Relieved → vec_len seats.new < vec_len seats.old }
     ensures no_more { vec_len seats.new ≤ vec_len seats.old }

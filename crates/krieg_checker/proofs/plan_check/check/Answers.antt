@@ -8,7 +8,7 @@ use Rattle.krieg_plan.specs.Plans.{plan_of}
 use Rattle.krieg_checker.specs.CheckCost.{first_cost}
 use Rattle.krieg_checker.specs.Starting.{IsStarted}
 use Rattle.krieg_checker.specs.Verdict.{IsVerdict}
-use Rattle.krieg_checker.proofs.Charges.{stopped}
+use Rattle.krieg_parting.proofs.Charges.{stopped}
 use Rattle.krieg_checker.proofs.Checking.{start_cost, plan_tells, plan_cost}
 use Rattle.krieg_checker.proofs.Verdicts.{is_verdict}
 use Rattle.krieg_checker.proofs.plan_check.check.Goals as goal

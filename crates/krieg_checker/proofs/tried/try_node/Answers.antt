@@ -6,10 +6,9 @@ use Rattle.krieg_plan.specs.Trees.{edges_in}
 use Rattle.krieg_plan.specs.Nodes.{tree_of, edge_of, as_edges}
 use Rattle.krieg_plan.specs.declared.node.Edge.TheViews.{out-Node}
 use Rattle.krieg_plan.proofs.NodeTrees.{other_of, tree_out}
-use Rattle.krieg_checker.specs.Mating.{looked_at}
 use Rattle.krieg_checker.specs.Tried.{IsTriedAt, IsEnd}
 use Rattle.krieg_checker.specs.Walked.{try_in}
-use Rattle.krieg_checker.proofs.Charges.{said}
+use Rattle.krieg_parting.proofs.Charges.{said}
 use Rattle.krieg_checker.proofs.Ending.{none_there, ends_here, end_costs}
 use Rattle.krieg_checker.proofs.Walking.{parts_are, parted_at}
 use Rattle.krieg_checker.proofs.tried.try_node.Goals as goal
@@ -20,7 +19,7 @@ returns-then-is_empty c =
     let items : (out-Node n).edges.items ≡ [] = none_there (out-Node n).edges.items (vec_len (out-Node n).edges) (out-Node n).edges.ok.0 (sym c.is_empty.ensures ∙ c.if-is_empty.true) in
     let none : edges_in (tree_of n) ≡ NoEdges = ap edges_in (tree_out n) ∙ ap (λ es. as_edges (map edge_of es)) items in
     let is : tree_of n ≡ Try (out-Node n).mv (other_of (out-Node n)) NoEdges = parts_are n ∙ ap (Try (out-Node n).mv (other_of (out-Node n))) none in
-    said c.end.result (IsEnd c.args.b (out-Node n).mv) (IsTriedAt c.args.d (tree_of n) c.args.b) (looked_at c.args.b (out-Node n).mv) (made (chess c.args.d) c.args.b (try_in (tree_of n))) c.args.units.now c.end.new.units
+    said c.end.result (IsEnd c.args.d c.args.b (out-Node n).mv) (IsTriedAt c.args.d (tree_of n) c.args.b) (made (chess c.args.d) c.args.b (out-Node n).mv) (made (chess c.args.d) c.args.b (try_in (tree_of n))) c.args.units.now c.end.new.units
     (ends_here c.args.d (tree_of n) (out-Node n).mv (other_of (out-Node n)) is c.args.b) (end_costs c.args.d (tree_of n) (out-Node n).mv (other_of (out-Node n)) is c.args.b) c.end.ensures
 
 pub returns : goal.returns

@@ -9,7 +9,7 @@ use Rattle.krieg_plan.specs.declared.node.Edge.TheViews.{out-Node}
 use Rattle.krieg_plan.proofs.NodeTrees.{other_of}
 use Rattle.krieg_checker.specs.Found.{within, worse, own_need}
 use Rattle.krieg_checker.specs.Walked.{classes_won, classes_cost, other_in}
-use Rattle.krieg_checker.proofs.Charges.{stopped}
+use Rattle.krieg_parting.proofs.Charges.{stopped}
 use Rattle.krieg_checker.proofs.Walking.{walk_nil, parts_are, over, goes_on, ends, falls, other_falls, other_is_ordered, class_more, no_edge, some_edge}
 use Rattle.krieg_checker.proofs.walk.+walking.Goals as goal
 

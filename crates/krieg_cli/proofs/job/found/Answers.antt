@@ -8,8 +8,8 @@ use Rattle.krieg_cli.proofs.Jobs.{turns, search_stopped}
 use Rattle.krieg_cli.proofs.Searching.{stop_told}
 use Rattle.krieg_cli.proofs.job.found.Goals as goal
 
-pub solve-requires : goal.solve-requires
-solve-requires c = turns White c.args.set.now c.requires
+pub solve-requires-clause-turn : goal.solve-requires-clause-turn
+solve-requires-clause-turn c = turns White c.args.set.now c.requires
 
 pub returns-in_err-answer : goal.returns-in_err-answer
 returns-in_err-answer c =

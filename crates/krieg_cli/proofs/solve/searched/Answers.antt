@@ -12,8 +12,8 @@ use Rattle.krieg_cli.proofs.BestFiles.{can_be_written, one_turn_of}
 use Rattle.krieg_cli.proofs.Searching.{stop_told}
 use Rattle.krieg_cli.proofs.solve.searched.Goals as goal
 
-pub solve-requires : goal.solve-requires
-solve-requires c = one_turn_of c.args.who c.args.set.now c.requires.hand c.requires.some
+pub solve-requires-clause-turn : goal.solve-requires-clause-turn
+solve-requires-clause-turn c = one_turn_of c.args.who c.args.set.now c.requires.hand c.requires.some
 
 pub returns-in_err-worst : goal.returns-in_err-worst
 returns-in_err-worst c =

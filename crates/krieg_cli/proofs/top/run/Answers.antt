@@ -8,13 +8,13 @@ pub returns-clause-umpires : goal.returns-clause-umpires
 returns-clause-umpires g c = umpires_games _ _ _ _ _ _ c.obey-ending.ensures.runs c.status.ensures
 
 pub returns-clause-believes : goal.returns-clause-believes
-returns-clause-believes g c = (c.obey-ending.result, c.status.ensures, believes_games _ _ _ _ _ c.obey-ending.ensures.runs)
+returns-clause-believes g c = believes_games _ _ _ _ _ _ c.obey-ending.ensures.runs c.status.ensures
 
 pub returns-clause-solves : goal.returns-clause-solves
 returns-clause-solves g c = solves_sheets _ _ _ _ _ _ _ _ c.obey-ending.ensures.runs c.report.ensures c.status.ensures
 
 pub returns-clause-checks : goal.returns-clause-checks
-returns-clause-checks g c = (c.obey-ending.result, c.status.ensures, checks_solutions _ _ _ _ _ c.obey-ending.ensures.runs)
+returns-clause-checks g c = checks_solutions _ _ _ _ _ _ c.obey-ending.ensures.runs c.status.ensures
 
 pub returns-clause-completes : goal.returns-clause-completes
 returns-clause-completes g c = completes _ _ _ _ _ _ _ _ c.obey-ending.ensures.runs c.status.ensures

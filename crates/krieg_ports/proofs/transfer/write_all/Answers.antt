@@ -10,6 +10,6 @@ returns-in-Err-clause-prefix g c =
 pub loop-sent-preserved : goal.loop-sent-preserved
 loop-sent-preserved g c = record {
   within = omega (arith, c.in-Ok.ensures.takes);
-  later = omega (arith, c.in-Ok.ensures.later);
+  kept = omega (arith, c.loop-sent.invariant.kept, c.in-Ok.ensures.kept);
   front = rw take_more (Appends_then _ _ _ _ _ c.loop-sent.invariant.front c.in-Ok.ensures.bytes);
 }

@@ -1,12 +1,12 @@
--- The sink got the first `sent` bytes.
-use Rattle.std.proofs.Common.{◌≤◌, ◌-◌, length, take}
+-- The sink got the first `sent` bytes, without a fault.
+use Rattle.std.proofs.Common.{◌≡◌, ◌≤◌, ◌-◌, length, take}
 use Rattle.std.specs.Io.KnownBytes.{Appends}
 use Rattle.krieg_ports.proofs.transfer.write_all.Given as goal
 
 abbrev pub invariant-loop-sent : goal.invariant-loop-sent
 invariant-loop-sent g l = record {
   within : l.sent ≤ length l.bytes;
-  later : g.O.Sink.faults l.initial.sink ≤ g.O.Sink.faults l.sink;
+  kept : g.O.Sink.faults l.sink ≡ g.O.Sink.faults l.initial.sink;
   front : Appends (g.O.Sink.got l.initial.sink) (g.O.Sink.got l.sink) (take l.sent l.bytes);
 }
 

@@ -5,6 +5,7 @@ use Rattle.krieg_search.specs.Opened.{opening_in}
 use Rattle.krieg_search.specs.Decided.{IsDecided}
 use Rattle.krieg_search.specs.Planned.{IsPlanned}
 use Rattle.krieg_search.proofs.Solving.{none_mates, is_paid, is_ordered, is_large, stopped_below_cost, built}
+use Rattle.krieg_search.proofs.Accounting.{taken_between}
 use Rattle.krieg_search.proofs.best_plan.solve.Goals as goal
 
 pub returns-in_err-won-clause-cost : goal.returns-in_err-won-clause-cost
@@ -22,6 +23,15 @@ returns-in_default-clause-answer c =
     let n = c.args.moves in
     let k = subst (λ (o : Option Won). IsDecided d who S n (Ok o) c.new-left.result c.decide.new.units) c.in_default.is c.in_ok-won.ensures in
     none_mates d who S n k.0
+
+pub returns-in_default-clause-units : goal.returns-in_default-clause-units
+returns-in_default-clause-units c =
+    let d = c.args.d in
+    let who = c.args.who in
+    let S = c.args.b.now in
+    let n = c.args.moves in
+    let k = subst (λ (o : Option Won). IsDecided d who S n (Ok o) c.new-left.result c.decide.new.units) c.in_default.is c.in_ok-won.ensures in
+    taken_between d who S n c.new-left.result c.args.units.now c.decide.new.units (c.new-left.ensures ∙ c.left.ensures) k.1
 
 pub build_plan-requires-clause-paid : goal.build_plan-requires-clause-paid
 build_plan-requires-clause-paid c =
@@ -50,6 +60,15 @@ returns-in-Ok-clause-answer c =
     let k = subst (λ (o : Option Won). IsDecided d who S n (Ok o) c.new-left.result c.decide.new.units) c.in-Some.is c.in_ok-won.ensures in
     built d who S n c.in-Some.won c.new-left.result c.args.nodes c.in-Ok.answer k.0 c.in-Ok.ensures
 
+pub returns-in-Ok-clause-units : goal.returns-in-Ok-clause-units
+returns-in-Ok-clause-units c =
+    let d = c.args.d in
+    let who = c.args.who in
+    let S = c.args.b.now in
+    let n = c.args.moves in
+    let k = subst (λ (o : Option Won). IsDecided d who S n (Ok o) c.new-left.result c.decide.new.units) c.in-Some.is c.in_ok-won.ensures in
+    taken_between d who S n c.new-left.result c.args.units.now c.decide.new.units (c.new-left.ensures ∙ c.left.ensures) k.1
+
 pub returns-in-Err-Large-clause-answer : goal.returns-in-Err-Large-clause-answer
 returns-in-Err-Large-clause-answer c =
     let d = c.args.d in
@@ -59,3 +78,12 @@ returns-in-Err-Large-clause-answer c =
     let k = subst (λ (o : Option Won). IsDecided d who S n (Ok o) c.new-left.result c.decide.new.units) c.in-Some.is c.in_ok-won.ensures in
     is_large d who S n c.in-Some.won c.new-left.result k.0 c.args.nodes
     (subst (λ (e : Stop2). IsPlanned d n (map (opening_in c.in-Some.won.table) c.in-Some.won.openings.items) c.args.nodes (Err e)) c.in-Err-Large.field-0-is c.in-Err-Large.ensures)
+
+pub returns-in-Err-Large-clause-units : goal.returns-in-Err-Large-clause-units
+returns-in-Err-Large-clause-units c =
+    let d = c.args.d in
+    let who = c.args.who in
+    let S = c.args.b.now in
+    let n = c.args.moves in
+    let k = subst (λ (o : Option Won). IsDecided d who S n (Ok o) c.new-left.result c.decide.new.units) c.in-Some.is c.in_ok-won.ensures in
+    taken_between d who S n c.new-left.result c.args.units.now c.decide.new.units (c.new-left.ensures ∙ c.left.ensures) k.1

@@ -52,8 +52,8 @@ all_openings_win-requires-clause-numbered c =
     let o = are_opened d who S n c.new-table.result T1 c.in_ok-openings.field-0 os c.new-table.ensures c.in-Some.is c.in_ok-openings.ensures.0 in
     subst (λ (xs : List Opening). AreNumbered T1 xs) (sym c.deref.ensures.value) o.1.numbered
 
-pub returns-in_err-all_openings_win : goal.returns-in_err-all_openings_win
-returns-in_err-all_openings_win c =
+pub returns-in_err-all_win : goal.returns-in_err-all_win
+returns-in_err-all_win c =
     let d = c.args.d in
     let who = c.args.who in
     let S = c.args.b.now in
@@ -65,12 +65,12 @@ returns-in_err-all_openings_win c =
     let u2 = c.all_openings_win.new.units in
     let os = c.in-Some.openings in
     let o = are_opened d who S n c.new-table.result T1 c.in_ok-openings.field-0 os c.new-table.ensures c.in-Some.is c.in_ok-openings.ensures.0 in
-    search_stopped d who S n T1 os.items o.1 _ c.from_residual-in_err-all_openings_win.result c.in_err-all_openings_win.field-0.0 (TellsSets d T2 (sets_in T1 os.items) n) T2 u0 u1 u2 u2 (λ x h. cc) c.from_residual-in_err-all_openings_win.ensures.1
+    search_stopped d who S n T1 os.items o.1 _ c.from_residual-in_err-all_win.result c.in_err-all_win.field-0.0 (TellsSets d T2 (sets_in T1 os.items) n) T2 u0 u1 u2 u2 (λ x h. cc) c.from_residual-in_err-all_win.ensures.1
     c.in_ok-openings.ensures.1
-    (subst (λ (xs : List Opening). Searches d {A = Bool} (Err c.in_err-all_openings_win.field-0.0) (TellsSets d T2 (sets_in T1 xs) n) (CoversSets (chess d) (sets_in T1 xs) n) 0 T1 T2 u1 u2) c.deref.ensures.value c.in_err-all_openings_win.ensures)
+    (subst (λ (xs : List Opening). Searches d {A = Bool} (Err c.in_err-all_win.field-0.0) (TellsSets d T2 (sets_in T1 xs) n) (CoversSets (chess d) (sets_in T1 xs) n) 0 T1 T2 u1 u2) c.deref.ensures.value c.in_err-all_win.ensures)
 
-pub returns-then-not-branch : goal.returns-then-not-branch
-returns-then-not-branch c =
+pub returns-then-not-all_win : goal.returns-then-not-all_win
+returns-then-not-all_win c =
     let d = c.args.d in
     let who = c.args.who in
     let S = c.args.b.now in
@@ -82,8 +82,8 @@ returns-then-not-branch c =
     let u2 = c.all_openings_win.new.units in
     let os = c.in-Some.openings in
     let o = are_opened d who S n c.new-table.result T1 c.in_ok-openings.field-0 os c.new-table.ensures c.in-Some.is c.in_ok-openings.ensures.0 in
-    let w = subst (λ (xs : List Opening). TellsSets d T2 (sets_in T1 xs) n c.in_ok-all_openings_win.field-0 × IsSearched d (CoversSets (chess d) (sets_in T1 xs) n) 0 T1 T2 u1 u2) c.deref.ensures.value c.in_ok-all_openings_win.ensures in
-    not_won d who S n T1 os.items o.1 T2 c.in_ok-all_openings_win.field-0 u0 u1 u2 o.0 c.in_ok-openings.ensures.1 w.0 w.1 c.if-not-branch.true
+    let w = subst (λ (xs : List Opening). TellsSets d T2 (sets_in T1 xs) n c.in_ok-all_win.all_win × IsSearched d (CoversSets (chess d) (sets_in T1 xs) n) 0 T1 T2 u1 u2) c.deref.ensures.value c.in_ok-all_win.ensures in
+    not_won d who S n T1 os.items o.1 T2 c.in_ok-all_win.all_win u0 u1 u2 o.0 c.in_ok-openings.ensures.1 w.0 w.1 c.know_once.ensures c.if-not-all_win.true
 
 pub returns : goal.returns
 returns c =
@@ -99,5 +99,5 @@ returns c =
     let os = c.in-Some.openings in
     let o = are_opened d who S n c.new-table.result T1 c.in_ok-openings.field-0 os c.new-table.ensures c.in-Some.is c.in_ok-openings.ensures.0 in
     let won : Won = record { table = T2; openings = os } in
-    let w = subst (λ (xs : List Opening). TellsSets d T2 (sets_in T1 xs) n c.in_ok-all_openings_win.field-0 × IsSearched d (CoversSets (chess d) (sets_in T1 xs) n) 0 T1 T2 u1 u2) c.deref.ensures.value c.in_ok-all_openings_win.ensures in
-    all_are_won d who S n T1 os.items o.1 T2 c.in_ok-all_openings_win.field-0 u0 u1 u2 o.0 c.in_ok-openings.ensures.1 w.0 w.1 c.if-not-branch.false won refl refl
+    let w = subst (λ (xs : List Opening). TellsSets d T2 (sets_in T1 xs) n c.in_ok-all_win.all_win × IsSearched d (CoversSets (chess d) (sets_in T1 xs) n) 0 T1 T2 u1 u2) c.deref.ensures.value c.in_ok-all_win.ensures in
+    all_are_won d who S n T1 os.items o.1 T2 c.in_ok-all_win.all_win u0 u1 u2 o.0 c.in_ok-openings.ensures.1 w.0 w.1 c.know_once.ensures c.if-not-all_win.false won refl refl

@@ -39,8 +39,11 @@ can_win-can_win_in-requires t c =
         (
           (let w = c.requires.within in omega arith),
           (
-            ready_from d (CoversSet (chess d) B c.args.moves) 0 T0 T1 c.args.units.now c.loop-fewer.units a.searched,
-            subst (λ (X : List Pos). LostBelow (chess d) (entries T1) X (c.loop-fewer.fewer + 1)) (sym same) a.lost,
+            (let l = c.loop-fewer-test.true in let m = c.requires.six in omega arith),
+            (
+              ready_from d (CoversSet (chess d) B c.args.moves) 0 T0 T1 c.args.units.now c.loop-fewer.units a.searched,
+              subst (λ (X : List Pos). LostBelow (chess d) (entries T1) X (c.loop-fewer.fewer + 1)) (sym same) a.lost,
+            ),
           ),
         ),
       ),
@@ -147,8 +150,11 @@ can_win_in-begins-requires t c =
         (
           (let w = c.requires.within in omega arith),
           (
-            ready_from d (CoversTries (chess d) B j) (total (made (chess d) B) (take k ts)) T0 T1 c.args.units.now u1 a.searched,
-            subst (λ (X : List Pos). legal_in_some (chess d) X c.mv-item.result ≡ true) (sym same) legal,
+            c.requires.six,
+            (
+              ready_from d (CoversTries (chess d) B j) (total (made (chess d) B) (take k ts)) T0 T1 c.args.units.now u1 a.searched,
+              subst (λ (X : List Pos). legal_in_some (chess d) X c.mv-item.result ≡ true) (sym same) legal,
+            ),
           ),
         ),
       ),
@@ -203,7 +209,7 @@ can_win_in-returns-then-branch t c =
     let v = subst (λ (X : List Pos). TellsTry d T2 X j x c.in_ok-begins.field-0 × IsSearched d (CoversTry (chess d) X j x) (made (chess d) X x) T1 T2 u1 u2) same c.in_ok-begins.ensures in
     let w = subst (λ (b : Bool). TellsTry d T2 B j x b) c.if-branch.true v.0 in
     let none = none_found d T0 (B, j) c.result.result c.in-None.is c.result.ensures.by_sets in
-    noted d T0 T2 c.note.new.self c.args.set j (Wins x) (Some x) u0 u2 c.requires.some c.requires.within (win_searched d B j ts are T0 T1 k x u0 u1 l e a T2 u2 v.1 w) none c.in_ok-note.ensures.ok refl
+    noted d T0 T2 c.note.new.self c.args.set j (Wins x) (Some x) u0 u2 c.requires.some c.requires.within (win_searched d B j ts are T0 T1 k x u0 u1 l e a T2 u2 v.1 w) none c.note.ensures.noted refl
     (win_first d B j ts are T0 T1 k x u0 u1 l e a T2 u2 v.1 w) (win_backed d B j ts are T0 T1 k x u0 u1 l e a T2 u2 v.1 w c.requires.some c.requires.below)
 
 pub can_win_in-loop-mv-preserved : goal.can_win_in-loop-mv-preserved
@@ -224,8 +230,8 @@ can_win_in-loop-mv-preserved t c =
     let v = subst (λ (X : List Pos). TellsTry d T2 X j x c.in_ok-begins.field-0 × IsSearched d (CoversTry (chess d) X j x) (made (chess d) X x) T1 T2 u1 u2) same c.in_ok-begins.ensures in
     fails d B j ts are T0 T1 c.loop-mv.mv-index x c.args.units.now u1 c.loop-mv-test.true c.mv-item.is a T2 u2 v.1 (subst (λ (b : Bool). TellsTry d T2 B j x b) c.if-branch.false v.0)
 
-pub can_win_in-note-requires-2 : goal.can_win_in-note-requires-2
-can_win_in-note-requires-2 t c = let a = c.loop-mv.invariant.searched.more.longer in let w = c.requires.within in omega arith
+pub can_win_in-note-requires-2-clause-within : goal.can_win_in-note-requires-2-clause-within
+can_win_in-note-requires-2-clause-within t c = let a = c.loop-mv.invariant.searched.more.longer in let w = c.requires.within in omega arith
 
 pub can_win_in-returns : goal.can_win_in-returns
 can_win_in-returns t c =
@@ -242,7 +248,7 @@ can_win_in-returns t c =
     let u1 = c.loop-mv.units in
     let l = c.loop-mv-test.false in
     let none = none_found d T0 (B, j) c.result.result c.in-None.is c.result.ensures.by_sets in
-    noted d T0 T1 c.note-2.new.self c.args.set j Loses None u0 u1 c.requires.some c.requires.within (loss_searched d B j ts are T0 T1 k u0 u1 l a) none c.in_ok-note-2.ensures.ok refl
+    noted d T0 T1 c.note-2.new.self c.args.set j Loses None u0 u1 c.requires.some c.requires.within (loss_searched d B j ts are T0 T1 k u0 u1 l a) none c.note-2.ensures.noted refl
     (loss_first d B j ts are T0 T1 k u0 u1 l a) (loss_backed d B j ts are T0 T1 k u0 u1 l a c.requires.some c.requires.below)
 
 pub begins-returns-in_err-all_can_win : goal.begins-returns-in_err-all_can_win
@@ -314,7 +320,7 @@ begins-can_win-requires t c =
     let n = some_is l.refused c.is_empty.result c.is_empty.ensures c.if-is_empty.false in
     let i = c.in_ok-rest.ensures in
     let smaller = rest_smaller d T B mv j l u0 u1 a T1 won T2 c.in_ok-rest.rest u2 w.1 n i in
-    (omega (arith, smaller), (i.interned.within, ready_from d (CoversTry (chess d) B j mv) (made (chess d) B mv) T T2 u0 u2 (before_rest d T B mv j l u0 u1 a T1 won T2 c.in_ok-rest.rest u2 w.1 n i)))
+    (omega (arith, smaller), (i.interned.within, (c.requires.six, ready_from d (CoversTry (chess d) B j mv) (made (chess d) B mv) T T2 u0 u2 (before_rest d T B mv j l u0 u1 a T1 won T2 c.in_ok-rest.rest u2 w.1 n i))))
 
 pub begins-returns : goal.begins-returns
 begins-returns t c =

@@ -1,5 +1,5 @@
 use Rattle.std.proofs.Common.{◌≡◌, ◌+◌, drop}
-use Rattle.krieg_split.specs.Mating.{looked_at}
+use Rattle.krieg_parting.specs.Mating.{looked_at}
 use Rattle.krieg_split.proofs.unless_stale.pay.Given as goal
 
 abbrev pub invariant-loop-member : goal.invariant-loop-member

@@ -16,7 +16,7 @@ returns-then-spare-relieved_count g c = record {
 
 pub turns-preserved : goal.turns-preserved
 turns-preserved g c = record {
-  passes = passes_then _ _ _ _ _ _ _ _ _ (cc) c.turns.invariant.passes c.take_turn.ensures.passes;
+  passes = passes_then _ _ _ _ _ _ _ _ _ _ (cc) c.turns.invariant.passes c.take_turn.ensures.passes;
   white = c.take_turn.ensures.white;
   black = c.take_turn.ensures.black;
   seats = omega arith;
@@ -32,5 +32,5 @@ returns-in-Ok-Some g c =
 
 pub returns-in-Err : goal.returns-in-Err
 returns-in-Err g c = record {
-  plays = goes_on _ (Ok None) (Err c.in-Err.fault) _ _ _ _ _ _ _ c.take_turn.new.game refl c.turns.invariant.passes (stops_fault _ _ _ _ _ _ _ c.take_turn.new.game (passes_as _ c.take_turn.result (Err c.in-Err.fault) _ _ _ _ _ (cc) c.take_turn.ensures.passes));
+  plays = goes_on _ (Ok None) (Err c.in-Err.fault) _ _ _ _ _ _ _ c.take_turn.new.game refl c.turns.invariant.passes (stops_fault _ _ _ _ _ _ _ c.take_turn.new.game (passes_as _ c.take_turn.result (Err c.in-Err.fault) _ _ _ _ _ _ (cc) c.take_turn.ensures.passes));
 }

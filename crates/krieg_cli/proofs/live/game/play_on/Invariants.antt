@@ -1,16 +1,14 @@
 -- What was under way when the loop began is under way; each turn uses an ask or a seat.
 use Rattle.std.proofs.Common.{◌+◌, ◌≤◌, vec_len, Ok, None}
-use Rattle.krieg_play.specs.Teams.{team_of}
-use Rattle.krieg_play.specs.Played.{sides}
 use Rattle.krieg_play.specs.Calls.{IsReady}
 use Rattle.krieg_play.specs.Passes.{Passes}
+use Rattle.krieg_cli.specs.Seated.{bench_sides}
 use Rattle.krieg_cli.proofs.live.game.play_on.Given as goal
 
 abbrev pub invariant-turns : goal.invariant-turns
 invariant-turns g l = record {
-  passes : Passes (λ b. (goal.Seat-dyn g (b.vtable, b.value)).account b.value) (Ok None) l.start
-      (sides (team_of l.initial.bench.white l.initial.bench.white_out) (team_of l.initial.bench.black l.initial.bench.black_out))
-      (sides (team_of l.bench.white l.bench.white_out) (team_of l.bench.black l.bench.black_out))
+  passes : Passes (λ b. (goal.Seat-dyn g (b.vtable, b.value)).account b.value) (Ok None) l.start l.seats
+      (bench_sides l.initial.bench) (bench_sides l.bench)
       l.initial.game l.game;
   white : IsReady l.bench.white l.bench.white_out;
   black : IsReady l.bench.black l.bench.black_out;

@@ -1,0 +1,52 @@
+-- What becomes of the bench, from one call to the next.
+use Rattle.std.proofs.Common.{◌≡◌, inl, inr, ℕ, List, Option, Some, Ok, subst, sym}
+use Rattle.krieg_board.specs.Pos.{Pos}
+use Rattle.krieg_board.specs.declared.men.Side.TheVariants.{White, Black}
+use Rattle.krieg_fen.specs.Lines.{lines}
+use Rattle.krieg_fen.specs.Reading.{whole}
+use Rattle.krieg_session.specs.SessionReading.{start_at}
+use Rattle.krieg_seats.specs.Accounts.{Account}
+use Rattle.krieg_play.specs.Played.{Sides, Refuses}
+use Rattle.krieg_play.specs.declared.outcome.PlayFault.{PlayFault}
+use Rattle.krieg_play.specs.declared.outcome.PlayFault.TheVariants as played
+use Rattle.krieg_args.specs.declared.command.Command.{Command}
+use Rattle.krieg_args.specs.declared.command.Command.TheVariants.{Play}
+use Rattle.krieg_cli.specs.World.{Stream}
+use Rattle.krieg_cli.specs.Input.{WasTaken}
+use Rattle.krieg_cli.specs.Parts.{of_play, LeavesSeats}
+use Rattle.krieg_cli.specs.Top.{LeavesBench}
+use Rattle.krieg_cli.specs.declared.ending.Ending.{Ending}
+use Rattle.krieg_cli.specs.declared.ending.Ending.TheVariants.{Answered, WriteFault, NoMemory}
+
+module _ {X : Type 0} (account : X → Account) (entry now : Sides X) where
+  -- no seat was called
+  pub seats_stay : (c : Command) (e : Ending) (text : List ℕ) → now ≡ entry → LeavesSeats account c e text entry now
+  seats_stay (Play asks) NoMemory text same = inl same
+  seats_stay _ _ text same = λ _. same
+
+  pub bench_stays : (asked : Option Command) (e : Ending) (input input' : Stream) → now ≡ entry → LeavesBench account asked e input input' entry now
+  bench_stays (Some (Play asks)) NoMemory input input' same = inl same
+  bench_stays _ _ input input' same = λ _. same
+
+  -- a game was not played to its stop
+  pub seats_refuse : (asks : ℕ) (text : List ℕ) (start : Pos) (fault : PlayFault) (e : Ending) → whole start_at (lines text) ≡ Ok start → e ≡ of_play fault →
+      Refuses account start asks entry now fault → LeavesSeats account (Play asks) e text entry now
+  seats_refuse asks text start fault e is e_is h = subst (λ x. LeavesSeats account (Play asks) x text entry now) (sym e_is) (by_fault fault h)
+    where
+      by_fault : (fault : PlayFault) → Refuses account start asks entry now fault → LeavesSeats account (Play asks) (of_play fault) text entry now
+      by_fault (played.Vacant White) h = λ _. h.1
+      by_fault (played.Vacant Black) h = λ _. h.2
+      by_fault (played.Seat who) h = λ called. absurd cc
+      by_fault played.NoMemory h = inr (start, is, inl h)
+
+  -- the text was taken, and this came of it
+  pub bench_taken : (c : Command) (e : Ending) (text : List ℕ) (input input' : Stream) → WasTaken c input input' text → LeavesSeats account c e text entry now →
+      LeavesBench account (Some c) e input input' entry now
+  bench_taken (Play asks) NoMemory text input input' was (inl same) = inl same
+  bench_taken (Play asks) NoMemory text input input' was (inr begun) = inr (text, was, begun)
+  bench_taken _ _ text input input' was h = h
+
+  -- the answer was not written
+  pub bench_unwritten : (c : Command) (text : List ℕ) (input input' : Stream) → LeavesSeats account c Answered text entry now → LeavesBench account (Some c) WriteFault input input' entry now
+  bench_unwritten (Play asks) text input input' h = λ called. absurd cc
+  bench_unwritten _ text input input' h = h

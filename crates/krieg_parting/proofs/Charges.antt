@@ -1,0 +1,33 @@
+-- What is taken one after another.
+use Rattle.std.proofs.Common.{◌≡◌, ℕ, ◌+◌, ◌≤◌, Result, Ok, Err, subst, arith}
+use Rattle.std.specs.Result.{IsErrAnd}
+use Rattle.krieg_parting.specs.declared.stop.PartStop.{PartStop}
+use Rattle.krieg_parting.specs.declared.stop.PartStop.TheVariants.{Spent, NoMemory}
+use Rattle.krieg_parting.specs.Charged.{Charged}
+
+-- a step was too dear: with what comes later, all is
+pub stopped : {A B : Type 0} (Q : PartStop → Type 0) (r : Result B PartStop) (e : PartStop) (holds : A → Type 0) (wanted : B → Type 0) (cost all old mid now new : ℕ) →
+    ((x : PartStop) → Q x → e ≡ x) → IsErrAnd r Q → old + cost ≤ mid + all → Charged (Err e) holds cost mid now → Charged r wanted all old new
+stopped Q (Ok x) e holds wanted cost all old mid now new same fails so h = absurd fails
+stopped {A = A} Q (Err x) e holds wanted cost all old mid now new same fails so h =
+    go x (subst (λ (y : PartStop). Charged {A = A} (Err y) holds cost mid now) (same x fails) h)
+  where
+    go : (y : PartStop) → Charged {A = A} (Err y) holds cost mid now → Charged (Err y) wanted all old new
+    go Spent k = omega (arith, so, k)
+    go NoMemory k = tt
+
+-- the last step of more, and its answer said otherwise
+pub later : {A : Type 0} (r : Result A PartStop) (holds wanted : A → Type 0) (cost all old mid new : ℕ) → ((x : A) → holds x → wanted x) → old + cost ≡ mid + all → Charged r holds cost mid new → Charged r wanted all old new
+later (Ok x) holds wanted cost all old mid new h e k = (h x k.0, omega (arith, k.1, e))
+later (Err Spent) holds wanted cost all old mid new h e k = omega (arith, k, e)
+later (Err NoMemory) holds wanted cost all old mid new h e k = tt
+
+-- the same answer, said otherwise
+pub said : {A : Type 0} (r : Result A PartStop) (holds wanted : A → Type 0) (cost all old new : ℕ) → ((x : A) → holds x → wanted x) → all ≡ cost → Charged r holds cost old new → Charged r wanted all old new
+said r holds wanted cost all old new h e k = later r holds wanted cost all old old new h (omega (arith, e)) k
+
+-- an answer that takes none
+pub free : {A : Type 0} (r : Result A PartStop) (holds wanted : A → Type 0) (all units : ℕ) → ((x : A) → holds x → wanted x) → all ≡ 0 → Charged r holds 0 0 0 → Charged r wanted all units units
+free (Ok x) holds wanted all units h e k = (h x k.0, omega (arith, e))
+free (Err Spent) holds wanted all units h e k = absurd (omega (arith, k))
+free (Err NoMemory) holds wanted all units h e k = tt

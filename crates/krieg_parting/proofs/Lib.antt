@@ -1,0 +1,8 @@
+mod Items
+mod BoolLaws
+pub mod Charges
+mod Pools
+mod Gathering
+mod Trying
+pub mod LastMoves
+pub mod Advancing

@@ -1,0 +1,47 @@
+-- One member more was tried.
+use Rattle.std.proofs.Common.{◌≡◌, Bool, true, false, not, ◌||◌, List, [], ◌∷◌, ◌++◌, filter, refl, ap, sym, ◌∙◌}
+use Rattle.std.proofs.lemmas.List.{append-nil}
+use Rattle.std.proofs.lemmas.Bool.{both_ways}
+use Rattle.std.specs.List.{list_any}
+use Rattle.krieg_board.specs.Pos.{Pos}
+use Rattle.krieg_board.specs.declared.men.Move.{Move}
+use Rattle.krieg_parting.specs.Mating.{lives, refuses, wanted, IsTried, AreTried}
+use Rattle.krieg_parting.specs.declared.last_move.Mating.{Mating}
+use Rattle.krieg_parting.proofs.BoolLaws.{or_assoc, or_false}
+use Rattle.krieg_parting.proofs.Gathering.{filtered_more}
+
+-- what was found, and what the rest adds, is all
+pub record IsLeft (always : Bool) (found : Mating) (rest B : List Pos) (t : Move) : Type 0 where
+  pub lives_part : (found.lives || list_any (lives t) rest) ≡ list_any (lives t) B
+  pub refused_part : wanted always found ≡ true → found.refused.items ++ filter (refuses t) rest ≡ filter (refuses t) B
+
+pub left_all : (always : Bool) (found : Mating) (B : List Pos) (t : Move) → found.lives ≡ false → found.refused.items ≡ [] → IsLeft always found B B t
+left_all always found B t l r = record {
+  lives_part = ap (λ (b : Bool). b || list_any (lives t) B) l;
+  refused_part = λ e. ap (λ (xs : List Pos). xs ++ filter (refuses t) B) r;
+}
+
+-- what is wanted after one member more was wanted before it
+wanted_before : (always old new more : Bool) → new ≡ (old || more) → (always || not new) ≡ true → (always || not old) ≡ true
+wanted_before true old new more is e = refl
+wanted_before false false new more is e = refl
+wanted_before false true new more is e = absurd (both_ways false refl (ap not (sym is) ∙ e))
+
+pub left_more : (always : Bool) (old new : Mating) (p : Pos) (rest B : List Pos) (t : Move) → IsTried always old new p t → IsLeft always old (p ∷ rest) B t → IsLeft always new rest B t
+left_more always old new p rest B t a l = record {
+  lives_part = ap (λ (b : Bool). b || list_any (lives t) rest) a.lives_part ∙ or_assoc old.lives (lives t p) (list_any (lives t) rest) ∙ l.lives_part;
+  refused_part = λ e.
+      ap (λ (xs : List Pos). xs ++ filter (refuses t) rest) (a.refused_part e)
+      ∙ filtered_more (refuses t p) p old.refused.items (filter (refuses t) rest)
+      ∙ l.refused_part (wanted_before always old.lives new.lives (lives t p) a.lives_part e);
+}
+
+pub left_none : (always : Bool) (found : Mating) (rest B : List Pos) (t : Move) → rest ≡ [] → IsLeft always found rest B t → AreTried always B t found
+left_none always found [] B t is l = record {
+  lives_part = or_false found.lives ∙ l.lives_part;
+  refused_part = λ e. sym (append-nil found.refused.items) ∙ l.refused_part e;
+}
+left_none always found (p ∷ rest) B t is l = absurd cc
+
+pub tried_always : (always : Bool) (old new : Mating) (p : Pos) (t : Move) → IsTried true old new p t → IsTried always old new p t
+tried_always always old new p t a = record { lives_part = a.lives_part; refused_part = λ e. a.refused_part refl }

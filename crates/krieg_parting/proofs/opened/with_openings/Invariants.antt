@@ -1,0 +1,6 @@
+use Rattle.std.proofs.Common.{◌≡◌, map, take}
+use Rattle.krieg_game.specs.ClassLaws.{opened, silence}
+use Rattle.krieg_parting.proofs.opened.with_openings.Given as goal
+
+abbrev pub invariant-loop-member : goal.invariant-loop-member
+invariant-loop-member l = l.outcomes.items ≡ map (opened l.d silence) (take l.member-index l.members)

@@ -1,0 +1,7 @@
+pub mod Parted
+pub mod Gathering
+pub mod Pools
+pub mod Mating
+pub mod FirstMoves
+pub mod Turns
+pub mod Charged

@@ -1,0 +1,118 @@
+ghost use Rattle.std.specs.Prelude.{◌≡◌, true, suc, length, IfOk};
+ghost use Rattle.krieg_moves.specs.Legal as rule;
+ghost use Rattle.krieg_theory.specs.Split.{given};
+ghost use Rattle.krieg_costs.specs.Cost.{made};
+ghost use Rattle.krieg_game.specs.Chess.{chess};
+ghost use Rattle.krieg_parting.specs.Charged.{Charged};
+ghost use Rattle.krieg_parting.specs.Gathering.{IsAdded, IsGathered};
+ghost use Rattle.krieg_parting.specs.Parted.{IsPartedOf};
+
+use crate::pool::Pool;
+use crate::stop::{PartStop, take};
+use krieg_board::{Move, NoMemory, Position, Units};
+use krieg_game::Class;
+use krieg_moves::{is_legal, is_stalemate_by, legal_moves};
+use krieg_pack::{Belief, Packed, unpack};
+use krieg_words::{Dialect, make_move};
+use std::alloc::Global;
+
+/// What a try makes of a set: for each position in it, it is illegal, or it is made and the opponent replies.
+#[derive(Drop)]
+pub struct Parted {
+    /// The members in which it is illegal.
+    pub refused: Belief,
+    /// Whether it stalemates in some member.
+    pub stale: bool,
+    /// What is possible once the words of the try and of a reply were heard, for all that may be heard, ascending.
+    pub classes: Vec<Class>,
+}
+
+/// The same, before it is sorted.
+#[derive(Drop)]
+pub struct Gathered {
+    pub refused: Vec<Packed>,
+    pub stale: bool,
+    pub pool: Pool,
+}
+
+/// Adds what the legal try makes of one member.
+#[tactic(auto, unfolding(krieg_game::specs::Chess::stalemates, krieg_game::specs::Chess::outcomes))]
+fn add_legal(
+    alloc: Global,
+    d: Dialect,
+    p: &Position,
+    mv: &Move,
+    parts: &mut Gathered,
+    units: &mut Units,
+) -> Result<(), PartStop>
+    requires { rule.is_legal p.now mv.now ≡ true }
+    ensures { Charged result (λ _. IsAdded d parts.old parts.new p.now mv.now) (suc (length (given (chess d) mv.now p.now))) units.old units.new }
+{
+    let made = make_move(p, *mv);
+    let replies = legal_moves(alloc, &made.position)?;
+    take(units, 1 + replies.len() as u64)?;
+    parts.stale = parts.stale || is_stalemate_by(&made.position, replies.len());
+    parts
+        .pool
+        .add(d, &made.words, &made.position, replies.as_slice())?;
+    Ok(())
+}
+
+/// Adds what the try makes of one member, for one unit and one for each reply.
+fn add_member(
+    alloc: Global,
+    d: Dialect,
+    member: &Packed,
+    mv: &Move,
+    parts: &mut Gathered,
+    units: &mut Units,
+) -> Result<(), PartStop>
+    ensures { Charged result (λ _. IsAdded d parts.old parts.new member.now mv.now) (suc (length (given (chess d) mv.now member.now))) units.old units.new }
+{
+    let p = unpack(member);
+    if is_legal(&p, *mv) {
+        return add_legal(alloc, d, &p, mv, parts, units);
+    }
+    take(units, 1)?;
+    parts.refused.push(*member)?;
+    Ok(())
+}
+
+/// Gathers what the try makes of all members, for one unit for each member and one for each reply: no more is made than
+/// there are units for.
+pub fn gather(
+    alloc: Global,
+    d: Dialect,
+    members: &[Packed],
+    mv: &Move,
+    units: &mut Units,
+) -> Result<Gathered, PartStop>
+    ensures { Charged result (IsGathered d members.now mv.now) (made (chess d) members.now mv.now) units.old units.new }
+{
+    let mut parts = Gathered {
+        refused: Vec::new(alloc),
+        stale: false,
+        pool: Pool::new(alloc),
+    };
+    for member in members {
+        add_member(alloc, d, member, mv, &mut parts, units)?;
+    }
+    Ok(parts)
+}
+
+/// The parts of what was gathered, which is sorted in its place.
+pub fn parts_of(alloc: Global, parts: Gathered) -> Result<Parted, NoMemory>
+    ensures { IfOk result (IsPartedOf parts) }
+{
+    let Gathered {
+        refused,
+        stale,
+        pool,
+    } = parts;
+    let classes = pool.into_classes(alloc)?;
+    Ok(Parted {
+        refused: Belief::from_packed(refused),
+        stale,
+        classes,
+    })
+}

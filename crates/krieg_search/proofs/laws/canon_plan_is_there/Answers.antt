@@ -1,0 +1,5 @@
+use Rattle.krieg_search.proofs.ChessLaws.{canon_plan_is_there}
+use Rattle.krieg_search.proofs.laws.canon_plan_is_there.Goals as goal
+
+pub returns : goal.returns
+returns c = canon_plan_is_there

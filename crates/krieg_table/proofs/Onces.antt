@@ -1,0 +1,54 @@
+-- No pair of a set and a number has two results.
+use Rattle.std.proofs.Common.{◌≡◌, ℕ, suc, ◌≤◌, ◌⊎◌, inl, inr, List, [], ◌∷◌, ◌++◌, Option, Some, None, refl, sym, ap, subst, arith}
+use Rattle.std.proofs.lemmas.List.{map-append}
+use Rattle.krieg_board.specs.Pos.{Pos}
+use Rattle.krieg_board.specs.declared.men.Move.{Move}
+use Rattle.krieg_theory.specs.Sets.{In}
+use Rattle.krieg_theory.proofs.Lists.{append_in}
+use Rattle.krieg_costs.specs.Sums.{IsOnce}
+use Rattle.krieg_accounts.specs.Stored.{PairOf, Entries, pairs}
+use Rattle.krieg_table.specs.Results.{Results}
+use Rattle.krieg_table.specs.Interned.{Interned, sets}
+use Rattle.krieg_table.specs.Entries.{row_entries, entries}
+
+once_append : {X : Type 0} (xs ys : List X) → IsOnce xs → IsOnce ys → ((x : X) → In x xs → In x ys → ⊥) → IsOnce (xs ++ ys)
+once_append [] ys a b apart = b
+once_append (x ∷ xs) ys a b apart = (λ i. there (append_in xs ys x i), once_append xs ys a.1 b (λ y i j. apart y (inr i) j))
+  where
+    there : In x xs ⊎ In x ys → ⊥
+    there (inl i) = a.0 i
+    there (inr i) = apart x (inl refl) i
+
+pairs_append : (xs ys : Entries Pos Move) → pairs (xs ++ ys) ≡ pairs xs ++ pairs ys
+pairs_append xs ys = map-append (λ (e : PairOf Pos × Option Move). e.0) xs ys
+
+module _ (B : List Pos) where
+  -- the results of one set are of that set, and of numbers from the first on
+  in_row : (rs : Results) (n : ℕ) (q : PairOf Pos) → In q (pairs (row_entries B n rs)) → (B ≡ q.0) × (n ≤ q.1)
+  in_row [] n q i = absurd i
+  in_row (None ∷ rs) n q i = let a = in_row rs (suc n) q i in (a.0, omega arith)
+  in_row (Some k ∷ rs) n q (inl e) = (ap (λ (p : PairOf Pos). p.0) e, (let a = ap (λ (p : PairOf Pos). p.1) e in omega arith))
+  in_row (Some k ∷ rs) n q (inr i) = let a = in_row rs (suc n) q i in (a.0, omega arith)
+
+  row_once : (rs : Results) (n : ℕ) → IsOnce (pairs (row_entries B n rs))
+  row_once [] n = tt
+  row_once (None ∷ rs) n = row_once rs (suc n)
+  row_once (Some k ∷ rs) n = (λ i. (let a = (in_row rs (suc n) (B, n) i).1 in absurd (omega arith)), row_once rs (suc n))
+
+in_sets : (T : Interned) (q : PairOf Pos) → In q (pairs (entries T)) → In q.0 (sets T)
+unfolding entries
+in_sets [] q i = absurd i
+in_sets (r ∷ T) q i = there (in_sets T q) (append_in (pairs (row_entries r.0 1 r.1)) (pairs (entries T)) q (subst (In q) (pairs_append (row_entries r.0 1 r.1) (entries T)) i))
+  where
+    there : (In q (pairs (entries T)) → In q.0 (sets T)) → In q (pairs (row_entries r.0 1 r.1)) ⊎ In q (pairs (entries T)) → (r.0 ≡ q.0) ⊎ In q.0 (sets T)
+    there ih (inl j) = inl (in_row r.0 r.1 1 q j).0
+    there ih (inr j) = inr (ih j)
+
+-- since no set has two numbers
+pub pairs_once : (T : Interned) → IsOnce (sets T) → IsOnce (pairs (entries T))
+unfolding entries
+pairs_once [] o = tt
+pairs_once (r ∷ T) o =
+    subst IsOnce (sym (pairs_append (row_entries r.0 1 r.1) (entries T)))
+    (once_append (pairs (row_entries r.0 1 r.1)) (pairs (entries T)) (row_once r.0 r.1 1) (pairs_once T o.1)
+    (λ q i j. o.0 (subst (λ (X : List Pos). In X (sets T)) (sym (in_row r.0 r.1 1 q i).0) (in_sets T q j))))
