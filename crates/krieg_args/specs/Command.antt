@@ -4,8 +4,10 @@ use Rattle.std.specs.Result.{result_ok}
 use Rattle.std.specs.Str.{bytes_eq}
 use Rattle.krieg_board.specs.declared.men.Side.{Side}
 use Rattle.krieg_board.specs.declared.men.Side.TheVariants.{White, Black}
-use Rattle.krieg_fen.specs.Decimals.{number_between}
-use Rattle.krieg_fen.specs.Forms.{most_listed}
+use Rattle.krieg_board.specs.declared.limits.TheConstants.{MOST_MOVES, MOST_UNITS}
+use Rattle.krieg_text.specs.Decimals.{number_between}
+use Rattle.krieg_fen.specs.declared.forms.TheConstants.{MOST_LISTED}
+use Rattle.krieg_args.specs.declared.command.TheConstants.{MOST_ASKS, MOST_SEED}
 use Rattle.krieg_args.specs.declared.command.Command.{Command}
 use Rattle.krieg_args.specs.declared.command.Command.TheVariants.{Solve, Check, Believe, Umpire, Play, Make, Job}
 use Rattle.krieg_args.specs.declared.command.Made.{Made}
@@ -18,23 +20,23 @@ number least most word = result_ok (number_between word least most)
 
 -- MOVES: the moves of a plan
 abbrev pub moves_of : List ℕ → Option ℕ
-moves_of word = number 1 6 word
+moves_of word = number 1 MOST_MOVES word
 
 -- BUDGET: units of work
 abbrev pub budget_of : List ℕ → Option ℕ
-budget_of word = number 1 50000000 word
+budget_of word = number 1 MOST_UNITS word
 
 -- LIMIT: the positions of a set, which a text can list
 abbrev pub limit_of : List ℕ → Option ℕ
-limit_of word = number 1 most_listed word
+limit_of word = number 1 MOST_LISTED word
 
 -- ASKS: how often the players of a game are asked
 abbrev pub asks_of : List ℕ → Option ℕ
-asks_of word = number 1 4096 word
+asks_of word = number 1 MOST_ASKS word
 
 -- NUMBER: that of a made input, of 32 bits
 abbrev pub seed_of : List ℕ → Option ℕ
-seed_of word = number 0 4294967295 word
+seed_of word = number 0 MOST_SEED word
 
 -- Other words.
 

@@ -1,8 +1,15 @@
 ghost use Rattle.std.specs.Prelude.{◌≡◌, map, string_bytes};
 ghost use Rattle.krieg_args.specs.Command as spec;
 
-use krieg_board::Side;
-use krieg_fen::{MOST_LISTED, is_name, read_number_between};
+use krieg_board::{MOST_MOVES, MOST_UNITS, Side};
+use krieg_fen::MOST_LISTED;
+use krieg_text::{is_name, read_number_between};
+
+/// How often the players of a game may be asked at most.
+pub const MOST_ASKS: u64 = 4_096;
+
+/// The greatest number of a made input and of a made job.
+pub const MOST_SEED: u64 = 4_294_967_295;
 
 /// What a made input is.
 #[derive(Clone, Copy, Debug, PartialEq, Eq)]
@@ -18,21 +25,48 @@ pub enum Made {
 pub enum Command {
     /// `solve MOVES BUDGET LIMIT`: a plan for a sheet within so many moves, with so many units of work
     /// and sets of so many positions at most.
-    Solve(u64, u64, u64),
+    Solve {
+        /// From 1 to [`MOST_MOVES`].
+        moves: u64,
+        /// From 1 to [`MOST_UNITS`].
+        budget: u64,
+        /// From 1 to [`MOST_LISTED`].
+        limit: u64,
+    },
     /// `check BUDGET`: the check of a plan file, with so many units.
-    Check(u64),
+    Check {
+        /// From 1 to [`MOST_UNITS`].
+        budget: u64,
+    },
     /// `believe LIMIT`: the positions that a sheet leaves possible, of which there may be so many.
-    Believe(u64),
+    Believe {
+        /// From 1 to [`MOST_LISTED`].
+        limit: u64,
+    },
     /// `umpire w`, `umpire b`, `umpire all`: what one player hears of a session, as a sheet, or what both
     /// hear.
-    Umpire(Option<Side>),
+    Umpire {
+        /// The player, or none for both.
+        who: Option<Side>,
+    },
     /// `play ASKS WIN WOUT BIN BOUT`: a game from a position between the players of four files, with so
     /// many asks at most.
-    Play(u64),
+    Play {
+        /// From 1 to [`MOST_ASKS`].
+        asks: u64,
+    },
     /// `make session NUMBER`, `make sheet NUMBER`: a made input with that number.
-    Make(Made, u64),
+    Make {
+        /// Its kind.
+        what: Made,
+        /// From 0 to [`MOST_SEED`].
+        number: u64,
+    },
     /// `job NUMBER`: the summary of the made job with that number.
-    Job(u64),
+    Job {
+        /// From 0 to [`MOST_SEED`].
+        number: u64,
+    },
 }
 
 impl Command {
@@ -40,7 +74,7 @@ impl Command {
     pub fn takes_input(&self) -> bool
         ensures { result ≡ spec.takes_input self.now }
     {
-        !matches!(self, Command::Make(_, _) | Command::Job(_))
+        !matches!(self, Command::Make { .. } | Command::Job { .. })
     }
 }
 
@@ -53,13 +87,13 @@ fn number(least: u64, most: u64, word: &str) -> Option<u64>
 fn moves_of(word: &str) -> Option<u64>
     ensures { result ≡ spec.moves_of word.now }
 {
-    number(1, 6, word)
+    number(1, u64::from(MOST_MOVES), word)
 }
 
 fn budget_of(word: &str) -> Option<u64>
     ensures { result ≡ spec.budget_of word.now }
 {
-    number(1, 50_000_000, word)
+    number(1, MOST_UNITS, word)
 }
 
 fn limit_of(word: &str) -> Option<u64>
@@ -71,13 +105,13 @@ fn limit_of(word: &str) -> Option<u64>
 fn asks_of(word: &str) -> Option<u64>
     ensures { result ≡ spec.asks_of word.now }
 {
-    number(1, 4_096, word)
+    number(1, MOST_ASKS, word)
 }
 
 fn seed_of(word: &str) -> Option<u64>
     ensures { result ≡ spec.seed_of word.now }
 {
-    number(0, 4_294_967_295, word)
+    number(0, MOST_SEED, word)
 }
 
 fn whose(word: &str) -> Option<Option<Side>>
@@ -117,20 +151,29 @@ fn is_file(word: &str) -> bool
 fn solve(moves: &str, budget: &str, limit: &str) -> Option<Command>
     ensures { result ≡ spec.solve moves.now budget.now limit.now }
 {
-    Some(Command::Solve(moves_of(moves)?, budget_of(budget)?, limit_of(limit)?))
+    Some(Command::Solve {
+        moves: moves_of(moves)?,
+        budget: budget_of(budget)?,
+        limit: limit_of(limit)?,
+    })
 }
 
 fn make(what: &str, seed: &str) -> Option<Command>
     ensures { result ≡ spec.make what.now seed.now }
 {
-    Some(Command::Make(made_input(what)?, seed_of(seed)?))
+    Some(Command::Make {
+        what: made_input(what)?,
+        number: seed_of(seed)?,
+    })
 }
 
 fn play(asks: &str, win: &str, wout: &str, bin: &str, bout: &str) -> Option<Command>
     ensures { result ≡ spec.play asks.now win.now wout.now bin.now bout.now }
 {
     if is_file(win) && is_file(wout) && is_file(bin) && is_file(bout) {
-        Some(Command::Play(asks_of(asks)?))
+        Some(Command::Play {
+            asks: asks_of(asks)?,
+        })
     } else {
         None
     }
@@ -141,13 +184,19 @@ fn command_of_one(name: &str, word: &str) -> Option<Command>
 {
     let name = name.as_bytes();
     if is_name(b"check", name) {
-        Some(Command::Check(budget_of(word)?))
+        Some(Command::Check {
+            budget: budget_of(word)?,
+        })
     } else if is_name(b"believe", name) {
-        Some(Command::Believe(limit_of(word)?))
+        Some(Command::Believe {
+            limit: limit_of(word)?,
+        })
     } else if is_name(b"umpire", name) {
-        Some(Command::Umpire(whose(word)?))
+        Some(Command::Umpire { who: whose(word)? })
     } else if is_name(b"job", name) {
-        Some(Command::Job(seed_of(word)?))
+        Some(Command::Job {
+            number: seed_of(word)?,
+        })
     } else {
         None
     }

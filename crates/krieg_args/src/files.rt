@@ -23,7 +23,7 @@ pub fn seat_files(words: &[String]) -> Option<SeatFiles<'_>>
 {
     match words {
         [_, _, win, wout, bin, bout] => match command_of(words) {
-            Some(Command::Play(_)) => Some(SeatFiles {
+            Some(Command::Play { .. }) => Some(SeatFiles {
                 win: win.as_str(),
                 wout: wout.as_str(),
                 bin: bin.as_str(),

@@ -6,7 +6,7 @@
 //! let mut words = Vec::new(alloc);
 //! words.push(String::from_str(alloc, "believe")?)?;
 //! words.push(String::from_str(alloc, "200000")?)?;
-//! let command = command_of(&words); // Some(Command::Believe(200_000))
+//! let command = command_of(&words); // Some(Command::Believe { limit: 200_000 })
 //! words.push(String::from_str(alloc, "1")?)?;
 //! let none = command_of(&words); // None: one word too many
 //! ```
@@ -15,5 +15,5 @@
 mod command;
 mod files;
 
-pub use command::{Command, Made, command_of};
+pub use command::{Command, MOST_ASKS, MOST_SEED, Made, command_of};
 pub use files::{SeatFiles, seat_files};

@@ -13,7 +13,7 @@ use Rattle.krieg_words.specs.ToldWords.{told}
 use Rattle.krieg_words.specs.declared.dialects.Dialect.{Dialect}
 use Rattle.krieg_words.specs.declared.line.Line.{Line}
 use Rattle.krieg_words.specs.declared.line.Line.TheVariants.{Opens, Illegal, Done, Heard, Early, Over}
-use Rattle.krieg_fen.specs.Forms.{most_listed}
+use Rattle.krieg_fen.specs.declared.forms.TheConstants.{MOST_LISTED}
 use Rattle.krieg_sheet.specs.Sheets.{SheetState}
 use Rattle.krieg_sheet.specs.Turns.{may_stand, turn_after, over_after, are_in_place}
 use Rattle.krieg_sheet.specs.Lists.{list_fault, differs, other_hand}
@@ -26,7 +26,7 @@ use Rattle.krieg_theory.proofs.Lists.{in_flat, flat_in}
 use Rattle.krieg_pack.specs.Members.{IsAscending, set_of}
 use Rattle.krieg_pack.proofs.Membership.{contains_in, in_contains}
 use Rattle.krieg_pack.proofs.PositionSets.{set_ascending, in_set, set_in, same_members}
-use Rattle.krieg_belief.specs.Steps.{has_opening, nexts, run, opened}
+use Rattle.krieg_belief.specs.Steps.{has_opening, nexts, run, after_opening}
 use Rattle.krieg_belief.specs.Possible.{IsPossible, HaveOneHand, Within, prefix, list_line, line_of}
 use Rattle.krieg_belief.specs.Limits.{IsFirstExcess, IsStop, AllWithin, stopped, IsLateStop}
 use Rattle.krieg_belief.specs.declared.steps.StepStop.{StepStop}
@@ -57,24 +57,24 @@ some_entries (suc n) [] h = tt
 some_entries (suc n) (l ∷ ls) h = (h.0, some_entries n ls h.1)
 
 -- the positions with the opening words
-in_opened : (d : Dialect) (who : Side) (o : Option Said) (ps : List Pos) (p : Pos) → In p ps → OpensWith d o p → In p (opened d who o ps)
-in_opened d who None ps p i h = i
-in_opened d who (Some w) ps p i h = in_set p _ (in_flat (nexts d who (Opens w)) ps p p i (cond_in (has_opening d w p) p (words_same w (told d (opening p)) (sym h))))
+in_after_opening : (d : Dialect) (who : Side) (o : Option Said) (ps : List Pos) (p : Pos) → In p ps → OpensWith d o p → In p (after_opening d who o ps)
+in_after_opening d who None ps p i h = i
+in_after_opening d who (Some w) ps p i h = in_set p _ (in_flat (nexts d who (Opens w)) ps p p i (cond_in (has_opening d w p) p (words_same w (told d (opening p)) (sym h))))
 
-opened_in : (d : Dialect) (who : Side) (o : Option Said) (ps : List Pos) (p : Pos) → In p (opened d who o ps) → In p ps × OpensWith d o p
-opened_in d who None ps p i = (i, tt)
-opened_in d who (Some w) ps p i =
+after_opening_in : (d : Dialect) (who : Side) (o : Option Said) (ps : List Pos) (p : Pos) → In p (after_opening d who o ps) → In p ps × OpensWith d o p
+after_opening_in d who None ps p i = (i, tt)
+after_opening_in d who (Some w) ps p i =
     let f = flat_in (nexts d who (Opens w)) ps p (set_in p _ i) in
     let c = in_cond (has_opening d w f.0) f.0 p f.2 in
     (subst (λ (x : Pos). In x ps) c.1 f.1, subst (λ (x : Pos). told d (opening x) ≡ w) c.1 (sym (same_words w (told d (opening f.0)) c.0)))
 
-opened_ascending : (d : Dialect) (who : Side) (o : Option Said) (ps : List Pos) → IsAscending ps → IsAscending (opened d who o ps)
-opened_ascending d who None ps up = up
-opened_ascending d who (Some w) ps up = set_ascending _
+after_opening_ascending : (d : Dialect) (who : Side) (o : Option Said) (ps : List Pos) → IsAscending ps → IsAscending (after_opening d who o ps)
+after_opening_ascending d who None ps up = up
+after_opening_ascending d who (Some w) ps up = set_ascending _
 
 -- the set from which the entries go on
 abbrev pub begun : SheetState → List Pos
-begun s = opened s.dialect s.side s.opens (set_of s.list)
+begun s = after_opening s.dialect s.side s.opens (set_of s.list)
 
 -- the set after the first entries
 abbrev pub behind_entries : SheetState → ℕ → List Pos
@@ -96,13 +96,13 @@ possible_behind s sheet n =
     let ls = take n s.entries in
     let entries : AreEntries ls = some_entries n s.entries (in_place _ _ _ s.entries sheet.in_place) in
     record {
-      ascending = run_ascending d who ls (begun s) (opened_ascending d who s.opens (set_of s.list) (set_ascending s.list));
+      ascending = run_ascending d who ls (begun s) (after_opening_ascending d who s.opens (set_of s.list) (set_ascending s.list));
       exact = λ q. (
         λ i.
             let r = has_run d who ls (begun s) q entries i in
-            let o = opened_in d who s.opens (set_of s.list) r.0 r.1 in
+            let o = after_opening_in d who s.opens (set_of s.list) r.0 r.1 in
             record { start = r.0; replies = r.2.0; is_listed = in_contains r.0 s.list (set_in r.0 s.list o.0); opens = o.1; gives = r.2.1 },
-        λ c. run_has d who ls (begun s) c.start q (in_opened d who s.opens (set_of s.list) c.start (in_set c.start s.list (contains_in c.start s.list c.is_listed)) c.opens) (c.replies, c.gives),
+        λ c. run_has d who ls (begun s) c.start q (in_after_opening d who s.opens (set_of s.list) c.start (in_set c.start s.list (contains_in c.start s.list c.is_listed)) c.opens) (c.replies, c.gives),
       );
     }
 
@@ -164,11 +164,11 @@ all_within s limit sheet fits within zero le = within_list s limit fits
 all_within s limit sheet fits within (suc n) le = (behind_entries s n, possible_behind s sheet n, within n (omega arith))
 
 -- a sheet lists no more positions than a text may
-listed_le : (who : Side) (ps : List Pos) → list_fault who ps ≡ None → length ps ≤ most_listed
+listed_le : (who : Side) (ps : List Pos) → list_fault who ps ≡ None → length ps ≤ MOST_LISTED
 listed_le who [] h = absurd cc
-listed_le who (p ∷ ps) h = go (nat_le (length (p ∷ ps)) most_listed) refl h
+listed_le who (p ∷ ps) h = go (nat_le (length (p ∷ ps)) MOST_LISTED) refl h
   where
-    go : (b : Bool) → nat_le (length (p ∷ ps)) most_listed ≡ b → (if b then differs (other_hand who p 1 ps) else Some Count) ≡ None → length (p ∷ ps) ≤ most_listed
+    go : (b : Bool) → nat_le (length (p ∷ ps)) MOST_LISTED ≡ b → (if b then differs (other_hand who p 1 ps) else Some Count) ≡ None → length (p ∷ ps) ≤ MOST_LISTED
     go true e h = grind (arith, nat_tests)
     go false e h = absurd cc
 
@@ -182,7 +182,7 @@ excess_not_within s limit line excess within =
     (λ p i. (more.1.exact p).1 ((few.1.exact p).0 i)) in
     absurd (omega (arith, more.2, few.2, ap (λ (ps : List Pos). length ps) same))
 
-pub sheet_le : (s : SheetState) → IsSheet s → length s.list ≤ most_listed
+pub sheet_le : (s : SheetState) → IsSheet s → length s.list ≤ MOST_LISTED
 sheet_le s sheet = listed_le s.side s.list sheet.listed
 
 module _ {A E : Type 0} where

@@ -3,7 +3,7 @@ use Rattle.std.specs.Prelude.{◌≡◌, true, ℕ, zero, suc, ◌+◌, ◌<◌,
 use Rattle.krieg_board.specs.Pos.{Pos}
 use Rattle.krieg_board.specs.Hand.{same_hand}
 use Rattle.krieg_board.specs.declared.men.Side.{Side}
-use Rattle.krieg_sheet.specs.Sheets.{SheetState, fresh}
+use Rattle.krieg_sheet.specs.Sheets.{SheetState, new_sheet}
 use Rattle.krieg_sheet.specs.SheetText.{head_lines, opens_lines}
 use Rattle.krieg_sheet.specs.Games.{Consistent}
 use Rattle.krieg_theory.specs.Sets.{In}
@@ -28,7 +28,7 @@ Exceeds limit s = (ps : List Pos) × IsPossible s ps × (limit < length ps)
 
 -- What the sheet was before, from the shortest on: the list alone, then the list with the opening words where they were heard, then with one entry, with two, and so on.
 abbrev pub prefix : SheetState → ℕ → SheetState
-prefix s zero = fresh s.dialect s.side s.list None
+prefix s zero = new_sheet s.dialect s.side s.list None
 prefix s (suc n) = record { dialect = s.dialect; side = s.side; list = s.list; opens = s.opens; entries = take n s.entries }
 
 -- the line of the sheet's text that says how many positions are listed

@@ -45,6 +45,6 @@ run d who [] ps = ps
 run d who (l ∷ ls) ps = run d who ls (step d who l ps)
 
 -- only the positions with the opening words, where they were heard
-abbrev pub opened : Dialect → Side → Option Said → List Pos → List Pos
-opened d who None ps = ps
-opened d who (Some w) ps = step d who (Opens w) ps
+abbrev pub after_opening : Dialect → Side → Option Said → List Pos → List Pos
+after_opening d who None ps = ps
+after_opening d who (Some w) ps = step d who (Opens w) ps

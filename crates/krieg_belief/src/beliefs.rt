@@ -1,7 +1,7 @@
 ghost use Rattle.std.specs.Prelude.{◌≡◌, ◌≤◌, ◌<◌, ◌+◌, ◌^◌, ℕ, IfOk, IfErr, OnOk, Err, length, take};
 ghost use Rattle.krieg_board.specs.declared.men.Side.{Side};
-ghost use Rattle.krieg_fen.specs.Forms.{most_listed};
 ghost use Rattle.krieg_words.specs.declared.dialects.Dialect.{Dialect};
+ghost use Rattle.krieg_fen.specs.declared.forms.TheConstants.{MOST_LISTED};
 ghost use Rattle.krieg_sheet.specs.SheetText as text;
 ghost use Rattle.krieg_belief.specs.Steps as spec;
 ghost use Rattle.krieg_belief.specs.Possible as possible;
@@ -75,7 +75,7 @@ fn opening_lines(opens: &Option<Words>) -> usize
 /// How many positions are listed.
 fn list_len(s: &Sheet) -> usize
     ensures value { result ≡ length s.now.list }
-    ensures small { result ≤ most_listed }
+    ensures small { result ≤ MOST_LISTED }
 {
     s.list().len()
 }
@@ -83,13 +83,13 @@ fn list_len(s: &Sheet) -> usize
 /// The last line of a sheet's text before the entries.
 fn line_behind(s: &Sheet) -> usize
     ensures value { result ≡ possible.line_of s.now 1 }
-    ensures small { result ≤ most_listed + 5 }
+    ensures small { result ≤ MOST_LISTED + 5 }
 {
     list_line(s.dialect()) + list_len(s) + opening_lines(&s.opens())
 }
 
 /// Only the positions with the opening words, where they were heard.
-fn opened(
+fn after_opening(
     alloc: Global,
     d: Dialect,
     who: Side,
@@ -98,9 +98,9 @@ fn opened(
     limit: usize,
 ) -> Result<Belief, StepStop>
     requires { length listed ≤ limit }
-    ensures value { IfOk result (λ b. b ≡ spec.opened d who opens.now listed) }
+    ensures value { IfOk result (λ b. b ≡ spec.after_opening d who opens.now listed) }
     ensures small { IfOk result (λ b. length b ≤ limit) }
-    ensures too_many { result ≡ Err stop.TooMany → limit < length (spec.opened d who opens.now listed) }
+    ensures too_many { result ≡ Err stop.TooMany → limit < length (spec.after_opening d who opens.now listed) }
 {
     match opens {
         None => Ok(listed),
@@ -130,7 +130,7 @@ pub fn believe(alloc: Global, s: &Sheet, limit: usize) -> Result<Belief, BeliefS
         return Err(BeliefStop::TooMany { line: list_line(d) });
     }
     let behind = line_behind(s);
-    let start = match opened(alloc, d, who, &s.opens(), listed, limit) {
+    let start = match after_opening(alloc, d, who, &s.opens(), listed, limit) {
         Ok(start) => start,
         Err(stop) => return Err(stopped(stop, behind)),
     };

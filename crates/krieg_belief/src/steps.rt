@@ -9,7 +9,7 @@ ghost use Rattle.krieg_belief.specs.declared.steps.StepStop.TheVariants as stop;
 use krieg_board::{Move, NoMemory, Position, Side};
 use krieg_moves::{has_move, is_legal, legal_moves};
 use krieg_pack::{Belief, Packed, pack, trim, unpack};
-use krieg_words::{Dialect, Line, Words, after_told, compare, opening, told};
+use krieg_words::{Dialect, Line, Words, after_told, after_told_if_legal, compare, opening, told};
 use std::alloc::Global;
 
 /// Why a set was not made.
@@ -32,11 +32,10 @@ fn has_opening(d: Dialect, w: &Words, p: &Position) -> bool
 fn after_done(d: Dialect, who: Side, mv: &Move, w: &Words, p: &Position) -> Option<Position>
     ensures { result ≡ spec.after_done d who mv.now w.now p.now }
 {
-    if p.side() == who && is_legal(p, *mv) {
-        after_told(d, w, p, *mv)
-    } else {
-        None
+    if p.side() != who {
+        return None;
     }
+    after_told_if_legal(d, w, p, *mv)
 }
 
 /// Adds the positions after those of the legal moves that have the words.

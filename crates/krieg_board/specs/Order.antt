@@ -1,6 +1,6 @@
 -- The order of moves.
-use Rattle.std.specs.Prelude.{ℕ, List, [], ◌∷◌}
-use Rattle.std.specs.Ordering.{nat_cmp}
+use Rattle.std.specs.Prelude.{ℕ, Bool, List, [], ◌∷◌}
+use Rattle.std.specs.Ordering.{nat_cmp, on, is_lt}
 use Rattle.std.specs.Cmp.Lexicographic.{slice_cmp}
 use Rattle.std.specs.declared.cmp.Ordering.{Ordering}
 use Rattle.krieg_board.specs.declared.men.Promo.{Promo}
@@ -20,5 +20,9 @@ abbrev pub move_numbers : Move → List ℕ
 move_numbers m = m.from ∷ m.to ∷ promo_place m.promo ∷ []
 
 -- the order of moves: by the first of these numbers that differs
-unfoldable pub move_cmp : Move → Move → Ordering
-move_cmp m n = slice_cmp nat_cmp (move_numbers m) (move_numbers n)
+abbrev pub move_cmp : Move → Move → Ordering
+move_cmp = on move_numbers (slice_cmp nat_cmp)
+
+-- the one stands before the other
+abbrev pub move_lt : Move → Move → Bool
+move_lt m n = is_lt (move_cmp m n)

@@ -1,7 +1,7 @@
 ghost use Rattle.std.specs.Prelude.{◌≡◌, ◌<◌, ℕ};
 ghost use Rattle.krieg_board.specs.Attacks as spec;
 
-use crate::board::{Board, is_man, is_of};
+use crate::board::{Board, is_of};
 use crate::men::{Kind, Man, Side};
 use crate::square::{file_of, rank_of};
 
@@ -60,14 +60,14 @@ fn is_between(from: u8, to: u8, s: u8) -> bool
 
 /// Whether each square strictly between the two, on their file, rank or diagonal, is empty.
 #[tactic(auto, unfolding(crate::specs::Attacks::is_clear, crate::specs::Squares::every_square, crate::specs::Squares::squares))]
-pub fn is_clear(board: &Board, from: u8, to: u8) -> bool
+fn is_clear(board: &Board, from: u8, to: u8) -> bool
     ensures { result ≡ spec.is_clear board.now from to }
 {
     (0..64u8).all(|s| !(is_between(from, to, s) && board[s as usize].is_some()))
 }
 
 /// Whether `to` is on the next rank, as that side's pawns go.
-pub fn is_forward(side: Side, from: u8, to: u8) -> bool
+fn is_forward(side: Side, from: u8, to: u8) -> bool
     ensures { result ≡ spec.is_forward side from to }
 {
     match side {
@@ -138,13 +138,4 @@ pub fn is_attacked(board: &Board, s: u8, by: Side) -> bool
     ensures { result ≡ spec.is_attacked board.now s by }
 {
     (0..64u8).any(|f| is_of(by, board[f as usize]) && attacks(board, f, s))
-}
-
-/// Whether a king of that side is attacked (FIDE Laws, article 3.9).
-#[tactic(auto, unfolding(crate::specs::Attacks::is_king_attacked, crate::specs::Squares::some_square, crate::specs::Squares::squares))]
-pub fn is_king_attacked(board: &Board, side: Side) -> bool
-    ensures { result ≡ spec.is_king_attacked board.now side }
-{
-    (0..64u8).any(|k| is_man(side, Kind::King, board[k as usize])
-        && is_attacked(board, k, side.other()))
 }

@@ -7,7 +7,7 @@ use crate::men::{Kind, Man, Side};
 pub type Board = [Option<Man>; 64];
 
 /// Whether nothing stands on the square.
-pub fn is_empty(board: &Board, s: u8) -> bool
+pub(crate) fn is_empty(board: &Board, s: u8) -> bool
     requires { s < 64 }
     ensures { result ≡ spec.is_empty board.now s }
 {

@@ -1,6 +1,7 @@
 -- From the roots to the verdict.
 use Rattle.std.proofs.Common.{◌≡◌, ℕ, ◌+◌, ◌≤◌, Bool, true, false, not, ◌&&◌, cond, List, [], ◌∷◌, map, Option, None, refl, sym, ap, ◌∙◌, arith}
 use Rattle.std.specs.List.{list_all, list_any}
+use Rattle.std.proofs.Math.Bool.{and_assoc}
 use Rattle.krieg_board.specs.Pos.{Pos}
 use Rattle.krieg_board.specs.declared.men.Side.{Side}
 use Rattle.krieg_words.specs.declared.dialects.Dialect.{Dialect}
@@ -19,24 +20,23 @@ use Rattle.krieg_game.specs.Outset.{outset}
 use Rattle.krieg_game.specs.Classes.{class_pair}
 use Rattle.krieg_game.proofs.KeyLaws.{root_order}
 use Rattle.krieg_plan.specs.Trees.{PlanTrees, first_root_in}
-use Rattle.krieg_checker.specs.Reached.{first_root}
 use Rattle.krieg_checker.specs.CheckCost.{first_cost, check_cost}
 use Rattle.krieg_checker.specs.Walked.{other_cost}
 use Rattle.krieg_checker.specs.Found.{within, Tells, worse, all_won_other}
 use Rattle.krieg_checker.specs.Starting.{heard_of, roots_won, roots_cost, IsStarted}
 use Rattle.krieg_checker.specs.declared.start.Started.{Started}
-use Rattle.krieg_checker.proofs.BoolLaws.{and_assoc}
 use Rattle.krieg_checker.proofs.NodeTells.{worse_within}
 use Rattle.krieg_checker.proofs.Sets.{all_map, total_map, all_agree}
 use Rattle.krieg_checker.proofs.PlanTells.{mates_parted}
 use Rattle.krieg_checker.proofs.ReachedCosts.{plan_costs}
 use Rattle.krieg_checker.proofs.ListedSets.{same_openings, same_opening_set, same_mates}
+use Rattle.krieg_checker.specs.declared.walk.TheConstants.{MOST_COUNTED}
 
 -- a root more
-pub root_more : (d : Dialect) (plan : PlanTrees) (c : RootKey × List Pos) (cs : List (RootKey × List Pos)) (need r : Option ℕ) (all : ℕ → Bool) → ((k : ℕ) → k ≤ 65535 → within need k && roots_won d plan (c ∷ cs) k ≡ all k) →
-    Tells r (all_won_other (chess d) (first_root_in plan c.0) c.1) → (k : ℕ) → k ≤ 65535 → within (worse need r) k && roots_won d plan cs k ≡ all k
+pub root_more : (d : Dialect) (plan : PlanTrees) (c : RootKey × List Pos) (cs : List (RootKey × List Pos)) (need r : Option ℕ) (all : ℕ → Bool) → ((k : ℕ) → k ≤ MOST_COUNTED → within need k && roots_won d plan (c ∷ cs) k ≡ all k) →
+    Tells r (all_won_other (chess d) (first_root_in plan c.0) c.1) → (k : ℕ) → k ≤ MOST_COUNTED → within (worse need r) k && roots_won d plan cs k ≡ all k
 root_more d plan c cs need r all so h k small =
-    ap (λ b. b && roots_won d plan cs k) (worse_within need r k) ∙ sym (and_assoc (within need k) (within r k) (roots_won d plan cs k))
+    ap (λ b. b && roots_won d plan cs k) (worse_within need r k) ∙ and_assoc (within need k) (within r k) (roots_won d plan cs k)
     ∙ ap (λ b. within need k && (b && roots_won d plan cs k)) (sym (h k small)) ∙ so k small
 
 -- where no root has the key
@@ -45,11 +45,6 @@ pub no_root : (d : Dialect) (plan : PlanTrees) (key : RootKey) (B : List Pos) (r
 no_root d plan key B r units none h = (λ k small. ap (λ o. all_won_other (chess d) o B k) none ∙ h k small, omega (arith, ap (λ o. other_cost (chess d) o B) none))
 
 module _ (d : Dialect) (who : Side) (plan : PlanTrees) where
-  -- the root that is found is the first one with the key
-  first_is : (rs : PlanTrees) (key : RootKey) → first_root (chess d) (outset d who) rs key ≡ first_root_in rs key
-  first_is [] key = refl
-  first_is (r ∷ rs) key = ap (λ m. cond (same root_lt r.0 key) (Just r.1) m) (first_is rs key)
-
   root_wins : (rs : PlanTrees) (key : RootKey) (p : Pos) (k : ℕ) → wins_root (chess d) (outset d who) rs key p k ≡ wins_other (chess d) (first_root_in rs key) p k
   root_wins [] key p k = refl
   root_wins (r ∷ rs) key p k = go (same root_lt r.0 key) (root_wins rs key p k)
@@ -106,10 +101,9 @@ module _ (d : Dialect) (who : Side) (plan : PlanTrees) where
     -- the cost of the check is that of the start and of the roots
     pub plan_cost : check_cost (chess d) (outset d who) plan S ≡ first_cost (chess d) (outset d who) (set_of S) + roots_cost d plan cs
     plan_cost =
-        let costs = λ (xs : List Pos) (key : RootKey). other_cost (chess d) (first_root (chess d) (outset d who) plan key) (opening_set (chess d) (outset d who) xs key) in
+        let costs = λ (xs : List Pos) (key : RootKey). other_cost (chess d) (first_root_in plan key) (opening_set (chess d) (outset d who) xs key) in
         let a = plan_costs (chess d) (outset d who) plan S in
         let b = ap (total (costs S)) (same_openings (chess d) (outset d who) root_order position_order S) in
-        let c = total_agree (costs B) (costs S) (openings (chess d) (outset d who) B) (λ key i. ap (other_cost (chess d) (first_root (chess d) (outset d who) plan key)) (same_opening_set (chess d) (outset d who) root_order position_order S key)) in
-        let e = total_agree (λ key. other_cost (chess d) (first_root_in plan key) (opening_set (chess d) (outset d who) B key)) (costs B) (openings (chess d) (outset d who) B) (λ key i. ap (λ m. other_cost (chess d) m (opening_set (chess d) (outset d who) B key)) (sym (first_is plan key))) in
+        let c = total_agree (costs B) (costs S) (openings (chess d) (outset d who) B) (λ key i. ap (other_cost (chess d) (first_root_in plan key)) (same_opening_set (chess d) (outset d who) root_order position_order S key)) in
         let f = ap (roots_cost d plan) sets_are ∙ total_map (λ (c : RootKey × List Pos). other_cost (chess d) (first_root_in plan c.0) c.1) (λ key. (key, opening_set (chess d) (outset d who) B key)) (openings (chess d) (outset d who) B) in
-        omega (arith, a, b, c, e, f, first_same S)
+        omega (arith, a, b, c, f, first_same S)

@@ -9,7 +9,6 @@ use Rattle.krieg_pack.proofs.PositionSets.{position_order}
 use Rattle.krieg_theory.specs.Sets.{In, is_nil}
 use Rattle.krieg_theory.specs.Tree.{Try, Maybe, NoEdges}
 use Rattle.krieg_theory.specs.Split.{stale_in_some, keys, class}
-use Rattle.krieg_costs.specs.Sums.{total}
 use Rattle.krieg_costs.specs.Cost.{made}
 use Rattle.krieg_costs.specs.Block.{lives_in_some}
 use Rattle.krieg_costs.proofs.Reached.{class_some}
@@ -28,6 +27,7 @@ use Rattle.krieg_checker.specs.declared.tried.Tried.{Tried}
 use Rattle.krieg_checker.proofs.Sets.{total_none}
 use Rattle.krieg_checker.proofs.NodeTells.{node_tells}
 use Rattle.krieg_checker.proofs.Walking.{some_nil}
+use Rattle.krieg_checker.specs.declared.walk.TheConstants.{MOST_COUNTED}
 
 none_in_all : {X : Type 0} (xs : List X) → is_nil xs ≡ false → list_all (λ x. false) xs ≡ false
 none_in_all [] e = absurd cc
@@ -60,7 +60,7 @@ module _ (d : Dialect) where
       dead (inr k) = subst (In k.0) e k.1
 
   -- what is needed behind a last try, by what was found
-  need_is : (B : List Pos) (t : Move) (c : Option ℕ) (fails : Bool) → ((k : ℕ) → k ≤ 65535 → true ≡ within c k) → fails ≡ lives_in_some (chess d) B t → own_need fails c ≡ own_need (stale_in_some (chess d) B t) (below (keys (chess d) B t))
+  need_is : (B : List Pos) (t : Move) (c : Option ℕ) (fails : Bool) → ((k : ℕ) → k ≤ MOST_COUNTED → true ≡ within c k) → fails ≡ lives_in_some (chess d) B t → own_need fails c ≡ own_need (stale_in_some (chess d) B t) (below (keys (chess d) B t))
   need_is B t c true hc e = sym (own_is B t (stale_in_some (chess d) B t) (keys (chess d) B t) refl refl ∙ ap (λ b. cond b None (Some 1)) (sym e))
   need_is B t c false hc e = go c (hc 0 (omega arith)) ∙ sym (own_is B t (stale_in_some (chess d) B t) (keys (chess d) B t) refl refl ∙ ap (λ b. cond b None (Some 1)) (sym e))
     where

@@ -1,14 +1,15 @@
 -- What is reached is closed, and is in every list that is.
 use Rattle.std.proofs.Common.{◌≡◌, Bool, true, false, not, cond, List, [], ◌∷◌, ◌++◌, inl, inr, flat_map, refl, sym, ap, subst}
 use Rattle.krieg_theory.specs.Sets.{In, same}
-use Rattle.krieg_theory.specs.Tree.{Tree, Try, Maybe, Nothing, Just, Edges, NoEdges, Edge, first_edge}
+use Rattle.krieg_theory.specs.Tree.{Tree, Try, Maybe, Nothing, Just, Edges, NoEdges, Edge, first_edge, first_root}
 use Rattle.krieg_theory.specs.Game.{Game, IsGame}
 use Rattle.krieg_theory.specs.Split.{refused, class, given, all_outcomes}
 use Rattle.krieg_theory.specs.Plans.{Outset, IsOutset, Plan, openings, opening_set, all_starts}
 use Rattle.krieg_theory.proofs.Ascending.{in_as_set, as_set_in}
 use Rattle.krieg_theory.proofs.Keys.{at_key_in, in_at_key, key_occurs}
 use Rattle.krieg_theory.proofs.Lists.{in_append_left, in_flat, flat_in, in_map, in_filter, filter_in}
-use Rattle.krieg_checker.specs.Reached.{From, No, On, Path, Pair, pair_at, first_pairs, next_at, next_pairs, IsClosed, reached, reached_other, reached_at, reached_from, first_root}
+use Rattle.krieg_theory.proofs.Steps.{in_outs}
+use Rattle.krieg_checker.specs.Reached.{From, No, On, Path, Pair, pair_at, first_pairs, next_at, next_pairs, IsClosed, reached, reached_other, reached_at, reached_from}
 use Rattle.krieg_checker.proofs.ReachedParts.{others, edges, by_part, in_others, in_after, in_rest}
 use Rattle.krieg_checker.specs.Laws.{ReachedIsLeast}
 
@@ -33,10 +34,6 @@ module _ (G : Game) (O : Outset G) where
   pair_there path (Just n) B p y i (inr j) = absurd j
 
   module _ (L : IsGame G) where
-    -- an outcome of a legal try in a member is in its class
-    in_class : (B : List G.Position) (t : G.Move) (p : G.Position) (o : G.Key × G.Position) → In p B → G.legal p t ≡ true → In o (G.outcomes p t) → In o (all_outcomes G B t)
-    in_class B t p o i legal j = in_flat (given G t) B p o i (subst (λ b. In o (cond b (G.outcomes p t) [])) (sym legal) j)
-
     -- what comes next after a member at the node
     next_there : (path : Path G O) (t : G.Move) (other : Maybe G.Move G.Key) (es : Edges G.Move G.Key) (B : List G.Position) (p : G.Position) (y : Pair G O) → In p B → In y (next_at G O path (Try t other es) p) →
         In y (others G O path t other B ++ edges G O path t es B)
@@ -46,7 +43,7 @@ module _ (G : Game) (O : Outset G) where
             In y (others G O path t other B ++ edges G O path t es B)
         go true legal k =
             let o = flat_in (λ o. pair_at G O (On o.0 ∷ path) (first_edge G.key_lt es o.0) o.1) (G.outcomes p t) y k in
-            let all = in_class B t p o.0 i legal o.1 in
+            let all = in_outs G L B t p o.0 i legal o.1 in
             let q = in_as_set G.position_lt L.position_order o.0.1 _ (in_at_key G.key_lt L.key_order o.0.0 (all_outcomes G B t) o.0 all refl) in
             in_after G O path t other es B y o.0.0 (key_occurs G.key_lt L.key_order (all_outcomes G B t) o.0 all)
             (subst (In y) (sym (at_is (On o.0.0 ∷ path) es o.0.0 (class G B t o.0.0))) (pair_there (On o.0.0 ∷ path) (first_edge G.key_lt es o.0.0) (class G B t o.0.0) o.0.1 y q o.2))
@@ -119,29 +116,29 @@ module _ (G : Game) (O : Outset G) where
 
     -- those at the root with a key
     abbrev at : Plan G O → List G.Position → O.Root → List (Pair G O)
-    at plan S key = reached_other G O (From key ∷ []) (first_root G O plan key) (opening_set G O S key)
+    at plan S key = reached_other G O (From key ∷ []) (first_root O.root_lt plan key) (opening_set G O S key)
 
     pub reached_is_least : IsOutset G O → ReachedIsLeast G O
     reached_is_least LO plan S = (record { first = first; next = next }, least_of)
       where
         first : (x : Pair G O) → In x (first_pairs G O plan S) → In x (reached_from G O plan S)
         first x i =
-            let s = flat_in (λ s. pair_at G O (From s.0 ∷ []) (first_root G O plan s.0) s.1) (all_starts G O S) x i in
+            let s = flat_in (λ s. pair_at G O (From s.0 ∷ []) (first_root O.root_lt plan s.0) s.1) (all_starts G O S) x i in
             let q = in_as_set G.position_lt L.position_order s.0.1 _ (in_at_key O.root_lt LO.root_order s.0.0 (all_starts G O S) s.0 s.1 refl) in
-            in_flat (at plan S) (openings G O S) s.0.0 x (key_occurs O.root_lt LO.root_order (all_starts G O S) s.0 s.1) (pair_there (From s.0.0 ∷ []) (first_root G O plan s.0.0) (opening_set G O S s.0.0) s.0.1 x q s.2)
+            in_flat (at plan S) (openings G O S) s.0.0 x (key_occurs O.root_lt LO.root_order (all_starts G O S) s.0 s.1) (pair_there (From s.0.0 ∷ []) (first_root O.root_lt plan s.0.0) (opening_set G O S s.0.0) s.0.1 x q s.2)
 
         next : (x y : Pair G O) → In x (reached_from G O plan S) → In y (next_pairs G O x) → In y (reached_from G O plan S)
         next x y i j =
             let key = flat_in (at plan S) (openings G O S) x i in
-            in_flat (at plan S) (openings G O S) key.0 y key.1 (closed_other (From key.0 ∷ []) (first_root G O plan key.0) (opening_set G O S key.0) x y key.2 j)
+            in_flat (at plan S) (openings G O S) key.0 y key.1 (closed_other (From key.0 ∷ []) (first_root O.root_lt plan key.0) (opening_set G O S key.0) x y key.2 j)
 
         least_of : (R : List (Pair G O)) → IsClosed G O plan S R → (x : Pair G O) → In x (reached_from G O plan S) → In x R
         least_of R c x i =
             let key = flat_in (at plan S) (openings G O S) x i in
-            least_other R c.next (From key.0 ∷ []) (first_root G O plan key.0) (opening_set G O S key.0) (λ p y k l. starts key.0 p y k l) x key.2
+            least_other R c.next (From key.0 ∷ []) (first_root O.root_lt plan key.0) (opening_set G O S key.0) (λ p y k l. starts key.0 p y k l) x key.2
           where
-            starts : (key : O.Root) (p : G.Position) (y : Pair G O) → In p (opening_set G O S key) → In y (pair_at G O (From key ∷ []) (first_root G O plan key) p) → In y R
+            starts : (key : O.Root) (p : G.Position) (y : Pair G O) → In p (opening_set G O S key) → In y (pair_at G O (From key ∷ []) (first_root O.root_lt plan key) p) → In y R
             starts key p y k l =
                 let s = at_key_in O.root_lt LO.root_order key (all_starts G O S) p (as_set_in G.position_lt L.position_order p _ k) in
-                c.first y (in_flat (λ s. pair_at G O (From s.0 ∷ []) (first_root G O plan s.0) s.1) (all_starts G O S) s.0 y s.1
-                (subst (λ r. In y (pair_at G O (From r ∷ []) (first_root G O plan r) s.0.1)) (sym s.2) (subst (λ r. In y (pair_at G O (From key ∷ []) (first_root G O plan key) r)) (sym s.3) l)))
+                c.first y (in_flat (λ s. pair_at G O (From s.0 ∷ []) (first_root O.root_lt plan s.0) s.1) (all_starts G O S) s.0 y s.1
+                (subst (λ r. In y (pair_at G O (From r ∷ []) (first_root O.root_lt plan r) s.0.1)) (sym s.2) (subst (λ r. In y (pair_at G O (From key ∷ []) (first_root O.root_lt plan key) r)) (sym s.3) l)))

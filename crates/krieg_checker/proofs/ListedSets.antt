@@ -1,13 +1,13 @@
 -- A list of positions and its set start the same games.
 use Rattle.std.proofs.Common.{◌≡◌, ℕ, Bool, List, map, subst}
 use Rattle.std.specs.List.{list_all}
+use Rattle.krieg_board.proofs.SameTests.{same_tests}
 use Rattle.krieg_theory.specs.Sets.{In, IsOrder, as_set, at_key}
 use Rattle.krieg_theory.specs.Game.{Game}
 use Rattle.krieg_theory.specs.Plans.{Outset, Plan, all_starts, openings, opening_set, mates}
 use Rattle.krieg_theory.proofs.Ascending.{same_set, as_set_ascending, in_as_set, as_set_in}
 use Rattle.krieg_theory.proofs.Keys.{at_key_in, in_at_key}
 use Rattle.krieg_theory.proofs.Lists.{all_at, all_from, in_flat, flat_in, in_map, map_in}
-use Rattle.krieg_checker.proofs.BoolLaws.{same_bool}
 
 same_as_set : {X : Type 0} (lt : X → X → Bool) (o : IsOrder lt) (xs ys : List X) → ((x : X) → In x xs → In x ys) → ((x : X) → In x ys → In x xs) → as_set lt xs ≡ as_set lt ys
 same_as_set lt o xs ys f g =
@@ -40,7 +40,7 @@ module _ (G : Game) (O : Outset G) (ro : IsOrder O.root_lt) (xo : IsOrder G.posi
   same_opening_set key = same_as_set G.position_lt xo _ _ (kept_at O.root_lt ro key (all_starts G O B) (all_starts G O S) starts_in) (kept_at O.root_lt ro key (all_starts G O S) (all_starts G O B) in_starts)
 
   all_set : (f : G.Position → Bool) → list_all f B ≡ list_all f S
-  all_set f = same_bool _ _
+  all_set f = same_tests _ _
       (λ e. all_from f S (λ p i. all_at f B e p (in_as_set G.position_lt xo p S i)))
       (λ e. all_from f B (λ p i. all_at f S e p (as_set_in G.position_lt xo p S i)))
 

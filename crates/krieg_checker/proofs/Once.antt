@@ -1,50 +1,16 @@
 -- No pair is reached twice.
-use Rattle.std.proofs.Common.{◌≡◌, Bool, true, false, cond, List, [], ◌∷◌, ◌++◌, ◌⊎◌, inl, inr, map, length, flat_map, refl, sym, ap, subst, ◌∙◌, arith, append_assoc, length-append}
-use Rattle.std.specs.List.{filter}
-use Rattle.std.proofs.lemmas.Bool.{both_ways}
-use Rattle.krieg_theory.specs.Sets.{In, IsOrder, Ascending, as_set, at_key, same}
-use Rattle.krieg_theory.specs.Tree.{Tree, Try, Maybe, Nothing, Just, Edges, NoEdges, Edge}
+use Rattle.std.proofs.Common.{◌≡◌, Bool, true, false, cond, List, [], ◌∷◌, ◌++◌, ◌⊎◌, inl, inr, map, length, sym, ap, ◌∙◌, arith, append_assoc, length-append}
+use Rattle.krieg_theory.specs.Sets.{In, at_key, same}
+use Rattle.krieg_theory.specs.Tree.{Tree, Try, Maybe, Nothing, Just, Edges, NoEdges, Edge, first_root}
 use Rattle.krieg_theory.specs.Game.{Game, IsGame}
 use Rattle.krieg_theory.specs.Split.{refused, keys, class, all_outcomes}
 use Rattle.krieg_theory.specs.Plans.{Outset, IsOutset, openings, opening_set, all_starts}
-use Rattle.krieg_theory.proofs.Ascending.{as_set_ascending}
-use Rattle.krieg_theory.proofs.Lists.{append_in, flat_in, map_in, filter_in}
+use Rattle.krieg_theory.proofs.Lists.{append_in, flat_in, map_in}
 use Rattle.krieg_costs.specs.Sums.{IsOnce}
-use Rattle.krieg_checker.specs.Reached.{Step, From, No, On, Path, Pair, reached, reached_other, reached_at, first_root}
+use Rattle.krieg_costs.proofs.Onces.{once_append, once_map, once_flat, once_filter, once_set}
+use Rattle.krieg_checker.specs.Reached.{Step, From, No, On, Path, Pair, reached, reached_other, reached_at}
 use Rattle.krieg_checker.proofs.ReachedParts.{here, others, after, edges, by_part}
 use Rattle.krieg_checker.specs.Laws.{ReachedIsOnce}
-
-once_append : {X : Type 0} (xs ys : List X) → IsOnce xs → IsOnce ys → ((x : X) → In x xs → In x ys → ⊥) → IsOnce (xs ++ ys)
-once_append [] ys a b apart = b
-once_append (x ∷ xs) ys a b apart = ((λ i. go (append_in xs ys x i)), once_append xs ys a.1 b (λ z i j. apart z (inr i) j))
-  where
-    go : In x xs ⊎ In x ys → ⊥
-    go (inl i) = a.0 i
-    go (inr i) = apart x (inl refl) i
-
-once_map : {X Y : Type 0} (f : X → Y) (xs : List X) → ((a b : X) → f a ≡ f b → a ≡ b) → IsOnce xs → IsOnce (map f xs)
-once_map f [] one h = tt
-once_map f (x ∷ xs) one h = ((λ i. let y = map_in f xs (f x) i in h.0 (subst (λ z. In z xs) (one y.0 x y.2) y.1)), once_map f xs one h.1)
-
-once_flat : {X Y : Type 0} (f : X → List Y) (xs : List X) → IsOnce xs → ((x : X) → IsOnce (f x)) → ((a b : X) (y : Y) → In y (f a) → In y (f b) → a ≡ b) → IsOnce (flat_map f xs)
-once_flat f [] h each apart = tt
-once_flat f (x ∷ xs) h each apart =
-    once_append (f x) (flat_map f xs) (each x) (once_flat f xs h.1 each apart)
-    (λ y i j. let z = flat_in f xs y j in h.0 (subst (λ w. In w xs) (apart z.0 x y z.2 i) z.1))
-
-once_filter : {X : Type 0} (f : X → Bool) (xs : List X) → IsOnce xs → IsOnce (filter f xs)
-once_filter f [] h = tt
-once_filter f (x ∷ xs) h = elim (f x) as (λ b. IsOnce (cond b (x ∷ filter f xs) (filter f xs))) [
-  | true ↦ ((λ i. h.0 (filter_in f xs x i).0), once_filter f xs h.1)
-  | false ↦ once_filter f xs h.1
-]
-
-once_ascending : {X : Type 0} (lt : X → X → Bool) → IsOrder lt → (xs : List X) → Ascending lt xs → IsOnce xs
-once_ascending lt o [] up = tt
-once_ascending lt o (x ∷ xs) up = ((λ i. both_ways (lt x x) (o.never_itself x) (up.0 x i)), once_ascending lt o xs up.1)
-
-once_set : {X : Type 0} (lt : X → X → Bool) → IsOrder lt → (xs : List X) → IsOnce (as_set lt xs)
-once_set lt o xs = once_ascending lt o (as_set lt xs) (as_set_ascending lt o xs)
 
 module _ {S : Type 0} where
   -- no path goes on from itself to itself
@@ -153,6 +119,6 @@ module _ (G : Game) (O : Outset G) where
 
     pub reached_is_once : IsOutset G O → ReachedIsOnce G O
     reached_is_once LO plan S =
-        once_flat (λ key. reached_other G O (From key ∷ []) (first_root G O plan key) (opening_set G O S key)) (openings G O S) (once_set O.root_lt LO.root_order (map (λ o. o.0) (all_starts G O S)))
-        (λ key. once_other (From key ∷ []) (first_root G O plan key) (opening_set G O S key) (once_set G.position_lt L.position_order (at_key O.root_lt key (all_starts G O S))))
-        (λ a b y i j. same_from a b (apart (From a) (From b) [] y.0 (below_other (From a ∷ []) (first_root G O plan a) (opening_set G O S a) y i) (below_other (From b ∷ []) (first_root G O plan b) (opening_set G O S b) y j)))
+        once_flat (λ key. reached_other G O (From key ∷ []) (first_root O.root_lt plan key) (opening_set G O S key)) (openings G O S) (once_set O.root_lt LO.root_order (map (λ o. o.0) (all_starts G O S)))
+        (λ key. once_other (From key ∷ []) (first_root O.root_lt plan key) (opening_set G O S key) (once_set G.position_lt L.position_order (at_key O.root_lt key (all_starts G O S))))
+        (λ a b y i j. same_from a b (apart (From a) (From b) [] y.0 (below_other (From a ∷ []) (first_root O.root_lt plan a) (opening_set G O S a) y i) (below_other (From b ∷ []) (first_root O.root_lt plan b) (opening_set G O S b) y j)))

@@ -9,6 +9,7 @@ use Rattle.krieg_theory.specs.Game.{Game}
 use Rattle.krieg_theory.specs.Plans.{Outset, Plan, is_over, all_starts, openings, opening_set, wins_root, mates, IsWorst}
 use Rattle.krieg_checker.specs.Found.{Tells}
 use Rattle.krieg_checker.proofs.Sets.{by_keys}
+use Rattle.krieg_checker.specs.declared.walk.TheConstants.{MOST_COUNTED}
 
 module _ (G : Game) (O : Outset G) where
   one_more : (o a A X H : Bool) → X ≡ (not A && H) → ((not o && a) && X) ≡ (not (o || A) && (a && H))
@@ -33,7 +34,7 @@ module _ (G : Game) (O : Outset G) where
       mates_starts plan S k ∙ ap (λ (b : Bool). not (list_any (is_over G O) S) && b) (by_keys O.root_lt ro G.position_lt xo (λ key p. wins_root G O plan key p k) (all_starts G O S))
 
   -- a number that was found is the worst case, and where none was found the plan mates within none of the numbers of a file
-  pub worst_is : (plan : Plan G O) (S : List G.Position) (w : ℕ) → w ≤ 65535 → Tells (Some w) (mates G O plan S) → IsWorst G O plan S w
+  pub worst_is : (plan : Plan G O) (S : List G.Position) (w : ℕ) → w ≤ MOST_COUNTED → Tells (Some w) (mates G O plan S) → IsWorst G O plan S w
   worst_is plan S w small h = record {
     mates_within = h w small ∙ le-leb w w (omega arith);
     least = λ i m. least i m;
@@ -48,5 +49,5 @@ module _ (G : Game) (O : Outset G) where
               let below : i < w = leb-false w i e in
               absurd (both_ways (mates G O plan S i) (h i (omega arith) ∙ e) m)
 
-  pub none_mates : (plan : Plan G O) (S : List G.Position) (k : ℕ) → k ≤ 65535 → Tells None (mates G O plan S) → mates G O plan S k ≡ false
+  pub none_mates : (plan : Plan G O) (S : List G.Position) (k : ℕ) → k ≤ MOST_COUNTED → Tells None (mates G O plan S) → mates G O plan S k ≡ false
   none_mates plan S k small h = h k small

@@ -1,14 +1,14 @@
 -- The cost of a walk is that of the pairs that are reached.
 use Rattle.std.proofs.Common.{◌≡◌, Bool, true, false, cond, List, [], ◌∷◌, ◌++◌, map, flat_map, refl, ◌∙◌, arith}
 use Rattle.krieg_theory.specs.Sets.{same}
-use Rattle.krieg_theory.specs.Tree.{Tree, Try, Maybe, Nothing, Just, Edges, NoEdges, Edge}
+use Rattle.krieg_theory.specs.Tree.{Tree, Try, Maybe, Nothing, Just, Edges, NoEdges, Edge, first_root}
 use Rattle.krieg_theory.specs.Game.{Game}
 use Rattle.krieg_theory.specs.Split.{refused, keys, class}
 use Rattle.krieg_theory.specs.Plans.{Outset, Plan, openings, opening_set}
 use Rattle.krieg_costs.specs.Sums.{total}
 use Rattle.krieg_costs.specs.Cost.{made}
 use Rattle.krieg_costs.proofs.Totals.{total_agree, total_append, total_flat}
-use Rattle.krieg_checker.specs.Reached.{From, No, On, Path, reached, reached_other, reached_at, reached_from, first_root}
+use Rattle.krieg_checker.specs.Reached.{From, No, On, Path, reached, reached_other, reached_at, reached_from}
 use Rattle.krieg_checker.specs.CheckCost.{pair_cost}
 use Rattle.krieg_checker.specs.Walked.{node_cost, other_cost, edge_cost}
 
@@ -43,7 +43,7 @@ module _ (G : Game) (O : Outset G) where
         choose false h k = k
 
   -- those of a plan are reached from its roots
-  pub plan_costs : (plan : Plan G O) (S : List G.Position) → total (pair_cost G O) (reached_from G O plan S) ≡ total (λ key. other_cost G (first_root G O plan key) (opening_set G O S key)) (openings G O S)
+  pub plan_costs : (plan : Plan G O) (S : List G.Position) → total (pair_cost G O) (reached_from G O plan S) ≡ total (λ key. other_cost G (first_root O.root_lt plan key) (opening_set G O S key)) (openings G O S)
   plan_costs plan S =
-      total_flat (pair_cost G O) (λ key. reached_other G O (From key ∷ []) (first_root G O plan key) (opening_set G O S key)) (openings G O S)
-      ∙ total_agree _ (λ key. other_cost G (first_root G O plan key) (opening_set G O S key)) (openings G O S) (λ key i. other_costs (From key ∷ []) (first_root G O plan key) (opening_set G O S key))
+      total_flat (pair_cost G O) (λ key. reached_other G O (From key ∷ []) (first_root O.root_lt plan key) (opening_set G O S key)) (openings G O S)
+      ∙ total_agree _ (λ key. other_cost G (first_root O.root_lt plan key) (opening_set G O S key)) (openings G O S) (λ key i. other_costs (From key ∷ []) (first_root O.root_lt plan key) (opening_set G O S key))

@@ -2,6 +2,8 @@
 use Rattle.std.proofs.Common.{◌≡◌, ℕ, suc, ◌+◌, Bool, true, false, not, ◌&&◌, ◌||◌, cond, List, [], ◌∷◌, ◌++◌, map, refl, sym, ap, subst, ◌∙◌, arith}
 use Rattle.std.specs.List.{list_all}
 use Rattle.std.proofs.lemmas.List.Folds.{list_all-append}
+use Rattle.std.proofs.Math.Bool.{and_assoc}
+use Rattle.krieg_board.proofs.SameTests.{same_tests}
 use Rattle.krieg_theory.specs.Sets.{IsOrder, as_set, at_key, keys_in, same}
 use Rattle.krieg_theory.specs.Tree.{Try, Maybe, Just, Edges, NoEdges, Edge, first_edge}
 use Rattle.krieg_theory.specs.Game.{Game}
@@ -13,7 +15,7 @@ use Rattle.krieg_theory.proofs.Ascending.{in_as_set, as_set_in}
 use Rattle.krieg_theory.proofs.Theorems.{first_edge_wins}
 use Rattle.krieg_costs.specs.Sums.{total}
 use Rattle.krieg_checker.specs.Walked.{node_cost, other_cost, edge_cost}
-use Rattle.krieg_checker.proofs.BoolLaws.{same_bool, and_swap, and_assoc, not_or}
+use Rattle.krieg_checker.proofs.BoolLaws.{and_swap, not_or}
 
 pub all_map : {X Y : Type 0} (f : Y → Bool) (g : X → Y) (xs : List X) → list_all f (map g xs) ≡ list_all (λ x. f (g x)) xs
 all_map f g [] = refl
@@ -34,7 +36,7 @@ all_agree f g (x ∷ xs) h = ap (λ (b : Bool). b && list_all f xs) (h x) ∙ ap
 -- a test of keyed values holds of all where it holds of each key's set
 module _ {K X : Type 0} (klt : K → K → Bool) (ko : IsOrder klt) (xlt : X → X → Bool) (xo : IsOrder xlt) where
   pub by_keys : (h : K → X → Bool) (os : List (K × X)) → list_all (λ o. h o.0 o.1) os ≡ list_all (λ key. list_all (h key) (as_set xlt (at_key klt key os))) (keys_in klt os)
-  by_keys h os = same_bool _ _
+  by_keys h os = same_tests _ _
       (λ e. all_from (λ key. list_all (h key) (as_set xlt (at_key klt key os))) (keys_in klt os) (λ key i. all_from (h key) (as_set xlt (at_key klt key os)) (λ x j.
       let r = at_key_in klt ko key os x (as_set_in xlt xo x (at_key klt key os) j) in
       subst (λ (k : K). h k x ≡ true) r.2 (subst (λ (y : X). h r.0.0 y ≡ true) r.3 (all_at (λ (o : K × X). h o.0 o.1) os e r.0 r.1)))))
@@ -63,7 +65,7 @@ module _ (G : Game) where
       ∙ ap (λ (x : Bool). list_all f rest && (x && (list_all h outs && list_all h O))) (sym (not_or s S))
       ∙ ap (λ (x : Bool). list_all f rest && (not (s || S) && x)) (sym (list_all-append h outs O))
   one_more false s S N X R f h p rest outs O fp fr e =
-      ap (λ (x : Bool). N && x) e ∙ and_assoc N R (not S && list_all h O)
+      ap (λ (x : Bool). N && x) e ∙ sym (and_assoc N R (not S && list_all h O))
       ∙ ap (λ (x : Bool). (x && R) && (not S && list_all h O)) (sym fp)
       ∙ ap (λ (x : Bool). (f p && x) && (not S && list_all h O)) (sym fr)
 

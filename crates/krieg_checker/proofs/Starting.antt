@@ -1,10 +1,11 @@
 -- What comes before the first own turn.
-use Rattle.std.proofs.Common.{◌≡◌, ℕ, zero, suc, Bool, true, false, not, cond, ◌||◌, List, [], ◌∷◌, map, length, inl, inr, refl, sym, ap, subst, ◌∙◌, arith}
+use Rattle.std.proofs.Common.{◌≡◌, ℕ, zero, suc, Bool, true, false, not, cond, ◌||◌, List, [], ◌∷◌, map, length, inl, inr, refl, sym, ap, subst, ◌∙◌}
 use Rattle.std.specs.Prelude.{◌↔◌, IsTrue, slice_get, Some, None}
 use Rattle.std.specs.List.{list_any, list_all}
 use Rattle.krieg_board.specs.Pos.{Pos}
 use Rattle.krieg_moves.specs.Moves.{moves, is_ended}
 use Rattle.krieg_words.specs.declared.dialects.Dialect.{Dialect}
+use Rattle.krieg_words.specs.WordsReading.{silent}
 use Rattle.krieg_board.specs.Men.{is_same_side}
 use Rattle.krieg_board.specs.declared.men.Side.{Side}
 use Rattle.krieg_board.specs.declared.men.Side.TheVariants.{White, Black}
@@ -26,7 +27,7 @@ use Rattle.krieg_game.proofs.Classed.{openings_are_classed, first_moves_are_clas
 use Rattle.krieg_checker.specs.CheckCost.{first_cost}
 use Rattle.krieg_checker.proofs.Sets.{total_none}
 use Rattle.krieg_game.specs.Chess.{chess}
-use Rattle.krieg_game.specs.ClassLaws.{first_outcomes, opened, silence}
+use Rattle.krieg_game.specs.ClassLaws.{first_outcomes, opened}
 use Rattle.krieg_checker.specs.Starting.{IsOneTurn, IsStarted, heard_of}
 use Rattle.krieg_checker.specs.declared.start.Started.{Started}
 
@@ -56,10 +57,10 @@ module _ (d : Dialect) (who : Side) (S : List Pos) where
     pub free_start : first_cost (chess d) (outset d who) S ≡ 0
     free_start = total_agree costs (λ p. 0) (as_set position_lt S) (λ p i. own_cost p (turn p (as_set_in position_lt position_order p S i))) ∙ total_none (as_set position_lt S)
 
-    pub own_started : (r : Started) → r.own ≡ true → r.over ≡ false → map class_pair r.classes.items ≡ classes_in (map (opened d silence) S) → IsStarted d who S r
+    pub own_started : (r : Started) → r.own ≡ true → r.over ≡ false → map class_pair r.classes.items ≡ classes_in (map (opened d silent) S) → IsStarted d who S r
     own_started r own over classes = record {
       over_part = over ∙ sym (any_same (is_over (chess d) (outset d who)) (λ p. false) S (λ p i. ap is_nil (own_start d who p (turn p i))) ∙ any_none S);
-      classes_part = (λ i. map (heard_of (own i)) (classes i)) ∙ openings_are_classed d who S silence turn;
+      classes_part = (λ i. map (heard_of (own i)) (classes i)) ∙ openings_are_classed d who S silent turn;
     }
 
   -- at the opponent's turn his moves do

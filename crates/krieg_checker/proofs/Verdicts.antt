@@ -11,8 +11,9 @@ use Rattle.krieg_checker.specs.Found.{Tells}
 use Rattle.krieg_checker.specs.Verdict.{IsVerdict, verdict}
 use Rattle.krieg_checker.specs.declared.plan_check.Checked.TheVariants.{Mates, Fails}
 use Rattle.krieg_checker.proofs.PlanTells.{worst_is}
+use Rattle.krieg_checker.specs.declared.walk.TheConstants.{MOST_COUNTED}
 
-module _ (f : PlanFile) (small : f.worst ≤ 65535) where
+module _ (f : PlanFile) (small : f.worst ≤ MOST_COUNTED) where
   -- the plan mates within so many moves
   abbrev pub test : ℕ → Bool
   test k = mates (chess f.dialect) (outset f.dialect f.side) (plan_of f.plan) f.list.items k

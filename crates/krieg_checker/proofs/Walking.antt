@@ -2,6 +2,7 @@
 use Rattle.std.proofs.Common.{◌≡◌, ℕ, suc, ◌+◌, ◌≤◌, Bool, true, false, cond, ◌&&◌, List, [], ◌∷◌, map, Option, Some, None, Result, refl, sym, ap, subst, ◌∙◌, arith}
 use Rattle.std.specs.List.{list_all}
 use Rattle.std.proofs.lemmas.Bool.{le-leb}
+use Rattle.std.proofs.Math.Bool.{and_assoc}
 use Rattle.krieg_board.specs.Pos.{Pos}
 use Rattle.krieg_board.specs.declared.men.Move.{Move}
 use Rattle.krieg_theory.specs.Sets.{is_nil, same}
@@ -33,9 +34,9 @@ use Rattle.krieg_game.specs.Classes.{class_pair}
 use Rattle.krieg_checker.specs.Tried.{IsTriedAt}
 use Rattle.krieg_checker.specs.Walked.{node_cost, other_cost, edge_cost, try_in, other_in, classes_won, classes_cost}
 use Rattle.krieg_checker.specs.declared.tried.Tried.{Tried}
-use Rattle.krieg_checker.proofs.BoolLaws.{and_assoc}
 use Rattle.krieg_checker.proofs.Sets.{all_map, total_map, first_all, first_costs}
 use Rattle.krieg_checker.proofs.NodeTells.{node_tells, worse_within}
+use Rattle.krieg_checker.specs.declared.walk.TheConstants.{MOST_COUNTED}
 
 pub missing_nil : (B : List Pos) → B ≡ [] → Tells (Some 0) (λ k. list_all (λ p. false) B)
 missing_nil [] e k small = sym (le-leb 0 k (omega arith))
@@ -62,7 +63,7 @@ some_nil (p ∷ B) other = refl
 
 -- what was found so far, with what is left, is all; so with what was taken
 pub record IsWalked (d : Dialect) (n here : NodeTree) (all B : List Pos) (need : Option ℕ) (units old : ℕ) : Type 0 where
-  pub found : (k : ℕ) → k ≤ 65535 → within need k && all_won (chess d) here B k ≡ all_won (chess d) n all k
+  pub found : (k : ℕ) → k ≤ MOST_COUNTED → within need k && all_won (chess d) here B k ≡ all_won (chess d) n all k
   pub taken : units + node_cost (chess d) n all ≡ old + node_cost (chess d) here B
 
 and_true : (b : Bool) → b ≡ (b && true)
@@ -83,7 +84,7 @@ module _ (d : Dialect) (here : NodeTree) (t : Move) (other : Maybe Move Key) (es
   classes_cost_is : classes_cost d es (map class_pair r.classes.items) ≡ total (λ key. edge_cost (chess d) es key (class (chess d) B t key)) (keys (chess d) B t)
   classes_cost_is = ap (classes_cost d es) p.classes_part ∙ total_map (λ (x : Key × List Pos). edge_cost (chess d) es x.0 x.1) (λ key. (key, class (chess d) B t key)) (keys (chess d) B t)
 
-  parted_won : (c : Option ℕ) → (B ≡ [] → ⊥) → Tells c (classes_won d es (map class_pair r.classes.items)) → (k : ℕ) → k ≤ 65535 →
+  parted_won : (c : Option ℕ) → (B ≡ [] → ⊥) → Tells c (classes_won d es (map class_pair r.classes.items)) → (k : ℕ) → k ≤ MOST_COUNTED →
       all_won (chess d) (Try t other es) B k ≡ (all_won_other (chess d) other r.refused k && within (own_need r.stale c) k)
   parted_won c some hc k small =
       node_tells (chess d) key_order position_order t other es B c (some_nil B some)
@@ -119,8 +120,8 @@ module _ (d : Dialect) (here : NodeTree) (B : List Pos) (r : Tried) (p : IsTried
   over n all need units old mid w parted = omega (arith, w.taken, parted, p.cost_part)
 
   module _ (n : NodeTree) (all : List Pos) (need c : Option ℕ) (some : B ≡ [] → ⊥) (hc : Tells c (classes_won d (edges_in here) (map class_pair r.classes.items))) where
-    pub own_found : ((k : ℕ) → k ≤ 65535 → within need k && all_won (chess d) here B k ≡ all_won (chess d) n all k) →
-        (k : ℕ) → k ≤ 65535 → within (worse need (own_need r.fails c)) k && all_won_other (chess d) (other_in here) r.refused k ≡ all_won (chess d) n all k
+    pub own_found : ((k : ℕ) → k ≤ MOST_COUNTED → within need k && all_won (chess d) here B k ≡ all_won (chess d) n all k) →
+        (k : ℕ) → k ≤ MOST_COUNTED → within (worse need (own_need r.fails c)) k && all_won_other (chess d) (other_in here) r.refused k ≡ all_won (chess d) n all k
     own_found w k small =
         ap (λ b. b && all_won_other (chess d) (other_in here) r.refused k) (worse_within need (own_need r.fails c) k)
         ∙ sym (regroup (within need k) (all_won_other (chess d) (other_in here) r.refused k) (within (own_need r.fails c) k))
@@ -176,10 +177,10 @@ pub other_is_ordered : (here : NodeTree) (t : Move) (other : Maybe Move Key) (es
 other_is_ordered here t other es next is on h = ap is_ordered_other (sym on) ∙ other_ordered t other es (sym (ap is_ordered is) ∙ h)
 
 -- a class more
-pub class_more : (d : Dialect) (es : Edges Move Key) (c : Key × List Pos) (cs : List (Key × List Pos)) (need r : Option ℕ) (all : ℕ → Bool) → ((k : ℕ) → k ≤ 65535 → within need k && classes_won d es (c ∷ cs) k ≡ all k) →
-    Tells r (λ k. list_all (λ p. wins_at (chess d) es c.0 p k) c.1) → (k : ℕ) → k ≤ 65535 → within (worse need r) k && classes_won d es cs k ≡ all k
+pub class_more : (d : Dialect) (es : Edges Move Key) (c : Key × List Pos) (cs : List (Key × List Pos)) (need r : Option ℕ) (all : ℕ → Bool) → ((k : ℕ) → k ≤ MOST_COUNTED → within need k && classes_won d es (c ∷ cs) k ≡ all k) →
+    Tells r (λ k. list_all (λ p. wins_at (chess d) es c.0 p k) c.1) → (k : ℕ) → k ≤ MOST_COUNTED → within (worse need r) k && classes_won d es cs k ≡ all k
 class_more d es c cs need r all so h k small =
-    ap (λ (b : Bool). b && classes_won d es cs k) (worse_within need r k) ∙ sym (and_assoc (within need k) (within r k) (classes_won d es cs k))
+    ap (λ (b : Bool). b && classes_won d es cs k) (worse_within need r k) ∙ and_assoc (within need k) (within r k) (classes_won d es cs k)
     ∙ ap (λ (b : Bool). within need k && (b && classes_won d es cs k)) (sym (h k small)) ∙ so k small
 
 pub no_edge : (d : Dialect) (es : Edges Move Key) (key : Key) (B : List Pos) (r : Option ℕ) (units : ℕ) → first_edge key_lt es key ≡ Nothing → Tells r (λ k. list_all (λ p. false) B) →

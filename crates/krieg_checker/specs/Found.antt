@@ -4,6 +4,7 @@ use Rattle.std.specs.List.{list_all}
 use Rattle.krieg_theory.specs.Tree.{Tree, Maybe}
 use Rattle.krieg_theory.specs.Game.{Game}
 use Rattle.krieg_theory.specs.Wins.{wins, wins_other}
+use Rattle.krieg_checker.specs.declared.walk.TheConstants.{MOST_COUNTED}
 
 -- within k moves: at least so many are needed, or no number is enough
 abbrev pub within : Option ℕ → ℕ → Bool
@@ -12,7 +13,7 @@ within (Some w) k = nat_le w k
 
 -- a number that tells, of each that a plan file may name, whether the test holds of it
 abbrev pub Tells : Option ℕ → (ℕ → Bool) → Type 0
-Tells r test = (k : ℕ) → k ≤ 65535 → test k ≡ within r k
+Tells r test = (k : ℕ) → k ≤ MOST_COUNTED → test k ≡ within r k
 
 -- what is needed for both
 abbrev pub worse : Option ℕ → Option ℕ → Option ℕ
@@ -23,7 +24,7 @@ worse (Some a) (Some b) = Some (max a b)
 -- one move more, where that is a number of 16 bits
 abbrev pub one_more : Option ℕ → Option ℕ
 one_more None = None
-one_more (Some w) = if nat_lt w 65535 then Some (w + 1) else None
+one_more (Some w) = if nat_lt w MOST_COUNTED then Some (w + 1) else None
 
 -- what the legal try of a node needs: nothing is enough where it stalemates in some member
 abbrev pub own_need : Bool → Option ℕ → Option ℕ

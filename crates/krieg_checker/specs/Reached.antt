@@ -1,7 +1,7 @@
 -- Which positions reach which nodes of a plan.
 use Rattle.std.specs.Prelude.{List, [], ◌∷◌, ◌++◌, map, flat_map, if◌then◌else◌}
 use Rattle.krieg_theory.specs.Sets.{In, same}
-use Rattle.krieg_theory.specs.Tree.{Tree, Try, Maybe, Nothing, Just, Edges, NoEdges, Edge, first_edge}
+use Rattle.krieg_theory.specs.Tree.{Tree, Try, Maybe, Nothing, Just, Edges, NoEdges, Edge, first_edge, first_root}
 use Rattle.krieg_theory.specs.Game.{Game}
 use Rattle.krieg_theory.specs.Split.{refused, keys, class}
 use Rattle.krieg_theory.specs.Plans.{Outset, Plan, all_starts, openings, opening_set}
@@ -22,11 +22,6 @@ module _ (G : Game) (O : Outset G) where
   abbrev pub Pair : Type 0
   Pair = Path × Tree G.Move G.Key × G.Position
 
-  -- the tree at the first root with the key
-  abbrev pub first_root : Plan G O → O.Root → Maybe G.Move G.Key
-  first_root [] key = Nothing
-  first_root (r ∷ rs) key = if same O.root_lt r.0 key then Just r.1 else first_root rs key
-
   -- a position at a node, where there is one
   abbrev pub pair_at : Path → Maybe G.Move G.Key → G.Position → List Pair
   pair_at path Nothing p = []
@@ -34,7 +29,7 @@ module _ (G : Game) (O : Outset G) where
 
   -- what comes first: each start of a listed position, at the first root with its key
   abbrev pub first_pairs : Plan G O → List G.Position → List Pair
-  first_pairs plan S = flat_map (λ s. pair_at (From s.0 ∷ []) (first_root plan s.0) s.1) (all_starts G O S)
+  first_pairs plan S = flat_map (λ s. pair_at (From s.0 ∷ []) (first_root O.root_lt plan s.0) s.1) (all_starts G O S)
 
   -- What comes next: where the try is illegal, the same position at the node for that; where it is legal, the position
   -- after each reply, at the first edge with what is heard.
@@ -66,4 +61,4 @@ module _ (G : Game) (O : Outset G) where
 
   -- each opening set reaches the first root with its key
   abbrev pub reached_from : Plan G O → List G.Position → List Pair
-  reached_from plan S = flat_map (λ key. reached_other (From key ∷ []) (first_root plan key) (opening_set G O S key)) (openings G O S)
+  reached_from plan S = flat_map (λ key. reached_other (From key ∷ []) (first_root O.root_lt plan key) (opening_set G O S key)) (openings G O S)

@@ -12,12 +12,13 @@ use Rattle.krieg_plan.specs.Trees.{NodeTree, edges_in}
 use Rattle.krieg_checker.specs.Found.{within, Tells, own_need, all_won, all_won_other}
 use Rattle.krieg_checker.specs.Walked.{node_cost, other_cost, try_in, other_in, classes_won, classes_cost}
 use Rattle.krieg_checker.specs.declared.tried.Tried.{Tried}
+use Rattle.krieg_checker.specs.declared.walk.TheConstants.{MOST_COUNTED}
 
 -- The members that refuse it. Where the classes are won at their edges within c moves, a set that has members is won
 -- by the node within k just where these are, and k is enough for the others. And what the node takes beside the try.
 pub record IsTriedAt (d : Dialect) (n : NodeTree) (B : List Pos) (r : Tried) : Type 0 where
   pub refused_part : r.refused ≡ refused (chess d) B (try_in n)
-  pub won_part : (B ≡ [] → ⊥) → (c : Option ℕ) → Tells c (classes_won d (edges_in n) (map class_pair r.classes.items)) → (k : ℕ) → k ≤ 65535 →
+  pub won_part : (B ≡ [] → ⊥) → (c : Option ℕ) → Tells c (classes_won d (edges_in n) (map class_pair r.classes.items)) → (k : ℕ) → k ≤ MOST_COUNTED →
       all_won (chess d) n B k ≡ (all_won_other (chess d) (other_in n) r.refused k && within (own_need r.fails c) k)
   pub cost_part : node_cost (chess d) n B ≡ made (chess d) B (try_in n) + (other_cost (chess d) (other_in n) r.refused + classes_cost d (edges_in n) (map class_pair r.classes.items))
 

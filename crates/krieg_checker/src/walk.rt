@@ -20,6 +20,9 @@ use krieg_plan::{Node, find_edge_in_order};
 use krieg_words::Dialect;
 use std::alloc::Global;
 
+/// The most own moves that a plan file may name, and a check counts.
+const MOST_COUNTED: u16 = 65_535;
+
 /// What is needed for both.
 pub(crate) fn worse(a: Option<u16>, b: Option<u16>) -> Option<u16>
     ensures { result ≡ found.worse a b }
@@ -35,7 +38,7 @@ fn own_need(fails: bool, below: Option<u16>) -> Option<u16>
     ensures { result ≡ found.own_need fails below }
 {
     match below {
-        Some(w) if !fails && w < 65535 => Some(w + 1),
+        Some(w) if !fails && w < MOST_COUNTED => Some(w + 1),
         _ => None,
     }
 }

@@ -23,9 +23,7 @@ use Rattle.krieg_rays.specs.Rays.{goes, is_on_file, is_on_rank, is_on_rising, is
 use Rattle.krieg_board.proofs.SameTests.{same_bool_eq}
 use Rattle.krieg_rays.proofs.Kings.{king_search}
 use Rattle.krieg_checks.specs.Diagonals.{is_long_diagonal, is_on_long, is_on_short}
-use Rattle.krieg_checks.specs.Kinds.{is_knight, kind_from, is_same_check, checks_from, is_checked_at, is_checked}
-use Rattle.krieg_checks.specs.declared.kinds.CheckKind.{CheckKind}
-use Rattle.krieg_checks.specs.declared.kinds.CheckKind.TheVariants.{File, Rank, Long, Short, Leap}
+use Rattle.krieg_checks.specs.Kinds.{CheckKind, File, Rank, Long, Short, Leap, is_knight, kind_from, is_same_check, checks_from, is_checked_at, is_checked}
 
 -- s is another square on one of the four lines through k
 abbrev is_on_line : ℕ → ℕ → Bool

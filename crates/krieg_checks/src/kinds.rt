@@ -5,17 +5,6 @@ use crate::diagonals::diagonals_through;
 use krieg_board::{Position, king_of};
 use krieg_rays::{attackers_at, file_through, rank_through};
 
-/// How a man attacks a king: along a file, a rank, the longer or the shorter of the two diagonals
-/// through the king's square, or by a knight's leap.
-#[derive(Clone, Copy, Debug, PartialEq, Eq)]
-pub enum CheckKind {
-    File,
-    Rank,
-    Long,
-    Short,
-    Leap,
-}
-
 /// Which kinds of check a king is in. A kind is there however many men give it.
 ///
 /// The fields stand highest bit first, so that the derived order is that of the bits.
@@ -28,7 +17,8 @@ pub struct Kinds {
     pub file: bool,
 }
 
-const NO_KINDS: Kinds = Kinds {
+/// The king is attacked in no way.
+pub const NO_KINDS: Kinds = Kinds {
     knight: false,
     short: false,
     long: false,

@@ -9,7 +9,8 @@ use Rattle.krieg_board.specs.Men.{is_same_side}
 use Rattle.krieg_board.specs.Pos.{Pos}
 use Rattle.krieg_board.specs.Validity.{IsValid}
 use Rattle.krieg_board.specs.declared.men.Side.{Side}
-use Rattle.krieg_fen.specs.Forms.{most_listed}
+use Rattle.krieg_board.specs.declared.limits.TheConstants.{MOST_MOVES}
+use Rattle.krieg_fen.specs.declared.forms.TheConstants.{MOST_LISTED}
 use Rattle.krieg_moves.proofs.Hands.{same_hand_alike}
 use Rattle.krieg_words.specs.declared.dialects.Dialect.{Dialect}
 use Rattle.krieg_belief.specs.Possible.{HaveOneHand}
@@ -24,7 +25,8 @@ use Rattle.krieg_game.specs.Outset.{outset, starts}
 use Rattle.krieg_game.proofs.KeyLaws.{root_order}
 use Rattle.krieg_game.proofs.Winning.{nothing_wins_in_none}
 use Rattle.krieg_plan.specs.Trees.{PlanTrees}
-use Rattle.krieg_planfile.specs.PlanFiles.{AreAlike, waits, most_nodes, CanBeWritten}
+use Rattle.krieg_plan.specs.declared.limits.TheConstants.{MOST_NODES}
+use Rattle.krieg_planfile.specs.PlanFiles.{AreAlike, waits, CanBeWritten}
 use Rattle.krieg_search.specs.Planned.{IsFit}
 use Rattle.krieg_search.specs.Solved.{IsBest}
 use Rattle.krieg_split.specs.Turns.{IsOwnTurn, IsOthersTurn}
@@ -116,9 +118,9 @@ module _ (d : Dialect) (who : Side) where
       absurd (both_ways _ (no_win plan s.0 s.1) (all_at (λ s. wins_root (chess d) (outset d who) plan s.0 s.1 0) (starts d who p) won s started))
   some_moves S plan (suc w) some c mated = omega arith
 
-  pub can_be_written : (S : List Pos) (n w : ℕ) (plan : PlanTrees) → is_nil S ≡ false → length S ≤ most_listed → HaveOneHand who S → All IsValid S → n ≤ 6 → IsBest d who S n w plan → IsFit most_nodes plan →
+  pub can_be_written : (S : List Pos) (n w : ℕ) (plan : PlanTrees) → is_nil S ≡ false → length S ≤ MOST_LISTED → HaveOneHand who S → All IsValid S → n ≤ MOST_MOVES → IsBest d who S n w plan → IsFit MOST_NODES plan →
       CanBeWritten (file_of d who S w plan)
-  can_be_written S n w plan some few hand valid six best fit =
+  can_be_written S n w plan some few hand valid few_moves best fit =
       let told = plan_told d who S (valid_of S valid) (waits who S) plan (turn_is who S hand) best.canonical in
       record {
         some_listed = some_length S some;

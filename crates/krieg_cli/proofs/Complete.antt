@@ -22,17 +22,17 @@ use Rattle.krieg_args.specs.declared.command.Command.{Command}
 use Rattle.krieg_args.specs.declared.command.Command.TheVariants.{Solve, Check, Believe, Umpire, Play, Make, Job}
 use Rattle.krieg_args.specs.declared.command.Made.{Made}
 use Rattle.krieg_cli.specs.World.{World, FaultsRose}
-use Rattle.krieg_cli.specs.Input.{most_input, WasRead}
+use Rattle.krieg_cli.specs.Input.{WasRead}
 use Rattle.krieg_cli.specs.Refusal.{OfText}
 use Rattle.krieg_cli.specs.Ending.{status}
-use Rattle.krieg_cli.specs.Solve.{most_units, IsBestFile, Asks, Searched, Solved}
+use Rattle.krieg_cli.specs.Solve.{fresh_units, IsBestFile, Asks, Searched, Solved}
 use Rattle.krieg_cli.specs.Check.{Checked}
 use Rattle.krieg_cli.specs.Umpire.{told_text}
 use Rattle.krieg_cli.specs.Believe.{Believed}
 use Rattle.krieg_cli.specs.Play.{PlaysFrom, PlaysWhole, Plays}
 use Rattle.krieg_cli.specs.Make.{Makes}
 use Rattle.krieg_cli.specs.Job.{Plans, Summarizes}
-use Rattle.krieg_cli.specs.Outcome.{Table, HasOutcome}
+use Rattle.krieg_cli.specs.Outcome.{PlayOutcome, HasOutcome}
 use Rattle.krieg_cli.specs.Top.{ComesTo, Ends, Runs}
 use Rattle.krieg_cli.specs.Complete.{CanBeChecked, CanBeSummed, HoldsText, MustAnswer, NoneFailed, seats_since, CanPlay, BenchHolds, Completes}
 use Rattle.krieg_cli.specs.declared.refusal.Refusal.{Refusal}
@@ -40,6 +40,7 @@ use Rattle.krieg_cli.specs.declared.refusal.Refusal.TheVariants as refusal
 use Rattle.krieg_cli.specs.declared.ending.Ending.{Ending}
 use Rattle.krieg_cli.specs.declared.ending.Ending.TheVariants as ending
 use Rattle.krieg_cli.proofs.WholeGames.{text_read, given_le}
+use Rattle.krieg_cli.specs.declared.input.TheConstants.{MOST_INPUT}
 
 -- ---- solve
 
@@ -48,10 +49,10 @@ one_list : (s : SheetState) (S T : List Pos) → IsPossible s S → IsPossible s
 one_list s S T a b =
     same_members S T a.ascending b.ascending (λ p i. (b.exact p).1 ((a.exact p).0 i)) (λ p i. (a.exact p).1 ((b.exact p).0 i))
 
-module _ (n budget limit : ℕ) (s : SheetState) (S : List Pos) (asks : Asks limit s S) (enough : most_units s.dialect s.side S n ≤ budget)
+module _ (n budget limit : ℕ) (s : SheetState) (S : List Pos) (asks : Asks limit s S) (enough : fresh_units s.dialect s.side S n ≤ budget)
     (fits : (f : PlanState) → IsBestFile s.dialect s.side S n f → Rattle.krieg_cli.specs.Solve.IsTooLarge f → ⊥) where
   searching : (r : Refusal) (T : List Pos) → T ≡ S → Searched s.dialect s.side T n budget (Err r) → ⊥
-  searching refusal.BudgetSpent T same h = let less = subst (λ T. budget < most_units s.dialect s.side T n) same h in omega (arith, less, enough)
+  searching refusal.BudgetSpent T same h = let less = subst (λ T. budget < fresh_units s.dialect s.side T n) same h in omega (arith, less, enough)
   searching refusal.PlanTooLarge T same (least, f, best, large) = fits f (subst (λ T. IsBestFile s.dialect s.side T n f) same best) large
   searching (refusal.BadText line kind) T same h = h
   searching (refusal.TooMany line) T same h = h
@@ -159,20 +160,20 @@ by_input Q false e h = absurd cc
 
 module _ {X : Type 0} (account : X → Account) (entry now : Sides X) (before after : World) (text : List ℕ)
     (no_read_fault : FaultsRose before.input after.input → ⊥) (no_write_fault : FaultsRose before.out after.out → ⊥) where
-  abbrev table : Table
-  table = Plays account entry now
+  abbrev plays : PlayOutcome
+  plays = Plays account entry now
 
   -- the text that was taken is the one that the input holds, or none where no input is taken
-  same_text : (read : List ℕ) (takes : Bool) → MatchBool takes ((before.input.bytes ≡ Some text) × (length text ≤ most_input)) (text ≡ []) →
+  same_text : (read : List ℕ) (takes : Bool) → MatchBool takes ((before.input.bytes ≡ Some text) × (length text ≤ MOST_INPUT)) (text ≡ []) →
       MatchBool takes (WasRead before.input after.input read) ((read ≡ []) × (after.input ≡ before.input)) → read ≡ text
   same_text read true holds was = text_read before.input after.input text read holds.0 was
   same_text read false holds was = was.0 ∙ sym holds
 
   -- what the command comes to, it comes to on that text
-  on_text : (c : Command) (outcome : Result (List ℕ) Refusal) → HoldsText c before.input text → ComesTo table c before after outcome → HasOutcome table c text outcome
-  on_text c outcome holds (read, was, made) = subst (λ t. HasOutcome table c t outcome) (same_text read (takes_input c) holds was) made
+  on_text : (c : Command) (outcome : Result (List ℕ) Refusal) → HoldsText c before.input text → ComesTo plays c before after outcome → HasOutcome plays c text outcome
+  on_text c outcome holds (read, was, made) = subst (λ t. HasOutcome plays c t outcome) (same_text read (takes_input c) holds was) made
 
-  ends_well : (e : Ending) (c : Command) → HoldsText c before.input text → MustAnswer c text → BenchHolds account c entry now → Ends table e c before after → (status e ≡ 0) ⊎ (status e ≡ 11)
+  ends_well : (e : Ending) (c : Command) → HoldsText c before.input text → MustAnswer c text → BenchHolds account c entry now → Ends plays e c before after → (status e ≡ 0) ⊎ (status e ≡ 11)
   ends_well ending.Answered c holds can bench h = inl refl
   ends_well ending.NoMemory c holds can bench h = inr refl
   ends_well ending.TooLong c holds can bench ((takes, (took, consumed, long), kept), out) =

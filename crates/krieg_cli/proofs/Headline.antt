@@ -2,10 +2,10 @@
 use Rattle.std.proofs.Common.{◌≡◌, ◌⊎◌, inl, inr, ℕ, List, Option, Result, Ok, Err, refl, sym, subst, ◌∙◌}
 use Rattle.std.specs.Io.KnownBytes.{Appends}
 use Rattle.krieg_board.specs.Pos.{Pos}
-use Rattle.krieg_fen.specs.Lines.{lines}
-use Rattle.krieg_fen.specs.Reading.{whole}
-use Rattle.krieg_fen.specs.declared.fault.TextFault.{TextFault}
-use Rattle.krieg_fen.specs.declared.fault.TextFault.TheVariants as fault
+use Rattle.krieg_text.specs.Lines.{lines}
+use Rattle.krieg_text.specs.Reading.{whole}
+use Rattle.krieg_text.specs.declared.fault.TextFault.{TextFault}
+use Rattle.krieg_text.specs.declared.fault.TextFault.TheVariants as fault
 use Rattle.krieg_sheet.specs.Sheets.{SheetState}
 use Rattle.krieg_sheet.specs.SheetReading.{sheet_at}
 use Rattle.krieg_planfile.specs.PlanReading.{plan_at}
@@ -16,7 +16,7 @@ use Rattle.krieg_cli.specs.Input.{WasRead}
 use Rattle.krieg_cli.specs.Refusal.{OfText}
 use Rattle.krieg_cli.specs.Ending.{status}
 use Rattle.krieg_cli.specs.Solve.{Tells, Solved}
-use Rattle.krieg_cli.specs.Outcome.{Table}
+use Rattle.krieg_cli.specs.Outcome.{PlayOutcome}
 use Rattle.krieg_cli.specs.Top.{Answers, Ends, Runs, Reports}
 use Rattle.krieg_cli.specs.Headline.{HasSheet, WritesPlan, WritesNone, SolvesSheets}
 use Rattle.krieg_cli.specs.declared.ending.Ending.{Ending}
@@ -49,14 +49,14 @@ of_text n budget limit before after err err' text answer (Ok s) is read written 
 of_text n budget limit before after err err' text answer (Err (fault.At line kind)) is read written quiet e = absurd cc
 of_text n budget limit before after err err' text answer (Err fault.NoMemory) is read written quiet e = absurd e
 
-kept : (table : Table) (n budget limit : ℕ) (before after : World) (err err' : Stream) → Answers table (Solve n budget limit) before after → err' ≡ err → Keeps n before after err err'
-kept table n budget limit before after err err' (answer, (text, read, comes), written, no_fault) quiet =
+kept : (plays : PlayOutcome) (n budget limit : ℕ) (before after : World) (err err' : Stream) → Answers plays (Solve n budget limit) before after → err' ≡ err → Keeps n before after err err'
+kept plays n budget limit before after err err' (answer, (text, read, comes), written, no_fault) quiet =
     of_text n budget limit before after err err' text answer (whole sheet_at (lines text)) refl read written quiet comes
 
-pub solves_sheets : (table : Table) (e : Ending) (asked : Option Command) (before after : World) (err err' : Stream) (code : ℕ) → Runs table e asked before after → Reports e err err' → code ≡ status e →
+pub solves_sheets : (plays : PlayOutcome) (e : Ending) (asked : Option Command) (before after : World) (err err' : Stream) (code : ℕ) → Runs plays e asked before after → Reports e err err' → code ≡ status e →
     SolvesSheets asked code before after err err'
-solves_sheets table e asked before after err err' code runs reports is n budget limit words zero =
+solves_sheets plays e asked before after err err' code runs reports is n budget limit words zero =
     let done = answered e (sym is ∙ zero) in
-    kept table n budget limit before after err err'
-    (subst (λ x. Ends table x (Solve n budget limit) before after) done (subst (λ x. Runs table e x before after) words runs))
+    kept plays n budget limit before after err err'
+    (subst (λ x. Ends plays x (Solve n budget limit) before after) done (subst (λ x. Runs plays e x before after) words runs))
     (subst (λ x. Reports x err err') done reports)

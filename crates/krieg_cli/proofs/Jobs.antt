@@ -5,16 +5,18 @@ use Rattle.std.proofs.lemmas.Bool.{both_ways}
 use Rattle.krieg_board.specs.Pos.{Pos}
 use Rattle.krieg_board.specs.declared.men.Side.{Side}
 use Rattle.krieg_board.specs.declared.men.Side.TheVariants.{White}
+use Rattle.krieg_board.specs.declared.limits.TheConstants.{MOST_UNITS}
 use Rattle.krieg_words.specs.declared.dialects.Dialect.{Dialect}
 use Rattle.krieg_words.specs.declared.dialects.Dialect.TheVariants.{Wild16}
-use Rattle.krieg_fen.specs.Writing.{put_lines}
+use Rattle.krieg_text.specs.Writing.{put_lines}
+use Rattle.krieg_fen.specs.declared.forms.TheConstants.{MOST_LISTED}
 use Rattle.krieg_referee.specs.Games.{judge}
 use Rattle.krieg_make.specs.MadeSheets.{made_list, made_sheet}
 use Rattle.krieg_make.specs.MadeSessions.{made_session}
 use Rattle.krieg_pack.specs.Members.{set_of}
 use Rattle.krieg_pack.specs.Order.{position_lt}
 use Rattle.krieg_pack.proofs.Counts.{as_set_le}
-use Rattle.krieg_sheet.specs.Sheets.{SheetState, fresh}
+use Rattle.krieg_sheet.specs.Sheets.{SheetState, new_sheet}
 use Rattle.krieg_sheet.specs.Places.{IsSheet}
 use Rattle.krieg_belief.specs.Possible.{IsPossible, HaveOneHand}
 use Rattle.krieg_belief.specs.Limits.{IsFirstExcess}
@@ -24,6 +26,7 @@ use Rattle.krieg_game.specs.Chess.{chess}
 use Rattle.krieg_game.specs.Outset.{outset}
 use Rattle.krieg_plan.specs.Trees.{PlanTrees, plan_size}
 use Rattle.krieg_plan.specs.declared.plan.PlanFile.{PlanFile}
+use Rattle.krieg_plan.specs.declared.limits.TheConstants.{MOST_NODES}
 use Rattle.krieg_planfile.specs.PlanFiles.{PlanState, state_of}
 use Rattle.krieg_checker.specs.Charged.{Charged}
 use Rattle.krieg_checker.specs.Starting.{IsOneTurn}
@@ -42,28 +45,29 @@ use Rattle.krieg_cli.specs.Solve.{file_of, least_units, IsTooLarge, Searched}
 use Rattle.krieg_cli.specs.Check.{check_cost}
 use Rattle.krieg_cli.specs.Tally.{tally_of}
 use Rattle.krieg_cli.specs.Job.{IsFound, mates_line, checked_line, found_lines, summary_lines, summary_text, Plans, Summarizes}
-use Rattle.krieg_cli.specs.declared.job.Finding.{Finding}
-use Rattle.krieg_cli.specs.declared.job.Finding.TheVariants.{Plan}
-use Rattle.krieg_cli.specs.declared.tally.Tally.{Tally}
+use Rattle.krieg_cli.specs.declared.commands.job.Finding.{Finding}
+use Rattle.krieg_cli.specs.declared.commands.job.Finding.TheVariants.{Plan}
+use Rattle.krieg_cli.specs.declared.commands.job.tally.Tally.{Tally}
 use Rattle.krieg_cli.proofs.BestFiles.{one_turn_of, same_turn}
 use Rattle.krieg_cli.proofs.Searching.{best_file}
+use Rattle.krieg_cli.specs.declared.commands.job.TheConstants.{JOB_MOVES}
 
 -- ---- the possible positions
 
 -- a sheet that says no more than its list leaves no more possible than it may list
-few : (d : Dialect) (who : Side) (list : List Pos) (line : ℕ) → IsSheet (fresh d who list None) → IsFirstExcess (fresh d who list None) 200000 line → ⊥
+few : (d : Dialect) (who : Side) (list : List Pos) (line : ℕ) → IsSheet (new_sheet d who list None) → IsFirstExcess (new_sheet d who list None) MOST_LISTED line → ⊥
 unfolding set_of
-few d who list line sheet excess = excess_not_within (fresh d who list None) 200000 line excess (all_within (fresh d who list None) 200000 sheet listed behind)
+few d who list line sheet excess = excess_not_within (new_sheet d who list None) MOST_LISTED line excess (all_within (new_sheet d who list None) MOST_LISTED sheet listed behind)
   where
-    listed : length (set_of list) ≤ 200000
-    listed = omega (arith, as_set_le position_lt list, sheet_le (fresh d who list None) sheet)
+    listed : length (set_of list) ≤ MOST_LISTED
+    listed = omega (arith, as_set_le position_lt list, sheet_le (new_sheet d who list None) sheet)
 
-    behind : (n : ℕ) → n ≤ 0 → length (behind_entries (fresh d who list None) n) ≤ 200000
+    behind : (n : ℕ) → n ≤ 0 → length (behind_entries (new_sheet d who list None) n) ≤ MOST_LISTED
     behind zero le = listed
     behind (suc n) le = absurd (omega arith)
 
-pub few_listed : (s : SheetState) (line : ℕ) → (list : List Pos) × (s ≡ fresh Wild16 White list None) → IsSheet s → IsFirstExcess s 200000 line → ⊥
-few_listed s line (list, is) sheet excess = few Wild16 White list line (subst IsSheet is sheet) (subst (λ s. IsFirstExcess s 200000 line) is excess)
+pub few_listed : (s : SheetState) (line : ℕ) → (list : List Pos) × (s ≡ new_sheet Wild16 White list None) → IsSheet s → IsFirstExcess s MOST_LISTED line → ⊥
+few_listed s line (list, is) sheet excess = few Wild16 White list line (subst IsSheet is sheet) (subst (λ s. IsFirstExcess s MOST_LISTED line) is excess)
 
 -- the same side is to move in all of them, also where there are none
 pub turns : (who : Side) (S : List Pos) → HaveOneHand who S → IsOwnTurn who S ⊎ IsOthersTurn who S
@@ -77,12 +81,12 @@ one_turn_among who S hand = record { same_side = same_turn who S hand }
 
 module _ (S : List Pos) where
   -- a search that stops
-  pub search_stopped : {X : Type 0} (view : X → List ℕ) (stop : Stop2) → Decides view (Err (of_search stop)) (Searched Wild16 White S 1 50000000) → Decides found_lines (Err (of_search stop)) (Plans S)
+  pub search_stopped : {X : Type 0} (view : X → List ℕ) (stop : Stop2) → Decides view (Err (of_search stop)) (Searched Wild16 White S JOB_MOVES MOST_UNITS) → Decides found_lines (Err (of_search stop)) (Plans S)
   search_stopped view search.Spent h = inl h
   search_stopped view search.Large h = h
   search_stopped view search.NoMemory h = tt
 
-  module _ (worst : ℕ) (plan : PlanTrees) (best : IsBest Wild16 White S 1 worst plan) (fit : IsFit 100000 plan) where
+  module _ (worst : ℕ) (plan : PlanTrees) (best : IsBest Wild16 White S JOB_MOVES worst plan) (fit : IsFit MOST_NODES plan) where
     abbrev best_of : PlanState
     best_of = file_of Wild16 White S worst plan
 
@@ -91,19 +95,19 @@ module _ (S : List Pos) where
     not_large (inr more) = let depth = fit.depth in omega (arith, more, depth)
 
     is_found : IsFound S best_of
-    is_found = record { best = best_file Wild16 White S 1 worst plan best; fits = not_large }
+    is_found = record { best = best_file Wild16 White S JOB_MOVES worst plan best; fits = not_large }
 
     abbrev Finds : PlanState → ℕ → Type 0
     Finds f w = IsWorst (chess f.dialect) (outset f.dialect f.side) f.plan f.list w × (w ≤ f.worst)
 
     module _ (f : PlanFile) (is : state_of f ≡ best_of) where
       -- the check finds the number that the search claims
-      pub plan_found : (nodes checked start left : ℕ) (r : Checked) → least_units Wild16 White S 1 ≤ 50000000 → nodes ≡ plan_size plan → start ≡ 50000000 → IsVerdict f r × (left + cost_of f ≡ start) → r ≡ Mates checked →
+      pub plan_found : (nodes checked start left : ℕ) (r : Checked) → least_units Wild16 White S JOB_MOVES ≤ MOST_UNITS → nodes ≡ plan_size plan → start ≡ MOST_UNITS → IsVerdict f r × (left + cost_of f ≡ start) → r ≡ Mates checked →
           Plans S (Ok (found_lines (Plan worst nodes checked)))
       plan_found nodes checked start left r paid size had all mated =
           let judged = subst (λ f. Finds f checked) is ((all.0.mates_in checked).0 mated) in
           let charged = all.1 in
-          let enough = subst (λ f. check_cost f ≤ 50000000) is (omega (arith, charged, had)) in
+          let enough = subst (λ f. check_cost f ≤ MOST_UNITS) is (omega (arith, charged, had)) in
           let least = best.least plan checked judged.0.mates_within in
           let within = judged.1 in
           let same : checked ≡ worst = omega (arith, least, within) in (
@@ -116,9 +120,9 @@ module _ (S : List Pos) where
           both_ways _ (subst (λ f. mates (chess f.dialect) (outset f.dialect f.side) f.plan f.list f.worst ≡ false) is (verdict.fails.0 fails)) best.worst_case.mates_within
 
       -- a check that stops
-      pub check_stopped : (start left : ℕ) (stop : CheckStop) → start ≡ 50000000 → Charged (Err stop) (IsVerdict f) (cost_of f) start left → Decides found_lines (Err (of_check stop)) (Plans S)
+      pub check_stopped : (start left : ℕ) (stop : CheckStop) → start ≡ MOST_UNITS → Charged (Err stop) (IsVerdict f) (cost_of f) start left → Decides found_lines (Err (of_check stop)) (Plans S)
       check_stopped start left check.Spent had less =
-          inr (best_of, is_found, subst (λ f. 50000000 < check_cost f) is (omega (arith, less, had)))
+          inr (best_of, is_found, subst (λ f. MOST_UNITS < check_cost f) is (omega (arith, less, had)))
       check_stopped start left check.NoMemory had h = tt
 
 -- ---- the summary

@@ -1,7 +1,7 @@
 -- A game that was not played to its stop is a refusal, or has found no memory.
 use Rattle.std.proofs.Common.{◌≡◌, ℕ, List, Result, Ok, Err, sym, subst}
 use Rattle.krieg_board.specs.Pos.{Pos}
-use Rattle.krieg_fen.specs.declared.fault.TextFault.{TextFault}
+use Rattle.krieg_text.specs.declared.fault.TextFault.{TextFault}
 use Rattle.krieg_seats.specs.Accounts.{Account}
 use Rattle.krieg_play.specs.Played.{Sides, Refuses}
 use Rattle.krieg_play.specs.declared.outcome.PlayFault.{PlayFault}

@@ -3,16 +3,18 @@ use Rattle.std.proofs.Common.{◌≡◌, ℕ, ◌≤◌, Bool, true, false, List
 use Rattle.std.specs.Prelude.{codes, if◌then◌else◌}
 use Rattle.std.specs.Result.{result_ok}
 use Rattle.std.specs.Str.{bytes_eq}
-use Rattle.krieg_fen.specs.Decimals.{number_between}
-use Rattle.krieg_fen.specs.Forms.{most_listed}
-use Rattle.krieg_fen.specs.declared.number.NumberFault.{NumberFault}
-use Rattle.krieg_fen.proofs.Numbers.{between_spells}
+use Rattle.krieg_text.specs.Decimals.{number_between}
+use Rattle.krieg_fen.specs.declared.forms.TheConstants.{MOST_LISTED}
+use Rattle.krieg_text.specs.declared.number.NumberFault.{NumberFault}
+use Rattle.krieg_text.proofs.Numbers.{between_spells}
 use Rattle.krieg_args.specs.Command as words
 use Rattle.krieg_args.specs.Command.{◌>>=◌, command_of, command_of_one, solve, make, play, number, moves_of, budget_of, limit_of, made_input, seed_of}
 use Rattle.krieg_args.specs.declared.command.Command.{Command}
 use Rattle.krieg_args.specs.declared.command.Command.TheVariants.{Solve, Check, Believe, Umpire, Play, Make, Job}
 use Rattle.krieg_args.specs.declared.command.Made.{Made}
+use Rattle.krieg_args.specs.declared.command.TheConstants.{MOST_SEED}
 use Rattle.krieg_cli.specs.Outcome.{IsInRange}
+use Rattle.krieg_board.specs.declared.limits.TheConstants.{MOST_MOVES}
 
 -- a search among the words has its numbers in their ranges
 abbrev Ranged : Option Command → Type 0
@@ -45,7 +47,7 @@ solving moves budget limit = go (moves_of moves) refl (budget_of budget) (limit_
     go (Some m) em (Some b) None el = none
     go (Some m) em (Some b) (Some l) el = λ c e.
         let same : Solve m b l ≡ c = cc in
-        subst IsInRange same (at_most 1 6 m moves (omega arith) em, at_most 1 most_listed l limit (omega arith) el)
+        subst IsInRange same (at_most 1 MOST_MOVES m moves (omega arith) em, at_most 1 MOST_LISTED l limit (omega arith) el)
 
 making : (what seed : List ℕ) → Ranged (make what seed)
 making what seed = go (made_input what) (seed_of seed) refl
@@ -53,14 +55,14 @@ making what seed = go (made_input what) (seed_of seed) refl
     go : (w : Option Made) (s : Option ℕ) → seed_of seed ≡ s → Ranged (w >>= λ w. s >>= λ s. Some (Make w s))
     go None s es = none
     go (Some w) None es = none
-    go (Some w) (Some s) es = λ c e. let same : Make w s ≡ c = cc in subst IsInRange same (at_most 0 4294967295 s seed (omega arith) es)
+    go (Some w) (Some s) es = λ c e. let same : Make w s ≡ c = cc in subst IsInRange same (at_most 0 MOST_SEED s seed (omega arith) es)
 
 of_job : (word : List ℕ) → Ranged (option_map Job (seed_of word))
 of_job word = go (seed_of word) refl
   where
     go : (s : Option ℕ) → seed_of word ≡ s → Ranged (option_map Job s)
     go None es = none
-    go (Some s) es = λ c e. let same : Job s ≡ c = cc in subst IsInRange same (at_most 0 4294967295 s word (omega arith) es)
+    go (Some s) es = λ c e. let same : Job s ≡ c = cc in subst IsInRange same (at_most 0 MOST_SEED s word (omega arith) es)
 
 playing : (asks win wout bin bout : List ℕ) → Ranged (play asks win wout bin bout)
 playing asks win wout bin bout = either _ (option_map Play (words.asks_of asks)) None (mapped Play (words.asks_of asks) (λ n. tt)) none

@@ -10,7 +10,7 @@ use Rattle.krieg_sheet.specs.Sheets.{SheetState}
 use Rattle.krieg_belief.specs.Possible.{IsPossible}
 use Rattle.krieg_belief.specs.Limits.{AllWithin}
 use Rattle.krieg_plan.specs.Trees.{PlanTrees}
-use Rattle.krieg_planfile.specs.PlanFiles.{most_nodes}
+use Rattle.krieg_plan.specs.declared.limits.TheConstants.{MOST_NODES}
 use Rattle.krieg_search.specs.Solved.{IsBest, IsAnswer, IsCharged}
 use Rattle.krieg_search.specs.declared.stop.Stop2.{Stop2}
 use Rattle.krieg_search.specs.declared.stop.Stop2.TheVariants as search
@@ -34,7 +34,7 @@ pub best_file : (d : Dialect) (who : Side) (S : List Pos) (n w : ℕ) (plan : Pl
 best_file d who S n w plan b = record { dialect = refl; side = refl; list = refl; mates = b.worst_case.mates_within; within = b.within; least = b.least; canonical = b.canonical }
 
 module _ (d : Dialect) (who : Side) (S : List Pos) (n budget start left : ℕ) (same : start ≡ budget) where
-  pub stop_told : {X : Type 0} (view : X → List ℕ) (stop : Stop2) → IsAnswer d who S n most_nodes (Err stop) → IsCharged d who S n (Err stop) start left → Decides view (Err (of_search stop)) (Searched d who S n budget)
+  pub stop_told : {X : Type 0} (view : X → List ℕ) (stop : Stop2) → IsAnswer d who S n MOST_NODES (Err stop) → IsCharged d who S n (Err stop) start left → Decides view (Err (of_search stop)) (Searched d who S n budget)
   stop_told view search.Spent answer units = omega (arith, same, units.0)
   stop_told view search.Large answer units = (omega (arith, same, units.at_least), file_of d who S answer.worst answer.plan, best_file d who S n answer.worst answer.plan answer.best, answer.large)
   stop_told view search.NoMemory answer units = tt

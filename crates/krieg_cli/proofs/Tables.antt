@@ -1,10 +1,10 @@
 -- What a run shows, where more is known of what `play` makes of a text.
 use Rattle.std.proofs.Common.{ℕ, List, Option, Some, None, Result, Ok, Err, ap, inl, inr}
 use Rattle.krieg_board.specs.Pos.{Pos}
-use Rattle.krieg_fen.specs.Lines.{lines}
-use Rattle.krieg_fen.specs.Reading.{whole}
-use Rattle.krieg_fen.specs.declared.fault.TextFault.{TextFault}
-use Rattle.krieg_fen.specs.declared.fault.TextFault.TheVariants as fault
+use Rattle.krieg_text.specs.Lines.{lines}
+use Rattle.krieg_text.specs.Reading.{whole}
+use Rattle.krieg_text.specs.declared.fault.TextFault.{TextFault}
+use Rattle.krieg_text.specs.declared.fault.TextFault.TheVariants as fault
 use Rattle.krieg_session.specs.SessionReading.{start_at}
 use Rattle.krieg_seats.specs.Accounts.{Account}
 use Rattle.krieg_play.specs.Played.{Sides, seen}
@@ -13,7 +13,7 @@ use Rattle.krieg_play.proofs.Seen.{played_seen, refuses_seen}
 use Rattle.krieg_args.specs.declared.command.Command.{Command}
 use Rattle.krieg_args.specs.declared.command.Command.TheVariants.{Play}
 use Rattle.krieg_cli.specs.World.{Stream, World}
-use Rattle.krieg_cli.specs.Outcome.{Table, HasOutcome}
+use Rattle.krieg_cli.specs.Outcome.{PlayOutcome, HasOutcome}
 use Rattle.krieg_cli.specs.Play.{PlaysFrom, PlaysWhole, Plays, HasBegun}
 use Rattle.krieg_cli.specs.Top.{ComesTo, Ends, Runs, LeavesBench, IsRun}
 use Rattle.krieg_cli.specs.declared.refusal.Refusal.{Refusal}
@@ -22,23 +22,23 @@ use Rattle.krieg_cli.specs.declared.ending.Ending.{Ending}
 use Rattle.krieg_cli.specs.declared.ending.Ending.TheVariants.{Answered, WriteFault, Refused}
 use Rattle.krieg_cli.specs.declared.ending.Ending.TheVariants as ending
 
-abbrev Follows : Table → Table → Type 0
+abbrev Follows : PlayOutcome → PlayOutcome → Type 0
 Follows t u = (asks : ℕ) (text : List ℕ) (outcome : Result (List ℕ) Refusal) → t asks text outcome → u asks text outcome
 
-outcome_as : (t u : Table) → Follows t u → (c : Command) (text : List ℕ) (outcome : Result (List ℕ) Refusal) → HasOutcome t c text outcome → HasOutcome u c text outcome
+outcome_as : (t u : PlayOutcome) → Follows t u → (c : Command) (text : List ℕ) (outcome : Result (List ℕ) Refusal) → HasOutcome t c text outcome → HasOutcome u c text outcome
 outcome_as t u f (Play asks) text outcome h = f asks text outcome h
 outcome_as t u f _ text outcome h = h
 
-comes_as : (t u : Table) → Follows t u → (c : Command) (before after : World) (outcome : Result (List ℕ) Refusal) → ComesTo t c before after outcome → ComesTo u c before after outcome
+comes_as : (t u : PlayOutcome) → Follows t u → (c : Command) (before after : World) (outcome : Result (List ℕ) Refusal) → ComesTo t c before after outcome → ComesTo u c before after outcome
 comes_as t u f c before after outcome (text, was, made) = (text, was, outcome_as t u f c text outcome made)
 
-ends_as : (t u : Table) → Follows t u → (e : Ending) (c : Command) (before after : World) → Ends t e c before after → Ends u e c before after
+ends_as : (t u : PlayOutcome) → Follows t u → (e : Ending) (c : Command) (before after : World) → Ends t e c before after → Ends u e c before after
 ends_as t u f Answered c before after (answer, comes, written, kept) = (answer, comes_as t u f c before after (Ok answer) comes, written, kept)
 ends_as t u f WriteFault c before after (answer, comes, front, rose) = (answer, comes_as t u f c before after (Ok answer) comes, front, rose)
 ends_as t u f (Refused refusal) c before after (comes, out) = (comes_as t u f c before after (Err refusal) comes, out)
 ends_as t u f _ c before after h = h
 
-runs_as : (t u : Table) → Follows t u → (e : Ending) (asked : Option Command) (before after : World) → Runs t e asked before after → Runs u e asked before after
+runs_as : (t u : PlayOutcome) → Follows t u → (e : Ending) (asked : Option Command) (before after : World) → Runs t e asked before after → Runs u e asked before after
 runs_as t u f e None before after h = h
 runs_as t u f e (Some c) before after h = ends_as t u f e c before after h
 

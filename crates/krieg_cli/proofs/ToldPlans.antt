@@ -11,8 +11,7 @@ use Rattle.krieg_moves.specs.After.{after}
 use Rattle.krieg_moves.specs.Legal.{is_legal}
 use Rattle.krieg_moves.specs.Moves.{moves, all_moves}
 use Rattle.krieg_moves.proofs.KeepsValid.{valid_after}
-use Rattle.krieg_moves.proofs.LegalMoves.{legal}
-use Rattle.krieg_moves.proofs.Movers.{below_from}
+use Rattle.krieg_moves.proofs.LegalMoves.{legal_squares}
 use Rattle.krieg_words.specs.WordsOfMoves.{words, opening}
 use Rattle.krieg_words.specs.ToldWords.{told}
 use Rattle.krieg_words.specs.declared.dialects.Dialect.{Dialect}
@@ -38,9 +37,6 @@ use Rattle.krieg_game.proofs.Starting.{openings_are_members, openings_come_first
 -- all of a set are valid
 abbrev pub AreValid : List Pos → Type 0
 AreValid B = (p : Pos) → In p B → IsValid p
-
-on_board : (p : Pos) (m : Move) → is_legal p m ≡ true → IsOnBoard m
-on_board p m h = let l = legal p m h in (below_from m.from 64 l.from_in, below_from m.to 64 l.to_in)
 
 listed_legal : (p : Pos) (m : Move) → In m (moves p) → is_legal p m ≡ true
 unfolding moves
@@ -81,7 +77,7 @@ module _ (d : Dialect) where
   refused_valid B t valid p at = valid p (filter_in (λ p. not (is_legal p t)) B p at).0
 
   tried_on_board : (B : List Pos) (t : Move) → legal_in_some (chess d) B t ≡ true → IsOnBoard t
-  tried_on_board B t h = let (p, at, is) = any_at (λ p. is_legal p t) B h in on_board p t is
+  tried_on_board B t h = let (p, at, is) = any_at (λ p. is_legal p t) B h in legal_squares p t is
 
   mutual
     told_node : (n : NodeTree) (B : List Pos) → AreValid B → IsCanon (chess d) n B → IsTold d n

@@ -3,12 +3,12 @@ use Rattle.std.proofs.Common.{◌≡◌, ℕ, ◌≤◌, List, [], ◌∷◌, le
 use Rattle.std.specs.Prelude.{IfSome}
 use Rattle.std.specs.Io.KnownBytes.{Appends, Consumes}
 use Rattle.krieg_board.specs.declared.men.Side.{Side}
-use Rattle.krieg_fen.specs.Lines.{lines}
-use Rattle.krieg_fen.specs.Reading.{whole}
-use Rattle.krieg_fen.specs.declared.fault.TextFault.{TextFault}
-use Rattle.krieg_fen.specs.declared.fault.TextFault.TheVariants as fault
-use Rattle.krieg_fen.specs.declared.fault.TextKind.{TextKind}
-use Rattle.krieg_fen.specs.declared.fault.TextKind.TheVariants as kind
+use Rattle.krieg_text.specs.Lines.{lines}
+use Rattle.krieg_text.specs.Reading.{whole}
+use Rattle.krieg_text.specs.declared.fault.TextFault.{TextFault}
+use Rattle.krieg_text.specs.declared.fault.TextFault.TheVariants as fault
+use Rattle.krieg_text.specs.declared.fault.TextKind.{TextKind}
+use Rattle.krieg_text.specs.declared.fault.TextKind.TheVariants as kind
 use Rattle.krieg_words.specs.WordsOfMoves.{opening}
 use Rattle.krieg_words.specs.ToldWords.{told}
 use Rattle.krieg_words.specs.Line.{told_line}
@@ -31,7 +31,7 @@ use Rattle.krieg_cli.specs.Refusal.{text_status, refusal_status, OfText}
 use Rattle.krieg_cli.specs.Ending.{status}
 use Rattle.krieg_cli.specs.Believe.{Believed}
 use Rattle.krieg_cli.specs.Umpire.{told_text}
-use Rattle.krieg_cli.specs.Outcome.{Table}
+use Rattle.krieg_cli.specs.Outcome.{PlayOutcome}
 use Rattle.krieg_cli.specs.Top.{ComesTo, Answers, Ends, Runs}
 use Rattle.krieg_cli.specs.WholeGames.{heard_sheet, standing, stripped, IsUmpired, IsHeard, TellsGame, EndsOnHeard, UmpiresGames, BelievesGames}
 use Rattle.krieg_cli.specs.declared.refusal.Refusal.{Refusal}
@@ -80,15 +80,15 @@ session_of given text who (Ok s) is e = (s, record { spelled = is; told = same_a
 session_of given text who (Err (fault.At line kind)) is e = absurd cc
 session_of given text who (Err fault.NoMemory) is e = absurd e
 
-told_game : (table : Table) (who : Side) (before after : World) → Answers table (Umpire (Some who)) before after → TellsGame who before after
-told_game table who before after (text, (given, read, comes), written, kept) =
+told_game : (plays : PlayOutcome) (who : Side) (before after : World) → Answers plays (Umpire (Some who)) before after → TellsGame who before after
+told_game plays who before after (text, (given, read, comes), written, kept) =
     let (s, u) = session_of given text who (whole session_at (lines given)) refl comes in
     record { given = given; session = s; text = text; was_read = read; umpired = u; heard = heard given s who text u; same = u.told ∙ same s who; written = written }
 
-pub umpires_games : (table : Table) (e : Ending) (asked : Option Command) (before after : World) (code : ℕ) → Runs table e asked before after → code ≡ status e → UmpiresGames asked code before after
-umpires_games table e asked before after code runs is who words zero =
-    told_game table who before after
-    (subst (λ x. Ends table x (Umpire (Some who)) before after) (answered e (sym is ∙ zero)) (subst (λ x. Runs table e x before after) words runs))
+pub umpires_games : (plays : PlayOutcome) (e : Ending) (asked : Option Command) (before after : World) (code : ℕ) → Runs plays e asked before after → code ≡ status e → UmpiresGames asked code before after
+umpires_games plays e asked before after code runs is who words zero =
+    told_game plays who before after
+    (subst (λ x. Ends plays x (Umpire (Some who)) before after) (answered e (sym is ∙ zero)) (subst (λ x. Runs plays e x before after) words runs))
 
 -- What is believed.
 
@@ -104,9 +104,9 @@ given_le old new text given holds took = within new (subst (λ b. Consumes b new
     within (Some rest) h = omega (arith, ap (λ (t : List ℕ). length t) h, length-append given rest)
 
 -- what `believe` comes to on that text
-believed : (table : Table) (limit : ℕ) (given : List ℕ) (s : SessionState) (who : Side) (text : List ℕ) (before after : World) (outcome : Result (List ℕ) Refusal) →
-    IsUmpired given s who text → before.input.bytes ≡ Some text → ComesTo table (Believe limit) before after outcome → Believed limit (heard_sheet s who) outcome
-believed table limit given s who text before after outcome u holds (read, was, made) =
+believed : (plays : PlayOutcome) (limit : ℕ) (given : List ℕ) (s : SessionState) (who : Side) (text : List ℕ) (before after : World) (outcome : Result (List ℕ) Refusal) →
+    IsUmpired given s who text → before.input.bytes ≡ Some text → ComesTo plays (Believe limit) before after outcome → Believed limit (heard_sheet s who) outcome
+believed plays limit given s who text before after outcome u holds (read, was, made) =
     subst (λ r. OfText r (Believed limit) outcome)
     (ap (λ t. whole sheet_at (lines t)) (text_read before.input after.input text read holds was) ∙ (heard given s who text u).read)
     made
@@ -116,25 +116,25 @@ refused_on_heard : (r : Refusal) (limit : ℕ) (s : SessionState) (who : Side) (
 refused_on_heard (TooMany line) limit s who text before after h = excess_not_within (heard_sheet s who) limit line h
 refused_on_heard _ limit s who text before after h = h
 
-ends_on_heard : (table : Table) (e : Ending) (limit : ℕ) (given : List ℕ) (s : SessionState) (who : Side) (text : List ℕ) (before after : World) →
-    IsUmpired given s who text → before.input.bytes ≡ Some text → Ends table e (Believe limit) before after → EndsOnHeard e limit s who text before after
-ends_on_heard table ending.Answered limit given s who text before after u holds (answer, comes, written, kept) =
-    let (list, possible, within, is) = believed table limit given s who text before after (Ok answer) u holds comes in
+ends_on_heard : (plays : PlayOutcome) (e : Ending) (limit : ℕ) (given : List ℕ) (s : SessionState) (who : Side) (text : List ℕ) (before after : World) →
+    IsUmpired given s who text → before.input.bytes ≡ Some text → Ends plays e (Believe limit) before after → EndsOnHeard e limit s who text before after
+ends_on_heard plays ending.Answered limit given s who text before after u holds (answer, comes, written, kept) =
+    let (list, possible, within, is) = believed plays limit given s who text before after (Ok answer) u holds comes in
     record {
       list = list;
       possible = possible;
       listed = (possible.exact (standing s)).1 (heard given s who text u).consistent;
       written = subst (Appends before.out.bytes after.out.bytes) is written;
     }
-ends_on_heard table ending.TooLong limit given s who text before after u holds ((takes, (took, consumed, long), kept), out) =
+ends_on_heard plays ending.TooLong limit given s who text before after u holds ((takes, (took, consumed, long), kept), out) =
     omega (arith, long, given_le before.input.bytes after.input.bytes text took holds consumed)
-ends_on_heard table ending.ReadFault limit given s who text before after u holds ((takes, came, rose), out) = rose
-ends_on_heard table ending.WriteFault limit given s who text before after u holds (answer, comes, front, rose) = rose
-ends_on_heard table ending.NoMemory limit given s who text before after u holds e = tt
-ends_on_heard table (ending.Refused r) limit given s who text before after u holds e =
-    refused_on_heard r limit s who text before after (believed table limit given s who text before after (Err r) u holds e.0)
-ends_on_heard table _ limit given s who text before after u holds e = e
+ends_on_heard plays ending.ReadFault limit given s who text before after u holds ((takes, came, rose), out) = rose
+ends_on_heard plays ending.WriteFault limit given s who text before after u holds (answer, comes, front, rose) = rose
+ends_on_heard plays ending.NoMemory limit given s who text before after u holds e = tt
+ends_on_heard plays (ending.Refused r) limit given s who text before after u holds e =
+    refused_on_heard r limit s who text before after (believed plays limit given s who text before after (Err r) u holds e.0)
+ends_on_heard plays _ limit given s who text before after u holds e = e
 
-pub believes_games : (table : Table) (e : Ending) (asked : Option Command) (before after : World) (code : ℕ) → Runs table e asked before after → code ≡ status e → BelievesGames asked code before after
-believes_games table e asked before after code runs ended =
-    (e, ended, λ limit given s who text is u holds. ends_on_heard table e limit given s who text before after u holds (subst (λ x. Runs table e x before after) is runs))
+pub believes_games : (plays : PlayOutcome) (e : Ending) (asked : Option Command) (before after : World) (code : ℕ) → Runs plays e asked before after → code ≡ status e → BelievesGames asked code before after
+believes_games plays e asked before after code runs ended =
+    (e, ended, λ limit given s who text is u holds. ends_on_heard plays e limit given s who text before after u holds (subst (λ x. Runs plays e x before after) is runs))

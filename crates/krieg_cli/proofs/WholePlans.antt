@@ -2,8 +2,8 @@
 use Rattle.std.proofs.Common.{◌≡◌, ℕ, List, Option, Some, Result, Ok, Err, ap, subst, ◌∙◌, arith}
 use Rattle.std.proofs.lemmas.Bool.{both_ways}
 use Rattle.std.specs.Io.KnownBytes.{Appends}
-use Rattle.krieg_fen.specs.Lines.{lines}
-use Rattle.krieg_fen.specs.Reading.{whole}
+use Rattle.krieg_text.specs.Lines.{lines}
+use Rattle.krieg_text.specs.Reading.{whole}
 use Rattle.krieg_planfile.specs.PlanFiles.{PlanState}
 use Rattle.krieg_planfile.specs.PlanReading.{plan_at}
 use Rattle.krieg_args.specs.declared.command.Command.{Command}
@@ -12,7 +12,7 @@ use Rattle.krieg_cli.specs.World.{World}
 use Rattle.krieg_cli.specs.Refusal.{OfText}
 use Rattle.krieg_cli.specs.Ending.{status}
 use Rattle.krieg_cli.specs.Check.{worst_text, Checked}
-use Rattle.krieg_cli.specs.Outcome.{Table}
+use Rattle.krieg_cli.specs.Outcome.{PlayOutcome}
 use Rattle.krieg_cli.specs.Top.{ComesTo, Ends, Runs}
 use Rattle.krieg_cli.specs.WholePlans.{IsSolution, EndsOnSolution, ChecksSolutions}
 use Rattle.krieg_cli.specs.declared.refusal.Refusal.{Refusal}
@@ -22,9 +22,9 @@ use Rattle.krieg_cli.specs.declared.ending.Ending.TheVariants as ending
 use Rattle.krieg_cli.proofs.WholeGames.{text_read, given_le}
 
 -- what `check` comes to on that text
-checked : (table : Table) (budget : ℕ) (f : PlanState) (text : List ℕ) (before after : World) (outcome : Result (List ℕ) Refusal) → IsSolution f text → before.input.bytes ≡ Some text →
-    ComesTo table (Check budget) before after outcome → Checked budget f outcome
-checked table budget f text before after outcome solution holds (read, was, made) =
+checked : (plays : PlayOutcome) (budget : ℕ) (f : PlanState) (text : List ℕ) (before after : World) (outcome : Result (List ℕ) Refusal) → IsSolution f text → before.input.bytes ≡ Some text →
+    ComesTo plays (Check budget) before after outcome → Checked budget f outcome
+checked plays budget f text before after outcome solution holds (read, was, made) =
     subst (λ r. OfText r (Checked budget) outcome) (ap (λ t. whole plan_at (lines t)) (text_read before.input after.input text read holds was) ∙ solution.read) made
 
 -- the worst case that was found is the number that the file states
@@ -39,19 +39,19 @@ refused BudgetSpent budget f text before after solution h = h
 refused PlanFails budget f text before after solution h = both_ways _ h.1 solution.mates
 refused _ budget f text before after solution h = h
 
-ends_on_solution : (table : Table) (e : Ending) (budget : ℕ) (f : PlanState) (text : List ℕ) (before after : World) → IsSolution f text → before.input.bytes ≡ Some text →
-    Ends table e (Check budget) before after → EndsOnSolution e budget f text before after
-ends_on_solution table ending.Answered budget f text before after solution holds (answer, comes, written, kept) =
-    subst (Appends before.out.bytes after.out.bytes) (same_worst f budget text answer solution (checked table budget f text before after (Ok answer) solution holds comes)) written
-ends_on_solution table ending.TooLong budget f text before after solution holds ((takes, (took, consumed, long), kept), out) =
+ends_on_solution : (plays : PlayOutcome) (e : Ending) (budget : ℕ) (f : PlanState) (text : List ℕ) (before after : World) → IsSolution f text → before.input.bytes ≡ Some text →
+    Ends plays e (Check budget) before after → EndsOnSolution e budget f text before after
+ends_on_solution plays ending.Answered budget f text before after solution holds (answer, comes, written, kept) =
+    subst (Appends before.out.bytes after.out.bytes) (same_worst f budget text answer solution (checked plays budget f text before after (Ok answer) solution holds comes)) written
+ends_on_solution plays ending.TooLong budget f text before after solution holds ((takes, (took, consumed, long), kept), out) =
     omega (arith, long, given_le before.input.bytes after.input.bytes text took holds consumed)
-ends_on_solution table ending.ReadFault budget f text before after solution holds ((takes, came, rose), out) = rose
-ends_on_solution table ending.WriteFault budget f text before after solution holds (answer, comes, front, rose) = rose
-ends_on_solution table ending.NoMemory budget f text before after solution holds e = tt
-ends_on_solution table (ending.Refused r) budget f text before after solution holds e =
-    refused r budget f text before after solution (checked table budget f text before after (Err r) solution holds e.0)
-ends_on_solution table _ budget f text before after solution holds e = e
+ends_on_solution plays ending.ReadFault budget f text before after solution holds ((takes, came, rose), out) = rose
+ends_on_solution plays ending.WriteFault budget f text before after solution holds (answer, comes, front, rose) = rose
+ends_on_solution plays ending.NoMemory budget f text before after solution holds e = tt
+ends_on_solution plays (ending.Refused r) budget f text before after solution holds e =
+    refused r budget f text before after solution (checked plays budget f text before after (Err r) solution holds e.0)
+ends_on_solution plays _ budget f text before after solution holds e = e
 
-pub checks_solutions : (table : Table) (e : Ending) (asked : Option Command) (before after : World) (code : ℕ) → Runs table e asked before after → code ≡ status e → ChecksSolutions asked code before after
-checks_solutions table e asked before after code runs ended =
-    (e, ended, λ budget f text is solution holds. ends_on_solution table e budget f text before after solution holds (subst (λ x. Runs table e x before after) is runs))
+pub checks_solutions : (plays : PlayOutcome) (e : Ending) (asked : Option Command) (before after : World) (code : ℕ) → Runs plays e asked before after → code ≡ status e → ChecksSolutions asked code before after
+checks_solutions plays e asked before after code runs ended =
+    (e, ended, λ budget f text is solution holds. ends_on_solution plays e budget f text before after solution holds (subst (λ x. Runs plays e x before after) is runs))

@@ -1,9 +1,9 @@
 -- What `check` answers to a plan file: its worst case, or why it has none.
 use Rattle.std.specs.Prelude.{◌≡◌, ℕ, ◌<◌, ◌≤◌, false, List, [], ◌∷◌, Result, Ok, Err, codes}
-use Rattle.krieg_fen.specs.Decimals.{number_text}
-use Rattle.krieg_fen.specs.Lines.{lines}
-use Rattle.krieg_fen.specs.Reading.{whole}
-use Rattle.krieg_fen.specs.Writing.{Pieces, put_lines}
+use Rattle.krieg_text.specs.Decimals.{number_text}
+use Rattle.krieg_text.specs.Lines.{lines}
+use Rattle.krieg_text.specs.Reading.{whole}
+use Rattle.krieg_text.specs.Writing.{Pieces, put_lines}
 use Rattle.krieg_theory.specs.Plans.{mates, IsWorst}
 use Rattle.krieg_game.specs.Chess.{chess}
 use Rattle.krieg_game.specs.Outset.{outset}

@@ -2,8 +2,9 @@
 use Rattle.std.specs.Prelude.{◌≡◌, ◌≤◌, ◌<◌, ◌⊎◌, ◌++◌, ℕ, true, List, [], ◌∷◌, length, drop, map, Option, Some, Ok, MatchBool}
 use Rattle.krieg_board.specs.Pos.{Pos}
 use Rattle.krieg_board.specs.declared.men.Side.TheVariants.{White}
-use Rattle.krieg_fen.specs.Lines.{lines}
-use Rattle.krieg_fen.specs.Reading.{whole}
+use Rattle.krieg_board.specs.declared.limits.TheConstants.{MOST_UNITS}
+use Rattle.krieg_text.specs.Lines.{lines}
+use Rattle.krieg_text.specs.Reading.{whole}
 use Rattle.krieg_ports.specs.Faults.{Rose}
 use Rattle.krieg_words.specs.declared.dialects.Dialect.TheVariants.{Wild16}
 use Rattle.krieg_make.specs.MadeSheets.{made_sheet}
@@ -22,16 +23,17 @@ use Rattle.krieg_args.specs.Command.{takes_input}
 use Rattle.krieg_args.specs.declared.command.Command.{Command}
 use Rattle.krieg_args.specs.declared.command.Command.TheVariants.{Solve, Check, Believe, Umpire, Play, Make, Job}
 use Rattle.krieg_cli.specs.World.{Stream, World, FaultsRose}
-use Rattle.krieg_cli.specs.Input.{most_input}
-use Rattle.krieg_cli.specs.Solve.{mates_all, most_units, IsBestFile, IsTooLarge, Asks}
+use Rattle.krieg_cli.specs.Solve.{mates_all, fresh_units, IsBestFile, IsTooLarge, Asks}
 use Rattle.krieg_cli.specs.Check.{check_cost}
-use Rattle.krieg_cli.specs.Job.{job_moves, job_budget, IsBest}
+use Rattle.krieg_cli.specs.Job.{IsBest}
+use Rattle.krieg_cli.specs.declared.input.TheConstants.{MOST_INPUT}
+use Rattle.krieg_cli.specs.declared.commands.job.TheConstants.{JOB_MOVES}
 
 -- ---- the input
 
 -- the input holds the text that a command takes, and it is not too long; a command that takes none has no text
 abbrev pub HoldsText : Command → Stream → List ℕ → Type 0
-HoldsText c input text = MatchBool (takes_input c) ((input.bytes ≡ Some text) × (length text ≤ most_input)) (text ≡ [])
+HoldsText c input text = MatchBool (takes_input c) ((input.bytes ≡ Some text) × (length text ≤ MOST_INPUT)) (text ≡ [])
 
 -- The sheet asks for a plan, the budget is as much as a search may take, and the best plan, where there is one, is not too large.
 pub record CanBeSolved (n budget limit : ℕ) (text : List ℕ) : Type 0 where
@@ -39,7 +41,7 @@ pub record CanBeSolved (n budget limit : ℕ) (text : List ℕ) : Type 0 where
   pub positions : List Pos
   pub spelled : whole sheet_at (lines text) ≡ Ok sheet
   pub asks : Asks limit sheet positions
-  pub enough : most_units sheet.dialect sheet.side positions n ≤ budget
+  pub enough : fresh_units sheet.dialect sheet.side positions n ≤ budget
   pub fits : (f : PlanState) → IsBestFile sheet.dialect sheet.side positions n f → IsTooLarge f → ⊥
 
 -- The plan mates from each listed position within the number that the file states, and the budget is as much as a check takes.
@@ -59,8 +61,8 @@ pub record CanBeBelieved (limit : ℕ) (text : List ℕ) : Type 0 where
 pub record CanBeSummed (number : ℕ) : Type 0 where
   pub positions : List Pos
   pub possible : IsPossible (made_sheet number) positions
-  pub enough : most_units Wild16 White positions job_moves ≤ job_budget
-  pub enough_to_check : (f : PlanState) → IsBest positions f → check_cost f ≤ job_budget
+  pub enough : fresh_units Wild16 White positions JOB_MOVES ≤ MOST_UNITS
+  pub enough_to_check : (f : PlanState) → IsBest positions f → check_cost f ≤ MOST_UNITS
   pub fits : (f : PlanState) → IsBest positions f → IsTooLarge f → ⊥
 
 -- the input that a command must answer

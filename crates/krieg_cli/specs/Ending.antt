@@ -1,6 +1,6 @@
 -- How a run ends: the status, and the line that err gets.
 use Rattle.std.specs.Prelude.{◌≡◌, ℕ, List, [], ◌∷◌, ◌++◌, Option, Some, None, codes}
-use Rattle.krieg_fen.specs.Decimals.{number_text}
+use Rattle.krieg_text.specs.Decimals.{number_text}
 use Rattle.krieg_cli.specs.Refusal.{refusal_status, refusal_reason}
 use Rattle.krieg_cli.specs.declared.ending.Ending.{Ending}
 use Rattle.krieg_cli.specs.declared.ending.Ending.TheVariants.{Answered, Usage, TooLong, ReadFault, WriteFault, NoMemory, Refused}

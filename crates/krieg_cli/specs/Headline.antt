@@ -5,8 +5,8 @@
 use Rattle.std.specs.Prelude.{◌≡◌, ◌≤◌, ◌⊎◌, ℕ, true, false, List, Option, Some, Ok}
 use Rattle.std.specs.Io.KnownBytes.{Appends}
 use Rattle.krieg_board.specs.Pos.{Pos}
-use Rattle.krieg_fen.specs.Lines.{lines}
-use Rattle.krieg_fen.specs.Reading.{whole}
+use Rattle.krieg_text.specs.Lines.{lines}
+use Rattle.krieg_text.specs.Reading.{whole}
 use Rattle.krieg_sheet.specs.Sheets.{SheetState}
 use Rattle.krieg_sheet.specs.SheetReading.{sheet_at}
 use Rattle.krieg_belief.specs.Possible.{IsPossible}

@@ -10,14 +10,11 @@ use Rattle.krieg_args.specs.declared.command.Command.{Command}
 use Rattle.krieg_cli.specs.World.{Stream, FaultsRose, NoFault}
 use Rattle.krieg_cli.specs.declared.ending.Ending.{Ending}
 use Rattle.krieg_cli.specs.declared.ending.Ending.TheVariants.{TooLong, ReadFault, NoMemory}
-
--- the most bytes of input
-abbrev pub most_input : ℕ
-most_input = 67108864
+use Rattle.krieg_cli.specs.declared.input.TheConstants.{MOST_INPUT}
 
 -- the source gave this text and is at its end, no call of it failed, and the text is not too long
 abbrev pub WasRead : Stream → Stream → List ℕ → Type 0
-WasRead before after text = Consumes before.bytes after.bytes text × IsAtEnd after.bytes × NoFault before after × (length text ≤ most_input)
+WasRead before after text = Consumes before.bytes after.bytes text × IsAtEnd after.bytes × NoFault before after × (length text ≤ MOST_INPUT)
 
 -- the text that a command has: its input, or none where it takes no input
 abbrev pub WasTaken : Command → Stream → Stream → List ℕ → Type 0
@@ -25,7 +22,7 @@ WasTaken c before after text = MatchBool (takes_input c) (WasRead before after t
 
 -- the source gave so many bytes before it was not read to its end: one too many, or no more than there may be
 abbrev pub Came : ReadEnd → Stream → Stream → Type 0
-Came why before after = Gave before.bytes after.bytes (CameBefore why most_input)
+Came why before after = Gave before.bytes after.bytes (CameBefore why MOST_INPUT)
 
 -- Why a command has no text: one byte too many came before any fault, or a read failed when no more had come than there may be.
 -- No more had come either, and no read had failed, when memory ran out, then or later.

@@ -2,8 +2,9 @@
 use Rattle.std.specs.Prelude.{◌≡◌, ◌⊎◌, ℕ, ◌<◌, ◌≤◌, List, [], ◌∷◌, ◌++◌, length, Result, Ok, Err, codes}
 use Rattle.krieg_board.specs.Pos.{Pos}
 use Rattle.krieg_board.specs.declared.men.Side.TheVariants.{White}
-use Rattle.krieg_fen.specs.Decimals.{number_text}
-use Rattle.krieg_fen.specs.Writing.{Pieces, put_lines}
+use Rattle.krieg_board.specs.declared.limits.TheConstants.{MOST_UNITS}
+use Rattle.krieg_text.specs.Decimals.{number_text}
+use Rattle.krieg_text.specs.Writing.{Pieces, put_lines}
 use Rattle.krieg_words.specs.declared.dialects.Dialect.TheVariants.{Wild16}
 use Rattle.krieg_referee.specs.Games.{judge}
 use Rattle.krieg_belief.specs.Possible.{IsPossible}
@@ -11,21 +12,15 @@ use Rattle.krieg_plan.specs.Trees.{plan_size}
 use Rattle.krieg_planfile.specs.PlanFiles.{PlanState}
 use Rattle.krieg_make.specs.MadeSheets.{made_list, made_sheet}
 use Rattle.krieg_make.specs.MadeSessions.{made_session}
-use Rattle.krieg_cli.specs.Solve.{none_line, IsBestFile, NoneMates, IsTooLarge, least_units, most_units}
+use Rattle.krieg_cli.specs.Solve.{none_line, IsBestFile, NoneMates, IsTooLarge, least_units, fresh_units}
 use Rattle.krieg_cli.specs.Check.{check_cost}
 use Rattle.krieg_cli.specs.Tally.{tally_of, tally_line}
 use Rattle.krieg_cli.specs.declared.refusal.Refusal.{Refusal}
 use Rattle.krieg_cli.specs.declared.refusal.Refusal.TheVariants.{BudgetSpent, PlanTooLarge}
-use Rattle.krieg_cli.specs.declared.job.Finding.{Finding}
-use Rattle.krieg_cli.specs.declared.job.Finding.TheVariants.{Plan, NoPlan}
-use Rattle.krieg_cli.specs.declared.tally.Tally.{Tally}
-
--- within how many own moves the plan is to mate, and the units of the search, and as many of the check
-abbrev pub job_moves : ℕ
-job_moves = 1
-
-abbrev pub job_budget : ℕ
-job_budget = 50000000
+use Rattle.krieg_cli.specs.declared.commands.job.Finding.{Finding}
+use Rattle.krieg_cli.specs.declared.commands.job.Finding.TheVariants.{Plan, NoPlan}
+use Rattle.krieg_cli.specs.declared.commands.job.tally.Tally.{Tally}
+use Rattle.krieg_cli.specs.declared.commands.job.TheConstants.{JOB_MOVES}
 
 -- ---- the lines
 
@@ -47,7 +42,7 @@ checked_line worst = codes "checked " ∷ number_text worst ∷ []
 
 -- the file is that of White's best plan for these positions
 abbrev pub IsBest : List Pos → PlanState → Type 0
-IsBest S f = IsBestFile Wild16 White S job_moves f
+IsBest S f = IsBestFile Wild16 White S JOB_MOVES f
 
 -- and it is not too large
 pub record IsFound (S : List Pos) (f : PlanState) : Type 0 where
@@ -61,10 +56,10 @@ plan_lines f = mates_line f.worst (plan_size f.plan) ∷ checked_line f.worst �
 -- A search within the budget, and a check within the budget where there is a plan. Both tell the best plan, or that none mates.
 abbrev pub Plans : List Pos → Result (List Pieces) Refusal → Type 0
 Plans S (Ok told) =
-    (least_units Wild16 White S job_moves ≤ job_budget)
-    × (((f : PlanState) × IsFound S f × (check_cost f ≤ job_budget) × (told ≡ plan_lines f)) ⊎ (NoneMates Wild16 White S job_moves × (told ≡ none_line job_moves ∷ [])))
-Plans S (Err PlanTooLarge) = (least_units Wild16 White S job_moves ≤ job_budget) × (f : PlanState) × IsBest S f × IsTooLarge f
-Plans S (Err BudgetSpent) = (job_budget < most_units Wild16 White S job_moves) ⊎ ((f : PlanState) × IsFound S f × (job_budget < check_cost f))
+    (least_units Wild16 White S JOB_MOVES ≤ MOST_UNITS)
+    × (((f : PlanState) × IsFound S f × (check_cost f ≤ MOST_UNITS) × (told ≡ plan_lines f)) ⊎ (NoneMates Wild16 White S JOB_MOVES × (told ≡ none_line JOB_MOVES ∷ [])))
+Plans S (Err PlanTooLarge) = (least_units Wild16 White S JOB_MOVES ≤ MOST_UNITS) × (f : PlanState) × IsBest S f × IsTooLarge f
+Plans S (Err BudgetSpent) = (MOST_UNITS < fresh_units Wild16 White S JOB_MOVES) ⊎ ((f : PlanState) × IsFound S f × (MOST_UNITS < check_cost f))
 Plans S (Err _) = ⊥
 
 -- ---- the summary
@@ -87,7 +82,7 @@ Summarizes number (Err refusal) = (S : List Pos) × IsPossible (made_sheet numbe
 -- what is told of a plan that was found and checked, or that none was
 abbrev pub found_lines : Finding → List Pieces
 found_lines (Plan worst nodes checked) = mates_line worst nodes ∷ checked_line checked ∷ []
-found_lines NoPlan = none_line job_moves ∷ []
+found_lines NoPlan = none_line JOB_MOVES ∷ []
 
 abbrev pub summary_lines : ℕ → ℕ → Finding → Tally → List Pieces
 summary_lines listed positions found tally = listed_line listed ∷ positions_line positions ∷ found_lines found ++ tally_line tally ∷ []

@@ -1,7 +1,7 @@
 -- What no public clause cites: the parts of the work answer a value, or the ending of a run that has none.
 use Rattle.std.specs.Prelude.{◌≡◌, ◌⊎◌, ℕ, false, List, Some, Result, Ok, Err}
-use Rattle.krieg_fen.specs.declared.fault.TextFault.{TextFault}
-use Rattle.krieg_fen.specs.declared.fault.TextFault.TheVariants as fault
+use Rattle.krieg_text.specs.declared.fault.TextFault.{TextFault}
+use Rattle.krieg_text.specs.declared.fault.TextFault.TheVariants as fault
 use Rattle.krieg_ports.specs.declared.transfer.ReadEnd.{ReadEnd}
 use Rattle.krieg_ports.specs.declared.transfer.ReadEnd.TheVariants as unread
 use Rattle.krieg_belief.specs.declared.beliefs.BeliefStop.{BeliefStop}

@@ -2,10 +2,10 @@
 use Rattle.std.specs.Prelude.{ℕ, ◌≡◌, List, Option, Some, None, Result, Ok, Err, codes}
 use Rattle.krieg_board.specs.declared.position.BadPosition.{BadPosition}
 use Rattle.krieg_board.specs.declared.position.BadPosition.TheVariants as bad
-use Rattle.krieg_fen.specs.declared.fault.TextFault.{TextFault}
-use Rattle.krieg_fen.specs.declared.fault.TextFault.TheVariants as fault
-use Rattle.krieg_fen.specs.declared.fault.TextKind.{TextKind}
-use Rattle.krieg_fen.specs.declared.fault.TextKind.TheVariants as kind
+use Rattle.krieg_text.specs.declared.fault.TextFault.{TextFault}
+use Rattle.krieg_text.specs.declared.fault.TextFault.TheVariants as fault
+use Rattle.krieg_text.specs.declared.fault.TextKind.{TextKind}
+use Rattle.krieg_text.specs.declared.fault.TextKind.TheVariants as kind
 use Rattle.krieg_cli.specs.declared.refusal.Refusal.{Refusal}
 use Rattle.krieg_board.specs.declared.men.Side.TheVariants.{White, Black}
 use Rattle.krieg_cli.specs.declared.refusal.Refusal.TheVariants.{BadText, TooMany, NonePossible, GameOver, BudgetSpent, NoSeat, SeatFault, PlanFails, PlanTooLarge}

@@ -2,10 +2,10 @@
 use Rattle.std.specs.Prelude.{◌≡◌, ◌⊎◌, ℕ, ◌<◌, ◌≤◌, Bool, true, false, List, [], ◌∷◌, Result, Ok, Err, codes}
 use Rattle.krieg_board.specs.Pos.{Pos}
 use Rattle.krieg_board.specs.declared.men.Side.{Side}
-use Rattle.krieg_fen.specs.Decimals.{number_text}
-use Rattle.krieg_fen.specs.Lines.{lines}
-use Rattle.krieg_fen.specs.Reading.{whole}
-use Rattle.krieg_fen.specs.Writing.{Pieces, put_lines}
+use Rattle.krieg_text.specs.Decimals.{number_text}
+use Rattle.krieg_text.specs.Lines.{lines}
+use Rattle.krieg_text.specs.Reading.{whole}
+use Rattle.krieg_text.specs.Writing.{Pieces, put_lines}
 use Rattle.krieg_words.specs.declared.dialects.Dialect.{Dialect}
 use Rattle.krieg_sheet.specs.Sheets.{SheetState}
 use Rattle.krieg_sheet.specs.SheetReading.{sheet_at}
@@ -19,7 +19,8 @@ use Rattle.krieg_costs.specs.Backing.{floor}
 use Rattle.krieg_game.specs.Chess.{chess}
 use Rattle.krieg_game.specs.Outset.{outset}
 use Rattle.krieg_plan.specs.Trees.{PlanTrees, plan_size, plan_depth}
-use Rattle.krieg_planfile.specs.PlanFiles.{PlanState, most_nodes, most_on_path}
+use Rattle.krieg_plan.specs.declared.limits.TheConstants.{MOST_NODES, MOST_ON_PATH}
+use Rattle.krieg_planfile.specs.PlanFiles.{PlanState}
 use Rattle.krieg_planfile.specs.PlanReading.{plan_at}
 use Rattle.krieg_planfile.specs.PlanText.{plan_text}
 use Rattle.krieg_cli.specs.Refusal.{OfText}
@@ -40,7 +41,7 @@ file_of d who S worst plan = record { dialect = d; side = who; list = S; worst =
 
 -- it has more nodes, or more of them on a path, than a plan file may have
 abbrev pub IsTooLarge : PlanState → Type 0
-IsTooLarge f = (most_nodes < plan_size f.plan) ⊎ (most_on_path < plan_depth f.plan)
+IsTooLarge f = (MOST_NODES < plan_size f.plan) ⊎ (MOST_ON_PATH < plan_depth f.plan)
 
 module _ (d : Dialect) (who : Side) (S : List Pos) where
   -- the plan mates from each of the positions, against every reply, within k own moves
@@ -67,8 +68,8 @@ module _ (d : Dialect) (who : Side) (S : List Pos) where
   abbrev pub least_units : ℕ → ℕ
   least_units n = floor (chess d) (outset d who) n S
 
-  abbrev pub most_units : ℕ → ℕ
-  most_units n = fresh (chess d) (outset d who) n S
+  abbrev pub fresh_units : ℕ → ℕ
+  fresh_units n = fresh (chess d) (outset d who) n S
 
   -- the answer is the text of the best file, and is read as that file again
   pub record IsBestText (n : ℕ) (answer : List ℕ) : Type 0 where
@@ -86,7 +87,7 @@ module _ (d : Dialect) (who : Side) (S : List Pos) where
   abbrev pub Searched : ℕ → ℕ → Result (List ℕ) Refusal → Type 0
   Searched n budget (Ok answer) = (least_units n ≤ budget) × Tells n answer
   Searched n budget (Err PlanTooLarge) = (least_units n ≤ budget) × (f : PlanState) × IsBestFile n f × IsTooLarge f
-  Searched n budget (Err BudgetSpent) = budget < most_units n
+  Searched n budget (Err BudgetSpent) = budget < fresh_units n
   Searched n budget (Err _) = ⊥
 
 -- The sheet asks for a plan for these positions: they are all that is possible, no part of the sheet leaves more than the

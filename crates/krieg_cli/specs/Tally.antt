@@ -1,12 +1,12 @@
 -- How many tries of a game were judged so, and how many so.
 use Rattle.std.specs.Prelude.{ℕ, Bool, true, false, List, [], ◌∷◌, length, codes}
 use Rattle.std.specs.List.{count_by}
-use Rattle.krieg_fen.specs.Decimals.{number_text}
-use Rattle.krieg_fen.specs.Writing.{Pieces}
+use Rattle.krieg_text.specs.Decimals.{number_text}
+use Rattle.krieg_text.specs.Writing.{Pieces}
 use Rattle.krieg_referee.specs.declared.verdict.Judged.{Judged}
 use Rattle.krieg_referee.specs.declared.verdict.Verdict.{Verdict}
 use Rattle.krieg_referee.specs.declared.verdict.Verdict.TheVariants as verdict
-use Rattle.krieg_cli.specs.declared.tally.Tally.{Tally}
+use Rattle.krieg_cli.specs.declared.commands.job.tally.Tally.{Tally}
 
 abbrev pub is_done : Verdict → Bool
 is_done (verdict.Done words) = true

@@ -7,7 +7,7 @@ use Rattle.krieg_args.specs.declared.command.Command.{Command}
 use Rattle.krieg_args.specs.declared.command.Command.TheVariants.{Play}
 use Rattle.krieg_cli.specs.World.{Stream, World, FaultsRose, NoFault}
 use Rattle.krieg_cli.specs.Input.{WasRead, WasTaken, FailsToTake}
-use Rattle.krieg_cli.specs.Outcome.{Table, HasOutcome}
+use Rattle.krieg_cli.specs.Outcome.{PlayOutcome, HasOutcome}
 use Rattle.krieg_seats.specs.Accounts.{Account}
 use Rattle.krieg_play.specs.Played.{Sides}
 use Rattle.krieg_cli.specs.Play.{Plays, HasBegun, calls_seats}
@@ -17,33 +17,33 @@ use Rattle.krieg_cli.specs.declared.ending.Ending.{Ending}
 use Rattle.krieg_cli.specs.declared.ending.Ending.TheVariants.{Answered, Usage, TooLong, ReadFault, WriteFault, NoMemory, Refused}
 
 -- the input was taken, and this is what the command makes of it
-abbrev pub ComesTo : Table → Command → World → World → Result (List ℕ) Refusal → Type 0
-ComesTo table c before after outcome = (text : List ℕ) × WasTaken c before.input after.input text × HasOutcome table c text outcome
+abbrev pub ComesTo : PlayOutcome → Command → World → World → Result (List ℕ) Refusal → Type 0
+ComesTo plays c before after outcome = (text : List ℕ) × WasTaken c before.input after.input text × HasOutcome plays c text outcome
 
 -- the whole answer was written, and no write of it failed
-abbrev pub Answers : Table → Command → World → World → Type 0
-Answers table c before after =
-    (answer : List ℕ) × ComesTo table c before after (Ok answer) × Appends before.out.bytes after.out.bytes answer × NoFault before.out after.out
+abbrev pub Answers : PlayOutcome → Command → World → World → Type 0
+Answers plays c before after =
+    (answer : List ℕ) × ComesTo plays c before after (Ok answer) × Appends before.out.bytes after.out.bytes answer × NoFault before.out after.out
 
 -- the sink failed, and got a front part of the answer
-abbrev pub BreaksOff : Table → Command → World → World → Type 0
-BreaksOff table c before after =
-    (answer : List ℕ) × ComesTo table c before after (Ok answer) × AppendsPrefix before.out.bytes after.out.bytes answer × FaultsRose before.out after.out
+abbrev pub BreaksOff : PlayOutcome → Command → World → World → Type 0
+BreaksOff plays c before after =
+    (answer : List ℕ) × ComesTo plays c before after (Ok answer) × AppendsPrefix before.out.bytes after.out.bytes answer × FaultsRose before.out after.out
 
 -- what a run of a command shows at each ending
-abbrev pub Ends : Table → Ending → Command → World → World → Type 0
-Ends table Answered c before after = Answers table c before after
-Ends table (Refused refusal) c before after = ComesTo table c before after (Err refusal) × (after.out ≡ before.out)
-Ends table TooLong c before after = FailsToTake TooLong c before.input after.input × (after.out ≡ before.out)
-Ends table ReadFault c before after = FailsToTake ReadFault c before.input after.input × (after.out ≡ before.out)
-Ends table WriteFault c before after = BreaksOff table c before after
-Ends table NoMemory c before after = FailsToTake NoMemory c before.input after.input × (after.out ≡ before.out)
-Ends table Usage c before after = ⊥
+abbrev pub Ends : PlayOutcome → Ending → Command → World → World → Type 0
+Ends plays Answered c before after = Answers plays c before after
+Ends plays (Refused refusal) c before after = ComesTo plays c before after (Err refusal) × (after.out ≡ before.out)
+Ends plays TooLong c before after = FailsToTake TooLong c before.input after.input × (after.out ≡ before.out)
+Ends plays ReadFault c before after = FailsToTake ReadFault c before.input after.input × (after.out ≡ before.out)
+Ends plays WriteFault c before after = BreaksOff plays c before after
+Ends plays NoMemory c before after = FailsToTake NoMemory c before.input after.input × (after.out ≡ before.out)
+Ends plays Usage c before after = ⊥
 
 -- Words that are no command are usage, before anything is read or written; a command ends by its causes.
-abbrev pub Runs : Table → Ending → Option Command → World → World → Type 0
-Runs table ending None before after = (ending ≡ Usage) × (after ≡ before)
-Runs table ending (Some c) before after = Ends table ending c before after
+abbrev pub Runs : PlayOutcome → Ending → Option Command → World → World → Type 0
+Runs plays ending None before after = (ending ≡ Usage) × (after ≡ before)
+Runs plays ending (Some c) before after = Ends plays ending c before after
 
 -- the command that the words of a run are
 abbrev pub asked_by : {Z : Type 0} → List (String Z) → Option Command

@@ -1,8 +1,8 @@
 -- What `umpire` answers to a session: one player's sheet, or the lines of both.
 use Rattle.std.specs.Prelude.{◌≡◌, List, ℕ, Option, Result, Ok}
 use Rattle.krieg_board.specs.declared.men.Side.{Side}
-use Rattle.krieg_fen.specs.Lines.{lines}
-use Rattle.krieg_fen.specs.Reading.{whole}
+use Rattle.krieg_text.specs.Lines.{lines}
+use Rattle.krieg_text.specs.Reading.{whole}
 use Rattle.krieg_session.specs.Sessions.{SessionState}
 use Rattle.krieg_session.specs.SessionReading.{session_at}
 use Rattle.krieg_session.specs.Telling.{umpire_text}

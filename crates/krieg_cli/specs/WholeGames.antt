@@ -3,8 +3,8 @@ use Rattle.std.specs.Prelude.{◌≡◌, ℕ, ◌<◌, List, length, Option, Som
 use Rattle.std.specs.Io.KnownBytes.{Appends}
 use Rattle.krieg_board.specs.Pos.{Pos}
 use Rattle.krieg_board.specs.declared.men.Side.{Side}
-use Rattle.krieg_fen.specs.Lines.{lines}
-use Rattle.krieg_fen.specs.Reading.{whole}
+use Rattle.krieg_text.specs.Lines.{lines}
+use Rattle.krieg_text.specs.Reading.{whole}
 use Rattle.krieg_referee.specs.Games.{last}
 use Rattle.krieg_referee.specs.Hearing.{strip}
 use Rattle.krieg_sheet.specs.Games.{Consistent}
@@ -20,12 +20,13 @@ use Rattle.krieg_session.specs.Telling.{sheet_of}
 use Rattle.krieg_args.specs.declared.command.Command.{Command}
 use Rattle.krieg_args.specs.declared.command.Command.TheVariants.{Believe, Umpire}
 use Rattle.krieg_cli.specs.World.{World, FaultsRose}
-use Rattle.krieg_cli.specs.Input.{most_input, WasRead}
+use Rattle.krieg_cli.specs.Input.{WasRead}
 use Rattle.krieg_cli.specs.Umpire.{told_text}
 use Rattle.krieg_cli.specs.Ending.{EndsSo}
 use Rattle.krieg_cli.specs.declared.refusal.Refusal.TheVariants.{TooMany}
 use Rattle.krieg_cli.specs.declared.ending.Ending.{Ending}
 use Rattle.krieg_cli.specs.declared.ending.Ending.TheVariants.{Answered, TooLong, ReadFault, WriteFault, NoMemory, Refused}
+use Rattle.krieg_cli.specs.declared.input.TheConstants.{MOST_INPUT}
 
 -- a player's sheet of a session
 abbrev pub heard_sheet : SessionState → Side → SheetState
@@ -72,7 +73,7 @@ pub record ListsStanding (s : SessionState) (who : Side) (before after : World) 
 -- the sheet leaves more positions open than the limit allows, a stream fails, or memory runs out.
 abbrev pub EndsOnHeard : Ending → ℕ → SessionState → Side → List ℕ → World → World → Type 0
 EndsOnHeard Answered limit s who text before after = ListsStanding s who before after
-EndsOnHeard TooLong limit s who text before after = most_input < length text
+EndsOnHeard TooLong limit s who text before after = MOST_INPUT < length text
 EndsOnHeard (Refused (TooMany line)) limit s who text before after = AllWithin limit (heard_sheet s who) → ⊥
 EndsOnHeard ReadFault limit s who text before after = FaultsRose before.input after.input
 EndsOnHeard WriteFault limit s who text before after = FaultsRose before.out after.out

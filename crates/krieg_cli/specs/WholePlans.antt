@@ -1,21 +1,21 @@
 -- `solve` and `check` together: a plan file that one writes is judged by the other.
 use Rattle.std.specs.Prelude.{◌≡◌, ◌<◌, ◌≤◌, ℕ, true, List, length, Option, Some, Ok}
 use Rattle.std.specs.Io.KnownBytes.{Appends}
-use Rattle.krieg_fen.specs.Lines.{lines}
-use Rattle.krieg_fen.specs.Reading.{whole}
+use Rattle.krieg_text.specs.Lines.{lines}
+use Rattle.krieg_text.specs.Reading.{whole}
 use Rattle.krieg_plan.specs.Trees.{PlanTrees}
 use Rattle.krieg_planfile.specs.PlanFiles.{PlanState}
 use Rattle.krieg_planfile.specs.PlanReading.{plan_at}
 use Rattle.krieg_args.specs.declared.command.Command.{Command}
 use Rattle.krieg_args.specs.declared.command.Command.TheVariants.{Check}
 use Rattle.krieg_cli.specs.World.{World, FaultsRose}
-use Rattle.krieg_cli.specs.Input.{most_input}
 use Rattle.krieg_cli.specs.Solve.{mates_all}
 use Rattle.krieg_cli.specs.Check.{check_cost, worst_text}
 use Rattle.krieg_cli.specs.Ending.{EndsSo}
 use Rattle.krieg_cli.specs.declared.refusal.Refusal.TheVariants.{BudgetSpent}
 use Rattle.krieg_cli.specs.declared.ending.Ending.{Ending}
 use Rattle.krieg_cli.specs.declared.ending.Ending.TheVariants.{Answered, TooLong, ReadFault, WriteFault, NoMemory, Refused}
+use Rattle.krieg_cli.specs.declared.input.TheConstants.{MOST_INPUT}
 
 -- the text is read as a file like those that `solve` writes: its plan mates from each listed position within the number that the
 -- file states, and no plan has a smaller worst case
@@ -29,7 +29,7 @@ pub record IsSolution (f : PlanState) (text : List ℕ) : Type 0 where
 abbrev pub EndsOnSolution : Ending → ℕ → PlanState → List ℕ → World → World → Type 0
 EndsOnSolution Answered budget f text before after = Appends before.out.bytes after.out.bytes (worst_text f.worst)
 EndsOnSolution (Refused BudgetSpent) budget f text before after = budget < check_cost f
-EndsOnSolution TooLong budget f text before after = most_input < length text
+EndsOnSolution TooLong budget f text before after = MOST_INPUT < length text
 EndsOnSolution ReadFault budget f text before after = FaultsRose before.input after.input
 EndsOnSolution WriteFault budget f text before after = FaultsRose before.out after.out
 EndsOnSolution NoMemory budget f text before after = Unit {0}

@@ -3,8 +3,8 @@ ghost use Rattle.krieg_cli.specs.Ending as spec;
 
 use crate::refusal::Refusal;
 use krieg_board::NoMemory;
-use krieg_fen::TextFault;
 use krieg_ports::{ReadEnd, WriteFault};
+use krieg_text::TextFault;
 
 /// How a run ends.
 #[derive(Clone, Copy, Debug, PartialEq, Eq)]

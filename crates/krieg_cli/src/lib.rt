@@ -10,6 +10,8 @@
 //! `WholeGames` that `believe` lists where a game stands, given what `umpire` writes of it. `Complete` says when there must
 //! be an answer.
 //!
+//! `commands` has a file for each command, and `outcome` chooses among them.
+//!
 //! `live` has the calls that hold boxed seats: `bench` has the seats of both sides, `telling` what one seat is asked and
 //! told, `team` the turns and reliefs of one side, `table` one pass over both sides, `game` a whole game. They stand here,
 //! over the definitions and lemmas of `krieg_play`, since every caller that is handed a bench stands in one crate.
@@ -24,25 +26,18 @@
 //! ```
 #![tactic(auto)]
 
-mod believe;
-mod check;
+mod commands;
 mod ending;
 mod input;
-mod job;
 mod live;
-mod make;
 mod outcome;
-mod played;
 mod refusal;
 mod report;
-mod solve;
-mod tally;
 mod top;
-mod umpire;
 
 pub use input::MOST_INPUT;
 pub use krieg_args::{SeatFiles, seat_files};
-pub use krieg_play::{PlayFault, Played};
+pub use krieg_play::PlayFault;
 pub(crate) use krieg_play::{Turn, fault_of, relieved_turn};
-pub use live::{Bench, play};
+pub use live::{Bench, Played, play};
 pub use top::run;

@@ -8,4 +8,4 @@ mod team;
 mod telling;
 
 pub use bench::Bench;
-pub use game::play;
+pub use game::{Played, play};

@@ -3,9 +3,9 @@ ghost use Rattle.krieg_cli.specs.Parts.{Decides, LeavesSeats, ending_of};
 ghost use Rattle.krieg_cli.specs.Play.{Plays};
 ghost use Rattle.krieg_cli.specs.Outcome as spec;
 
+use crate::commands::{believe, check, job, make, play, solve, umpire};
 use crate::ending::Ending;
 use crate::live::Bench;
-use crate::{believe, check, job, make, played, solve, umpire};
 use krieg_args::Command;
 use krieg_seats::Seat;
 use std::alloc::Global;
@@ -18,21 +18,23 @@ pub(crate) fn outcome(
     bench: &mut Bench,
 ) -> Result<Vec<u8>, Ending>
     requires { spec.IsInRange command.now }
-    ensures outcome { let table = Plays (λ b. account b)
+    ensures outcome { let plays = Plays (λ b. account b)
         (bench_sides bench.old) (bench_sides bench.new) in
-        Decides (λ answer. answer.items) result (spec.HasOutcome table command.now text.items) }
+        Decides (λ answer. answer.items) result (spec.HasOutcome plays command.now text.items) }
     ensures bench { LeavesSeats (λ b. account b) command.now (ending_of result) text.items
         (bench_sides bench.old) (bench_sides bench.new) }
 {
     match command {
-        Command::Solve(moves, budget, limit) => {
-            solve::answer(alloc, *moves, *budget, *limit, text)
-        }
-        Command::Check(budget) => check::answer(alloc, *budget, text),
-        Command::Believe(limit) => believe::answer(alloc, *limit, text),
-        Command::Umpire(who) => umpire::answer(alloc, *who, text),
-        Command::Play(asks) => played::answer(alloc, *asks, text, bench),
-        Command::Make(what, number) => make::answer(alloc, *what, *number),
-        Command::Job(number) => job::answer(alloc, *number),
+        Command::Solve {
+            moves,
+            budget,
+            limit,
+        } => { solve::answer(alloc, *moves, *budget, *limit, text) }
+        Command::Check { budget } => check::answer(alloc, *budget, text),
+        Command::Believe { limit } => believe::answer(alloc, *limit, text),
+        Command::Umpire { who } => umpire::answer(alloc, *who, text),
+        Command::Play { asks } => play::answer(alloc, *asks, text, bench),
+        Command::Make { what, number } => make::answer(alloc, *what, *number),
+        Command::Job { number } => job::answer(alloc, *number),
     }
 }

@@ -2,7 +2,7 @@ ghost use Rattle.std.specs.Prelude.{◌≡◌, codes};
 ghost use Rattle.krieg_cli.specs.Refusal as spec;
 
 use krieg_board::{BadPosition, Side};
-use krieg_fen::TextKind;
+use krieg_text::TextKind;
 
 /// What is refused of an input.
 #[derive(Clone, Copy, Debug, PartialEq, Eq)]

@@ -30,9 +30,9 @@ fn answer<S: Source, O: Sink>(
     bench: &mut Bench,
 ) -> Result<(), Ending>
     requires { IsInRange command.now }
-    ensures ends { let table = Plays (λ b. account b) (bench_sides bench.old) (bench_sides bench.new) in
+    ensures ends { let plays = Plays (λ b. account b) (bench_sides bench.old) (bench_sides bench.new) in
         let seen = world S.left S.faults O.got O.faults in
-        Ends table (ending_of result) command.now (seen input.old out.old) (seen input.new out.new) }
+        Ends plays (ending_of result) command.now (seen input.old out.old) (seen input.new out.new) }
     ensures bench { let seen = stream S.left S.faults in
         LeavesBench (λ b. account b) (Some command.now) (ending_of result) (seen input.old) (seen input.new)
         (bench_sides bench.old) (bench_sides bench.new) }
@@ -53,9 +53,9 @@ fn obey<S: Source, O: Sink>(
     out: &mut O,
     bench: &mut Bench,
 ) -> Ending
-    ensures runs { let table = Plays (λ b. account b) (bench_sides bench.old) (bench_sides bench.new) in
+    ensures runs { let plays = Plays (λ b. account b) (bench_sides bench.old) (bench_sides bench.new) in
         let seen = world S.left S.faults O.got O.faults in
-        Runs table result (asked_by words.now) (seen input.old out.old) (seen input.new out.new) }
+        Runs plays result (asked_by words.now) (seen input.old out.old) (seen input.new out.new) }
     ensures bench { let seen = stream S.left S.faults in
         LeavesBench (λ b. account b) (asked_by words.now) result (seen input.old) (seen input.new)
         (bench_sides bench.old) (bench_sides bench.new) }

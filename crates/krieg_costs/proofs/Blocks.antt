@@ -106,6 +106,11 @@ module _ (G : Game) (L : IsGame G) where
       first (inl e) = let p = and_parts (j == 0) _ e in subst (BlockSays j B t) (sym (cond-true _ _ _ e)) (eqb-true j 0 p.0, p.1)
       first (inr e) = subst (BlockSays j B t) (sym (cond-false _ _ _ e)) (second e (cases_Bool (stale_in_some G B t)))
 
+  -- where nothing stalemates and every class is won, nothing lives past the last move
+  pub no_life : (j : ℕ) (B : List G.Position) (t : G.Move) → stale_in_some G B t ≡ false → list_all (λ key. can G j (class G B t key)) (keys G B t) ≡ true → j ≡ 0 → (stale_in_some G B t ≡ true) ⊎ ((key : G.Key) × In key (keys G B t)) → ⊥
+  no_life j B t none all e (inl s) = both_ways _ none s
+  no_life j B t none all e (inr k) = both_ways false refl (subst (λ i. can G i (class G B t k.0) ≡ true) e (all_at (λ key. can G j (class G B t key)) (keys G B t) all k.0 k.1))
+
   -- a try that meets its conditions has no block
   pub begins_unblocked : (j : ℕ) (B : List G.Position) (t : G.Move) → begins G (suc j) B t ≡ true → block G (suc j) B t ≡ NoBlock
   begins_unblocked j B t h = go (block G (suc j) B t) (block_says j B t)
@@ -119,17 +124,10 @@ module _ (G : Game) (L : IsGame G) where
       c : (list_all (λ key. can G j (class G B t key)) (keys G B t) ≡ true) × ((is_nil (refused G B t) || can G (suc j) (refused G B t)) ≡ true)
       c = let x = and_parts (list_all (λ key. can G j (class G B t key)) (keys G B t)) _ (and_parts (not (stale_in_some G B t)) _ a.1).1 in (x.0, x.1)
 
-      won_class : (key : G.Key) → In key (keys G B t) → can G j (class G B t key) ≡ true
-      won_class key i = all_at (λ key. can G j (class G B t key)) (keys G B t) c.0 key i
-
-      no_life : j ≡ 0 → (stale_in_some G B t ≡ true) ⊎ ((key : G.Key) × In key (keys G B t)) → ⊥
-      no_life e (inl s) = both_ways _ no_stale s
-      no_life e (inr k) = both_ways false refl (subst (λ i. can G i (class G B t k.0) ≡ true) e (won_class k.0 k.1))
-
       go : (b : Block G.Key) → BlockSays j B t b → b ≡ NoBlock
-      go Lives s = absurd (no_life s.0 (lives_how B t s.1))
+      go Lives s = absurd (no_life j B t no_stale c.0 s.0 (lives_how B t s.1))
       go Stale s = absurd (both_ways _ no_stale s)
-      go (LostClass key) s = absurd (both_ways _ s.1 (won_class key s.0))
+      go (LostClass key) s = absurd (both_ways _ s.1 (all_at (λ key. can G j (class G B t key)) (keys G B t) c.0 key s.0))
       go LostRefused s = absurd (refuse (or_cases _ _ c.1))
         where
           refuse : (is_nil (refused G B t) ≡ true) ⊎ (can G (suc j) (refused G B t) ≡ true) → ⊥

@@ -1,5 +1,6 @@
 pub mod Totals
 pub mod Pairs
+pub mod Onces
 pub mod Costs
 pub mod Reached
 pub mod Blocks

@@ -20,7 +20,7 @@ use Rattle.krieg_costs.specs.Refutation.{Reason, ByLife, ByStalemate, ByClass, B
 use Rattle.krieg_costs.specs.Laws.{RefutationExcludes}
 use Rattle.krieg_costs.proofs.Costs.{legal_try}
 use Rattle.krieg_costs.proofs.Reached.{not_nil}
-use Rattle.krieg_costs.proofs.Blocks.{lives_how}
+use Rattle.krieg_costs.proofs.Blocks.{lives_how, no_life}
 
 cited_in : {X : Type 0} (cs : List X) (i : ℕ) (c : X) → cited cs i ≡ Some c → In c cs
 cited_in cs zero c e = absurd (cc)
@@ -74,24 +74,17 @@ module _ (G : Game) (L : IsGame G) where
           let z = and_parts (list_all (λ key. can G j (class G B t key)) (keys G B t)) _ y.1 in
           (not-true _ y.0, z.0, z.1)
 
-      won_class : (key : G.Key) → In key (keys G B t) → can G j (class G B t key) ≡ true
-      won_class key i = all_at (λ key. can G j (class G B t key)) (keys G B t) c.1 key i
-
-      no_life : j ≡ 0 → (stale_in_some G B t ≡ true) ⊎ ((key : G.Key) × In key (keys G B t)) → ⊥
-      no_life q (inl x) = both_ways _ c.0 x
-      no_life q (inr k) = both_ways false refl (subst (λ i. can G i (class G B t k.0) ≡ true) q (won_class k.0 k.1))
-
       no_refusal : (is_nil (refused G B t) ≡ true) ⊎ (can G (suc j) (refused G B t) ≡ true) → Member (refused G B t) × (can G (suc j) (refused G B t) ≡ false) → ⊥
       no_refusal (inl x) m = both_ways _ (not_nil (refused G B t) m.0.0 m.0.1) x
       no_refusal (inr x) m = both_ways _ m.1 x
 
       go : (r : Reason G.Key) → holds G before j B t r ≡ true → ⊥
-      go ByLife s = let a = and_parts (j == 0) _ s in no_life (eqb-true j 0 a.0) (lives_how G L B t a.1)
+      go ByLife s = let a = and_parts (j == 0) _ s in no_life G L j B t c.0 c.1 (eqb-true j 0 a.0) (lives_how G L B t a.1)
       go ByStalemate s = both_ways _ c.0 s
       go (ByClass key i) s =
           let a = and_parts (not (j == 0)) _ s in
           let m = shown before h (cited before i) (λ d q. cited_in before i d q) j (class G B t key) a.1 in
-          both_ways _ m.1 (won_class key (occurs B t key m.0))
+          both_ways _ m.1 (all_at (λ key. can G j (class G B t key)) (keys G B t) c.1 key (occurs B t key m.0))
       go (ByRefused i) s = no_refusal (Rattle.std.proofs.lemmas.Bool.or_cases _ _ c.2) (shown before h (cited before i) (λ d q. cited_in before i d q) (suc j) (refused G B t) s)
 
   reasons_show : (before : List (Claim G)) → AreTrue before → (j : ℕ) (B : List G.Position) (rs : List (G.Move × Reason G.Key)) → are_reasons G before j B rs ≡ true → can G j B ≡ false

@@ -2,7 +2,8 @@
 
 use crate::stop::Stop;
 use krieg_board::{BadPosition, Position, lowest, without_lowest};
-use krieg_fen::{Text, TextFault, TextKind, put_number, put_square, write_position};
+use krieg_fen::{put_square, write_position};
+use krieg_text::{Text, TextFault, TextKind, put_number};
 use std::alloc::Global;
 
 /// A text that grows by words and by parts.

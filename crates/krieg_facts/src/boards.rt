@@ -4,7 +4,7 @@ use crate::answer::Answer;
 use crate::scene::Scene;
 use crate::stop::Stop;
 use crate::terms::{
-    halves, letter_of, number_of, placed_of, set_of, side_of, sided_of, small_of, square_of,
+    halves, letter_of, number_of, placed_of, side_of, sided_of, small_of, square_of, squares_of,
 };
 use krieg_board::{
     Bits, Man, Position, Side, Square, apart, attacks, file_of, has, is_of, only, rank_of,
@@ -111,7 +111,7 @@ fn of_pawn(mark: &str, given: &str) -> Result<u64, Stop> {
 /// The squares on the lines from a square, as far as none of these stands before them.
 fn along(mark: &str, given: &str) -> Result<u64, Stop> {
     let (s, taken) = halves(given, " ")?;
-    let (s, taken) = (square_of(s)?.number(), set_of(taken)?);
+    let (s, taken) = (square_of(s)?.number(), squares_of(taken)?);
     match mark {
         "straight" => Ok(straight_from(s, taken)),
         _ => Ok(diagonal_from(s, taken)),
@@ -196,7 +196,7 @@ fn say_kinds_by(number: u8, answer: &mut Answer) -> Result<(), Stop> {
 /// Answers a question about the board.
 pub fn ask(scene: &Scene, mark: &str, given: &str, answer: &mut Answer) -> Result<(), Stop> {
     match mark {
-        "set" => answer.number(set_of(given)?),
+        "set" => answer.number(squares_of(given)?),
         "on" => say_man(scene.bits.man_at(square_of(given)?.number()), answer),
         "longer" => answer.yes_or_no(is_longer(given)?),
         "kinds" => say_kinds_by(small_of(given)?, answer),

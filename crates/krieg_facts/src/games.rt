@@ -5,9 +5,10 @@ use crate::scene::Scene;
 use crate::stop::Stop;
 use crate::terms::{count_of, halves, move_of, side_of};
 use krieg_board::{NoMemory, Side};
-use krieg_fen::{Text, put_list};
+use krieg_fen::put_list;
 use krieg_referee::{Event, Game, Judged, line_for};
 use krieg_sheet::{Sheet, SheetFault, put_end, put_head, write_sheet};
+use krieg_text::Text;
 use krieg_words::{read_line_in, read_words_in, write_line};
 
 /// A try, as `w e2e4`.

@@ -4,7 +4,7 @@ use crate::answer::Answer;
 use crate::scene::Scene;
 use crate::stop::Stop;
 use crate::terms::{count_of, halves, number_of, side_of, small_of};
-use krieg_board::{Side, Units};
+use krieg_board::{MOST_MOVES, Side, Units};
 use krieg_pack::Belief;
 use krieg_search::{Answer as Solved, Stop2, has_one_turn, solve};
 
@@ -39,7 +39,7 @@ fn came_of(answer: Result<Solved, Stop2>) -> Result<Came, Stop> {
 }
 
 fn search(scene: &Scene, task: Task, b: &Belief, most: u64) -> Result<Outcome, Stop> {
-    if task.moves > 6 {
+    if task.moves > MOST_MOVES {
         return Err(Stop::Unread);
     }
     if !has_one_turn(b) {

@@ -6,6 +6,7 @@ use crate::scene::Scene;
 use crate::sets::say_members;
 use crate::stop::Stop;
 use crate::terms::{count_of, halves, move_of, small_of};
+use krieg_board::MOST_MOVES;
 use krieg_pack::Belief;
 use krieg_table::{Known, Table};
 
@@ -37,7 +38,7 @@ fn say_noted(table: &mut Table, id: u32, text: &str, answer: &mut Answer) -> Res
         _ => Known::Wins(move_of(what)?),
     };
     let moves = small_of(moves)?;
-    if (id as usize) >= table.len() || moves == 0 || moves > 6 {
+    if (id as usize) >= table.len() || moves == 0 || moves > MOST_MOVES {
         return Err(Stop::Unread);
     }
     table.note(id, moves, known);

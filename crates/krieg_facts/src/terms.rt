@@ -2,7 +2,8 @@
 
 use crate::stop::Stop;
 use krieg_board::{Bits, Kind, Man, Move, Side, Square, only};
-use krieg_fen::{read_move, read_number, read_square};
+use krieg_fen::{read_move, read_square};
+use krieg_text::read_number;
 use std::alloc::{AllocError, Global};
 
 /// What stands before and behind the first of these separators.
@@ -52,7 +53,7 @@ pub fn sided_of(text: &str) -> Result<(Side, Square), Stop> {
 }
 
 /// The set of these squares.
-pub fn set_of(text: &str) -> Result<u64, Stop> {
+pub fn squares_of(text: &str) -> Result<u64, Stop> {
     let mut set = 0;
     for word in text.split(' ') {
         set |= only(square_of(word)?.number());

@@ -5,11 +5,9 @@ use crate::scene::Scene;
 use crate::stop::Stop;
 use crate::terms::{bytes_of, count_of, halves, number_of, side_of};
 use krieg_board::NoMemory;
-use krieg_fen::{
-    Cursor, NumberFault, Text, Turn, lines_of, put_list, put_listing, put_number, read_list,
-    read_listing, read_move, read_number_between, write_move,
-};
+use krieg_fen::{Turn, put_list, put_listing, read_list, read_listing, read_move, write_move};
 use krieg_session::{read_session, read_start, write_session};
+use krieg_text::{Cursor, NumberFault, Text, lines_of, put_number, read_number_between};
 use std::alloc::Global;
 
 /// A number between two others.

@@ -5,13 +5,16 @@ use crate::scene::Scene;
 use crate::stop::Stop;
 use crate::terms::{bytes_of, halves, move_of};
 use krieg_board::{Move, Position};
-use krieg_fen::{Cursor, Text};
 use krieg_moves::is_legal;
+use krieg_pack::order;
+use krieg_text::{Cursor, Text};
 use krieg_words::{
-    Dialect, Words, after_told, are_told, compare, dialect_name, make_move, opening,
-    put_version_lines, read_dialect, read_line, read_line_in, read_version_lines, read_words_in,
-    told, told_line, tries, words_of, write_line_in, write_words_in,
+    Dialect, Words, after_told, after_told_if_legal, compare, dialect_name, make_if_legal,
+    make_move, opening, put_version_lines, read_dialect, read_line, read_line_in,
+    read_version_lines, read_words_in, told, told_line, tries, words_of, write_line_in,
+    write_words_in,
 };
+use std::cmp::Ordering;
 
 /// Words as the dialect tells them.
 pub fn say_told(d: Dialect, words: Words, answer: &mut Answer) -> Result<(), Stop> {
@@ -20,14 +23,16 @@ pub fn say_told(d: Dialect, words: Words, answer: &mut Answer) -> Result<(), Sto
 
 /// What is heard of the move.
 fn say_move(d: Dialect, p: &Position, mv: &Move, answer: &mut Answer) -> Result<(), Stop> {
-    if !is_legal(p, *mv) {
+    let Some(made) = make_if_legal(p, *mv) else {
         return answer.put(b"illegal");
-    }
-    let words = words_of(p, *mv);
-    if make_move(p, *mv).words != words {
+    };
+    if !is_legal(p, *mv) {
         return Err(Stop::Unread);
     }
-    say_told(d, words, answer)
+    if make_move(p, *mv).words != made.words || words_of(p, *mv) != made.words {
+        return Err(Stop::Unread);
+    }
+    say_told(d, made.words, answer)
 }
 
 /// The position after the move, where those words are told of it.
@@ -35,13 +40,18 @@ fn say_after_told(scene: &Scene, text: &str, answer: &mut Answer) -> Result<(), 
     let (mv, words) = halves(text, " ")?;
     let (mv, words) = (&move_of(mv)?, &scene.words_of(words)?);
     let p = &scene.position;
+    let tried = after_told_if_legal(scene.dialect, words, p, *mv);
     if !is_legal(p, *mv) {
-        return answer.put(b"illegal");
+        return match tried {
+            None => answer.put(b"illegal"),
+            Some(_) => Err(Stop::Unread),
+        };
     }
-    let is_told = are_told(scene.dialect, words, p, *mv);
-    match after_told(scene.dialect, words, p, *mv) {
-        Some(next) if is_told => answer.position(&next),
-        None if !is_told => Ok(()),
+    match (after_told(scene.dialect, words, p, *mv), tried) {
+        (Some(next), Some(again)) if order(&next, &again) == Ordering::Equal => answer.position(
+            &next,
+        ),
+        (None, None) => Ok(()),
         _ => Err(Stop::Unread),
     }
 }

@@ -1,37 +1,23 @@
--- Which bytes stand in written numbers, squares, moves and positions: none is a line feed, and only a position has spaces. Nor has a written line of a side or of a list a line feed.
-use Rattle.std.proofs.Common.{◌≡◌, ℕ, ◌^◌, ◌<◌, ◌≤◌, true, leb, List, [], ◌∷◌, ◌++◌, map, refl, arith}
+-- Which bytes stand in written squares, moves and positions: none is a line feed, and only a position has spaces. Nor has a written line of a side or of a list a line feed.
+use Rattle.std.proofs.Common.{◌≡◌, ℕ, ◌^◌, ◌<◌, true, List, [], ◌∷◌, ◌++◌, map, refl, arith}
 use Rattle.std.specs.Prelude.{codes}
-use Rattle.std.proofs.lemmas.Bool.{and_parts, leb-true}
-use Rattle.std.specs.List.{list_all}
-use Rattle.std.specs.Char.{is_ascii_digit}
 use Rattle.krieg_board.specs.declared.men.Side.{Side}
 use Rattle.krieg_board.specs.declared.men.Side.TheVariants.{White, Black}
 use Rattle.krieg_board.specs.declared.men.Move.{Move}
 use Rattle.krieg_board.specs.declared.men.Promo.{Promo}
 use Rattle.krieg_board.specs.declared.men.Promo.TheVariants.{Plain, Queen, Rook, Bishop, Knight}
 use Rattle.krieg_board.specs.Pos.{Pos}
-use Rattle.krieg_fen.specs.Lines.{is_line, AreLines}
-use Rattle.krieg_fen.specs.Forms.{side_line}
+use Rattle.krieg_text.specs.Lines.{is_line, AreLines}
+use Rattle.krieg_fen.specs.Forms.{side_line, side_mark}
 use Rattle.krieg_fen.specs.Listing.{list_head}
-use Rattle.krieg_fen.specs.Decimals.{number_text}
+use Rattle.krieg_text.specs.Decimals.{number_text}
 use Rattle.krieg_fen.specs.MoveText.{square_text, promo_text, move_text}
 use Rattle.krieg_fen.specs.FenText.{board_text, side_text, rights_text, state_text, position_text}
-use Rattle.krieg_fen.proofs.Free.{Above, above_append, above_less}
-use Rattle.krieg_fen.proofs.Numbers.{digits_again}
+use Rattle.krieg_text.proofs.Free.{Above, above_append, above_less}
 use Rattle.krieg_fen.proofs.RankTexts.{board_above}
 use Rattle.krieg_fen.proofs.FenTexts.{side_above, rights_above, mark_above}
-use Rattle.krieg_fen.proofs.LineTexts.{line_above, line_append}
-
-pub digits_above : (ds : List ℕ) → list_all is_ascii_digit ds ≡ true → Above 47 ds
-digits_above [] all = tt
-digits_above (d ∷ ds) all =
-    let p = and_parts (is_ascii_digit d) (list_all is_ascii_digit ds) all in
-    let low : 48 ≤ d = leb-true 48 d (and_parts (leb 48 d) (leb d 57) p.0).0 in
-    (omega arith, digits_above ds p.1)
-
--- digits alone
-pub number_above : (n : ℕ) → n < 2 ^ 64 → Above 47 (number_text n)
-number_above n fits = digits_above (number_text n) (digits_again n fits)
+use Rattle.krieg_text.proofs.LineTexts.{line_above, line_append}
+use Rattle.krieg_text.proofs.CleanTexts.{number_line}
 
 pub square_above : (s : ℕ) → Above 48 (square_text s)
 square_above s = (omega arith, (omega arith, tt))
@@ -64,9 +50,6 @@ position_above p =
     )
 
 -- each of them is part of a line
-pub number_line : (n : ℕ) → n < 2 ^ 64 → is_line (number_text n) ≡ true
-number_line n fits = line_above 47 (number_text n) (omega arith) (number_above n fits)
-
 pub move_line : (m : Move) → is_line (move_text m) ≡ true
 move_line m = line_above 48 (move_text m) (omega arith) (move_above m)
 
@@ -83,3 +66,7 @@ positions_are (p ∷ ps) = (position_line p, positions_are ps)
 
 pub list_head_are : (who : Side) (n : ℕ) → n < 2 ^ 64 → AreLines (list_head who n)
 list_head_are who n fits = (side_is who, (line_append (codes "list ") (number_text n) refl (number_line n fits), tt))
+
+pub mark_line : (who : Side) → is_line (side_mark who) ≡ true
+mark_line White = refl
+mark_line Black = refl

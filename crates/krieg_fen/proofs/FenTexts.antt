@@ -10,15 +10,15 @@ use Rattle.krieg_board.specs.Board.{Board}
 use Rattle.krieg_board.specs.Pos.{Pos}
 use Rattle.krieg_board.specs.Validity.{IsValid, has_mark}
 use Rattle.krieg_board.proofs.Facts.{facts}
-use Rattle.krieg_fen.specs.Outcomes.{◌>>=◌}
+use Rattle.krieg_text.specs.Outcomes.{◌>>=◌}
 use Rattle.krieg_fen.specs.MoveText.{square_of}
-use Rattle.krieg_fen.specs.Pieces.{pieces}
+use Rattle.krieg_text.specs.Pieces.{pieces}
 use Rattle.krieg_fen.specs.Fields.{side_of, rights_of, mark_of, mark_at}
 use Rattle.krieg_fen.specs.declared.fen.FenFault.{FenFault}
 use Rattle.krieg_fen.specs.Fen.{field, unless, checked, position_at, position_of}
 use Rattle.krieg_fen.specs.FenText.{board_text, side_text, rights_text, mark_text, state_text, position_text}
 use Rattle.krieg_fen.proofs.MoveTexts.{square_again}
-use Rattle.krieg_fen.proofs.Free.{Above, pieces_first, pieces_last}
+use Rattle.krieg_text.proofs.Free.{Above, pieces_first, pieces_last}
 use Rattle.krieg_fen.proofs.RankTexts.{board_above, board_again}
 
 pub side_again : (side : Side) → side_of (side_text side) ≡ Some side

@@ -10,14 +10,14 @@ use Rattle.krieg_board.specs.declared.men.Side.TheVariants.{White, Black}
 use Rattle.krieg_board.specs.declared.men.Rights.{Rights}
 use Rattle.krieg_fen.specs.declared.fen.FenFault.{FenFault}
 use Rattle.krieg_fen.specs.declared.fen.FenFault.TheVariants.{Field}
-use Rattle.krieg_fen.specs.Outcomes.{◌>>=◌}
+use Rattle.krieg_text.specs.Outcomes.{◌>>=◌}
 use Rattle.krieg_fen.specs.MoveText.{square_of}
 use Rattle.krieg_fen.specs.Fields.{side_of, letter_at, letters_of, no_rights, rights_of, mark_at, mark_of, is_clock}
 use Rattle.krieg_fen.specs.Fen.{clocks_at}
 use Rattle.krieg_fen.specs.FenText.{side_text, held_text, or_dash, rights_text, mark_text}
 use Rattle.krieg_fen.proofs.MoveTexts.{square_spells}
-use Rattle.krieg_fen.proofs.Free.{Above}
-use Rattle.krieg_fen.proofs.CleanTexts.{digits_above}
+use Rattle.krieg_text.proofs.Free.{Above}
+use Rattle.krieg_text.proofs.CleanTexts.{digits_above}
 
 side_by : (b : ℕ) (s : Side) (t u : Bool) → eqb b 119 ≡ t → eqb b 98 ≡ u → cond t (Some White) (cond u (Some Black) None) ≡ Some s → b ∷ [] ≡ side_text s
 side_by b s true u h k e = let same : White ≡ s = cc in ap (λ (x : ℕ). x ∷ []) (eqb-true b 119 h) ∙ ap side_text same

@@ -1,48 +1,22 @@
--- Which lines have the shared forms: a number after a name, a side, how many positions are listed, and a position.
-use Rattle.std.proofs.Common.{◌≡◌, ℕ, ◌<◌, ◌≤◌, ◌^◌, Bool, true, false, cond, List, ◌++◌, Option, Some, None, Result, Ok, Err, refl, ap, ◌∙◌, arith}
+-- Which lines have the shared forms: a side, how many positions are listed, a position, and a start.
+use Rattle.std.proofs.Common.{◌≡◌, ℕ, ◌≤◌, Bool, true, false, cond, List, Result, Ok, Err, refl, ap, ◌∙◌, arith}
 use Rattle.std.specs.Prelude.{codes}
 use Rattle.std.specs.Str.{bytes_eq}
 use Rattle.std.proofs.lemmas.Slice.Eq.{bytes_eq-Decides}
 use Rattle.krieg_board.specs.Pos.{Pos}
 use Rattle.krieg_board.specs.declared.men.Side.{Side}
 use Rattle.krieg_board.specs.declared.men.Side.TheVariants.{White, Black}
-use Rattle.krieg_fen.specs.declared.fault.TextKind.{TextKind}
-use Rattle.krieg_fen.specs.declared.fault.TextKind.TheVariants.{Syntax, Count}
+use Rattle.krieg_text.specs.declared.fault.TextKind.TheVariants.{Syntax, Count}
 use Rattle.krieg_fen.specs.declared.fen.FenFault.{FenFault}
 use Rattle.krieg_fen.specs.declared.fen.FenFault.TheVariants.{Fields, Field, Bad}
-use Rattle.krieg_fen.specs.declared.number.NumberFault.{NumberFault}
-use Rattle.krieg_fen.specs.declared.number.NumberFault.TheVariants.{NotPlain, OutOfRange}
-use Rattle.krieg_fen.specs.Names.{behind}
-use Rattle.krieg_fen.specs.Decimals.{number_text, number_between}
 use Rattle.krieg_fen.specs.Fen.{position_of}
 use Rattle.krieg_fen.specs.Spelling.{Spells}
-use Rattle.krieg_fen.specs.Forms.{number_form, number_behind, ranged, side_line, side_form, list_line, most_listed, list_form, position_kind, position_form}
-use Rattle.krieg_fen.proofs.NameLemmas.{behind_again, behind_spells}
-use Rattle.krieg_fen.proofs.Numbers.{between_spells, between_again}
+use Rattle.krieg_fen.specs.Forms.{side_line, side_form, list_line, list_form, position_kind, position_form, start_form}
+use Rattle.krieg_fen.specs.declared.forms.TheConstants.{MOST_LISTED}
 use Rattle.krieg_fen.proofs.PositionSpellings.{position_spells, position_reads}
-
--- a number within a range after a name
-pub number_is : (outside : TextKind) (name : List ℕ) (least most : ℕ) (text : List ℕ) (n : ℕ) → most < 2 ^ 64 → number_form outside name least most text ≡ Ok n →
-    (least ≤ n) × (n ≤ most) × (text ≡ name ++ number_text n)
-unfolding number_form
-number_is outside name least most text n bound e = go (behind name text) refl e
-  where
-    by_number : (t : List ℕ) → text ≡ name ++ t → (r : Result ℕ NumberFault) → number_between t least most ≡ r → ranged outside r ≡ Ok n → (least ≤ n) × (n ≤ most) × (text ≡ name ++ number_text n)
-    by_number t front (Ok k) is h =
-        let same : k ≡ n = cc in
-        let s = between_spells t least most n bound (is ∙ ap Ok same) in
-        (s.0, s.1, front ∙ ap (λ (x : List ℕ). name ++ x) s.2)
-    by_number t front (Err NotPlain) is h = absurd cc
-    by_number t front (Err OutOfRange) is h = absurd cc
-
-    go : (o : Option (List ℕ)) → behind name text ≡ o → number_behind outside least most o ≡ Ok n → (least ≤ n) × (n ≤ most) × (text ≡ name ++ number_text n)
-    go None is h = absurd cc
-    go (Some t) is h = by_number t (behind_spells name text t is) (number_between t least most) refl h
-
-pub number_read : (outside : TextKind) (name : List ℕ) (least most n : ℕ) → most < 2 ^ 64 → least ≤ n → n ≤ most → number_form outside name least most (name ++ number_text n) ≡ Ok n
-unfolding number_form
-number_read outside name least most n bound low high =
-    ap (number_behind outside least most) (behind_again name (number_text n)) ∙ ap (ranged outside) (between_again least most n low high bound)
+use Rattle.krieg_text.proofs.FormSpellings.{number_is, number_read}
+use Rattle.krieg_text.specs.Languages.{Behind}
+use Rattle.krieg_text.proofs.Formats.{IsForm, named_form}
 
 -- a side
 pub side_spells : (text : List ℕ) (who : Side) → side_form text ≡ Ok who → text ≡ side_line who
@@ -60,13 +34,13 @@ side_again White = refl
 side_again Black = refl
 
 -- how many positions are listed
-pub count_spells : (text : List ℕ) (n : ℕ) → list_form text ≡ Ok n → (1 ≤ n) × (n ≤ most_listed) × (text ≡ list_line n)
+pub count_spells : (text : List ℕ) (n : ℕ) → list_form text ≡ Ok n → (1 ≤ n) × (n ≤ MOST_LISTED) × (text ≡ list_line n)
 unfolding list_form
-count_spells text n e = number_is Count (codes "list ") 1 most_listed text n (omega arith) e
+count_spells text n e = number_is Count (codes "list ") 1 MOST_LISTED text n (omega arith) e
 
-pub count_again : (n : ℕ) → 1 ≤ n → n ≤ most_listed → list_form (list_line n) ≡ Ok n
+pub count_again : (n : ℕ) → 1 ≤ n → n ≤ MOST_LISTED → list_form (list_line n) ≡ Ok n
 unfolding list_form
-count_again n low high = number_read Count (codes "list ") 1 most_listed n (omega arith) low high
+count_again n low high = number_read Count (codes "list ") 1 MOST_LISTED n (omega arith) low high
 
 -- a position
 pub position_is : (text : List ℕ) (p : Pos) → position_form text ≡ Ok p → Spells text p
@@ -82,3 +56,11 @@ position_is text p e = go (position_of text) refl e
 pub position_read : (text : List ℕ) (p : Pos) → Spells text p → position_form text ≡ Ok p
 unfolding position_form
 position_read text p spells = ap position_kind (position_reads text p spells)
+
+pub positions : IsForm position_form Spells
+positions = record { found = position_is; only = position_read }
+
+-- a position after the word `start`
+pub starts_form : IsForm start_form (λ l p. Behind (codes "start ") (λ t. Spells t p) l)
+unfolding start_form
+starts_form = named_form (codes "start ") position_form Spells positions

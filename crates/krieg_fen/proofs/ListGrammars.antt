@@ -11,48 +11,31 @@ use Rattle.krieg_board.specs.Board.{Board}
 use Rattle.krieg_board.specs.declared.men.Side.{Side}
 use Rattle.krieg_board.specs.declared.men.Side.TheVariants.{White, Black}
 use Rattle.krieg_board.specs.declared.men.Kind.TheVariants.{King}
-use Rattle.krieg_fen.specs.declared.fault.TextFault.{TextFault}
-use Rattle.krieg_fen.specs.declared.fault.TextFault.TheVariants.{NoMemory}
-use Rattle.krieg_fen.specs.declared.fault.TextKind.{TextKind}
-use Rattle.krieg_fen.specs.declared.fault.TextKind.TheVariants.{Differs, OutOfPlace}
+use Rattle.krieg_text.specs.declared.fault.TextFault.{TextFault}
+use Rattle.krieg_text.specs.declared.fault.TextFault.TheVariants.{NoMemory}
+use Rattle.krieg_text.specs.declared.fault.TextKind.{TextKind}
+use Rattle.krieg_text.specs.declared.fault.TextKind.TheVariants.{Differs, OutOfPlace}
 use Rattle.krieg_fen.specs.declared.forms.Turn.{Turn}
 use Rattle.krieg_fen.specs.declared.forms.Turn.TheVariants.{Either, Own}
-use Rattle.krieg_fen.specs.Outcomes.{◌>>=◌}
+use Rattle.krieg_text.specs.Outcomes.{◌>>=◌}
 use Rattle.krieg_fen.specs.Fields.{no_rights}
 use Rattle.krieg_fen.specs.FenText.{position_text}
-use Rattle.krieg_fen.specs.Reading.{Place, place, taken, GivesOn}
-use Rattle.krieg_fen.specs.Forms.{side_line, side_form, list_line, list_form, position_form, has_turn, matching, listed_form, positions_at, listing_at}
-use Rattle.krieg_fen.specs.Languages.{One, Nothing, Times, Any, ◌⨾◌}
-use Rattle.krieg_fen.specs.FirstBad.{is_beyond_form, IsFormed, Has, FirstBad}
+use Rattle.krieg_text.specs.Reading.{Place, place, taken, GivesOn}
+use Rattle.krieg_fen.specs.Forms.{side_line, side_form, list_line, list_form, position_form, has_turn, matching, listed_form, positions_at, listing_at, start_form}
+use Rattle.krieg_text.specs.Languages.{One, Nothing, Times, Any, ◌⨾◌}
+use Rattle.krieg_text.specs.FirstBad.{is_beyond_form, IsFormed, Has, FirstBad}
 use Rattle.krieg_fen.specs.Listing.{ListGrammar, ListingGrammar}
-use Rattle.krieg_fen.proofs.FirstBadLine.{code_bad_from}
+use Rattle.krieg_text.proofs.FirstBadLine.{code_bad_from}
 use Rattle.krieg_fen.proofs.FormSpellings.{side_again, count_again, position_read}
-use Rattle.krieg_fen.proofs.Goings.{goes_by}
-use Rattle.krieg_fen.proofs.Grammars.{untold, KeepsTo, HasForm, line_keeps, pure_keeps, bind_keeps, same_keeps, then_keeps, made_keeps}
+use Rattle.krieg_text.proofs.Goings.{goes_by}
+use Rattle.krieg_text.proofs.Grammars.{untold, KeepsTo, HasForm, line_keeps, pure_keeps, bind_keeps, same_keeps, then_keeps, made_keeps}
 use Rattle.krieg_fen.proofs.HandOfItself.{hand_self}
 use Rattle.krieg_fen.proofs.ListSpellings.{written_spells, listed_spells}
-
--- a form whose lines are all told by the form alone
-pub form_of : {A : Type 0} (form : List ℕ → Result A TextKind) (l : List ℕ) (x : A) → form l ≡ Ok x → HasForm form (λ x. Unit {0}) untold (λ u. Has form)
-form_of {A = A} form l x is = record {
-  holds = λ k y e. tt;
-  said = λ k y e. subst IsFormed (sym e) tt;
-  judged = λ k b f. go k (form k) refl f;
-  some = (l, x, is);
-}
-  where
-    go : (k : List ℕ) (r : Result A TextKind) → form k ≡ r → IsFormed r → ((y : A) × (untold y ≡ tt) × (form k ≡ Ok y)) ⊎ ((kind : TextKind) × (is_beyond_form kind ≡ true) × (form k ≡ Err kind))
-    go k (Ok y) e f = inl (y, refl, e)
-    go k (Err kind) e f = inr (kind, f, e)
-
--- a form that gives the value on which the lines after it rest
-pub value_form : {A : Type 0} (form : List ℕ → Result A TextKind) (l : List ℕ) (x : A) → form l ≡ Ok x → HasForm form (λ x. Unit {0}) (λ x. x) (λ n k. form k ≡ Ok n)
-value_form form l x is = record {
-  holds = λ k y e. tt;
-  said = λ k y e. e;
-  judged = λ k b f. inl (b, refl, f);
-  some = (l, x, is);
-}
+use Rattle.krieg_text.proofs.FormGrammars.{form_of, value_form}
+use Rattle.std.specs.Prelude.{codes}
+use Rattle.std.proofs.Common.{◌++◌, ap, ◌∙◌}
+use Rattle.krieg_text.specs.Formats.{behind_or}
+use Rattle.krieg_text.proofs.NameLemmas.{behind_again}
 
 -- ---- a position that may stand first
 
@@ -172,3 +155,8 @@ listing_keeps turn =
 pub code_list_bad : {X : Type 0} (view : X → List Pos) (r : Result X TextFault) (q : Place) (who : Side) (n line : ℕ) (ls : List (List ℕ)) →
     GivesOn view r q (positions_at Either who None n (place line ls)) → IfErr r (λ e. e ≢ NoMemory → FirstBad (λ t. positions_at Either who None n (place line t)) (ListGrammar n) line ls e)
 code_list_bad view r q who n line ls given = code_bad_from view r (positions_at Either who None n) (λ ps. Unit {0}) (ListGrammar n) (goes_by (positions_at Either who None n) (λ ps. Unit {0}) (ListGrammar n) (positions_keep n Either who None tt)) line ls q given
+
+-- a start is there
+pub some_start : start_form (codes "start " ++ position_text (lone_kings White)) ≡ Ok (lone_kings White)
+unfolding start_form
+some_start = ap (behind_or position_form) (behind_again (codes "start ") (position_text (lone_kings White))) ∙ written_form (lone_kings White) (kings_valid White)

@@ -2,16 +2,16 @@
 use Rattle.std.proofs.Common.{◌≡◌, ℕ, ◌+◌, List, ◌∷◌, ◌++◌, length, None, Result, Ok, sym, subst, ap, ◌∙◌, refl, arith}
 use Rattle.krieg_board.specs.Pos.{Pos}
 use Rattle.krieg_board.specs.declared.men.Side.{Side}
-use Rattle.krieg_fen.specs.declared.fault.TextFault.{TextFault}
-use Rattle.krieg_fen.specs.Outcomes.{◌>>=◌}
+use Rattle.krieg_text.specs.declared.fault.TextFault.{TextFault}
+use Rattle.krieg_text.specs.Outcomes.{◌>>=◌}
 use Rattle.krieg_fen.specs.declared.forms.Turn.{Turn}
-use Rattle.krieg_fen.specs.Reading.{Place, place, taken}
+use Rattle.krieg_text.specs.Reading.{Place, place, taken}
 use Rattle.krieg_fen.specs.Forms.{side_line, side_form, list_line, list_form, positions_at, listing_at}
 use Rattle.krieg_fen.specs.Listing.{SpellsListing}
-use Rattle.krieg_fen.proofs.Locality.{ok_is}
+use Rattle.krieg_text.proofs.Locality.{ok_is}
 use Rattle.krieg_fen.proofs.FormSpellings.{side_spells, side_again, count_spells, count_again}
 use Rattle.krieg_fen.proofs.ListSpellings.{list_spells, list_reads}
-use Rattle.krieg_fen.proofs.Takings.{steps, taken_at, taken_again, Read}
+use Rattle.krieg_text.proofs.Takings.{steps, taken_at, taken_again, Read}
 
 abbrev by_list : Side → List Pos × Place → Result ((Side × List Pos) × Place) TextFault
 by_list who list = Ok ((who, list.0), list.1)

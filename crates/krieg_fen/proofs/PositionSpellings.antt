@@ -9,15 +9,15 @@ use Rattle.krieg_board.specs.Board.{Board}
 use Rattle.krieg_board.specs.Pos.{Pos}
 use Rattle.krieg_board.specs.Validity.{IsValid, first_fault}
 use Rattle.krieg_board.proofs.Facts.{facts}
-use Rattle.krieg_fen.specs.Outcomes.{◌>>=◌}
-use Rattle.krieg_fen.specs.Pieces.{pieces}
+use Rattle.krieg_text.specs.Outcomes.{◌>>=◌}
+use Rattle.krieg_text.specs.Pieces.{pieces}
 use Rattle.krieg_fen.specs.Ranks.{board_of}
 use Rattle.krieg_fen.specs.Fields.{side_of, rights_of, mark_of}
 use Rattle.krieg_fen.specs.declared.fen.FenFault.{FenFault}
 use Rattle.krieg_fen.specs.Fen.{clocks_at, unless, checked, position_at, position_of}
 use Rattle.krieg_fen.specs.FenText.{side_text, rights_text, mark_text}
 use Rattle.krieg_fen.specs.Spelling.{AreClocks, Spells}
-use Rattle.krieg_fen.proofs.Free.{above_less}
+use Rattle.krieg_text.proofs.Free.{above_less}
 use Rattle.krieg_fen.proofs.FenTexts.{side_again, side_above, rights_again, rights_above, mark_again, mark_above, parts, parts_again}
 use Rattle.krieg_fen.proofs.BoardSpellings.{board_spells, board_long, board_high, board_reads, AllAbove, pieces_join}
 use Rattle.krieg_fen.proofs.FieldSpellings.{side_spells, rights_spells, mark_spells, clocks_spell, clocks_read, clock_above}

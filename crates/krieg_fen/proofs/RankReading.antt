@@ -4,8 +4,8 @@ use Rattle.std.proofs.lemmas.Bool.{ne_eqb, leb-true, and_parts}
 use Rattle.std.proofs.lemmas.List.{drop_more, drop_all, take_all, drop-replicate, take-replicate, drop-drop, drop-set-lt, take_more_set, length-drop, length-replicate, length-append, append-nil, length-take-le}
 use Rattle.krieg_board.specs.declared.men.Man.{Man}
 use Rattle.std.specs.Option.{is_none}
-use Rattle.krieg_fen.specs.Pieces.{pieces, pieces_left}
-use Rattle.krieg_fen.proofs.PieceCuts.{pieces_some}
+use Rattle.krieg_text.specs.Pieces.{pieces, pieces_left}
+use Rattle.krieg_text.proofs.PieceCuts.{pieces_some}
 use Rattle.krieg_fen.specs.Letters.{man_of}
 use Rattle.krieg_fen.specs.Ranks.{Row, squares_at, row_of, onto_row, eight, ranks_of, AddsSquares, FailsAbove}
 

@@ -8,11 +8,11 @@ use Rattle.krieg_board.specs.declared.men.Side.TheVariants.{White, Black}
 use Rattle.krieg_board.specs.declared.men.Kind.{Kind}
 use Rattle.krieg_board.specs.declared.men.Kind.TheVariants.{Pawn, Knight, Bishop, Rook, Queen, King}
 use Rattle.krieg_board.specs.Board.{Board}
-use Rattle.krieg_fen.specs.Pieces.{pieces}
+use Rattle.krieg_text.specs.Pieces.{pieces}
 use Rattle.krieg_fen.specs.Letters.{letter}
 use Rattle.krieg_fen.specs.Ranks.{Row, squares_at, row_of, onto_row, eight, ranks_of, board_of}
 use Rattle.krieg_fen.specs.FenText.{run, row_text, rank_text, rank_at, ranks_text, board_text}
-use Rattle.krieg_fen.proofs.Free.{Above, above_append, above_less, pieces_first, pieces_last}
+use Rattle.krieg_text.proofs.Free.{Above, above_append, above_less, pieces_first, pieces_last}
 
 abbrev man : Side → Kind → Option Man
 man side kind = Some (record { side = side; kind = kind })

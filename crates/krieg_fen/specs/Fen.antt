@@ -5,8 +5,8 @@ use Rattle.krieg_board.specs.Validity.{first_fault}
 use Rattle.krieg_board.specs.declared.position.BadPosition.{BadPosition}
 use Rattle.krieg_fen.specs.declared.fen.FenFault.{FenFault}
 use Rattle.krieg_fen.specs.declared.fen.FenFault.TheVariants.{Fields, Field, Bad}
-use Rattle.krieg_fen.specs.Outcomes.{◌>>=◌}
-use Rattle.krieg_fen.specs.Pieces.{pieces}
+use Rattle.krieg_text.specs.Outcomes.{◌>>=◌}
+use Rattle.krieg_text.specs.Pieces.{pieces}
 use Rattle.krieg_fen.specs.Ranks.{board_of}
 use Rattle.krieg_fen.specs.Fields.{side_of, rights_of, mark_of, is_clock}
 

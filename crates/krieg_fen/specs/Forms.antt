@@ -6,41 +6,19 @@ use Rattle.krieg_board.specs.Pos.{Pos}
 use Rattle.krieg_board.specs.Hand.{same_hand}
 use Rattle.krieg_board.specs.declared.men.Side.{Side}
 use Rattle.krieg_board.specs.declared.men.Side.TheVariants.{White, Black}
-use Rattle.krieg_fen.specs.declared.fault.TextKind.{TextKind}
-use Rattle.krieg_fen.specs.declared.fault.TextKind.TheVariants.{Version, Syntax, Count, Position, Differs, OutOfPlace}
+use Rattle.krieg_text.specs.declared.fault.TextKind.{TextKind}
+use Rattle.krieg_text.specs.declared.fault.TextKind.TheVariants.{Syntax, Position, Differs, OutOfPlace}
 use Rattle.krieg_fen.specs.declared.fen.FenFault.{FenFault}
 use Rattle.krieg_fen.specs.declared.fen.FenFault.TheVariants.{Fields, Field, Bad}
-use Rattle.krieg_fen.specs.declared.number.NumberFault.{NumberFault}
-use Rattle.krieg_fen.specs.declared.number.NumberFault.TheVariants.{NotPlain, OutOfRange}
 use Rattle.krieg_fen.specs.declared.forms.Turn.{Turn}
 use Rattle.krieg_fen.specs.declared.forms.Turn.TheVariants.{Either, Own}
-use Rattle.krieg_fen.specs.Names.{behind}
-use Rattle.krieg_fen.specs.Decimals.{number_text, number_between}
+use Rattle.krieg_text.specs.Decimals.{number_text}
 use Rattle.krieg_fen.specs.Fen.{position_of}
-use Rattle.krieg_fen.specs.Outcomes.{◌>>=◌}
-use Rattle.krieg_fen.specs.Reading.{LineReader, taken}
-
--- no plain decimal is syntax, and one out of range is of the kind that the line names
-abbrev pub ranged : TextKind → Result ℕ NumberFault → Result ℕ TextKind
-ranged outside (Ok n) = Ok n
-ranged outside (Err NotPlain) = Err Syntax
-ranged outside (Err OutOfRange) = Err outside
-
-abbrev pub number_behind : TextKind → ℕ → ℕ → Option (List ℕ) → Result ℕ TextKind
-number_behind outside least most None = Err Syntax
-number_behind outside least most (Some text) = ranged outside (number_between text least most)
-
--- a plain decimal within a range after a name
-unfoldable pub number_form : TextKind → List ℕ → ℕ → ℕ → List ℕ → Result ℕ TextKind
-number_form outside name least most text = number_behind outside least most (behind name text)
-
--- a format's name and its version, of which there are as many as newest says
-abbrev pub version_form : List ℕ → ℕ → List ℕ → Result ℕ TextKind
-version_form name newest text = number_form Version name 1 newest text
-
--- a name and a number of things
-abbrev pub count_form : List ℕ → ℕ → ℕ → List ℕ → Result ℕ TextKind
-count_form name least most text = number_form Count name least most text
+use Rattle.krieg_text.specs.Outcomes.{◌>>=◌}
+use Rattle.krieg_text.specs.Reading.{LineReader, taken}
+use Rattle.krieg_fen.specs.declared.forms.TheConstants.{MOST_LISTED}
+use Rattle.krieg_text.specs.Forms.{count_form}
+use Rattle.krieg_text.specs.Formats.{named}
 
 -- whose text it is
 abbrev pub side_line : Side → List ℕ
@@ -55,13 +33,9 @@ side_form text = if bytes_eq text (side_line White) then Ok White else (if bytes
 abbrev pub list_line : ℕ → List ℕ
 list_line n = codes "list " ++ number_text n
 
--- the most positions that a text may list
-abbrev pub most_listed : ℕ
-most_listed = 200000
-
 -- the number in such a line, from 1 to the most
 unfoldable pub list_form : List ℕ → Result ℕ TextKind
-list_form text = count_form (codes "list ") 1 most_listed text
+list_form text = count_form (codes "list ") 1 MOST_LISTED text
 
 -- a text that spells no position is syntax, and one whose position is not valid has the fault of it
 abbrev pub position_kind : Result Pos FenFault → Result Pos TextKind
@@ -103,3 +77,12 @@ listing_at turn p = do
   count ← taken list_form side.1
   list ← positions_at turn side.0 None count.0 count.1
   Ok ((side.0, list.0), list.1)
+
+-- the position in which the game began
+unfoldable pub start_form : List ℕ → Result Pos TextKind
+start_form line = named (codes "start ") position_form line
+
+-- whose line or try it is
+abbrev pub side_mark : Side → List ℕ
+side_mark White = codes "w "
+side_mark Black = codes "b "

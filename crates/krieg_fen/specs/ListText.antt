@@ -2,10 +2,10 @@
 use Rattle.std.specs.Prelude.{ℕ, List, [], ◌∷◌, ◌++◌, codes, map, length}
 use Rattle.krieg_board.specs.Pos.{Pos}
 use Rattle.krieg_board.specs.declared.men.Side.{Side}
-use Rattle.krieg_fen.specs.Decimals.{number_text}
+use Rattle.krieg_text.specs.Decimals.{number_text}
 use Rattle.krieg_fen.specs.FenText.{position_text}
 use Rattle.krieg_fen.specs.Forms.{side_line}
-use Rattle.krieg_fen.specs.Writing.{Pieces, alone}
+use Rattle.krieg_text.specs.Writing.{Pieces, alone}
 
 -- whose text it is, and how many positions are listed
 abbrev pub head_lines : Side → ℕ → List Pieces

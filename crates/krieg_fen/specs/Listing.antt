@@ -5,9 +5,10 @@ use Rattle.krieg_board.specs.Hand.{same_hand}
 use Rattle.krieg_board.specs.declared.men.Side.{Side}
 use Rattle.krieg_fen.specs.declared.forms.Turn.{Turn}
 use Rattle.krieg_fen.specs.declared.forms.Turn.TheVariants.{Either}
-use Rattle.krieg_fen.specs.Forms.{side_line, side_form, list_line, list_form, most_listed, position_form, has_turn}
-use Rattle.krieg_fen.specs.Languages.{Language, One, Times, Any, ◌⨾◌}
-use Rattle.krieg_fen.specs.FirstBad.{Has}
+use Rattle.krieg_fen.specs.Forms.{side_line, side_form, list_line, list_form, position_form, has_turn}
+use Rattle.krieg_fen.specs.declared.forms.TheConstants.{MOST_LISTED}
+use Rattle.krieg_text.specs.Languages.{Language, One, Times, Any, ◌⨾◌}
+use Rattle.krieg_text.specs.FirstBad.{Has}
 use Rattle.krieg_fen.specs.Spelling.{Spells}
 
 -- the first position has the turn that is asked for, and each other one has, for that side, the hand of the first
@@ -33,7 +34,7 @@ pub record SpellsListing (turn : Turn) (ls : List (List ℕ)) (who : Side) (ps :
   pub positions : List (List ℕ)
   pub is : ls ≡ side_line who ∷ list_line (length ps) ∷ positions
   pub some : 1 ≤ length ps
-  pub few : length ps ≤ most_listed
+  pub few : length ps ≤ MOST_LISTED
   pub spelled : SpellList turn who None positions ps
 
 -- The grammar: the texts of n positions, valid or not.

@@ -1,7 +1,7 @@
 -- The first field of a position: eight ranks, joined by `/`. Digit `1` is byte 49 and `8` is 56; `/` is byte 47.
 use Rattle.std.specs.Prelude.{◌≡◌, ℕ, zero, suc, ◌-◌, ◌<◌, ◌==◌, ◌&&◌, List, [], ◌∷◌, ◌++◌, length, Option, Some, None, nat_le, is_some, if◌then◌else◌, replicate}
 use Rattle.krieg_board.specs.declared.men.Man.{Man}
-use Rattle.krieg_fen.specs.Pieces.{pieces}
+use Rattle.krieg_text.specs.Pieces.{pieces}
 use Rattle.krieg_fen.specs.Letters.{man_of}
 
 -- what stands on squares that follow each other on a rank, from the a-file on

@@ -5,12 +5,12 @@ ghost use Rattle.krieg_board.specs.Validity.{IsValid};
 ghost use Rattle.krieg_fen.specs.Fen as spec;
 ghost use Rattle.krieg_fen.specs.FenText.{position_text};
 ghost use Rattle.krieg_fen.specs.Spelling.{Spells};
-ghost use Rattle.krieg_fen.specs.Pieces.{pieces, pieces_left};
+ghost use Rattle.krieg_text.specs.Pieces.{pieces, pieces_left};
 
 use crate::fields::{is_clock, mark_of, rights_of, side_of};
-use crate::pieces::cut;
 use crate::ranks::board_of;
 use krieg_board::{BadPosition, Man, Position, Rights, Side, Square};
+use krieg_text::cut;
 use std::marker::Model;
 
 /// Why a text is no position: the first of these faults that it has.

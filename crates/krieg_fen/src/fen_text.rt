@@ -3,11 +3,11 @@ ghost use Rattle.krieg_board.specs.Validity.{IsValid};
 ghost use Rattle.krieg_fen.specs.Letters as letters;
 ghost use Rattle.krieg_fen.specs.FenText as spec;
 ghost use Rattle.krieg_fen.specs.FenText.{position_text};
-ghost use Rattle.krieg_fen.specs.Writing.{PutsText, Appends};
+ghost use Rattle.krieg_text.specs.Writing.{PutsText, Appends};
 
 use crate::moves::put_square;
-use crate::writing::Text;
 use krieg_board::{Board, Kind, Man, NoMemory, Position, Rights, Side, Square};
+use krieg_text::Text;
 
 fn capital(kind: Kind) -> u8
     ensures { result ≡ letters.capital kind }

@@ -2,8 +2,8 @@ ghost use Rattle.std.specs.Prelude.{◌≡◌};
 ghost use Rattle.krieg_fen.specs.Fields as spec;
 
 use crate::moves::square_of;
-use crate::number::has_digits_only;
 use krieg_board::{Rights, Side, Square};
+use krieg_text::has_digits_only;
 
 pub(crate) fn side_of(field: &[u8]) -> Option<Side>
     ensures { result ≡ spec.side_of field.now }

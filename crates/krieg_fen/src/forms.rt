@@ -1,15 +1,12 @@
 ghost use Rattle.std.specs.Prelude.{◌≡◌, ◌≢◌, ◌≤◌, IfOk, IfErr};
 ghost use Rattle.std.specs.Option.{option_copied};
 ghost use Rattle.krieg_fen.specs.Forms as spec;
-ghost use Rattle.krieg_fen.specs.Reading.{taken, Passed, GivesOn};
-ghost use Rattle.krieg_fen.specs.declared.fault.TextFault.TheVariants.{NoMemory as OutOfMemory};
+ghost use Rattle.krieg_text.specs.Reading.{taken, Passed, GivesOn};
+ghost use Rattle.krieg_text.specs.declared.fault.TextFault.TheVariants.{NoMemory as OutOfMemory};
 
-use crate::cursor::Cursor;
-use crate::fault::{TextFault, TextKind};
 use crate::fen::{FenFault, read_position};
-use crate::names::{behind, is_name};
-use crate::number::{NumberFault, read_number_between};
 use krieg_board::{Position, Side, same_hand};
+use krieg_text::{Cursor, TextFault, TextKind, behind, is_name, read_count};
 
 /// The most positions that a text may list.
 pub const MOST_LISTED: u64 = 200_000;
@@ -21,47 +18,6 @@ pub enum Turn {
     Either,
     /// The side whose text it is. Another is of the kind `OutOfPlace`.
     Own,
-}
-
-/// The number from `least` to `most` that stands after the name. A plain decimal outside the range is of
-/// the kind `outside`, and everything else is `Syntax`.
-#[tactic(auto, unfolding(crate::specs::Forms::number_form))]
-pub fn number_line(
-    outside: TextKind,
-    name: &[u8],
-    least: u64,
-    most: u64,
-    text: &[u8],
-) -> Result<u64, TextKind>
-    ensures exact { result ≡ spec.number_form outside name.now least most text.now }
-    ensures range { IfOk result (λ n. (least ≤ n) × (n ≤ most)) }
-{
-    match behind(name, text) {
-        None => Err(TextKind::Syntax),
-        Some(number) => match read_number_between(number, least, most) {
-            Ok(number) => Ok(number),
-            Err(NumberFault::NotPlain) => Err(TextKind::Syntax),
-            Err(NumberFault::OutOfRange) => Err(outside),
-        },
-    }
-}
-
-/// The version, from 1 to `newest`, that stands after a format's name. Another plain decimal is of the
-/// kind `Version`.
-pub fn version_line(name: &[u8], newest: u64, text: &[u8]) -> Result<u64, TextKind>
-    ensures exact { result ≡ spec.version_form name.now newest text.now }
-    ensures range { IfOk result (λ n. (1 ≤ n) × (n ≤ newest)) }
-{
-    number_line(TextKind::Version, name, 1, newest, text)
-}
-
-/// The number from `least` to `most` that stands after the name. Another plain decimal is of the kind
-/// `Count`.
-pub fn count_line(name: &[u8], least: u64, most: u64, text: &[u8]) -> Result<u64, TextKind>
-    ensures exact { result ≡ spec.count_form name.now least most text.now }
-    ensures range { IfOk result (λ n. (least ≤ n) × (n ≤ most)) }
-{
-    number_line(TextKind::Count, name, least, most, text)
 }
 
 /// The line that says whose text it is, without its line feed.
@@ -76,7 +32,7 @@ pub fn side_line(side: Side) -> &'static [u8]
 
 /// The side that such a line names.
 #[tactic(auto, unfolding(crate::specs::Forms::side_form))]
-fn side_named(text: &[u8]) -> Result<Side, TextKind>
+fn side_form(text: &[u8]) -> Result<Side, TextKind>
     ensures { result ≡ spec.side_form text.now }
 {
     if is_name(side_line(Side::White), text) {
@@ -91,7 +47,7 @@ fn side_named(text: &[u8]) -> Result<Side, TextKind>
 /// The position that the line spells. A text that spells none is of the kind `Syntax`, and one whose
 /// position is not valid of the kind `Position`.
 #[tactic(auto, unfolding(crate::specs::Forms::position_form))]
-pub fn position_line(text: &[u8]) -> Result<Position, TextKind>
+pub fn position_form(text: &[u8]) -> Result<Position, TextKind>
     ensures { result ≡ spec.position_form text.now }
 {
     match read_position(text) {
@@ -131,7 +87,7 @@ fn matching(
 /// turn is that which the first one must have. A hand that is another is of the kind `Differs`, and a turn
 /// of the kind `OutOfPlace`.
 #[tactic(auto, unfolding(crate::specs::Forms::listed_form))]
-pub fn listed_line(
+pub fn listed_form(
     turn: Turn,
     who: Side,
     first: Option<&Position>,
@@ -139,56 +95,49 @@ pub fn listed_line(
 ) -> Result<Position, TextKind>
     ensures { result ≡ spec.listed_form turn who (option_copied first.entry) text.now }
 {
-    matching(turn, who, first, position_line(text)?)
-}
-
-/// The next line, as a format's name and its version.
-#[tactic(auto, using(crate::proofs::ReadingLemmas::refused))]
-pub fn read_version(from: &mut Cursor<'_>, name: &[u8], newest: u64) -> Result<u64, TextFault>
-    ensures value { GivesOn (λ n. n) result from.new (taken (spec.version_form name.now newest) from.old) }
-    ensures range { IfOk result (λ n. (1 ≤ n) × (n ≤ newest)) }
-    ensures rest { Passed from.old from.new }
-    ensures memory { IfErr result (λ e. e ≢ OutOfMemory) }
-{
-    let line = from.number();
-    version_line(name, newest, from.line()?).map_err(|kind| TextFault::At { line, kind })
-}
-
-/// The next line, as a name and a number from `least` to `most`.
-#[tactic(auto, using(crate::proofs::ReadingLemmas::refused))]
-pub fn read_count(
-    from: &mut Cursor<'_>,
-    name: &[u8],
-    least: u64,
-    most: u64,
-) -> Result<u64, TextFault>
-    ensures value { GivesOn (λ n. n) result from.new (taken (spec.count_form name.now least most) from.old) }
-    ensures range { IfOk result (λ n. (least ≤ n) × (n ≤ most)) }
-    ensures rest { Passed from.old from.new }
-    ensures memory { IfErr result (λ e. e ≢ OutOfMemory) }
-{
-    let line = from.number();
-    count_line(name, least, most, from.line()?).map_err(|kind| TextFault::At { line, kind })
+    matching(turn, who, first, position_form(text)?)
 }
 
 /// The next line, as the side whose text it is.
-#[tactic(auto, using(crate::proofs::ReadingLemmas::refused))]
+#[tactic(auto, using(krieg_text::proofs::ReadingLemmas::refused))]
 pub fn read_side(from: &mut Cursor<'_>) -> Result<Side, TextFault>
     ensures value { GivesOn (λ s. s) result from.new (taken spec.side_form from.old) }
     ensures rest { Passed from.old from.new }
     ensures memory { IfErr result (λ e. e ≢ OutOfMemory) }
 {
     let line = from.number();
-    side_named(from.line()?).map_err(|kind| TextFault::At { line, kind })
+    side_form(from.line()?).map_err(|kind| TextFault::At { line, kind })
 }
 
 /// The next line, as the number of listed positions, from 1 to `MOST_LISTED`.
 #[tactic(auto, unfolding(crate::specs::Forms::list_form))]
 pub(crate) fn read_list_line(from: &mut Cursor<'_>) -> Result<u64, TextFault>
     ensures value { GivesOn (λ n. n) result from.new (taken spec.list_form from.old) }
-    ensures range { IfOk result (λ n. (1 ≤ n) × (n ≤ spec.most_listed)) }
+    ensures range { IfOk result (λ n. (1 ≤ n) × (n ≤ MOST_LISTED)) }
     ensures rest { Passed from.old from.new }
     ensures memory { IfErr result (λ e. e ≢ OutOfMemory) }
 {
     read_count(from, b"list ", 1, MOST_LISTED)
+}
+
+/// The position after the word `start`. A text that spells none is of the kind `Syntax`, and one whose
+/// position is not valid of the kind `Position`.
+#[tactic(auto, unfolding(crate::specs::Forms::start_form))]
+pub fn start_form(text: &[u8]) -> Result<Position, TextKind>
+    ensures { result ≡ spec.start_form text.now }
+{
+    match behind(b"start ", text) {
+        None => Err(TextKind::Syntax),
+        Some(position) => position_form(position),
+    }
+}
+
+/// The mark at the front of a line that is one side's, with its space.
+pub fn side_mark(who: Side) -> &'static [u8]
+    ensures { result.now ≡ spec.side_mark who }
+{
+    match who {
+        Side::White => b"w ",
+        Side::Black => b"b ",
+    }
 }

@@ -2,20 +2,18 @@ ghost use Rattle.std.specs.Prelude.{◌≡◌, ◌≢◌, ◌<◌, ◌+◌, ◌^
 ghost use Rattle.krieg_board.specs.Pos.{Pos};
 ghost use Rattle.krieg_fen.specs.Forms as spec;
 ghost use Rattle.krieg_fen.specs.Listing.{SpellList, IsListed, ListGrammar};
-ghost use Rattle.krieg_fen.specs.Reading.{place, reached, taken, Passed, GivesOn};
-ghost use Rattle.krieg_fen.specs.FirstBad.{FirstBad};
-ghost use Rattle.krieg_fen.specs.declared.fault.TextFault.TheVariants.{NoMemory as OutOfMemory};
+ghost use Rattle.krieg_text.specs.Reading.{place, reached, taken, Passed, GivesOn};
+ghost use Rattle.krieg_text.specs.FirstBad.{FirstBad};
+ghost use Rattle.krieg_text.specs.declared.fault.TextFault.TheVariants.{NoMemory as OutOfMemory};
 ghost use Rattle.krieg_fen.specs.declared.forms.Turn.TheVariants.{Either};
 
-use crate::cursor::Cursor;
-use crate::fault::TextFault;
-use crate::forms::{Turn, listed_line, read_list_line, read_side};
-use crate::lines::Lines;
+use crate::forms::{Turn, listed_form, read_list_line, read_side};
 use krieg_board::{Position, Side};
+use krieg_text::{Cursor, Lines, TextFault};
 use std::alloc::Global;
 
 /// The next line, as a position that may stand after those of the list.
-#[tactic(auto, using(crate::proofs::ReadingLemmas::refused))]
+#[tactic(auto, using(krieg_text::proofs::ReadingLemmas::refused))]
 fn next_listed(
     from: &mut Cursor<'_>,
     turn: Turn,
@@ -26,11 +24,11 @@ fn next_listed(
     ensures rest { Passed from.old from.new }
 {
     let line = from.number();
-    listed_line(turn, who, list.first(), from.line()?).map_err(|kind| TextFault::At { line, kind })
+    listed_form(turn, who, list.first(), from.line()?).map_err(|kind| TextFault::At { line, kind })
 }
 
 /// The next `n` lines as positions with one hand.
-#[tactic(auto, using(crate::proofs::Listing::listing, crate::proofs::ReadingLemmas::passed))]
+#[tactic(auto, using(crate::proofs::Listing::listing, krieg_text::proofs::ReadingLemmas::passed))]
 fn list_at(
     alloc: Global,
     from: &mut Cursor<'_>,
@@ -55,7 +53,7 @@ fn list_at(
 /// these lines has the number `line`. A line that is refused is the last that is taken.
 ///
 /// The kinds of its faults are `Syntax`, also where a line is missing, `Position` and `Differs`.
-#[tactic(auto, using(crate::proofs::ListSpellings::spellings, crate::proofs::ReadingLemmas::reaches))]
+#[tactic(auto, using(crate::proofs::ListSpellings::spellings, krieg_text::proofs::ReadingLemmas::reaches))]
 pub fn read_list(
     alloc: Global,
     from: &mut Lines<'_>,
@@ -85,7 +83,7 @@ pub fn read_list(
 ///
 /// The kinds of its faults are `Syntax`, also where a line is missing, `Count`, `Position`, `Differs` and,
 /// where the turn must be the side's own, `OutOfPlace`.
-#[tactic(auto, using(crate::proofs::ReadingLemmas::passed), unfolding(crate::specs::Forms::listing_at))]
+#[tactic(auto, using(krieg_text::proofs::ReadingLemmas::passed), unfolding(crate::specs::Forms::listing_at))]
 pub fn read_listing(
     alloc: Global,
     from: &mut Cursor<'_>,

@@ -1,14 +1,13 @@
 ghost use Rattle.std.specs.Prelude.{map, codes, ◌∷◌, []};
-ghost use Rattle.krieg_fen.specs.Decimals.{number_text};
+ghost use Rattle.krieg_text.specs.Decimals.{number_text};
 ghost use Rattle.krieg_fen.specs.Forms as forms;
 ghost use Rattle.krieg_fen.specs.ListText as spec;
-ghost use Rattle.krieg_fen.specs.Writing.{PutsLines, alone};
+ghost use Rattle.krieg_text.specs.Writing.{PutsLines, alone};
 
 use crate::fen_text::put_position;
 use crate::forms::side_line;
-use crate::number::put_number;
-use crate::writing::Text;
 use krieg_board::{NoMemory, Position, Side};
+use krieg_text::{Text, put_number};
 
 /// Adds the line of the side.
 pub fn put_side_line(side: Side, text: &mut Text) -> Result<(), NoMemory>
@@ -43,7 +42,7 @@ pub fn put_listed(p: &Position, text: &mut Text) -> Result<(), NoMemory>
 }
 
 /// Adds the line of each position in its written form.
-#[tactic(auto, using(crate::proofs::Writings::writings))]
+#[tactic(auto, using(krieg_text::proofs::Writings::writings))]
 pub fn put_list(list: &[Position], text: &mut Text) -> Result<(), NoMemory>
     ensures { PutsLines result text.old text.new (map spec.position_line list.now) }
 {
@@ -54,7 +53,7 @@ pub fn put_list(list: &[Position], text: &mut Text) -> Result<(), NoMemory>
 }
 
 /// Adds the head and the lines of the positions.
-#[tactic(auto, using(crate::proofs::Writings::writings))]
+#[tactic(auto, using(krieg_text::proofs::Writings::writings))]
 pub fn put_listing(side: Side, list: &[Position], text: &mut Text) -> Result<(), NoMemory>
     ensures { PutsLines result text.old text.new (spec.listing_lines side list.now) }
 {

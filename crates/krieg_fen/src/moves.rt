@@ -1,12 +1,12 @@
 ghost use Rattle.std.specs.Prelude.{◌≡◌, ◌<◌, ℕ, IfOk, IfSome, Ok, Some};
 ghost use Rattle.krieg_fen.specs.MoveText as spec;
 ghost use Rattle.krieg_fen.specs.MoveText.{move_text, square_text, IsOnBoard};
-ghost use Rattle.krieg_fen.specs.Outcomes.{Reads};
-ghost use Rattle.krieg_fen.specs.Writing.{PutsText, Appends};
+ghost use Rattle.krieg_text.specs.Outcomes.{Reads};
+ghost use Rattle.krieg_text.specs.Writing.{PutsText, Appends};
 ghost use Rattle.krieg_board.specs.declared.men.Move.{Move as BoardMove};
 
-use crate::writing::Text;
 use krieg_board::{Move, NoMemory, Promo, Square, square_at};
+use krieg_text::Text;
 
 /// The text is no move text.
 #[derive(Clone, Copy, Debug, PartialEq, Eq)]

@@ -2,8 +2,8 @@ ghost use Rattle.std.specs.Prelude.{◌≡◌, ◌<◌, ◌≤◌, ◌-◌, ◌+
 ghost use Rattle.krieg_fen.specs.Letters as letters;
 ghost use Rattle.krieg_fen.specs.Ranks as spec;
 
-use crate::pieces::cut;
 use krieg_board::{Board, Kind, Man, Side};
+use krieg_text::cut;
 
 /// What stands on the eight squares of a rank, from the a-file on.
 type Row = [Option<Man>; 8];

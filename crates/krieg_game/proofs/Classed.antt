@@ -4,6 +4,7 @@ use Rattle.std.specs.Prelude.{Some, None}
 use Rattle.std.specs.Ordering.{is_lt, ordering_then}
 use Rattle.std.specs.declared.cmp.Ordering.{Ordering}
 use Rattle.std.specs.declared.cmp.Ordering.TheVariants.{Less, Equal, Greater}
+use Rattle.std.proofs.lemmas.Simd.{map-map}
 use Rattle.std.proofs.lemmas.List.{map-append}
 use Rattle.krieg_board.specs.Men.{is_same_side}
 use Rattle.krieg_board.specs.Pos.{Pos}
@@ -19,9 +20,9 @@ use Rattle.krieg_theory.specs.Sets.{In, same, insert_once, at_key, keys_in}
 use Rattle.krieg_theory.specs.Plans.{all_starts}
 use Rattle.krieg_game.specs.Keys.{Key, RootKey, key_lt, root_lt}
 use Rattle.krieg_game.specs.Chess.{chess, outcome}
-use Rattle.krieg_game.specs.Outset.{outset, starts, first_move}
+use Rattle.krieg_game.specs.Outset.{outset, starts}
 use Rattle.krieg_game.specs.Classes.{classes_in}
-use Rattle.krieg_game.specs.ClassLaws.{first_outcomes, opened, first_heard, OutcomesAreClassed, FirstMovesAreClassed, OpeningsAreClassed}
+use Rattle.krieg_game.specs.ClassLaws.{first_outcomes, first_heard, OutcomesAreClassed, FirstMovesAreClassed, OpeningsAreClassed}
 use Rattle.krieg_game.proofs.Starting.{own_start, first_moves}
 
 pub outcomes_are_classed : (d : Dialect) → OutcomesAreClassed d
@@ -71,10 +72,6 @@ module _ {J K : Type 0} (jlt : J → J → Bool) (klt : K → K → Bool) (f : J
   sets_renamed : (os : List (J × Pos)) → sets_in klt (map (renamed f) os) ≡ map (renamed f) (sets_in jlt os)
   sets_renamed os = ap (map (set_at klt (map (renamed f) os))) (keys_renamed os) ∙ each_renamed os (keys_in jlt os)
 
-map_twice : {X Y Z : Type 0} (f : Y → Z) (g : X → Y) (h : X → Z) → ((x : X) → f (g x) ≡ h x) → (xs : List X) → map f (map g xs) ≡ map h xs
-map_twice f g h e [] = refl
-map_twice f g h e (x ∷ xs) = let here = e x in let rest = map_twice f g h e xs in λ i. here i ∷ rest i
-
 -- both words as a root's key
 abbrev lift : Key → RootKey
 lift k = (k.0, Some k.1)
@@ -87,7 +84,7 @@ module _ (d : Dialect) (who : Side) where
   first_starts [] h = refl
   first_starts (p ∷ S) h =
       map-append (renamed lift) (map (outcome d (opening p) p) (moves p)) (first_outcomes d S)
-      ∙ ap (λ os. os ++ map (renamed lift) (first_outcomes d S)) (map_twice (renamed lift) (outcome d (opening p) p) (first_move d p) (λ r. refl) (moves p) ∙ sym (first_moves d who p (h p (inl refl))))
+      ∙ ap (λ os. os ++ map (renamed lift) (first_outcomes d S)) (map-map (renamed lift) (outcome d (opening p) p) (moves p) ∙ sym (first_moves d who p (h p (inl refl))))
       ∙ ap (λ os. starts d who p ++ os) (first_starts S (λ q i. h q (inr i)))
 
   pub first_moves_are_classed : FirstMovesAreClassed d who
@@ -128,8 +125,8 @@ module _ (d : Dialect) (who : Side) where
   pub openings_are_classed : OpeningsAreClassed d who
   unfolding set_of
   openings_are_classed S same h =
-      ap (λ os. map first_heard (classes_in os)) (sym (map_twice (renamed (with_same same)) with_opening (opened d same) (λ p. refl) S))
+      ap (λ os. map first_heard (classes_in os)) (sym (map-map (renamed (with_same same)) with_opening S))
       ∙ ap (map first_heard) (sets_renamed words_lt key_lt (with_same same) (same_order same) (map with_opening S))
-      ∙ map_twice first_heard (renamed (with_same same)) (renamed alone) (λ g. refl) (sets_in words_lt (map with_opening S))
+      ∙ map-map first_heard (renamed (with_same same)) (sets_in words_lt (map with_opening S))
       ∙ sym (sets_renamed words_lt root_lt alone alone_order (map with_opening S))
       ∙ ap (sets_in root_lt) (own_starts S h)

@@ -5,7 +5,7 @@ pub mod Winning
 pub mod Splitting
 pub mod Starting
 pub mod Theorems
-pub mod WordNumbers
+pub mod KeyNumbers
 pub mod PackedOutcomes
 pub mod Popping
 pub mod Cutting

@@ -9,22 +9,24 @@ use Rattle.krieg_words.specs.Words.{Said, IsSaid}
 use Rattle.krieg_pack.specs.Order.{position_cmp}
 use Rattle.krieg_theory.specs.Sets.{same}
 use Rattle.krieg_game.specs.Keys.{key_cmp, key_lt}
-use Rattle.krieg_game.specs.WordNumbers.{words_number, words_limit, key_number, words_at, key_at, AreSaid}
+use Rattle.krieg_words.specs.WordNumbers.{words_number, words_at}
+use Rattle.krieg_game.specs.KeyNumbers.{key_number, key_at, AreSaid}
+use Rattle.krieg_words.specs.declared.word_numbers.TheConstants.{WORDS_LIMIT}
 use Rattle.krieg_game.specs.Outcomes.{KeyedPosition, outcome_cmp}
-use Rattle.krieg_game.specs.PackedOutcome.{unpacked, IsPacked}
+use Rattle.krieg_game.specs.PackedOutcome.{unpacked_outcome, IsPacked}
 use Rattle.krieg_game.specs.declared.outcome.Outcome.TheInside.{Inside}
 use Rattle.krieg_game.proofs.KeyLaws.{key_is}
-use Rattle.krieg_game.proofs.WordNumbers.{key_number_cmp, key_back}
+use Rattle.krieg_game.proofs.KeyNumbers.{key_number_cmp, key_back}
 
 -- the fields stand for the outcome
 pub record Stands (o : Inside) (v : KeyedPosition) : Type 0 where
   pub said : AreSaid v.0
   pub key : o.key ≡ key_number v.0
-  pub own : words_at (o.key / words_limit) ≡ v.0.0
-  pub reply : words_at (o.key % words_limit) ≡ v.0.1
+  pub own : words_at (o.key / WORDS_LIMIT) ≡ v.0.0
+  pub reply : words_at (o.key % WORDS_LIMIT) ≡ v.0.1
   pub after : o.after ≡ v.1
 
-pub stand : (o : Inside) (v : KeyedPosition) → IsPacked o → unpacked o ≡ v → Stands o v
+pub stand : (o : Inside) (v : KeyedPosition) → IsPacked o → unpacked_outcome o ≡ v → Stands o v
 unfolding key_at
 stand o v h is = record {
   said = subst (λ v. AreSaid v.0) is h.said;
@@ -36,12 +38,12 @@ stand o v h is = record {
 
 -- fields that are made of words and a position stand for them
 pub made : (own reply : Said) (after : Pos) (m n : ℕ) → m ≡ words_number own → n ≡ words_number reply → IsSaid own → IsSaid reply →
-    IsPacked (record { key = m * words_limit + n; after = after }) × (unpacked (record { key = m * words_limit + n; after = after }) ≡ ((own, reply), after))
+    IsPacked (record { key = m * WORDS_LIMIT + n; after = after }) × (unpacked_outcome (record { key = m * WORDS_LIMIT + n; after = after }) ≡ ((own, reply), after))
 unfolding key_number
 made own reply after m n em en h k =
-    let number : m * words_limit + n ≡ key_number (own, reply) = λ i. em i * words_limit + en i in
-    let key : key_at (m * words_limit + n) ≡ (own, reply) = ap key_at number ∙ key_back (own, reply) (h, k) in
-    let exact : key_number (key_at (m * words_limit + n)) ≡ m * words_limit + n = ap key_number key ∙ sym number in
+    let number : m * WORDS_LIMIT + n ≡ key_number (own, reply) = λ i. em i * WORDS_LIMIT + en i in
+    let key : key_at (m * WORDS_LIMIT + n) ≡ (own, reply) = ap key_at number ∙ key_back (own, reply) (h, k) in
+    let exact : key_number (key_at (m * WORDS_LIMIT + n)) ≡ m * WORDS_LIMIT + n = ap key_number key ∙ sym number in
     (record { said = subst AreSaid (sym key) (h, k); exact = λ i. record { key = exact i; after = after } }, λ i. (key i, after))
 
 is_eq_nat : (m n : ℕ) → nat_eq m n ≡ is_eq (nat_cmp m n)

@@ -1,12 +1,8 @@
 -- Chess under an umpire, as the theory of plans sees it.
-use Rattle.std.specs.Prelude.{ℕ, Bool, List, [], ◌∷◌, map}
-use Rattle.std.specs.Cmp.Lexicographic.{slice_cmp}
-use Rattle.std.specs.Ordering.{nat_cmp, on, is_lt}
-use Rattle.std.specs.declared.cmp.Ordering.{Ordering}
+use Rattle.std.specs.Prelude.{Bool, List, map}
+use Rattle.krieg_board.specs.Order.{move_lt}
 use Rattle.krieg_board.specs.Pos.{Pos}
 use Rattle.krieg_board.specs.declared.men.Move.{Move}
-use Rattle.krieg_board.specs.declared.men.Promo.{Promo}
-use Rattle.krieg_board.specs.declared.men.Promo.TheVariants.{Plain, Queen, Rook, Bishop, Knight}
 use Rattle.krieg_moves.specs.Legal.{is_legal}
 use Rattle.krieg_moves.specs.After.{after}
 use Rattle.krieg_moves.specs.Moves.{moves, all_moves, is_stalemate}
@@ -17,24 +13,6 @@ use Rattle.krieg_words.specs.declared.dialects.Dialect.{Dialect}
 use Rattle.krieg_pack.specs.Order.{position_lt}
 use Rattle.krieg_theory.specs.Game.{Game}
 use Rattle.krieg_game.specs.Keys.{Key, key_lt}
-
-abbrev pub promo_rank : Promo → ℕ
-promo_rank Plain = 0
-promo_rank Queen = 1
-promo_rank Rook = 2
-promo_rank Bishop = 3
-promo_rank Knight = 4
-
--- what moves are compared by, one number after another
-abbrev pub move_ranks : Move → List ℕ
-move_ranks m = m.from ∷ m.to ∷ promo_rank m.promo ∷ []
-
--- by the from-square, then by the to-square, then by the promotion
-abbrev pub move_cmp : Move → Move → Ordering
-move_cmp = on move_ranks (slice_cmp nat_cmp)
-
-abbrev pub move_lt : Move → Move → Bool
-move_lt a b = is_lt (move_cmp a b)
 
 -- the legal try leaves a stalemate
 unfoldable pub stalemates : Pos → Move → Bool

@@ -7,9 +7,7 @@ use Rattle.krieg_board.specs.declared.men.Move.{Move}
 use Rattle.krieg_moves.specs.Moves.{moves}
 use Rattle.krieg_words.specs.Words.{Said}
 use Rattle.krieg_words.specs.WordsOfMoves.{opening}
-use Rattle.krieg_words.specs.ToldWords.{told, no_kinds}
-use Rattle.krieg_words.specs.declared.words.End.TheVariants.{Goes}
-use Rattle.krieg_words.specs.declared.words.Took.TheVariants.{Nothing}
+use Rattle.krieg_words.specs.ToldWords.{told}
 use Rattle.krieg_words.specs.declared.dialects.Dialect.{Dialect}
 use Rattle.krieg_theory.specs.Sets.{In}
 use Rattle.krieg_theory.specs.Split.{all_outcomes, keys, class}
@@ -23,10 +21,6 @@ use Rattle.krieg_game.specs.Classes.{classes_in, outcome_set}
 -- what comes of the opponent's first moves: in place of an own move the opening is told
 abbrev pub first_outcomes : Dialect → List Pos → List KeyedPosition
 first_outcomes d S = flat_map (λ p. map (outcome d (opening p) p) (moves p)) S
-
--- what is told where nothing is: the game goes on
-abbrev pub silence : Said
-silence = record { end = Goes; took = Nothing; checks = no_kinds; tries = 0 }
 
 -- a listed position, with its opening words and, in place of a reply's, others that are the same for all
 abbrev pub opened : Dialect → Said → Pos → KeyedPosition

@@ -3,10 +3,9 @@ pub mod Chess
 pub mod Outset
 pub mod Laws
 pub mod OutsetLaws
-pub mod PlanMeasures
 pub mod Outcomes
 pub mod Classes
 pub mod ClassLaws
-pub mod WordNumbers
+pub mod KeyNumbers
 pub mod PackedOutcome
 pub mod Runs

@@ -5,16 +5,16 @@ ghost use Rattle.krieg_moves.specs.Moves as list;
 ghost use Rattle.krieg_pack.specs.Members.{set_of};
 ghost use Rattle.krieg_game.specs.Chess as spec;
 ghost use Rattle.krieg_game.specs.Outcomes.{KeyedPosition};
-ghost use Rattle.krieg_game.specs.ClassLaws.{opened, silence};
+ghost use Rattle.krieg_game.specs.ClassLaws.{opened};
 ghost use Rattle.krieg_game.specs.Classes.{class_pair, classes_in, outcome_set, trimmed, next_limit, AddsFront};
 ghost use Rattle.krieg_game.specs.Runs as runs;
 ghost use Rattle.krieg_game.specs.Runs.{Rising};
+ghost use Rattle.krieg_words.specs.WordsReading.{silent};
 
 use crate::outcome::Outcome;
 use krieg_board::{Move, NoMemory, Position};
-use krieg_checks::Kinds;
 use krieg_pack::{Belief, Packed, pack};
-use krieg_words::{Dialect, End, Took, Words, make_move, opening, told};
+use krieg_words::{Dialect, SILENT, Words, make_move, opening, told};
 use std::alloc::Global;
 
 /// The positions that are possible once these words were heard of the own move and of the reply.
@@ -48,28 +48,14 @@ pub fn push_outcomes(
     Ok(())
 }
 
-/// What is told where nothing is.
-const SILENCE: Words = Words {
-    end: End::Goes,
-    took: Took::Nothing,
-    checks: Kinds {
-        knight: false,
-        short: false,
-        long: false,
-        rank: false,
-        file: false,
-    },
-    tries: 0,
-};
-
 /// Adds a position at the player's turn: what the dialect tells of it at the start of a game, and silence in place of
 /// a reply's words. With an error nothing was added.
 pub fn push_opening(d: Dialect, p: &Position, outcomes: &mut Vec<Outcome>) -> Result<(), NoMemory>
-    ensures added { OnOk result (outcomes.new.items ≡ outcomes.old.items ++ opened d silence p.now ∷ []) }
+    ensures added { OnOk result (outcomes.new.items ≡ outcomes.old.items ++ opened d silent p.now ∷ []) }
     ensures same { OnErr result (outcomes.new.items ≡ outcomes.old.items) }
 {
     let opens = told(d, opening(p));
-    outcomes.push(Outcome::new(&opens, &SILENCE, pack(p)))?;
+    outcomes.push(Outcome::new(&opens, &SILENT, pack(p)))?;
     Ok(())
 }
 

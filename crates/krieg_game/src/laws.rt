@@ -1,5 +1,6 @@
 //! The laws: each function here does nothing, and its contract is a theorem.
 
+ghost use Rattle.krieg_board.specs.Order.{move_cmp};
 ghost use Rattle.krieg_board.specs.declared.men.Side.{Side};
 ghost use Rattle.krieg_words.specs.declared.dialects.Dialect.{Dialect};
 ghost use Rattle.krieg_theory.specs.Game.{IsGame};
@@ -7,7 +8,7 @@ ghost use Rattle.krieg_theory.specs.Laws.{MoreMovesWin, MoreMovesMate, WorstIsTh
 ghost use Rattle.krieg_theory.specs.Plans.{IsOutset};
 ghost use Rattle.krieg_theory.specs.Sets.{IsOrder};
 ghost use Rattle.krieg_game.specs.Keys.{key_cmp, key_lt, root_cmp, root_lt};
-ghost use Rattle.krieg_game.specs.Chess.{chess, move_cmp};
+ghost use Rattle.krieg_game.specs.Chess.{chess};
 ghost use Rattle.krieg_game.specs.Outset.{outset};
 ghost use Rattle.krieg_game.specs.Laws.{IsStrict, NothingWinsInNone, IllegalTryGoesOn, LegalTryWins, MatesAtOnce, ClassesComeAbout, RefusedAscends, OutcomesAreReplies};
 ghost use Rattle.krieg_game.specs.ClassLaws.{SetsHaveTheClasses, SetsMayGrow, OutcomesAreClassed, FirstMovesAreClassed, OpeningsAreClassed};

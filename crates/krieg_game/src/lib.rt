@@ -6,15 +6,13 @@
 //!
 //! The rules are the definitions of `specs/`: what a player hears between two own turns, and its order (`Keys`);
 //! chess under an umpire, in each dialect, as a game of `krieg_theory` (`Chess`); how it comes to the player's first
-//! turn from positions in which either side is to move (`Outset`); the classes of outcomes (`Classes`); the size and
-//! the depth of a plan (`PlanMeasures`). `Laws`, `OutsetLaws` and `ClassLaws` say what winning, plans and classes are
-//! in the words of chess.
+//! turn from positions in which either side is to move (`Outset`); the classes of outcomes (`Classes`). `Laws`,
+//! `OutsetLaws` and `ClassLaws` say what winning, plans and classes are in the words of chess.
 #![tactic(auto)]
 
 mod classes;
 pub mod laws;
 mod outcome;
-mod word_numbers;
 
 pub use classes::{Class, classes_of, push_opening, push_outcomes, trim_outcomes};
 pub use outcome::Outcome;

@@ -6,14 +6,10 @@ ghost use Rattle.krieg_theory.specs.Sets.{same};
 ghost use Rattle.krieg_game.specs.Keys.{key_lt};
 ghost use Rattle.krieg_game.specs.Outcomes.{outcome_cmp, outcome_eq, outcome_total, outcome_equiv, outcome_partial_equiv, outcome_partial_order};
 
-use crate::word_numbers::{words_at, words_number};
 use krieg_pack::Packed;
-use krieg_words::Words;
+use krieg_words::{WORDS_LIMIT, Words, words_at, words_number};
 use std::cmp::Ordering;
 use std::marker::Model;
-
-/// Above all numbers of words.
-const WORDS_LIMIT: u64 = 1_048_576;
 
 /// What comes of a try: what is told of it and of the reply, and the position after the reply. 48 bytes in memory.
 ///
@@ -34,13 +30,13 @@ impl Model for Outcome {
 
     ghost Value = { KeyedPosition };
 
-    ghost use Rattle.krieg_game.specs.PackedOutcome.{packed, unpacked, IsPacked};
+    ghost use Rattle.krieg_game.specs.PackedOutcome.{packed_outcome, unpacked_outcome, IsPacked};
 
-    ghost view = { unpacked };
+    ghost view = { unpacked_outcome };
 
     ghost invariant = { IsPacked };
 
-    ghost inverse = { packed };
+    ghost inverse = { packed_outcome };
 
     ghost inverse_ok = { λ a h. h.exact };
 }

@@ -10,6 +10,7 @@ use Rattle.krieg_board.specs.declared.men.Kind.TheVariants.{Pawn, King}
 use Rattle.krieg_make.specs.MadePositions.{made_position, made_board, pair_at, pairs, pawn_place}
 use Rattle.krieg_make.specs.Laws.{AreDistinct, AreListedOnce}
 use Rattle.krieg_make.proofs.Numbers.{all_within}
+use Rattle.krieg_make.specs.declared.position.TheConstants.{POSITION_COUNT}
 
 -- the black king's file on the last rank, and the number of the first pair of places on which black pawns stand
 file_in : Pos → ℕ
@@ -24,14 +25,14 @@ number_in p = 5 * pair_in p + file_in p
 is_read : ℕ → Bool
 is_read i = number_in (made_position i) == i
 
-all_are_read : list_all is_read (range_with_len 0 1380) ≡ true
+all_are_read : list_all is_read (range_with_len 0 POSITION_COUNT) ≡ true
 unfolding is_read number_in pair_in file_in made_position made_board pair_at pairs empty_board
 all_are_read = refl
 
-read_again : (i : ℕ) → i < 1380 → number_in (made_position i) ≡ i
+read_again : (i : ℕ) → i < POSITION_COUNT → number_in (made_position i) ≡ i
 unfolding is_read
 read_again i h =
-    let tested : is_read i ≡ true = all_within is_read 0 1380 i (omega arith) h all_are_read in
+    let tested : is_read i ≡ true = all_within is_read 0 POSITION_COUNT i (omega arith) h all_are_read in
     eqb-true (number_in (made_position i)) i tested
 
 pub distinct : AreDistinct

@@ -10,29 +10,30 @@ use Rattle.krieg_board.specs.Pos.{Pos}
 use Rattle.krieg_board.specs.Squares.{squares, every_square}
 use Rattle.krieg_board.specs.declared.men.Side.TheVariants.{White}
 use Rattle.krieg_moves.proofs.Hands.{Alike, same_hand_alike, alike_same_hand, alike_back, alike_through}
-use Rattle.krieg_fen.specs.Forms.{most_listed}
+use Rattle.krieg_fen.specs.declared.forms.TheConstants.{MOST_LISTED}
 use Rattle.krieg_sheet.specs.Lists.{list_fault, other_hand, differs}
 use Rattle.krieg_sheet.specs.declared.sheet.SheetFault.TheVariants.{Count}
 use Rattle.krieg_make.specs.Laws.{AreCounted}
 use Rattle.krieg_make.specs.MadePositions.{made_board, made_position, pair_at, pairs}
 use Rattle.krieg_make.specs.MadeSheets.{made_count, made_number, made_positions, made_list}
 use Rattle.krieg_make.proofs.Numbers.{all_within}
+use Rattle.krieg_make.specs.declared.position.TheConstants.{POSITION_COUNT}
 
 looks_like_first : ℕ → Bool
 looks_like_first i = same_hand (made_position 0) (made_position i) White
 
-all_look_alike : list_all looks_like_first (range_with_len 0 1380) ≡ true
+all_look_alike : list_all looks_like_first (range_with_len 0 POSITION_COUNT) ≡ true
 unfolding looks_like_first made_position made_board pair_at pairs empty_board same_hand has_same_men every_square squares
 all_look_alike = refl
 
-first_hand : (i : ℕ) → i < 1380 → Alike White (made_position 0) (made_position i)
+first_hand : (i : ℕ) → i < POSITION_COUNT → Alike White (made_position 0) (made_position i)
 unfolding looks_like_first
 first_hand i h =
-    let tested : looks_like_first i ≡ true = all_within looks_like_first 0 1380 i (omega arith) h all_look_alike in
+    let tested : looks_like_first i ≡ true = all_within looks_like_first 0 POSITION_COUNT i (omega arith) h all_look_alike in
     same_hand_alike White (made_position 0) (made_position i) tested
 
 -- White sees no difference between two made positions
-pub one_hand : (i j : ℕ) → i < 1380 → j < 1380 → same_hand (made_position i) (made_position j) White ≡ true
+pub one_hand : (i j : ℕ) → i < POSITION_COUNT → j < POSITION_COUNT → same_hand (made_position i) (made_position j) White ≡ true
 one_hand i j hi hj =
     alike_same_hand White (made_position i) (made_position j)
     (alike_through White (made_position i) (made_position 0) (made_position j)
@@ -41,11 +42,11 @@ one_hand i j hi hj =
 abbrev listed : ℕ → ℕ → ℕ → List Pos
 listed s a n = map (λ k. made_position (made_number s k)) (range_with_len a n)
 
-number_low : (s k : ℕ) → made_number s k < 1380
+number_low : (s k : ℕ) → made_number s k < POSITION_COUNT
 number_low s k = omega arith
 
 -- what holds of all made positions holds of those in a list
-pub all_listed : (P : Pos → Type 0) → ((i : ℕ) → i < 1380 → P (made_position i)) → (s a n : ℕ) → All P (listed s a n)
+pub all_listed : (P : Pos → Type 0) → ((i : ℕ) → i < POSITION_COUNT → P (made_position i)) → (s a n : ℕ) → All P (listed s a n)
 all_listed P each s a zero = All-nil P
 all_listed P each s a (suc n) = All-cons P (made_position (made_number s a)) (listed s (a + 1) n) (each (made_number s a) (number_low s a)) (all_listed P each s (a + 1) n)
 
@@ -55,13 +56,13 @@ none_differs first k (p ∷ ps) alike =
     ap (λ (t : Bool). cond t (other_hand White first (k + 1) ps) (Some k)) (All-head (λ p. same_hand first p White ≡ true) p ps alike)
     ∙ none_differs first (k + 1) ps (All-tail (λ p. same_hand first p White ≡ true) p ps alike)
 
-no_list_fault : (s n : ℕ) → 0 < n → n ≤ 1380 → list_fault White (listed s 0 n) ≡ None
+no_list_fault : (s n : ℕ) → 0 < n → n ≤ POSITION_COUNT → list_fault White (listed s 0 n) ≡ None
 no_list_fault s zero least most = absurd (omega arith)
 no_list_fault s (suc n) least most =
     let first : Pos = made_position (made_number s 0) in
     let rest : List Pos = listed s 1 n in
-    let few : length (first ∷ rest) ≤ most_listed = omega (arith, length-map-range_with_len {X = Pos} (λ k. made_position (made_number s k)) 1 n) in
-    ap (λ (t : Bool). cond t (differs (other_hand White first 1 rest)) (Some Count)) (le-leb (length (first ∷ rest)) most_listed few)
+    let few : length (first ∷ rest) ≤ MOST_LISTED = omega (arith, length-map-range_with_len {X = Pos} (λ k. made_position (made_number s k)) 1 n) in
+    ap (λ (t : Bool). cond t (differs (other_hand White first 1 rest)) (Some Count)) (le-leb (length (first ∷ rest)) MOST_LISTED few)
     ∙ ap differs (none_differs first 1 rest (all_listed (λ p. same_hand first p White ≡ true) (λ i h. one_hand (made_number s 0) i (number_low s 0) h) s 1 n))
 
 pub made_listed : (s : ℕ) → list_fault White (made_list s) ≡ None

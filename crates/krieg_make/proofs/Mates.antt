@@ -14,6 +14,7 @@ use Rattle.krieg_make.proofs.NoMoves.{has_way, mated}
 use Rattle.krieg_make.proofs.MatingTests.{rook_move, mates, mates_in, is_mated}
 use Rattle.krieg_make.proofs.FirstMates.{mates_from_0, mates_from_138, mates_from_276, mates_from_414, mates_from_552}
 use Rattle.krieg_make.proofs.LastMates.{mates_from_690, mates_from_828, mates_from_966, mates_from_1104, mates_from_1242}
+use Rattle.krieg_make.specs.declared.position.TheConstants.{POSITION_COUNT}
 
 below_or_not : (i a : ℕ) → (i < a) ⊎ (a ≤ i)
 below_or_not i a = grind arith
@@ -26,7 +27,7 @@ more a here before i h = go (below_or_not i a)
     go (inl low) = before i low
     go (inr high) = all_within mates a 138 i high h here
 
-all_mate : (i : ℕ) → i < 1380 → mates i ≡ true
+all_mate : (i : ℕ) → i < POSITION_COUNT → mates i ≡ true
 all_mate =
     more 1242 mates_from_1242 (
     more 1104 mates_from_1104 (

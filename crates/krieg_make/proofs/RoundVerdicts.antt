@@ -14,6 +14,7 @@ use Rattle.krieg_board.proofs.MenLemmas.{same_side_self}
 use Rattle.krieg_moves.specs.After.{after}
 use Rattle.krieg_moves.specs.Legal.{is_legal, is_candidate, is_move_of, is_move_of_kind}
 use Rattle.krieg_moves.specs.Moves.{plain_move, is_ended}
+use Rattle.krieg_moves.proofs.OwnMen.{other_side}
 use Rattle.krieg_words.specs.WordsOfMoves.{words}
 use Rattle.krieg_words.specs.WordsReading.{silent}
 use Rattle.krieg_referee.specs.Games.{judge, last}
@@ -58,14 +59,10 @@ nowhere p z =
     let none : is_candidate p m ≡ false = at_last (nat_lt z 64) (not (is_of p.side (man_at p.board z)) && is_move_of (man_at p.board z) p m) (of_man p m (man_at p.board z)) in
     ap (λ (b : Bool). b && not (is_king_attacked (after p m).board p.side)) none
 
-not_both : (who : Side) → is_same_side (other who) who ≡ false
-not_both White = refl
-not_both Black = refl
-
 early : (p : Pos) (m : Move) (who : Side) → p.side ≡ who → is_ended p ≡ false → verdict p (other who) m ≡ Early
 unfolding verdict
 early p m who turn goes =
-    rw goes (ap (λ (b : Bool). cond (not b) Early (cond (not (is_legal p m)) Illegal (Done (words p m)))) (ap (is_same_side (other who)) turn ∙ not_both who))
+    rw goes (ap (λ (b : Bool). cond (not b) Early (cond (not (is_legal p m)) Illegal (Done (words p m)))) (ap (is_same_side (other who)) turn ∙ other_side who))
 
 own_turn : (p : Pos) (m : Move) (who : Side) → p.side ≡ who → is_ended p ≡ false → verdict p who m ≡ cond (not (is_legal p m)) Illegal (Done (words p m))
 unfolding verdict

@@ -13,21 +13,22 @@ use Rattle.krieg_referee.specs.declared.verdict.Verdict.{Verdict}
 use Rattle.krieg_referee.specs.declared.verdict.Verdict.TheVariants.{Early, Illegal, Done}
 use Rattle.krieg_make.specs.Named.{g1, g8}
 use Rattle.krieg_make.specs.Start.{start_position}
-use Rattle.krieg_make.specs.MadePositions.{position_count, made_position}
+use Rattle.krieg_make.specs.MadePositions.{made_position}
+use Rattle.krieg_make.specs.declared.position.TheConstants.{POSITION_COUNT}
 use Rattle.krieg_make.specs.MadeSheets.{made_count, made_number, made_list}
 use Rattle.krieg_make.specs.MadeSessions.{made_tries}
 
 -- each made position is valid
 abbrev pub AreValid : Type 0
-AreValid = (i : ℕ) → i < position_count → IsValid (made_position i)
+AreValid = (i : ℕ) → i < POSITION_COUNT → IsValid (made_position i)
 
 -- White has the same men in all of them, and is to move
 abbrev pub HaveOneHand : Type 0
-HaveOneHand = (i j : ℕ) → i < position_count → j < position_count → same_hand (made_position i) (made_position j) White ≡ true
+HaveOneHand = (i j : ℕ) → i < POSITION_COUNT → j < POSITION_COUNT → same_hand (made_position i) (made_position j) White ≡ true
 
 -- no two of them are the same
 abbrev pub AreDistinct : Type 0
-AreDistinct = (i j : ℕ) → i < position_count → j < position_count → made_position i ≡ made_position j → i ≡ j
+AreDistinct = (i j : ℕ) → i < POSITION_COUNT → j < POSITION_COUNT → made_position i ≡ made_position j → i ≡ j
 
 -- a sheet lists as many as its number says
 abbrev pub AreCounted : Type 0
@@ -39,7 +40,7 @@ AreListedOnce = (s j k : ℕ) → j < made_count s → k < made_count s → made
 
 -- in each of them the rook on g1 may go to g8, and mates
 abbrev pub RookMates : Type 0
-RookMates = (i : ℕ) → i < position_count →
+RookMates = (i : ℕ) → i < POSITION_COUNT →
     let p = made_position i in
     let mv = plain_move g1 g8 in
     (is_legal p mv ≡ true) × (is_mate (after p mv) ≡ true)

@@ -45,11 +45,7 @@ made_board file pair = board_with (
     ∷ (pawn_place pair.0, man Black Pawn)
     ∷ (pawn_place pair.1, man Black Pawn) ∷ [])
 
--- how many positions there are: with the black king on the files a to e, for each pair of places
-abbrev pub position_count : ℕ
-position_count = 1380
-
--- the position with that number, from 0 on; White is to move, and nobody may castle
+-- The position with that number, from 0 on: with the black king on the files a to e, for each pair of places. White is to move, and nobody may castle
 unfoldable pub made_position : ℕ → Pos
 made_position i = record {
   board = made_board (i % 5) (pair_at (i / 5));

@@ -1,6 +1,6 @@
 -- The made texts.
 use Rattle.std.specs.Prelude.{◌≡◌, ℕ, List, Ok}
-use Rattle.krieg_fen.specs.Reading.{whole}
+use Rattle.krieg_text.specs.Reading.{whole}
 use Rattle.krieg_sheet.specs.SheetReading.{sheet_at}
 use Rattle.krieg_sheet.specs.SheetText.{sheet_text}
 use Rattle.krieg_session.specs.SessionReading.{session_at}

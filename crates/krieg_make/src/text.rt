@@ -1,5 +1,5 @@
 ghost use Rattle.std.specs.Prelude.{◌≡◌, IfOk};
-ghost use Rattle.krieg_fen.specs.Lines.{lines};
+ghost use Rattle.krieg_text.specs.Lines.{lines};
 ghost use Rattle.krieg_make.specs.MadeTexts as spec;
 
 use crate::session::made_session;

@@ -20,6 +20,7 @@ use Rattle.krieg_board.proofs.Picked.{picked, picked_zero, picked_step}
 use Rattle.krieg_moves.specs.Legal.{is_legal}
 use Rattle.krieg_moves.specs.Moves.{moves_between, moves_from, all_moves, moves_of, moves, promotes, can_go}
 use Rattle.krieg_moves.proofs.Listing.{listed_promotions, listed_plain, picked_from, picked_men}
+use Rattle.krieg_moves.specs.declared.count.TheConstants.{MOST_LEGAL_MOVES}
 
 -- lists of one entry for each square of a set, and of three more where it belongs to a second
 counted_below : {A : Type 0} (g : ℕ → List A) (set more n : ℕ) → ((k : ℕ) → k < n → length (g k) ≡ bit_at set k + 3 * bit_at more k) →
@@ -106,11 +107,11 @@ unfolding moves_from
 few_from f = few_gathered (moves_between f) 5 64 (λ k h. omega arith)
 
 -- no position has more moves than 64 times 64 times 5
-pub few_moves : (p : Pos) → length (moves p) ≤ 20480
+pub few_moves : (p : Pos) → length (moves p) ≤ MOST_LEGAL_MOVES
 unfolding moves all_moves
 few_moves p = omega (arith, few_filtered (is_legal p) (gathered moves_from 64), few_gathered moves_from 320 64 (λ k h. few_from k))
 
-pub few_picked : (test : Move → Bool) (set : ℕ) → length (picked set (λ k. filter test (moves_from k))) ≤ 20480
+pub few_picked : (test : Move → Bool) (set : ℕ) → length (picked set (λ k. filter test (moves_from k))) ≤ MOST_LEGAL_MOVES
 unfolding picked
 few_picked test set = few_gathered (λ k. cond (has set k) (filter test (moves_from k)) []) 320 64 (λ k h. few_only (has set k) (filter test (moves_from k)) (omega (arith, few_filtered test (moves_from k), few_from k)))
   where
@@ -118,7 +119,7 @@ few_picked test set = few_gathered (λ k. cond (has set k) (filter test (moves_f
     few_only true xs h = h
     few_only false xs h = omega arith
 
-pub few_moves_of : (p : Pos) (set : ℕ) → length (moves_of p set) ≤ 20480
+pub few_moves_of : (p : Pos) (set : ℕ) → length (moves_of p set) ≤ MOST_LEGAL_MOVES
 unfolding moves_of picked
 few_moves_of p set = few_picked (is_legal p) set
 

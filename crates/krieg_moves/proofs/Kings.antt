@@ -24,7 +24,7 @@ use Rattle.krieg_moves.proofs.KeepsValid.{effect}
 pub one_king : (p : Pos) → IsValid p → (side : Side) → count_kind p.board side King ≡ 1
 one_king p v side = one_king_each p.board (facts p v).kings side
 
-same_man : (x : Option Man) (a b : Man) → x ≡ Some a → x ≡ Some b → a ≡ b
+pub same_man : (x : Option Man) (a b : Man) → x ≡ Some a → x ≡ Some b → a ≡ b
 same_man x a b h k = cc
 
 -- after a move that is legal but for the king's safety

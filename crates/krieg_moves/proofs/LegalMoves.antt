@@ -1,5 +1,5 @@
 -- What a legal move tells: who moves, and whether a promotion is named.
-use Rattle.std.proofs.Common.{◌≡◌, Bool, true, false, not, ◌&&◌, ◌||◌, refl, cond, nat_lt, ◌==◌, sym, ◌∙◌, ap}
+use Rattle.std.proofs.Common.{◌≡◌, ◌<◌, Bool, true, false, not, ◌&&◌, ◌||◌, refl, cond, nat_lt, ◌==◌, sym, ◌∙◌, ap}
 use Rattle.std.proofs.lemmas.Bool.{and_parts}
 use Rattle.std.specs.Prelude.{Option, Some, None}
 use Rattle.krieg_board.specs.declared.men.Kind.{Kind}
@@ -15,6 +15,7 @@ use Rattle.krieg_moves.specs.After.{after}
 use Rattle.krieg_moves.specs.Moves.{promotes}
 use Rattle.krieg_moves.specs.Legal.{is_legal, is_candidate, is_move_of, is_move_of_kind, is_plain, has_promotion, is_step, is_double_step, is_pawn_capture, can_castle}
 use Rattle.krieg_moves.specs.declared.wing.Wing.TheVariants.{Short, Long}
+use Rattle.krieg_moves.proofs.Movers.{below_from}
 
 -- the parts of a legal move that speak of the mover
 pub record Legal (p : Pos) (m : Move) : Type 0 where
@@ -29,6 +30,10 @@ legal p m h =
     let u = and_parts (nat_lt m.from 64) (nat_lt m.to 64 && (not (is_of p.side (man_at p.board m.to)) && is_move_of (man_at p.board m.from) p m)) c.0 in
     let t = and_parts (nat_lt m.to 64) (not (is_of p.side (man_at p.board m.to)) && is_move_of (man_at p.board m.from) p m) u.1 in
     record { from_in = u.0; to_in = t.0; moves = (and_parts (not (is_of p.side (man_at p.board m.to))) (is_move_of (man_at p.board m.from) p m) t.1).1 }
+
+-- both of its squares are on the board
+pub legal_squares : (p : Pos) (m : Move) → is_legal p m ≡ true → (m.from < 64) × (m.to < 64)
+legal_squares p m h = let l = legal p m h in (below_from m.from 64 l.from_in, below_from m.to 64 l.to_in)
 
 -- a man of the side to move stands on the from-square
 pub legal_own : (p : Pos) (m : Move) → is_legal p m ≡ true → is_of p.side (man_at p.board m.from) ≡ true

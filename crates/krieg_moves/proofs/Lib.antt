@@ -13,6 +13,7 @@ pub mod OwnMen
 pub mod Hands
 pub mod MoveLists
 pub mod Listed
+pub mod Ascending
 pub mod Kings
 pub mod Putting
 pub mod Answering

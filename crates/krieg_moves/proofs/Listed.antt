@@ -9,8 +9,7 @@ use Rattle.krieg_board.specs.Pos.{Pos}
 use Rattle.krieg_moves.specs.Legal.{is_legal}
 use Rattle.krieg_board.specs.Squares.{gathered}
 use Rattle.krieg_moves.specs.Moves.{moves_between, moves_from, all_moves, moves}
-use Rattle.krieg_moves.proofs.Movers.{below_from}
-use Rattle.krieg_moves.proofs.LegalMoves.{legal}
+use Rattle.krieg_moves.proofs.LegalMoves.{legal_squares}
 use Rattle.krieg_moves.proofs.MoveLists.{moves_legal}
 
 first : (x : Move) (xs : List Move) → Contains (x ∷ xs) x
@@ -57,16 +56,17 @@ between f t promo.Rook = (2, omega arith, refl)
 between f t promo.Bishop = (3, omega arith, refl)
 between f t promo.Knight = (4, omega arith, refl)
 
-pub in_all_moves : (m : Move) → m.from < 64 → m.to < 64 → Contains all_moves m
+-- each legal move is one of all moves
+pub legal_in_all : (p : Pos) (m : Move) → is_legal p m ≡ true → Contains all_moves m
 unfolding all_moves moves_from
-in_all_moves m f t = contains_gathered moves_from m m.from 64 f (contains_gathered (moves_between m.from) m m.to 64 t (between m.from m.to m.promo))
+legal_in_all p m h =
+    let s = legal_squares p m h in
+    contains_gathered moves_from m m.from 64 s.0 (contains_gathered (moves_between m.from) m m.to 64 s.1 (between m.from m.to m.promo))
 
 -- each legal move is listed
 pub legal_listed : (p : Pos) (m : Move) → is_legal p m ≡ true → Contains (moves p) m
 unfolding moves
-legal_listed p m h =
-    let l = legal p m h in
-    contains_filter (is_legal p) m all_moves h (in_all_moves m (below_from m.from 64 l.from_in) (below_from m.to 64 l.to_in))
+legal_listed p m h = contains_filter (is_legal p) m all_moves h (legal_in_all p m h)
 
 -- each listed move is legal
 pub listed_legal : (p : Pos) (m : Move) → Contains (moves p) m → is_legal p m ≡ true

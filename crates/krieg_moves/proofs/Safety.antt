@@ -1,7 +1,7 @@
 -- Whether a king is safe behind a move, by the board without the man who moves.
 use Rattle.std.proofs.Common.{◌≡◌, ℕ, ◌<◌, Bool, true, false, not, ◌&&◌, refl, sym, ◌∙◌, ap, length, set, subst, nat_lt, ◌≢◌}
 use Rattle.std.proofs.Math.Bool.{not-not, and-false}
-use Rattle.std.specs.Prelude.{Option, Some, None}
+use Rattle.std.specs.Prelude.{Some, None}
 use Rattle.std.proofs.lemmas.Bool.{and_from, lt-ltb, both_ways}
 use Rattle.krieg_board.specs.declared.men.Side.{Side}
 use Rattle.krieg_board.specs.declared.men.Kind.TheVariants.{Pawn, King}
@@ -23,11 +23,8 @@ use Rattle.krieg_moves.specs.declared.wing.Wing.{Wing}
 use Rattle.krieg_moves.proofs.Boards.{man_at_moved_other, man_at_moved_to}
 use Rattle.krieg_moves.proofs.Shapes.{board_after_plain, castles_not, passes_not}
 use Rattle.krieg_moves.proofs.Movers.{Mover, mover, is_of_man}
-use Rattle.krieg_moves.proofs.Kings.{stands}
+use Rattle.krieg_moves.proofs.Kings.{same_man, stands}
 use Rattle.krieg_moves.proofs.Answering.{attacked_unanswered, attacked_step}
-
-same_man : (x : Option Man) (a b : Man) → x ≡ Some a → x ≡ Some b → a ≡ b
-same_man x a b h k = cc
 
 -- the mover of a candidate is the man on the from-square
 pub mover_is : (p : Pos) (m : Move) (man : Man) → IsValid p → man_at p.board m.from ≡ Some man → is_candidate p m ≡ true → Mover p m man

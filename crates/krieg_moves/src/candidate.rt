@@ -102,7 +102,7 @@ fn has_promotion(side: Side, mv: &Move) -> bool
 }
 
 /// Whether a pawn steps so, one square or two.
-fn is_advance(p: &Position, mv: &Move) -> bool
+fn is_pawn_step(p: &Position, mv: &Move) -> bool
     ensures { result ≡ (spec.is_step p.now.board p.now.side mv.now || spec.is_double_step p.now.board p.now.side mv.now) }
 {
     know_squares(mv);
@@ -113,7 +113,7 @@ fn is_pawn_move(p: &Position, man: Man, mv: &Move) -> bool
     requires { man_at p.now.board mv.now.from ≡ Some man }
     ensures { result ≡ spec.is_pawn_move p.now mv.now }
 {
-    has_promotion(p.side(), mv) && (is_advance(p, mv) || is_pawn_capture(p, man, mv))
+    has_promotion(p.side(), mv) && (is_pawn_step(p, mv) || is_pawn_capture(p, man, mv))
 }
 
 fn is_move_of_kind(p: &Position, man: Man, mv: &Move) -> bool

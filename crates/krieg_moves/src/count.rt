@@ -104,11 +104,13 @@ fn count_one_by_one(p: &Position, guard: &Guard, men: u64) -> usize
     count
 }
 
-/// The number of the legal moves of the side to move, without their list: at most 64 times 64 times 5. It takes no
-/// memory.
+/// No position has more legal moves than 64 times 64 times 5.
+pub const MOST_LEGAL_MOVES: usize = 20_480;
+
+/// The number of the legal moves of the side to move, without their list. It takes no memory.
 pub fn count_moves(p: &Position) -> usize
     ensures value { result ≡ length (list.moves p.now) }
-    ensures few { result ≤ 20480 }
+    ensures few { result ≤ MOST_LEGAL_MOVES }
 {
     let guard = &Guard::of(p);
     let men = p.bits().men_of(p.side());

@@ -29,7 +29,7 @@ mod ways;
 mod wing;
 
 pub use change::{after, is_en_passant, passed_square};
-pub use count::count_moves;
+pub use count::{MOST_LEGAL_MOVES, count_moves};
 pub use ends::{
     has_move, has_move_by, in_check, is_mate, is_mate_by, is_stalemate, is_stalemate_by,
 };

@@ -1,4 +1,6 @@
 ghost use Rattle.std.specs.Prelude.{◌≡◌, ◌≤◌, ◌<◌, ◌++◌, ◌∷◌, [], true, OnOk, OnErr, IfOk, IfErr, filter, length};
+ghost use Rattle.std.specs.List.Sorted.{IsStrictlySortedBy};
+ghost use Rattle.krieg_board.specs.Order.{move_cmp};
 ghost use Rattle.krieg_moves.specs.Guarding.{IsGuard};
 ghost use Rattle.krieg_moves.specs.Legal as spec;
 ghost use Rattle.krieg_moves.specs.Moves as list;
@@ -98,6 +100,7 @@ fn push_from(
 #[tactic(auto, unfolding(crate::specs::Moves::moves))]
 pub fn legal_moves(alloc: Global, p: &Position) -> Result<SmallVec<Move, 64>, NoMemory>
     ensures exact { IfOk result (λ found. found.items ≡ list.moves p.now) }
+    ensures ascending { IfOk result (λ found. IsStrictlySortedBy move_cmp found.items) }
     ensures few { IfErr result (λ e. 64 < length (list.moves p.now)) }
 {
     let guard = &Guard::of(p);

@@ -240,19 +240,6 @@ fn targets_of_free_pawn(p: &Position, guard: &Guard, from: Square) -> u64
     forward & guard.answers | free_captures(p, guard, from)
 }
 
-/// The same for any pawn of the side to move.
-fn targets_of_any_pawn(p: &Position, guard: &Guard, from: Square) -> u64
-    requires guard { IsGuard p.now guard.now }
-    requires pawn { is_man p.now.side Pawn (man_at p.now.board from) ≡ true }
-    ensures { (t : ℕ) → t < 64 → sets.has result t ≡ can_go p.now from t }
-{
-    let man = Man {
-        side: p.side(),
-        kind: Kind::Pawn,
-    };
-    pawn_targets(p, guard, from, man)
-}
-
 /// Where the pawn of the side to move on that square may go.
 pub(crate) fn targets_of_pawn(p: &Position, guard: &Guard, from: Square) -> u64
     requires guard { IsGuard p.now guard.now }
@@ -262,7 +249,11 @@ pub(crate) fn targets_of_pawn(p: &Position, guard: &Guard, from: Square) -> u64
     if is_free(p, guard, from) {
         return targets_of_free_pawn(p, guard, from);
     }
-    targets_of_any_pawn(p, guard, from)
+    let man = Man {
+        side: p.side(),
+        kind: Kind::Pawn,
+    };
+    pawn_targets(p, guard, from, man)
 }
 
 fn officer_targets(p: &Position, guard: &Guard, from: Square, man: Man) -> u64

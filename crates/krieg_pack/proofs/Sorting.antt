@@ -3,7 +3,7 @@ use Rattle.std.proofs.Common.{◌≡◌, ℕ, zero, suc, ◌+◌, ◌<◌, ◌�
 use Rattle.std.specs.Prelude.{slice_index_or, Result, Ok, Err, is_ok}
 use Rattle.std.specs.List.{Contains, AllByRecursion, dedup}
 use Rattle.std.specs.List.Sorted.{IsStrictlySortedBy, IsSorted, IsPermutation, IsNonDecreasingBy, IsBinarySearchResult, IsSearchInRange}
-use Rattle.std.specs.Cmp.{IsTotalOrder}
+use Rattle.std.specs.Cmp.{IsTotalOrder, Equal-is}
 use Rattle.std.specs.Cmp.Lexicographic.{pointwise}
 use Rattle.std.specs.declared.cmp.Ordering.{Ordering}
 use Rattle.std.specs.declared.cmp.Ordering.TheVariants.{Less, Equal, Greater}
@@ -13,18 +13,8 @@ use Rattle.std.proofs.lemmas.List.Kept.{IsStrictlySortedBy-dedup, Contains-dedup
 use Rattle.std.proofs.lemmas.List.Sorted.{Contains-permutation, IsPermutation-sym, searchable_from_sorted}
 use Rattle.std.proofs.lemmas.Bool.{both_ways, and_parts, and_from}
 use Rattle.krieg_theory.specs.Sets.{In, Ascending, IsOrder, as_set}
-use Rattle.krieg_theory.proofs.Ascending.{same_set, as_set_ascending, in_as_set, as_set_in, asym}
+use Rattle.krieg_theory.proofs.Ascending.{less_from, same_set, as_set_ascending, in_as_set, as_set_in, asym}
 use Rattle.krieg_pack.proofs.Membership.{in_at, contains_in, in_contains}
-
-less_from : (o : Ordering) → is_lt o ≡ true → o ≡ Less
-less_from Less h = refl
-less_from Equal h = absurd (both_ways false refl h)
-less_from Greater h = absurd (both_ways false refl h)
-
-equal_from : (o : Ordering) → is_eq o ≡ true → o ≡ Equal
-equal_from Less h = absurd (both_ways false refl h)
-equal_from Equal h = refl
-equal_from Greater h = absurd (both_ways false refl h)
 
 less_not : Less ≡ Equal → ⊥
 less_not e = cc
@@ -54,7 +44,7 @@ module _ {X : Type 0} (R : X → X → Ordering) (o : IsTotalOrder R) (same : (x
   all_in x (z ∷ zs) h y (inl e) = ap is_lt (subst (λ w. R x w ≡ Less) e h.0)
   all_in x (z ∷ zs) h y (inr i) = all_in x zs h.1 y i
 
-  ascending_from : (xs : List X) → IsStrictlySortedBy R xs → Ascending lt xs
+  pub ascending_from : (xs : List X) → IsStrictlySortedBy R xs → Ascending lt xs
   unfolding IsStrictlySortedBy
   ascending_from [] h = tt
   ascending_from (x ∷ xs) h = (all_in x xs h.0, ascending_from xs h.1)
@@ -66,7 +56,7 @@ module _ {X : Type 0} (R : X → X → Ordering) (o : IsTotalOrder R) (same : (x
       (ascending_from _ (IsStrictlySortedBy-dedup o (λ x y. refl) ys sorted))
       (as_set_ascending lt is_order xs)
       (λ z i. in_as_set lt is_order z xs (contains_in z xs (Contains-permutation _ _ z (IsPermutation-sym _ _ moved) (Contains-from_dedup _ ys z (in_contains z _ i)))))
-      (λ z i. contains_in z _ (Contains-dedup (eq_by_cmp_equiv o) (λ x y e. same x y (equal_from (R x y) e)) ys z (Contains-permutation _ _ z moved (in_contains z xs (as_set_in lt is_order z xs i)))))
+      (λ z i. contains_in z _ (Contains-dedup (eq_by_cmp_equiv o) (λ x y e. same x y ((Equal-is (R x y)).0 e)) ys z (Contains-permutation _ _ z moved (in_contains z xs (as_set_in lt is_order z xs i)))))
 
   next_not_less : (xs : List X) (k : ℕ) (d : X) → Ascending lt xs → suc k < length xs → lt (slice_index_or xs (suc k) d) (slice_index_or xs k d) ≡ false
   next_not_less [] k d up h = absurd (omega arith)
@@ -99,7 +89,7 @@ module _ {X : Type 0} (R : X → X → Ordering) (o : IsTotalOrder R) (same : (x
   pointwise_same (x ∷ xs) [] h = absurd (both_ways false refl h)
   pointwise_same (x ∷ xs) (y ∷ ys) h =
       let both = and_parts (eq_by_cmp R x y) (pointwise (eq_by_cmp R) xs ys) h in
-      let first = same x y (equal_from (R x y) both.0) in
+      let first = same x y ((Equal-is (R x y)).0 both.0) in
       let rest = pointwise_same xs ys both.1 in
       λ i. first i ∷ rest i
 

@@ -1,10 +1,8 @@
 -- Positions with the same numbers are the same, valid or not.
-use Rattle.std.proofs.Common.{◌≡◌, ℕ, ◌+◌, ◌<◌, true, List, [], ◌∷◌, ◌++◌, length, refl, sym, ap, ◌∙◌, arith, map, take, drop}
-use Rattle.std.specs.Cmp.Lexicographic.{slice_cmp}
-use Rattle.std.specs.declared.cmp.Ordering.{Ordering}
-use Rattle.std.specs.declared.cmp.Ordering.TheVariants.{Less, Equal, Greater}
-use Rattle.std.specs.Ordering.{nat_cmp, ordering_then, is_eq}
-use Rattle.std.proofs.lemmas.Cmp.{ranked, by_ranked}
+use Rattle.std.proofs.Common.{◌≡◌, ℕ, ◌+◌, true, List, [], ◌∷◌, ◌++◌, length, refl, sym, ap, ◌∙◌, arith, map, take, drop}
+use Rattle.std.specs.Cmp.{Equal-is}
+use Rattle.std.specs.declared.cmp.Ordering.TheVariants.{Equal}
+use Rattle.std.proofs.lemmas.Map.Lookups.{exact_bytes}
 use Rattle.std.proofs.lemmas.List.{take_at, drop_at, length-append}
 use Rattle.krieg_board.specs.Pos.{Pos}
 use Rattle.krieg_board.specs.Men.{bits_of}
@@ -12,25 +10,6 @@ use Rattle.krieg_pack.specs.Codes.{numbers, man_code, mark_code, side_code}
 use Rattle.krieg_pack.specs.Decoding.{man_of, mark_of, side_of, rights_of}
 use Rattle.krieg_pack.specs.Order.{position_cmp, position_eq}
 use Rattle.krieg_pack.specs.CodesBack.{men_back, side_back, rights_back, mark_back}
-
--- lists of numbers that compare as equal are equal
-same_lists : (xs ys : List ℕ) → slice_cmp nat_cmp xs ys ≡ Equal → xs ≡ ys
-same_lists [] [] h = refl
-same_lists [] (y ∷ ys) h = cc
-same_lists (x ∷ xs) [] h = cc
-same_lists (x ∷ xs) (y ∷ ys) h =
-    let then = λ (r : Ordering). ordering_then r (slice_cmp nat_cmp xs ys) in
-    let rest = same_lists xs ys in
-    by_ranked (x < y) (x ≡ y) (y < x) (nat_cmp x y) (ranked x y (nat_cmp x y) refl)
-    (λ is k. absurd (less_not (sym (ap then is) ∙ h)))
-    (λ is k. let r = rest (sym (ap then is) ∙ h) in λ i. k i ∷ r i)
-    (λ is k. absurd (greater_not (sym (ap then is) ∙ h)))
-  where
-    less_not : Less ≡ Equal → ⊥
-    less_not e = cc
-
-    greater_not : Greater ≡ Equal → ⊥
-    greater_not e = cc
 
 -- lists that end in parts of one length are the same part by part
 split_same : (xs ys us vs : List ℕ) → length us ≡ length vs → xs ++ us ≡ ys ++ vs → (xs ≡ ys) × (us ≡ vs)
@@ -45,7 +24,7 @@ split_same xs ys us vs l e =
 pub same_position : (p q : Pos) → position_cmp p q ≡ Equal → p ≡ q
 unfolding numbers
 same_position p q h =
-    let whole = same_lists (numbers p) (numbers q) h in
+    let whole = exact_bytes (numbers p) (numbers q) h in
     let parts = split_same (map man_code p.board) (map man_code q.board) (bits_of p.rights ∷ mark_code p.mark ∷ side_code p.side ∷ []) (bits_of q.rights ∷ mark_code q.mark ∷ side_code q.side ∷ []) refl whole in
     let board = sym (men_back p.board) ∙ ap (map man_of) parts.0 ∙ men_back q.board in
     let er : bits_of p.rights ≡ bits_of q.rights = cc (parts.1) in
@@ -56,12 +35,6 @@ same_position p q h =
     let side = sym (side_back p.side) ∙ ap side_of es ∙ side_back q.side in
     λ i. record { board = board i; side = side i; rights = rights i; mark = mark i }
 
--- what the test of equality tells
-equal_from : (o : Ordering) → is_eq o ≡ true → o ≡ Equal
-equal_from Less h = cc
-equal_from Equal h = refl
-equal_from Greater h = cc
-
 -- and so does the test of equality
 pub equal_position : (p q : Pos) → position_eq p q ≡ true → p ≡ q
-equal_position p q h = same_position p q (equal_from (position_cmp p q) h)
+equal_position p q h = same_position p q ((Equal-is (position_cmp p q)).0 h)

@@ -1,5 +1,6 @@
 -- The first moves in one member more, and what they are at the opponent's turn.
-use Rattle.std.proofs.Common.{◌≡◌, Bool, false, not, ◌&&◌, ◌||◌, List, [], ◌∷◌, ◌++◌, map, length, inl, inr, refl, ap, ◌∙◌}
+use Rattle.std.proofs.Common.{◌≡◌, Bool, false, not, ◌&&◌, ◌||◌, List, [], ◌∷◌, ◌++◌, map, length, inl, inr, refl, ap, ◌∙◌, sym}
+use Rattle.std.proofs.Math.Bool.{or_assoc, or-false}
 use Rattle.std.specs.List.{list_any}
 use Rattle.std.proofs.lemmas.List.{length-map}
 use Rattle.krieg_board.specs.Men.{is_same_side}
@@ -18,7 +19,6 @@ use Rattle.krieg_parting.specs.Turns.{IsOthersTurn}
 use Rattle.krieg_parting.specs.Pools.{Holds}
 use Rattle.krieg_parting.specs.FirstMoves.{IsAdvanced, AreFirstMoves}
 use Rattle.krieg_parting.specs.declared.firsts.FirstMoves.{FirstMoves}
-use Rattle.krieg_parting.proofs.BoolLaws.{or_assoc, or_false}
 use Rattle.krieg_parting.proofs.Pools.{holds_grown, holds_all}
 
 -- what was found, and what the rest adds, is all
@@ -40,7 +40,7 @@ left_more d old new p rest B a l = record {
 
 pub left_none : (d : Dialect) (found : FirstMoves) (rest B : List Pos) → rest ≡ [] → IsLeft d found rest B → AreFirstMoves d B found
 left_none d found [] B is l = record {
-  ended_part = or_false found.ended ∙ l.ended_part;
+  ended_part = sym (or-false found.ended) ∙ l.ended_part;
   pool_part = holds_all found.pool (first_outcomes d B) l.pool_part;
 }
 left_none d found (p ∷ rest) B is l = absurd cc

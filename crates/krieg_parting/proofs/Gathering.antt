@@ -1,5 +1,6 @@
 -- One member more is gathered.
 use Rattle.std.proofs.Common.{◌≡◌, Bool, true, false, cond, not, ◌&&◌, ◌||◌, List, [], ◌∷◌, ◌++◌, ap, sym, ◌∙◌, append_assoc}
+use Rattle.std.proofs.Math.Bool.{or_assoc, or-false}
 use Rattle.std.proofs.lemmas.List.{append-nil}
 use Rattle.krieg_board.specs.Pos.{Pos}
 use Rattle.krieg_board.specs.declared.men.Move.{Move}
@@ -12,7 +13,6 @@ use Rattle.krieg_parting.specs.Pools.{Holds}
 use Rattle.krieg_parting.specs.Gathering.{IsAdded, IsGathered}
 use Rattle.krieg_parting.specs.declared.parts.Gathered.{Gathered}
 use Rattle.krieg_parting.proofs.Pools.{holds_grown, holds_all}
-use Rattle.krieg_parting.proofs.BoolLaws.{or_assoc, or_false}
 
 -- what was gathered, and what the rest adds, is all
 pub record IsLeft (d : Dialect) (parts : Gathered) (rest B : List Pos) (t : Move) : Type 0 where
@@ -42,7 +42,7 @@ left_more d old new p rest B t a l = record {
 pub left_none : (d : Dialect) (parts : Gathered) (rest B : List Pos) (t : Move) → rest ≡ [] → IsLeft d parts rest B t → IsGathered d B t parts
 left_none d parts [] B t is l = record {
   refused_part = sym (append-nil parts.refused.items) ∙ l.refused_part;
-  stale_part = or_false parts.stale ∙ l.stale_part;
+  stale_part = sym (or-false parts.stale) ∙ l.stale_part;
   pool_part = holds_all parts.pool (all_outcomes (chess d) B t) l.pool_part;
 }
 left_none d parts (p ∷ rest) B t is l = absurd cc

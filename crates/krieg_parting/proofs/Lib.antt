@@ -1,5 +1,4 @@
 mod Items
-mod BoolLaws
 pub mod Charges
 mod Pools
 mod Gathering

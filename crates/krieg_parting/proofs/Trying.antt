@@ -1,5 +1,6 @@
 -- One member more was tried.
 use Rattle.std.proofs.Common.{◌≡◌, Bool, true, false, not, ◌||◌, List, [], ◌∷◌, ◌++◌, filter, refl, ap, sym, ◌∙◌}
+use Rattle.std.proofs.Math.Bool.{or_assoc, or-false}
 use Rattle.std.proofs.lemmas.List.{append-nil}
 use Rattle.std.proofs.lemmas.Bool.{both_ways}
 use Rattle.std.specs.List.{list_any}
@@ -7,7 +8,6 @@ use Rattle.krieg_board.specs.Pos.{Pos}
 use Rattle.krieg_board.specs.declared.men.Move.{Move}
 use Rattle.krieg_parting.specs.Mating.{lives, refuses, wanted, IsTried, AreTried}
 use Rattle.krieg_parting.specs.declared.last_move.Mating.{Mating}
-use Rattle.krieg_parting.proofs.BoolLaws.{or_assoc, or_false}
 use Rattle.krieg_parting.proofs.Gathering.{filtered_more}
 
 -- what was found, and what the rest adds, is all
@@ -38,10 +38,7 @@ left_more always old new p rest B t a l = record {
 
 pub left_none : (always : Bool) (found : Mating) (rest B : List Pos) (t : Move) → rest ≡ [] → IsLeft always found rest B t → AreTried always B t found
 left_none always found [] B t is l = record {
-  lives_part = or_false found.lives ∙ l.lives_part;
+  lives_part = sym (or-false found.lives) ∙ l.lives_part;
   refused_part = λ e. sym (append-nil found.refused.items) ∙ l.refused_part e;
 }
 left_none always found (p ∷ rest) B t is l = absurd cc
-
-pub tried_always : (always : Bool) (old new : Mating) (p : Pos) (t : Move) → IsTried true old new p t → IsTried always old new p t
-tried_always always old new p t a = record { lives_part = a.lives_part; refused_part = λ e. a.refused_part refl }

@@ -1,5 +1,6 @@
 ghost use Rattle.std.specs.Prelude.{◌≡◌, map, IfOk};
-ghost use Rattle.krieg_game.specs.ClassLaws.{opened, silence};
+ghost use Rattle.krieg_game.specs.ClassLaws.{opened};
+ghost use Rattle.krieg_words.specs.WordsReading.{silent};
 
 use krieg_board::NoMemory;
 use krieg_game::{Outcome, push_opening};
@@ -13,7 +14,7 @@ pub fn with_openings(
     d: Dialect,
     members: &[Packed],
 ) -> Result<Vec<Outcome>, NoMemory>
-    ensures { IfOk result (λ v. v.items ≡ map (opened d silence) members.now) }
+    ensures { IfOk result (λ v. v.items ≡ map (opened d silent) members.now) }
 {
     let mut outcomes = Vec::with_capacity(alloc, members.len())?;
     for member in members {

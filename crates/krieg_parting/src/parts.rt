@@ -1,5 +1,7 @@
 ghost use Rattle.std.specs.Prelude.{◌≡◌, true, suc, length, IfOk};
+ghost use Rattle.krieg_moves.specs.After.{after};
 ghost use Rattle.krieg_moves.specs.Legal as rule;
+ghost use Rattle.krieg_words.specs.WordsOfMoves.{words};
 ghost use Rattle.krieg_theory.specs.Split.{given};
 ghost use Rattle.krieg_costs.specs.Cost.{made};
 ghost use Rattle.krieg_game.specs.Chess.{chess};
@@ -11,9 +13,9 @@ use crate::pool::Pool;
 use crate::stop::{PartStop, take};
 use krieg_board::{Move, NoMemory, Position, Units};
 use krieg_game::Class;
-use krieg_moves::{is_legal, is_stalemate_by, legal_moves};
+use krieg_moves::{is_stalemate_by, legal_moves};
 use krieg_pack::{Belief, Packed, unpack};
-use krieg_words::{Dialect, make_move};
+use krieg_words::{Dialect, Made, make_if_legal};
 use std::alloc::Global;
 
 /// What a try makes of a set: for each position in it, it is illegal, or it is made and the opponent replies.
@@ -35,20 +37,22 @@ pub struct Gathered {
     pub pool: Pool,
 }
 
-/// Adds what the legal try makes of one member.
+/// Adds what the legal try makes of one member, where it was made.
 #[tactic(auto, unfolding(krieg_game::specs::Chess::stalemates, krieg_game::specs::Chess::outcomes))]
 fn add_legal(
     alloc: Global,
     d: Dialect,
     p: &Position,
     mv: &Move,
+    made: &Made,
     parts: &mut Gathered,
     units: &mut Units,
 ) -> Result<(), PartStop>
-    requires { rule.is_legal p.now mv.now ≡ true }
+    requires legal { rule.is_legal p.now mv.now ≡ true }
+    requires words { made.now.words ≡ words p.now mv.now }
+    requires position { made.now.position ≡ after p.now mv.now }
     ensures { Charged result (λ _. IsAdded d parts.old parts.new p.now mv.now) (suc (length (given (chess d) mv.now p.now))) units.old units.new }
 {
-    let made = make_move(p, *mv);
     let replies = legal_moves(alloc, &made.position)?;
     take(units, 1 + replies.len() as u64)?;
     parts.stale = parts.stale || is_stalemate_by(&made.position, replies.len());
@@ -70,8 +74,8 @@ fn add_member(
     ensures { Charged result (λ _. IsAdded d parts.old parts.new member.now mv.now) (suc (length (given (chess d) mv.now member.now))) units.old units.new }
 {
     let p = unpack(member);
-    if is_legal(&p, *mv) {
-        return add_legal(alloc, d, &p, mv, parts, units);
+    if let Some(made) = make_if_legal(&p, *mv) {
+        return add_legal(alloc, d, &p, mv, &made, parts, units);
     }
     take(units, 1)?;
     parts.refused.push(*member)?;

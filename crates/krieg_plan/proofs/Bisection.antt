@@ -6,20 +6,16 @@ use Rattle.std.specs.Cmp.{IsTotalOrder}
 use Rattle.std.specs.Ordering.{is_lt, is_eq, ordering_reverse, ordering_index, nat_cmp}
 use Rattle.std.specs.declared.cmp.Ordering.{Ordering}
 use Rattle.std.specs.declared.cmp.Ordering.TheVariants.{Less, Equal, Greater}
-use Rattle.std.proofs.lemmas.Bool.{both_ways, and_parts}
+use Rattle.std.proofs.lemmas.Bool.{and_parts}
 use Rattle.std.proofs.lemmas.Cmp.{ranked, by_ranked}
 use Rattle.std.proofs.lemmas.List.Sorted.{searchable_from_sorted}
 use Rattle.krieg_board.specs.declared.men.Move.{Move}
 use Rattle.krieg_theory.specs.Sets.{same}
 use Rattle.krieg_theory.specs.Tree.{Maybe, Nothing, Just}
+use Rattle.krieg_theory.proofs.Ascending.{less_from}
 use Rattle.krieg_game.specs.Keys.{Key}
 use Rattle.krieg_plan.specs.Trees.{NodeTree}
 use Rattle.krieg_plan.specs.Ordered.{is_ascending}
-
-less_from : (o : Ordering) → is_lt o ≡ true → o ≡ Less
-less_from Less h = refl
-less_from Equal h = absurd (both_ways false refl h)
-less_from Greater h = absurd (both_ways false refl h)
 
 module _ {X K : Type 0} (key : X → K) (tree : X → NodeTree) (cmp : K → K → Ordering) (o : IsTotalOrder cmp) (k : K) where
   abbrev lt : K → K → Bool

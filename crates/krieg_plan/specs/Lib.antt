@@ -1,3 +1,4 @@
+pub mod PlanMeasures
 pub mod Trees
 pub mod Ordered
 pub mod Nodes

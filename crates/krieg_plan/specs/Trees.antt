@@ -1,11 +1,10 @@
 -- What plans mean: trees of tries.
-use Rattle.std.specs.Prelude.{List, [], ◌∷◌, if◌then◌else◌}
+use Rattle.std.specs.Prelude.{List}
 use Rattle.krieg_board.specs.declared.men.Move.{Move}
-use Rattle.krieg_theory.specs.Sets.{same}
-use Rattle.krieg_theory.specs.Tree.{Tree, Try, Maybe, Nothing, Just, Edges, first_edge}
+use Rattle.krieg_theory.specs.Tree.{Tree, Try, Maybe, Edges, first_edge, first_root}
 use Rattle.krieg_game.specs.Keys.{Key, RootKey, key_lt, root_lt}
 -- how many nodes a plan has, and how many its longest path has
-pub use Rattle.krieg_game.specs.PlanMeasures.{plan_size, plan_depth}
+pub use Rattle.krieg_plan.specs.PlanMeasures.{plan_size, plan_depth}
 
 -- a node with all that is below it
 abbrev pub NodeTree : Type 0
@@ -25,5 +24,4 @@ first_edge_in n key = first_edge key_lt (edges_in n) key
 
 -- the tree at the first root with the key
 abbrev pub first_root_in : PlanTrees → RootKey → Maybe Move Key
-first_root_in [] key = Nothing
-first_root_in (r ∷ rs) key = if same root_lt r.0 key then Just r.1 else first_root_in rs key
+first_root_in plan key = first_root root_lt plan key

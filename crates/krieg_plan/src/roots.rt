@@ -29,8 +29,8 @@ pub fn know_ordered(p: &Plan)
     let _roots = p.roots.as_slice();
 }
 
-/// The order of what was heard: nothing first.
-fn compare_heard(a: &Option<Words>, b: &Option<Words>) -> Ordering
+/// The order of what was heard before the first own turn: nothing first.
+pub fn compare_heard(a: &Option<Words>, b: &Option<Words>) -> Ordering
     ensures { result ≡ heard_cmp a.now b.now }
 {
     match (a, b) {

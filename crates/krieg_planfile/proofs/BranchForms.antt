@@ -1,11 +1,11 @@
 -- The lines of branches, be they edges or roots: what the reading of one needs of its form.
 use Rattle.std.proofs.Common.{◌≡◌, inl, inr, ℕ, Bool, true, false, cond, List, Option, Result, Ok, Err, refl, sym, subst, arith}
 use Rattle.std.specs.Prelude.{◌⊎◌, ◌&&◌, is_some}
-use Rattle.krieg_fen.specs.declared.fault.TextKind.{TextKind}
-use Rattle.krieg_fen.specs.declared.fault.TextKind.TheVariants.{OutOfPlace}
-use Rattle.krieg_fen.specs.FirstBad.{is_beyond_form}
-use Rattle.krieg_fen.specs.Outcomes.{◌>>=◌}
-use Rattle.krieg_fen.specs.Writing.{Pieces, joined}
+use Rattle.krieg_text.specs.declared.fault.TextKind.{TextKind}
+use Rattle.krieg_text.specs.declared.fault.TextKind.TheVariants.{OutOfPlace}
+use Rattle.krieg_text.specs.FirstBad.{is_beyond_form}
+use Rattle.krieg_text.specs.Outcomes.{◌>>=◌}
+use Rattle.krieg_text.specs.Writing.{Pieces, joined}
 use Rattle.krieg_words.specs.ToldWords.{no_kinds}
 use Rattle.krieg_words.specs.Words.{Said}
 use Rattle.krieg_words.specs.declared.dialects.Dialect.{Dialect}

@@ -2,19 +2,19 @@
 use Rattle.std.proofs.Common.{◌≡◌, inl, inr, ℕ, zero, suc, ◌+◌, ◌≤◌, eqb, List, [], ◌∷◌, ◌++◌, Result, Ok, refl, sym, ap, subst, ◌∙◌, arith}
 use Rattle.std.specs.Prelude.{codes}
 use Rattle.std.proofs.lemmas.Fmt.{decimal_digit}
-use Rattle.krieg_fen.specs.declared.fault.TextFault.{TextFault}
-use Rattle.krieg_fen.specs.declared.fault.TextKind.TheVariants.{Version}
-use Rattle.krieg_fen.specs.Decimals.{number_text}
-use Rattle.krieg_fen.specs.Formats.{Always}
-use Rattle.krieg_fen.specs.Languages.{One}
-use Rattle.krieg_fen.specs.Outcomes.{◌>>=◌}
-use Rattle.krieg_fen.specs.Reading.{Place, place, taken}
-use Rattle.krieg_fen.proofs.Formats.{IsFormat, format_of, format_keeps}
-use Rattle.krieg_fen.proofs.FormSpellings.{number_is}
-use Rattle.krieg_fen.proofs.Grammars.{Said, KeepsTo, line_keeps, bind_keeps, made_keeps}
-use Rattle.krieg_fen.proofs.ListGrammars.{value_form}
-use Rattle.krieg_fen.proofs.Locality.{IsLocal, ok_is, local_pure, local_taken, local_bind}
-use Rattle.krieg_fen.proofs.Takings.{steps, taken_at, taken_again, Read}
+use Rattle.krieg_text.specs.declared.fault.TextFault.{TextFault}
+use Rattle.krieg_text.specs.declared.fault.TextKind.TheVariants.{Version}
+use Rattle.krieg_text.specs.Decimals.{number_text}
+use Rattle.krieg_text.specs.Formats.{Always}
+use Rattle.krieg_text.specs.Languages.{One}
+use Rattle.krieg_text.specs.Outcomes.{◌>>=◌}
+use Rattle.krieg_text.specs.Reading.{Place, place, taken}
+use Rattle.krieg_text.proofs.Formats.{IsFormat, format_of, format_keeps}
+use Rattle.krieg_text.proofs.FormSpellings.{number_is}
+use Rattle.krieg_text.proofs.Grammars.{Said, KeepsTo, line_keeps, bind_keeps, made_keeps}
+use Rattle.krieg_text.proofs.FormGrammars.{value_form}
+use Rattle.krieg_text.proofs.Locality.{IsLocal, ok_is, local_pure, local_taken, local_bind}
+use Rattle.krieg_text.proofs.Takings.{steps, taken_at, taken_again, Read}
 use Rattle.krieg_words.specs.Dialects.{unnamed_dialect}
 use Rattle.krieg_words.specs.Versions.{dialect_line, dialect_form, dialect_at}
 use Rattle.krieg_words.specs.declared.dialects.Dialect.{Dialect}

@@ -4,14 +4,14 @@ use Rattle.std.specs.Prelude.{codes, slice_index, ◌==◌, ◌&&◌, is_some}
 use Rattle.std.specs.List.{list_all}
 use Rattle.std.proofs.lemmas.Bool.{and_parts, and_from}
 use Rattle.std.proofs.lemmas.List.{take_more, take_all}
-use Rattle.krieg_fen.specs.declared.fault.TextKind.{TextKind}
-use Rattle.krieg_fen.specs.declared.fault.TextKind.TheVariants.{OutOfPlace}
-use Rattle.krieg_fen.specs.Names.{behind, cut}
-use Rattle.krieg_fen.specs.Outcomes.{◌>>=◌}
-use Rattle.krieg_fen.specs.Writing.{joined}
-use Rattle.krieg_fen.proofs.Formats.{IsForm, named_form}
-use Rattle.krieg_fen.proofs.NameLemmas.{behind_again, behind_spells, cut_again, cut_spells}
-use Rattle.krieg_fen.proofs.Takings.{steps}
+use Rattle.krieg_text.specs.declared.fault.TextKind.{TextKind}
+use Rattle.krieg_text.specs.declared.fault.TextKind.TheVariants.{OutOfPlace}
+use Rattle.krieg_text.specs.Names.{behind, cut}
+use Rattle.krieg_text.specs.Outcomes.{◌>>=◌}
+use Rattle.krieg_text.specs.Writing.{joined}
+use Rattle.krieg_text.proofs.Formats.{IsForm, named_form}
+use Rattle.krieg_text.proofs.NameLemmas.{behind_again, behind_spells, cut_again, cut_spells}
+use Rattle.krieg_text.proofs.Takings.{steps}
 use Rattle.krieg_words.specs.Words.{Said, IsSaid}
 use Rattle.krieg_words.specs.WordsText.{words_text}
 use Rattle.krieg_words.specs.WordsReading.{words_in}

@@ -4,28 +4,29 @@ use Rattle.std.specs.Prelude.{◌⊎◌, ◌==◌}
 use Rattle.std.proofs.lemmas.List.{map-append}
 use Rattle.krieg_board.specs.declared.men.Move.{Move}
 use Rattle.krieg_board.specs.declared.men.Promo.TheVariants.{Plain}
-use Rattle.krieg_fen.specs.declared.fault.TextFault.{TextFault}
-use Rattle.krieg_fen.specs.declared.fault.TextFault.TheVariants.{At}
-use Rattle.krieg_fen.specs.declared.fault.TextKind.{TextKind}
-use Rattle.krieg_fen.specs.declared.fault.TextKind.TheVariants.{Large, Deep}
-use Rattle.krieg_fen.specs.FirstBad.{is_beyond_form, IsGoodTo}
-use Rattle.krieg_fen.specs.Formats.{Always}
-use Rattle.krieg_fen.specs.Languages.{Language, One, Nothing, Any, ◌⨾◌}
-use Rattle.krieg_fen.specs.Outcomes.{◌>>=◌}
-use Rattle.krieg_fen.specs.Reading.{Place, place, LineReader, on, taken}
-use Rattle.krieg_fen.specs.Writing.{Pieces, joined}
-use Rattle.krieg_fen.proofs.Goings.{Gone, GoesBy, goes_by, line_missing, line_goes, bind_goes, same_goes, then_goes, made_goes}
-use Rattle.krieg_fen.proofs.Grammars.{Judged, untold, pure_keeps, IsJudgedForm}
-use Rattle.krieg_fen.proofs.Locality.{local_taken}
-use Rattle.krieg_fen.proofs.Takings.{taken_at}
+use Rattle.krieg_text.specs.declared.fault.TextFault.{TextFault}
+use Rattle.krieg_text.specs.declared.fault.TextFault.TheVariants.{At}
+use Rattle.krieg_text.specs.declared.fault.TextKind.{TextKind}
+use Rattle.krieg_text.specs.declared.fault.TextKind.TheVariants.{Large, Deep}
+use Rattle.krieg_text.specs.FirstBad.{is_beyond_form, IsGoodTo}
+use Rattle.krieg_text.specs.Formats.{Always}
+use Rattle.krieg_text.specs.Languages.{Language, One, Nothing, Any, ◌⨾◌}
+use Rattle.krieg_text.specs.Outcomes.{◌>>=◌}
+use Rattle.krieg_text.specs.Reading.{Place, place, LineReader, on, taken}
+use Rattle.krieg_text.specs.Writing.{Pieces, joined}
+use Rattle.krieg_text.proofs.Goings.{Gone, GoesBy, goes_by, line_missing, line_goes, bind_goes, same_goes, then_goes, made_goes}
+use Rattle.krieg_text.proofs.Grammars.{Judged, untold, pure_keeps, IsJudgedForm}
+use Rattle.krieg_text.proofs.Locality.{local_taken}
+use Rattle.krieg_text.proofs.Takings.{taken_at}
 use Rattle.krieg_theory.specs.Tree.{Try, Maybe, Just, Edges, NoEdges}
 use Rattle.krieg_theory.specs.Tree as tree
 use Rattle.krieg_words.specs.declared.dialects.Dialect.{Dialect}
 use Rattle.krieg_game.specs.Keys.{Key, key_lt}
 use Rattle.krieg_plan.specs.Nodes.{as_edges}
 use Rattle.krieg_plan.specs.Trees.{NodeTree}
+use Rattle.krieg_plan.specs.declared.limits.TheConstants.{MOST_NODES}
 use Rattle.krieg_planfile.specs.declared.forms.Play.{Play}
-use Rattle.krieg_planfile.specs.NodeForms.{most_branches, play_form, on_form}
+use Rattle.krieg_planfile.specs.NodeForms.{play_form, on_form}
 use Rattle.krieg_planfile.specs.NodeReading.{NodeReader, other_by, branch_by, branches_by, below_by, deep_form, node_at}
 use Rattle.krieg_planfile.specs.NodeText.{edge_count, is_just, play_line, on_line, node_lines, other_lines, edges_lines, branches_lines, IsToldKey, IsTold, IsToldOther, AreToldBranches}
 use Rattle.krieg_planfile.specs.PlanSpelling.{HasFewEdges, HasFewOther, HaveFewBranches, NodeGrammar, BranchesGrammar}
@@ -172,7 +173,7 @@ module _ (d : Dialect) (node : NodeReader) (goes : (left : ℕ) → GoesBy (node
       s.first.says.0 ∙ ap (λ (t : Bool). joined (play_line play.mv t play.edges)) (sym o.1) ∙ ap (λ (k : ℕ). joined (play_line play.mv (is_just o.0) k)) (sym edges) in (
         Try play.mv o.0 (as_edges b.0),
         (s.first.says.1, o.2, told_edges d b.0 b.2),
-        (subst (λ k. k ≤ most_branches) (sym edges) s.first.says.2, o.3, few_edges b.0 b.3),
+        (subst (λ k. k ≤ MOST_NODES) (sym edges) s.first.says.2, o.3, few_edges b.0 b.3),
         s.is ∙ ap (λ (t : List (List ℕ)). t ++ s.back) s.first.is
             ∙ ap (λ (t : List (List ℕ)). s.first.line ∷ t) (s.second.is ∙ ap (λ (t : List (List ℕ)). t ++ s.second.back) o.4 ∙ ap (λ (t : List (List ℕ)). map joined (other_lines d o.0) ++ t) (b.4 ∙ ap (map joined) (sym (lines_of_edges d b.0))) ∙ sym (map-append joined (other_lines d o.0) (edges_lines d (as_edges b.0))))
             ∙ ap (λ (t : List ℕ). t ∷ map joined (other_lines d o.0 ++ edges_lines d (as_edges b.0))) line,

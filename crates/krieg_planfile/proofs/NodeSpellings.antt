@@ -3,13 +3,13 @@ use Rattle.std.proofs.Common.{◌≡◌, ℕ, zero, suc, ◌+◌, ◌-◌, ◌�
 use Rattle.std.proofs.lemmas.Bool.{and_from}
 use Rattle.std.proofs.lemmas.List.{map-append}
 use Rattle.krieg_board.specs.declared.men.Move.{Move}
-use Rattle.krieg_fen.specs.declared.fault.TextKind.{TextKind}
-use Rattle.krieg_fen.specs.declared.fault.TextKind.TheVariants.{Deep}
-use Rattle.krieg_fen.specs.Outcomes.{◌>>=◌}
-use Rattle.krieg_fen.specs.Reading.{Place, taken}
-use Rattle.krieg_fen.specs.Writing.{Pieces, joined}
-use Rattle.krieg_fen.proofs.Locality.{ok_is}
-use Rattle.krieg_fen.proofs.Takings.{steps, taken_at}
+use Rattle.krieg_text.specs.declared.fault.TextKind.{TextKind}
+use Rattle.krieg_text.specs.declared.fault.TextKind.TheVariants.{Deep}
+use Rattle.krieg_text.specs.Outcomes.{◌>>=◌}
+use Rattle.krieg_text.specs.Reading.{Place, taken}
+use Rattle.krieg_text.specs.Writing.{Pieces, joined}
+use Rattle.krieg_text.proofs.Locality.{ok_is}
+use Rattle.krieg_text.proofs.Takings.{steps, taken_at}
 use Rattle.krieg_theory.specs.Tree.{Try, Maybe, Just, Edges, size, size_other, depth, depth_other, depth_edges}
 use Rattle.krieg_theory.specs.Tree as tree
 use Rattle.krieg_theory.specs.Canonical.{edge_keys}

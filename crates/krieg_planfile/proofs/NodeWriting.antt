@@ -3,8 +3,8 @@ use Rattle.std.proofs.Common.{Box, Global, Bool, Option, Some, None, ◌≡◌, 
 use Rattle.std.specs.Prelude.{is_some, option_map}
 use Rattle.std.proofs.lemmas.List.{append-nil, length-map, map-append, take_all}
 use Rattle.std.proofs.lemmas.Grind.{take_at_read}
-use Rattle.krieg_fen.specs.Writing.{Pieces, Written, PutsLines, HasLines, put_lines}
-use Rattle.krieg_fen.proofs.Writings.{lines_then}
+use Rattle.krieg_text.specs.Writing.{Pieces, Written, PutsLines, HasLines, put_lines}
+use Rattle.krieg_text.proofs.Writings.{lines_then}
 use Rattle.krieg_theory.specs.Tree.{Try, size, size_edges}
 use Rattle.krieg_words.specs.declared.dialects.Dialect.{Dialect}
 use Rattle.krieg_game.specs.Keys.{Key}

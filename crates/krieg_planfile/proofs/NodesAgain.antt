@@ -3,12 +3,12 @@ use Rattle.std.proofs.Common.{◌≡◌, ℕ, zero, suc, ◌+◌, ◌-◌, ◌�
 use Rattle.std.proofs.lemmas.Bool.{and_parts}
 use Rattle.std.proofs.lemmas.List.{map-append}
 use Rattle.krieg_board.specs.declared.men.Move.{Move}
-use Rattle.krieg_fen.specs.declared.fault.TextFault.{TextFault}
-use Rattle.krieg_fen.specs.declared.fault.TextKind.{TextKind}
-use Rattle.krieg_fen.specs.Outcomes.{◌>>=◌}
-use Rattle.krieg_fen.specs.Reading.{Place, place}
-use Rattle.krieg_fen.specs.Writing.{Pieces, joined}
-use Rattle.krieg_fen.proofs.Takings.{Read, taken_again}
+use Rattle.krieg_text.specs.declared.fault.TextFault.{TextFault}
+use Rattle.krieg_text.specs.declared.fault.TextKind.{TextKind}
+use Rattle.krieg_text.specs.Outcomes.{◌>>=◌}
+use Rattle.krieg_text.specs.Reading.{Place, place}
+use Rattle.krieg_text.specs.Writing.{Pieces, joined}
+use Rattle.krieg_text.proofs.Takings.{Read, taken_again}
 use Rattle.krieg_theory.specs.Tree.{Try, Maybe, Just, Edges, NoEdges, Edge, size, size_other, size_edges, depth, depth_other, depth_edges}
 use Rattle.krieg_theory.specs.Tree as tree
 use Rattle.krieg_theory.specs.Canonical.{edge_keys}
@@ -17,11 +17,11 @@ use Rattle.krieg_game.specs.Keys.{Key, key_lt}
 use Rattle.krieg_plan.specs.Nodes.{as_edges}
 use Rattle.krieg_plan.specs.Trees.{NodeTree}
 use Rattle.krieg_plan.specs.Ordered.{is_ascending, is_ordered, is_ordered_other, are_ordered}
+use Rattle.krieg_plan.specs.declared.limits.TheConstants.{MOST_NODES}
 use Rattle.krieg_planfile.specs.declared.forms.Play.{Play}
-use Rattle.krieg_planfile.specs.NodeForms.{most_branches, play_form, on_form, follows}
+use Rattle.krieg_planfile.specs.NodeForms.{play_form, on_form, follows}
 use Rattle.krieg_planfile.specs.NodeReading.{NodeReader, other_by, branch_by, branches_by, below_by, node_at}
 use Rattle.krieg_planfile.specs.NodeText.{edge_count, is_just, play_line, on_line, node_lines, other_lines, edges_lines, branches_lines, IsToldKey, IsTold, IsToldOther, AreTold, AreToldBranches}
-use Rattle.krieg_planfile.specs.PlanFiles.{most_nodes}
 use Rattle.krieg_planfile.proofs.BranchForms.{IsBranchForm, edges_form}
 use Rattle.krieg_planfile.proofs.Edges.{edges_of, edges_back, branches_size, branches_depth, are_ordered_branches, lines_of_edges, count_of_edges, told_back, size_of_edges, depth_of_edges, ordered_edges, keys_of_edges}
 use Rattle.krieg_planfile.proofs.NodeSpellings.{chain, AllFit}
@@ -49,12 +49,12 @@ no_fit (b ∷ bs) = (tt, no_fit bs)
 
 -- a reader of nodes reads what spells one, and leaves room for so many
 abbrev Again : Dialect → ℕ → NodeReader → Type 0
-Again d room node = (n : NodeTree) (more number : ℕ) (rest : List (List ℕ)) → IsTold d n → is_ordered n ≡ true → depth n ≤ room → size n + more ≤ most_nodes →
+Again d room node = (n : NodeTree) (more number : ℕ) (rest : List (List ℕ)) → IsTold d n → is_ordered n ≡ true → depth n ≤ room → size n + more ≤ MOST_NODES →
     Read (node (more + size n) (place number (map joined (node_lines d n) ++ rest))) (n, more) rest
 
 module _ {K : Type 0} (lt : K → K → Bool) (line : K → Pieces) (Told Fit : K → Type 0) (form : Option K → List ℕ → Result K TextKind) (has : IsBranchForm lt line Told Fit form)
     (d : Dialect) (room : ℕ) (node : NodeReader) (again : Again d room node) where
-  branch_again : (key : K) (n : NodeTree) (last : Option K) (more number : ℕ) (rest : List (List ℕ)) → Told key → Fit key → follows lt last key ≡ true → IsTold d n → is_ordered n ≡ true → depth n ≤ room → size n + more ≤ most_nodes →
+  branch_again : (key : K) (n : NodeTree) (last : Option K) (more number : ℕ) (rest : List (List ℕ)) → Told key → Fit key → follows lt last key ≡ true → IsTold d n → is_ordered n ≡ true → depth n ≤ room → size n + more ≤ MOST_NODES →
       Read (branch_by node form last (more + size n) (place number (joined (line key) ∷ (map joined (node_lines d n) ++ rest)))) ((key, n), more) rest
   branch_again key n last more number rest told fit after below ordered deep small =
       let r = again n more (number + 1) rest below ordered deep small in
@@ -66,7 +66,7 @@ module _ {K : Type 0} (lt : K → K → Bool) (line : K → Pieces) (Told Fit : 
       }
 
   pub branches_again : (bs : List (K × NodeTree)) (last : Option K) (more number : ℕ) (rest : List (List ℕ)) → AreToldBranches Told d bs → AllFit Fit bs → are_ordered_branches bs ≡ true → chain lt last (map (λ b. b.0) bs) ≡ true →
-      branches_depth bs ≤ room → branches_size bs + more ≤ most_nodes →
+      branches_depth bs ≤ room → branches_size bs + more ≤ MOST_NODES →
       Read (branches_by node form (length bs) last (more + branches_size bs) (place number (map joined (branches_lines line d bs) ++ rest))) (bs, more) rest
   branches_again [] last more number rest told fit ordered keys deep small = record { number = number; is = let none : more + 0 ≡ more = omega arith in ap (λ (k : ℕ). Ok (([], k), place number rest)) none }
   branches_again ((key, n) ∷ bs) last more number rest told fit ordered keys deep small =
@@ -87,14 +87,14 @@ module _ {K : Type 0} (lt : K → K → Bool) (line : K → Pieces) (Told Fit : 
       }
 
 module _ (d : Dialect) (room : ℕ) (node : NodeReader) (again : Again d room node) where
-  other_again : (o : Maybe Move Key) (more number : ℕ) (rest : List (List ℕ)) → IsToldOther d o → is_ordered_other o ≡ true → depth_other o ≤ room → size_other o + more ≤ most_nodes →
+  other_again : (o : Maybe Move Key) (more number : ℕ) (rest : List (List ℕ)) → IsToldOther d o → is_ordered_other o ≡ true → depth_other o ≤ room → size_other o + more ≤ MOST_NODES →
       Read (other_by node (is_just o) (more + size_other o) (place number (map joined (other_lines d o) ++ rest))) (o, more) rest
   other_again tree.Nothing more number rest told ordered deep small = record { number = number; is = let none : more + 0 ≡ more = omega arith in ap (λ (k : ℕ). Ok ((tree.Nothing, k), place number rest)) none }
   other_again (Just n) more number rest told ordered deep small =
       let r = again n more number rest told ordered deep small in
       record { number = r.number; is = ap (λ (x : Result ((NodeTree × ℕ) × Place) TextFault). x >>= λ n. Ok ((Just n.0.0, n.0.1), n.1)) r.is }
 
-  edges_again : (es : Edges Move Key) (more number : ℕ) (rest : List (List ℕ)) → AreTold d es → are_ordered es ≡ true → is_ascending key_lt (edge_keys es) ≡ true → depth_edges es ≤ room → size_edges es + more ≤ most_nodes →
+  edges_again : (es : Edges Move Key) (more number : ℕ) (rest : List (List ℕ)) → AreTold d es → are_ordered es ≡ true → is_ascending key_lt (edge_keys es) ≡ true → depth_edges es ≤ room → size_edges es + more ≤ MOST_NODES →
       Read (branches_by node (on_form d) (edge_count es) None (more + size_edges es) (place number (map joined (edges_lines d es) ++ rest))) (edges_of es, more) rest
   edges_again es more number rest told ordered keys deep small =
       let bs = edges_of es in
@@ -112,7 +112,7 @@ module _ (d : Dialect) (room : ℕ) (node : NodeReader) (again : Again d room no
       }
 
   below_again : (m : Move) (o : Maybe Move Key) (es : Edges Move Key) (more number : ℕ) (rest : List (List ℕ)) →
-      IsToldOther d o → AreTold d es → is_ordered_other o ≡ true → are_ordered es ≡ true → is_ascending key_lt (edge_keys es) ≡ true → max (depth_other o) (depth_edges es) ≤ room → size_other o + size_edges es + more ≤ most_nodes →
+      IsToldOther d o → AreTold d es → is_ordered_other o ≡ true → are_ordered es ≡ true → is_ascending key_lt (edge_keys es) ≡ true → max (depth_other o) (depth_edges es) ≤ room → size_other o + size_edges es + more ≤ MOST_NODES →
       Read (below_by node d (record { mv = m; no = is_just o; edges = edge_count es }) (more + (size_other o + size_edges es)) (place number (map joined (other_lines d o ++ edges_lines d es) ++ rest))) (Try m o es, more) rest
   below_again m o es more number rest told_o told_es ordered_o ordered_es keys deep small =
       let tail = map joined (edges_lines d es) ++ rest in
@@ -133,14 +133,14 @@ module _ (d : Dialect) (room : ℕ) (node : NodeReader) (again : Again d room no
       play : Play
       play = record { mv = m; no = is_just o; edges = edge_count es }
 
-pub node_again : (room : ℕ) (d : Dialect) (n : NodeTree) (more number : ℕ) (rest : List (List ℕ)) → IsTold d n → is_ordered n ≡ true → depth n ≤ room → size n + more ≤ most_nodes →
+pub node_again : (room : ℕ) (d : Dialect) (n : NodeTree) (more number : ℕ) (rest : List (List ℕ)) → IsTold d n → is_ordered n ≡ true → depth n ≤ room → size n + more ≤ MOST_NODES →
     Read (node_at room d (more + size n) (place number (map joined (node_lines d n) ++ rest))) (n, more) rest
 unfolding node_at
 node_again zero d (Try m o es) more number rest told ordered deep small = absurd (omega (arith, deep))
 node_again (suc room) d (Try m o es) more number rest told ordered deep small =
     let a = and_parts (is_ascending key_lt (edge_keys es)) (is_ordered_other o && are_ordered es) ordered in
     let b = and_parts (is_ordered_other o) (are_ordered es) a.1 in
-    let few : edge_count es ≤ most_branches = omega (arith, small, count_size es) in
+    let few : edge_count es ≤ MOST_NODES = omega (arith, small, count_size es) in
     let one : more + (1 + (size_other o + size_edges es)) - 1 ≡ more + (size_other o + size_edges es) = omega arith in
     let r = below_again d room (node_at room d) (λ n m k rest t o h s. node_again room d n m k rest t o h s) m o es more (number + 1) rest told.1 told.2 b.0 b.1 a.0 (omega (arith, deep)) (omega (arith, small)) in
     let play : Play = record { mv = m; no = is_just o; edges = edge_count es } in

@@ -5,24 +5,24 @@ use Rattle.std.specs.Str.{bytes_eq}
 use Rattle.std.proofs.lemmas.Slice.Eq.{bytes_eq-Decides}
 use Rattle.krieg_board.specs.Pos.{Pos}
 use Rattle.krieg_board.specs.declared.men.Side.{Side}
-use Rattle.krieg_fen.specs.declared.fault.TextKind.{TextKind}
-use Rattle.krieg_fen.specs.declared.fault.TextKind.TheVariants.{Syntax, Count}
-use Rattle.krieg_fen.specs.FirstBad.{Has}
-use Rattle.krieg_fen.specs.Formats.{Always}
+use Rattle.krieg_text.specs.declared.fault.TextKind.{TextKind}
+use Rattle.krieg_text.specs.declared.fault.TextKind.TheVariants.{Syntax, Count}
+use Rattle.krieg_text.specs.FirstBad.{Has}
+use Rattle.krieg_text.specs.Formats.{Always}
 use Rattle.krieg_fen.specs.Forms.{listing_at}
-use Rattle.krieg_fen.specs.Languages.{One, ◌⨾◌}
+use Rattle.krieg_text.specs.Languages.{One, ◌⨾◌}
 use Rattle.krieg_fen.specs.Listing.{ListingGrammar}
-use Rattle.krieg_fen.specs.Reading.{taken}
-use Rattle.krieg_fen.specs.Writing.{joined}
-use Rattle.krieg_fen.proofs.FormSpellings.{number_is, number_read}
-use Rattle.krieg_fen.proofs.Goings.{GoesBy, goes_by, goes_whole, bind_goes, then_goes, made_goes}
-use Rattle.krieg_fen.proofs.Grammars.{untold, HasForm, line_keeps}
-use Rattle.krieg_fen.proofs.ListGrammars.{form_of, value_form, listing_keeps}
+use Rattle.krieg_text.specs.Reading.{taken}
+use Rattle.krieg_text.specs.Writing.{joined}
+use Rattle.krieg_text.proofs.FormSpellings.{number_is, number_read}
+use Rattle.krieg_text.proofs.Goings.{GoesBy, goes_by, goes_whole, bind_goes, then_goes, made_goes}
+use Rattle.krieg_text.proofs.Grammars.{untold, HasForm, line_keeps}
+use Rattle.krieg_fen.proofs.ListGrammars.{listing_keeps}
+use Rattle.krieg_text.proofs.FormGrammars.{form_of, value_form}
 use Rattle.krieg_words.specs.declared.dialects.Dialect.{Dialect}
 use Rattle.krieg_game.specs.Keys.{RootKey, root_lt}
-use Rattle.krieg_planfile.specs.NodeForms.{most_branches}
 use Rattle.krieg_planfile.specs.NodeReading.{branches_by, node_at}
-use Rattle.krieg_planfile.specs.PlanFiles.{most_nodes, most_on_path, most_moves, waits}
+use Rattle.krieg_planfile.specs.PlanFiles.{waits}
 use Rattle.krieg_planfile.specs.PlanReading.{worst_form, roots_form, end_form, root_form, turn_in, heading_at, claim_at, plan_at}
 use Rattle.krieg_planfile.specs.PlanSpelling.{IsVersion, IsRootOf, RootsGrammar, ClaimGrammar, PlanGrammar}
 use Rattle.krieg_planfile.specs.PlanText.{root_line, worst_line, count_line}
@@ -30,24 +30,25 @@ use Rattle.krieg_planfile.proofs.BranchForms as branches
 use Rattle.krieg_planfile.proofs.BranchForms.{some_said, is_some_said}
 use Rattle.krieg_planfile.proofs.Headings.{heading_keeps}
 use Rattle.krieg_planfile.proofs.NodeGrammars.{branches_go, node_goes}
+use Rattle.krieg_plan.specs.declared.limits.TheConstants.{MOST_NODES, MOST_ON_PATH}
 
 -- ---- the lines of the claim
 
-pub worst_is : (l : List ℕ) (n : ℕ) → worst_form l ≡ Ok n → (1 ≤ n) × (n ≤ most_moves) × (l ≡ joined (worst_line n))
+pub worst_is : (l : List ℕ) (n : ℕ) → worst_form l ≡ Ok n → (1 ≤ n) × (n ≤ MOST_ON_PATH) × (l ≡ joined (worst_line n))
 unfolding worst_form
-worst_is l n e = number_is Count (codes "worst ") 1 most_moves l n (omega arith) e
+worst_is l n e = number_is Count (codes "worst ") 1 MOST_ON_PATH l n (omega arith) e
 
-pub worst_again : (n : ℕ) → 1 ≤ n → n ≤ most_moves → worst_form (joined (worst_line n)) ≡ Ok n
+pub worst_again : (n : ℕ) → 1 ≤ n → n ≤ MOST_ON_PATH → worst_form (joined (worst_line n)) ≡ Ok n
 unfolding worst_form
-worst_again n low high = number_read Count (codes "worst ") 1 most_moves n (omega arith) low high
+worst_again n low high = number_read Count (codes "worst ") 1 MOST_ON_PATH n (omega arith) low high
 
-pub count_is : (l : List ℕ) (n : ℕ) → roots_form l ≡ Ok n → (1 ≤ n) × (n ≤ most_branches) × (l ≡ joined (count_line n))
+pub count_is : (l : List ℕ) (n : ℕ) → roots_form l ≡ Ok n → (1 ≤ n) × (n ≤ MOST_NODES) × (l ≡ joined (count_line n))
 unfolding roots_form
-count_is l n e = number_is Count (codes "roots ") 1 most_branches l n (omega arith) e
+count_is l n e = number_is Count (codes "roots ") 1 MOST_NODES l n (omega arith) e
 
-pub count_again : (n : ℕ) → 1 ≤ n → n ≤ most_branches → roots_form (joined (count_line n)) ≡ Ok n
+pub count_again : (n : ℕ) → 1 ≤ n → n ≤ MOST_NODES → roots_form (joined (count_line n)) ≡ Ok n
 unfolding roots_form
-count_again n low high = number_read Count (codes "roots ") 1 most_branches n (omega arith) low high
+count_again n low high = number_read Count (codes "roots ") 1 MOST_NODES n (omega arith) low high
 
 pub end_is : (l : List ℕ) (u : Unit {0}) → end_form l ≡ Ok u → l ≡ codes "end"
 unfolding end_form
@@ -78,9 +79,9 @@ claim_goes version d who list =
     (goes_by (taken worst_form) Always (One (Has worst_form)) (line_keeps worst_form Always untold (λ u. Has worst_form) (form_of worst_form (joined (worst_line 1)) 1 (worst_again 1 (omega arith) (omega arith)))))
     (λ worst h. bind_goes (taken roots_form) _ Always (λ n. n) (λ n. One (λ l. roots_form l ≡ Ok n)) Always untold (λ n u. RootsGrammar version d n ⨾ One (λ l. l ≡ codes "end"))
     (goes_whole (taken roots_form) (λ n. One (λ l. roots_form l ≡ Ok n)) (line_keeps roots_form Always (λ n. n) (λ n l. roots_form l ≡ Ok n) (value_form roots_form (joined (count_line 1)) 1 (count_again 1 (omega arith) (omega arith)))))
-    (λ n k. then_goes (branches_by (node_at most_on_path d) (root_form version (waits who list) d) n None most_nodes) _ Always (RootsGrammar version d n) Always untold (λ u. One (λ l. l ≡ codes "end"))
+    (λ n k. then_goes (branches_by (node_at MOST_ON_PATH d) (root_form version (waits who list) d) n None MOST_NODES) _ Always (RootsGrammar version d n) Always untold (λ u. One (λ l. l ≡ codes "end"))
     (branches_go root_lt (root_line d) (IsRootOf version d) (λ (key : RootKey). is_some key.1 ≡ waits who list) (root_form version (waits who list) d) (branches.roots_form version (waits who list) d) ((some_said, None), (is_some_said d, λ v. refl)) d
-    (node_at most_on_path d) (λ left. node_goes most_on_path d left) n None most_nodes)
+    (node_at MOST_ON_PATH d) (λ left. node_goes MOST_ON_PATH d left) n None MOST_NODES)
     (λ plan i. made_goes (taken end_form) (λ u. record { dialect = d; side = who; list = list; worst = worst; plan = plan.0 }) Always untold (λ u. One (λ l. l ≡ codes "end")) Always untold (λ x h. tt) (λ x. refl)
     (goes_by (taken end_form) Always (One (λ l. l ≡ codes "end")) (line_keeps end_form Always untold (λ u l. l ≡ codes "end") end_has)))))
 

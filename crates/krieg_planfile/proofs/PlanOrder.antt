@@ -2,13 +2,13 @@
 use Rattle.std.proofs.Common.{◌≡◌, ℕ, Bool, true, ◌&&◌, [], ◌∷◌, map, None, Ok, refl, ap, ◌∙◌}
 use Rattle.std.specs.Prelude.{is_some}
 use Rattle.std.proofs.lemmas.Bool.{and_from}
-use Rattle.krieg_fen.specs.Reading.{Place}
+use Rattle.krieg_text.specs.Reading.{Place}
 use Rattle.krieg_words.specs.declared.dialects.Dialect.{Dialect}
 use Rattle.krieg_game.specs.Keys.{RootKey, root_lt}
 use Rattle.krieg_plan.specs.Ordered.{is_ordered, are_ordered_roots, is_ascending, is_ordered_plan}
 use Rattle.krieg_plan.specs.Trees.{PlanTrees}
+use Rattle.krieg_plan.specs.declared.limits.TheConstants.{MOST_ON_PATH}
 use Rattle.krieg_planfile.specs.NodeReading.{branches_by, node_at}
-use Rattle.krieg_planfile.specs.PlanFiles.{most_on_path}
 use Rattle.krieg_planfile.specs.PlanReading.{root_form}
 use Rattle.krieg_planfile.specs.PlanSpelling.{IsRootOf}
 use Rattle.krieg_planfile.specs.PlanText.{root_line}
@@ -21,13 +21,13 @@ ordered_roots [] = refl
 ordered_roots (r ∷ rs) = ap (λ (t : Bool). is_ordered r.1 && t) (ordered_roots rs)
 
 -- what is read as roots
-pub roots_read : (version : ℕ) (waiting : Bool) (d : Dialect) (k left : ℕ) (p q : Place) (rs : PlanTrees) (more : ℕ) → branches_by (node_at most_on_path d) (root_form version waiting d) k None left p ≡ Ok ((rs, more), q) →
-    BranchesRead root_lt (root_line d) (IsRootOf version d) (λ (key : RootKey). is_some key.1 ≡ waiting) d k None most_on_path left p.left rs more q
+pub roots_read : (version : ℕ) (waiting : Bool) (d : Dialect) (k left : ℕ) (p q : Place) (rs : PlanTrees) (more : ℕ) → branches_by (node_at MOST_ON_PATH d) (root_form version waiting d) k None left p ≡ Ok ((rs, more), q) →
+    BranchesRead root_lt (root_line d) (IsRootOf version d) (λ (key : RootKey). is_some key.1 ≡ waiting) d k None MOST_ON_PATH left p.left rs more q
 roots_read version waiting d k left p q rs more e =
-    branches_spell root_lt (root_line d) (IsRootOf version d) (λ (key : RootKey). is_some key.1 ≡ waiting) (root_form version waiting d) (roots_form version waiting d) d most_on_path (node_at most_on_path d)
-    (λ left p q n more e. node_spells most_on_path d left p q n more e) k None left p q rs more e
+    branches_spell root_lt (root_line d) (IsRootOf version d) (λ (key : RootKey). is_some key.1 ≡ waiting) (root_form version waiting d) (roots_form version waiting d) d MOST_ON_PATH (node_at MOST_ON_PATH d)
+    (λ left p q n more e. node_spells MOST_ON_PATH d left p q n more e) k None left p q rs more e
 
-pub roots_ascend : (version : ℕ) (waiting : Bool) (d : Dialect) (k left : ℕ) (p q : Place) (rs : PlanTrees) (more : ℕ) → branches_by (node_at most_on_path d) (root_form version waiting d) k None left p ≡ Ok ((rs, more), q) → is_ordered_plan rs ≡ true
+pub roots_ascend : (version : ℕ) (waiting : Bool) (d : Dialect) (k left : ℕ) (p q : Place) (rs : PlanTrees) (more : ℕ) → branches_by (node_at MOST_ON_PATH d) (root_form version waiting d) k None left p ≡ Ok ((rs, more), q) → is_ordered_plan rs ≡ true
 roots_ascend version waiting d k left p q rs more e =
     let r = roots_read version waiting d k left p q rs more e in
     and_from (is_ascending root_lt (map (λ r. r.0) rs)) (are_ordered_roots rs) r.keys (ordered_roots rs ∙ r.ordered)

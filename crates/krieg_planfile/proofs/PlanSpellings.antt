@@ -9,28 +9,28 @@ use Rattle.krieg_board.specs.Hand.{same_hand}
 use Rattle.krieg_board.specs.Men.{is_same_side}
 use Rattle.krieg_board.specs.Pos.{Pos}
 use Rattle.krieg_board.specs.declared.men.Side.{Side}
-use Rattle.krieg_fen.specs.declared.fault.TextFault.{TextFault}
+use Rattle.krieg_text.specs.declared.fault.TextFault.{TextFault}
 use Rattle.krieg_fen.specs.declared.forms.Turn.{Turn}
-use Rattle.krieg_fen.specs.Formats.{Always, IsReading}
+use Rattle.krieg_text.specs.Formats.{Always, IsReading}
 use Rattle.krieg_fen.specs.Forms.{listing_at, has_turn}
 use Rattle.krieg_fen.specs.Listing.{SpellList, SpellsListing}
-use Rattle.krieg_fen.specs.Outcomes.{◌>>=◌}
-use Rattle.krieg_fen.specs.Reading.{Place, place, taken, whole, Gives}
-use Rattle.krieg_fen.specs.Writing.{joined}
-use Rattle.krieg_fen.proofs.Formats.{reading_as}
+use Rattle.krieg_text.specs.Outcomes.{◌>>=◌}
+use Rattle.krieg_text.specs.Reading.{Place, place, taken, whole, Gives}
+use Rattle.krieg_text.specs.Writing.{joined}
+use Rattle.krieg_text.proofs.Formats.{reading_as}
 use Rattle.krieg_fen.proofs.Listings.{listing_spells, listing_reads}
 use Rattle.krieg_fen.proofs.ListSpellings.{spelled_valid}
-use Rattle.krieg_fen.proofs.Locality.{ok_is}
-use Rattle.krieg_fen.proofs.Takings.{steps, taken_at, taken_again, Read, whole_read, read_whole}
+use Rattle.krieg_text.proofs.Locality.{ok_is}
+use Rattle.krieg_text.proofs.Takings.{steps, taken_at, taken_again, Read, whole_read, read_whole}
 use Rattle.krieg_words.specs.declared.dialects.Dialect.{Dialect}
 use Rattle.krieg_game.specs.Keys.{RootKey, root_lt}
 use Rattle.krieg_theory.specs.Tree.{Try, size, depth}
 use Rattle.krieg_plan.specs.Ordered.{is_ordered_plan, is_ascending, are_ordered_roots}
 use Rattle.krieg_plan.specs.Trees.{PlanTrees, plan_size, plan_depth}
-use Rattle.krieg_planfile.specs.NodeForms.{most_branches}
+use Rattle.krieg_plan.specs.declared.limits.TheConstants.{MOST_NODES, MOST_ON_PATH}
 use Rattle.krieg_planfile.specs.NodeReading.{branches_by, node_at}
 use Rattle.krieg_planfile.specs.NodeText.{AreToldBranches, branches_lines}
-use Rattle.krieg_planfile.specs.PlanFiles.{PlanState, most_nodes, most_on_path, most_moves, waits, AreAlike, AreToldRoots, AreRootsOf, IsPlanFile}
+use Rattle.krieg_planfile.specs.PlanFiles.{PlanState, waits, AreAlike, AreToldRoots, AreRootsOf, IsPlanFile}
 use Rattle.krieg_planfile.specs.PlanReading.{worst_form, roots_form, end_form, root_form, turn_in, heading_at, claim_at, plan_at}
 use Rattle.krieg_planfile.specs.PlanSpelling.{IsVersion, IsRootOf, SpellsPlan, PlanGrammar}
 use Rattle.krieg_planfile.specs.PlanText.{root_line, roots_lines, worst_line, count_line, claim_lines}
@@ -108,10 +108,10 @@ record ClaimRead (version : ℕ) (d : Dialect) (who : Side) (list : List Pos) (l
   listed : s.list ≡ list
   is : ls ≡ map joined (claim_lines s) ++ q.left
   least_worst : 1 ≤ s.worst
-  most_worst : s.worst ≤ most_moves
+  most_worst : s.worst ≤ MOST_ON_PATH
   some_roots : 1 ≤ length s.plan
-  size : plan_size s.plan ≤ most_nodes
-  depth : plan_depth s.plan ≤ most_on_path
+  size : plan_size s.plan ≤ MOST_NODES
+  depth : plan_depth s.plan ≤ MOST_ON_PATH
   told : AreToldRoots d s.plan
   roots : AreRootsOf (waits who list) s.plan
   ordered : is_ordered_plan s.plan ≡ true
@@ -120,9 +120,9 @@ claim_read : (version : ℕ) (d : Dialect) (who : Side) (list : List Pos) (p q :
 unfolding claim_at
 claim_read version d who list p q s e =
     let waiting = waits who list in
-    let w = steps (taken worst_form p) (λ (worst : ℕ × Place). taken roots_form worst.1 >>= λ count. branches_by (node_at most_on_path d) (root_form version waiting d) count.0 None most_nodes count.1 >>= λ plan. taken end_form plan.1 >>= λ end. Ok (record { dialect = d; side = who; list = list; worst = worst.0; plan = plan.0.0 }, end.1)) (s, q) e in
-    let c = steps (taken roots_form w.mid.1) (λ (count : ℕ × Place). branches_by (node_at most_on_path d) (root_form version waiting d) count.0 None most_nodes count.1 >>= λ plan. taken end_form plan.1 >>= λ end. Ok (record { dialect = d; side = who; list = list; worst = w.mid.0; plan = plan.0.0 }, end.1)) (s, q) w.second in
-    let r = steps (branches_by (node_at most_on_path d) (root_form version waiting d) c.mid.0 None most_nodes c.mid.1) (λ (plan : (PlanTrees × ℕ) × Place). taken end_form plan.1 >>= λ end. Ok (record { dialect = d; side = who; list = list; worst = w.mid.0; plan = plan.0.0 }, end.1)) (s, q) c.second in
+    let w = steps (taken worst_form p) (λ (worst : ℕ × Place). taken roots_form worst.1 >>= λ count. branches_by (node_at MOST_ON_PATH d) (root_form version waiting d) count.0 None MOST_NODES count.1 >>= λ plan. taken end_form plan.1 >>= λ end. Ok (record { dialect = d; side = who; list = list; worst = worst.0; plan = plan.0.0 }, end.1)) (s, q) e in
+    let c = steps (taken roots_form w.mid.1) (λ (count : ℕ × Place). branches_by (node_at MOST_ON_PATH d) (root_form version waiting d) count.0 None MOST_NODES count.1 >>= λ plan. taken end_form plan.1 >>= λ end. Ok (record { dialect = d; side = who; list = list; worst = w.mid.0; plan = plan.0.0 }, end.1)) (s, q) w.second in
+    let r = steps (branches_by (node_at MOST_ON_PATH d) (root_form version waiting d) c.mid.0 None MOST_NODES c.mid.1) (λ (plan : (PlanTrees × ℕ) × Place). taken end_form plan.1 >>= λ end. Ok (record { dialect = d; side = who; list = list; worst = w.mid.0; plan = plan.0.0 }, end.1)) (s, q) c.second in
     let f = steps (taken end_form r.mid.1) (λ (end : Unit {0} × Place). Ok (record { dialect = d; side = who; list = list; worst = w.mid.0; plan = r.mid.0.0 }, end.1)) (s, q) r.second in
     let same = ok_is {A = PlanState × Place} (record { dialect = d; side = who; list = list; worst = w.mid.0; plan = r.mid.0.0 }, f.mid.1) (s, q) f.second in
     let rs = r.mid.0.0 in
@@ -131,7 +131,7 @@ claim_read version d who list p q s e =
     let el = taken_at end_form r.mid.1 f.mid.1 f.mid.0 f.first in
     let worst = worst_is wl.text w.mid.0 wl.is in
     let count = count_is cl.text c.mid.0 cl.is in
-    let b = roots_read version waiting d c.mid.0 most_nodes c.mid.1 r.mid.1 rs r.mid.0.1 r.first in
+    let b = roots_read version waiting d c.mid.0 MOST_NODES c.mid.1 r.mid.1 rs r.mid.0.1 r.first in
     let number : c.mid.0 ≡ length rs = sym b.number in
     subst (λ (x : PlanState × Place). ClaimRead version d who list p.left x.0 x.1) same
     (record {
@@ -150,10 +150,10 @@ claim_read version d who list p q s e =
       most_worst = worst.1;
       some_roots = omega (arith, count.0, number);
       size = omega (arith, b.count, size_of_roots rs);
-      depth = subst (λ n. n ≤ most_on_path) (sym (depth_of_roots rs)) b.deep;
+      depth = subst (λ n. n ≤ MOST_ON_PATH) (sym (depth_of_roots rs)) b.deep;
       told = told_roots version d rs b.told;
       roots = fit_roots waiting rs b.fit;
-      ordered = roots_ascend version waiting d c.mid.0 most_nodes c.mid.1 r.mid.1 rs r.mid.0.1 r.first;
+      ordered = roots_ascend version waiting d c.mid.0 MOST_NODES c.mid.1 r.mid.1 rs r.mid.0.1 r.first;
     })
 
 -- ---- what is read
@@ -226,24 +226,24 @@ claim_again version s n own file =
     let w = file.written in
     let waiting = waits s.side s.list in
     let tail : List (List ℕ) = codes "end" ∷ [] in
-    let more : ℕ = most_nodes - branches_size rs in
-    let small : branches_size rs ≤ most_nodes = subst (λ k. k ≤ most_nodes) (size_of_roots rs) w.size in
-    let left : most_nodes ≡ more + branches_size rs = omega (arith, small) in
-    let few : length rs ≤ most_branches = omega (arith, small, roots_size rs) in
+    let more : ℕ = MOST_NODES - branches_size rs in
+    let small : branches_size rs ≤ MOST_NODES = subst (λ k. k ≤ MOST_NODES) (size_of_roots rs) w.size in
+    let left : MOST_NODES ≡ more + branches_size rs = omega (arith, small) in
+    let few : length rs ≤ MOST_NODES = omega (arith, small, roots_size rs) in
     let ordered = and_parts (is_ascending root_lt (map (λ r. r.0) rs)) (are_ordered_roots rs) file.ordered in
-    let b = branches_again root_lt (root_line d) (IsRootOf version d) (λ (key : RootKey). is_some key.1 ≡ waiting) (root_form version waiting d) (branches.roots_form version waiting d) d most_on_path (node_at most_on_path d)
-    (λ n m k rest t o h s. node_again most_on_path d n m k rest t o h s) rs None more (n + 1 + 1) tail (told_back version d waiting own rs w.told w.roots) (fit_back waiting rs w.roots)
-    (sym (ordered_roots rs) ∙ ordered.1) ordered.0 (subst (λ k. k ≤ most_on_path) (depth_of_roots rs) w.depth) (omega (arith, small)) in
+    let b = branches_again root_lt (root_line d) (IsRootOf version d) (λ (key : RootKey). is_some key.1 ≡ waiting) (root_form version waiting d) (branches.roots_form version waiting d) d MOST_ON_PATH (node_at MOST_ON_PATH d)
+    (λ n m k rest t o h s. node_again MOST_ON_PATH d n m k rest t o h s) rs None more (n + 1 + 1) tail (told_back version d waiting own rs w.told w.roots) (fit_back waiting rs w.roots)
+    (sym (ordered_roots rs) ∙ ordered.1) ordered.0 (subst (λ k. k ≤ MOST_ON_PATH) (depth_of_roots rs) w.depth) (omega (arith, small)) in
     let all : map joined (roots_lines d rs ++ ((codes "end" ∷ []) ∷ [])) ≡ map joined (roots_lines d rs) ++ tail = map-append joined (roots_lines d rs) ((codes "end" ∷ []) ∷ []) in
     record {
       number = b.number + 1;
       is = ap (λ (t : List (List ℕ)). claim_at version d s.side s.list (place n (joined (worst_line s.worst) ∷ joined (count_line (length rs)) ∷ t))) all
-          ∙ ap (λ (r : Result (ℕ × Place) TextFault). r >>= λ worst. taken roots_form worst.1 >>= λ count. branches_by (node_at most_on_path d) (root_form version waiting d) count.0 None most_nodes count.1 >>= λ plan. taken end_form plan.1 >>= λ end. Ok (record { dialect = d; side = s.side; list = s.list; worst = worst.0; plan = plan.0.0 }, end.1))
+          ∙ ap (λ (r : Result (ℕ × Place) TextFault). r >>= λ worst. taken roots_form worst.1 >>= λ count. branches_by (node_at MOST_ON_PATH d) (root_form version waiting d) count.0 None MOST_NODES count.1 >>= λ plan. taken end_form plan.1 >>= λ end. Ok (record { dialect = d; side = s.side; list = s.list; worst = worst.0; plan = plan.0.0 }, end.1))
           (taken_again worst_form n (joined (worst_line s.worst)) (joined (count_line (length rs)) ∷ (map joined (roots_lines d rs) ++ tail)) s.worst (worst_again s.worst w.least_worst w.most_worst))
-          ∙ ap (λ (r : Result (ℕ × Place) TextFault). r >>= λ count. branches_by (node_at most_on_path d) (root_form version waiting d) count.0 None most_nodes count.1 >>= λ plan. taken end_form plan.1 >>= λ end. Ok (record { dialect = d; side = s.side; list = s.list; worst = s.worst; plan = plan.0.0 }, end.1))
+          ∙ ap (λ (r : Result (ℕ × Place) TextFault). r >>= λ count. branches_by (node_at MOST_ON_PATH d) (root_form version waiting d) count.0 None MOST_NODES count.1 >>= λ plan. taken end_form plan.1 >>= λ end. Ok (record { dialect = d; side = s.side; list = s.list; worst = s.worst; plan = plan.0.0 }, end.1))
           (taken_again roots_form (n + 1) (joined (count_line (length rs))) (map joined (roots_lines d rs) ++ tail) (length rs) (count_again (length rs) w.some_roots few))
           ∙ ap (λ (r : Result ((PlanTrees × ℕ) × Place) TextFault). r >>= λ plan. taken end_form plan.1 >>= λ end. Ok (record { dialect = d; side = s.side; list = s.list; worst = s.worst; plan = plan.0.0 }, end.1))
-          (ap (λ (k : ℕ). branches_by (node_at most_on_path d) (root_form version waiting d) (length rs) None k (place (n + 1 + 1) (map joined (roots_lines d rs) ++ tail))) left ∙ b.is)
+          (ap (λ (k : ℕ). branches_by (node_at MOST_ON_PATH d) (root_form version waiting d) (length rs) None k (place (n + 1 + 1) (map joined (roots_lines d rs) ++ tail))) left ∙ b.is)
           ∙ ap (λ (r : Result (Unit {0} × Place) TextFault). r >>= λ end. Ok (record { dialect = d; side = s.side; list = s.list; worst = s.worst; plan = rs }, end.1)) (taken_again end_form b.number (codes "end") [] tt end_again);
     }
 

@@ -11,19 +11,20 @@ use Rattle.krieg_board.specs.Validity.{IsValid}
 use Rattle.krieg_board.specs.declared.men.Move.{Move}
 use Rattle.krieg_board.specs.declared.men.Side.{Side}
 use Rattle.krieg_fen.specs.declared.forms.Turn.{Turn}
-use Rattle.krieg_fen.specs.Decimals.{number_text}
+use Rattle.krieg_text.specs.Decimals.{number_text}
 use Rattle.krieg_fen.specs.FenText.{position_text}
 use Rattle.krieg_fen.specs.Forms.{has_turn}
-use Rattle.krieg_fen.specs.Lines.{lines, is_line, AreLines}
+use Rattle.krieg_text.specs.Lines.{lines, is_line, AreLines}
 use Rattle.krieg_fen.specs.Listing.{SpellList, list_head}
 use Rattle.krieg_fen.specs.ListText.{listing_lines}
 use Rattle.krieg_fen.specs.MoveText.{move_text}
-use Rattle.krieg_fen.specs.Reading.{whole}
-use Rattle.krieg_fen.specs.Writing.{Pieces, joined, alone}
-use Rattle.krieg_fen.proofs.CleanTexts.{number_line, move_line, positions_are, list_head_are}
-use Rattle.krieg_fen.proofs.LineTexts.{line_above, line_append, lines_append, lines_again}
+use Rattle.krieg_text.specs.Reading.{whole}
+use Rattle.krieg_text.specs.Writing.{Pieces, joined, alone}
+use Rattle.krieg_fen.proofs.CleanTexts.{move_line, positions_are, list_head_are}
+use Rattle.krieg_text.proofs.CleanTexts.{number_line}
+use Rattle.krieg_text.proofs.LineTexts.{line_above, line_append, lines_append, lines_again}
 use Rattle.krieg_fen.proofs.ListSpellings.{written_spells}
-use Rattle.krieg_fen.proofs.Writings.{put_lines_is, joined_alone, joined_each}
+use Rattle.krieg_text.proofs.Writings.{put_lines_is, joined_alone, joined_each}
 use Rattle.krieg_theory.specs.Tree.{Try, Maybe, Nothing, Just, Edges, NoEdges, Edge, size, size_other, size_edges}
 use Rattle.krieg_words.specs.Words.{Said}
 use Rattle.krieg_words.specs.WordsText.{words_text}
@@ -35,8 +36,9 @@ use Rattle.krieg_words.proofs.VersionTexts.{version_are}
 use Rattle.krieg_game.specs.Keys.{Key, RootKey}
 use Rattle.krieg_plan.specs.Ordered.{is_ordered_plan}
 use Rattle.krieg_plan.specs.Trees.{NodeTree, PlanTrees, plan_size}
+use Rattle.krieg_plan.specs.declared.limits.TheConstants.{MOST_NODES}
 use Rattle.krieg_planfile.specs.NodeText.{edge_count, is_just, no_text, play_line, on_line, node_lines, other_lines, edges_lines, IsToldIn, IsToldKey, IsTold, IsToldOther, AreTold}
-use Rattle.krieg_planfile.specs.PlanFiles.{PlanState, most_nodes, waits, AreAlike, IsToldRoot, AreToldRoots, CanBeWritten}
+use Rattle.krieg_planfile.specs.PlanFiles.{PlanState, waits, AreAlike, IsToldRoot, AreToldRoots, CanBeWritten}
 use Rattle.krieg_planfile.specs.PlanReading.{turn_in, plan_at}
 use Rattle.krieg_planfile.specs.PlanSpelling.{IsVersion, SpellsPlan}
 use Rattle.krieg_planfile.specs.PlanText.{heading, root_line, roots_lines, claim_lines, plan_lines, plan_text}
@@ -67,20 +69,20 @@ both_are [] ys a b = b
 both_are (x ∷ xs) ys a b = (a.0, both_are xs ys a.1 b)
 
 mutual
-  node_are : (d : Dialect) (n : NodeTree) → IsTold d n → size n ≤ most_nodes → AreLines (map joined (node_lines d n))
+  node_are : (d : Dialect) (n : NodeTree) → IsTold d n → size n ≤ MOST_NODES → AreLines (map joined (node_lines d n))
   node_are d (Try m o es) told small =
       (play_is m (is_just o) (edge_count es) (omega (arith, small, count_size es)), both_are (other_lines d o) (edges_lines d es) (other_are d o told.1 (omega (arith, small))) (edges_are d es told.2 (omega (arith, small))))
 
-  other_are : (d : Dialect) (o : Maybe Move Key) → IsToldOther d o → size_other o ≤ most_nodes → AreLines (map joined (other_lines d o))
+  other_are : (d : Dialect) (o : Maybe Move Key) → IsToldOther d o → size_other o ≤ MOST_NODES → AreLines (map joined (other_lines d o))
   other_are d Nothing told small = tt
   other_are d (Just n) told small = node_are d n told small
 
-  edges_are : (d : Dialect) (es : Edges Move Key) → AreTold d es → size_edges es ≤ most_nodes → AreLines (map joined (edges_lines d es))
+  edges_are : (d : Dialect) (es : Edges Move Key) → AreTold d es → size_edges es ≤ MOST_NODES → AreLines (map joined (edges_lines d es))
   edges_are d NoEdges told small = tt
   edges_are d (Edge key n es) told small =
       (on_is d key told.0, both_are (node_lines d n) (edges_lines d es) (node_are d n told.1 (omega (arith, small))) (edges_are d es told.2 (omega (arith, small))))
 
-roots_are : (d : Dialect) (rs : PlanTrees) → AreToldRoots d rs → plan_size rs ≤ most_nodes → AreLines (map joined (roots_lines d rs))
+roots_are : (d : Dialect) (rs : PlanTrees) → AreToldRoots d rs → plan_size rs ≤ MOST_NODES → AreLines (map joined (roots_lines d rs))
 roots_are d [] told small = tt
 roots_are d (r ∷ rs) told small =
     (root_is d r.0 told.0, both_are (node_lines d r.1) (roots_lines d rs) (node_are d r.1 told.1 (omega (arith, small))) (roots_are d rs told.2 (omega (arith, small))))

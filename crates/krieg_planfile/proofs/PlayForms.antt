@@ -5,26 +5,27 @@ use Rattle.std.specs.Char.{is_ascii_digit}
 use Rattle.std.specs.List.{list_all}
 use Rattle.std.proofs.lemmas.Bool.{and_from, ne_eqb}
 use Rattle.krieg_board.specs.declared.men.Move.{Move}
-use Rattle.krieg_fen.specs.declared.fault.TextKind.{TextKind}
-use Rattle.krieg_fen.specs.declared.fault.TextKind.TheVariants.{Count, Large}
-use Rattle.krieg_fen.specs.declared.number.NumberFault.{NumberFault}
-use Rattle.krieg_fen.specs.declared.number.NumberFault.TheVariants.{NotPlain, OutOfRange}
-use Rattle.krieg_fen.specs.Decimals.{number_text, number_between}
-use Rattle.krieg_fen.specs.Forms.{ranged}
+use Rattle.krieg_text.specs.declared.fault.TextKind.{TextKind}
+use Rattle.krieg_text.specs.declared.fault.TextKind.TheVariants.{Count, Large}
+use Rattle.krieg_text.specs.declared.number.NumberFault.{NumberFault}
+use Rattle.krieg_text.specs.declared.number.NumberFault.TheVariants.{NotPlain, OutOfRange}
+use Rattle.krieg_text.specs.Decimals.{number_text, number_between}
+use Rattle.krieg_text.specs.Forms.{ranged}
 use Rattle.krieg_fen.specs.MoveText.{move_text, move_of, IsOnBoard}
-use Rattle.krieg_fen.specs.Names.{behind, cut}
-use Rattle.krieg_fen.specs.Outcomes.{◌>>=◌}
-use Rattle.krieg_fen.specs.Writing.{joined}
+use Rattle.krieg_text.specs.Names.{behind, cut}
+use Rattle.krieg_text.specs.Outcomes.{◌>>=◌}
+use Rattle.krieg_text.specs.Writing.{joined}
 use Rattle.krieg_fen.proofs.CleanTexts.{move_above}
-use Rattle.krieg_fen.proofs.Formats.{IsForm, named_form}
-use Rattle.krieg_fen.proofs.Free.{Above}
+use Rattle.krieg_text.proofs.Formats.{IsForm, named_form}
+use Rattle.krieg_text.proofs.Free.{Above}
 use Rattle.krieg_fen.proofs.MoveTexts.{move_spells, move_again}
-use Rattle.krieg_fen.proofs.NameLemmas.{behind_again, behind_spells, cut_again, cut_spells}
-use Rattle.krieg_fen.proofs.Numbers.{between_spells, between_again, digits_again}
-use Rattle.krieg_fen.proofs.Takings.{steps}
+use Rattle.krieg_text.proofs.NameLemmas.{behind_again, behind_spells, cut_again, cut_spells}
+use Rattle.krieg_text.proofs.Numbers.{between_spells, between_again, digits_again}
+use Rattle.krieg_text.proofs.Takings.{steps}
 use Rattle.krieg_planfile.specs.declared.forms.Play.{Play}
-use Rattle.krieg_planfile.specs.NodeForms.{most_branches, edges_form, play_with, no_or_edges, moved_form, played_form, any_play_form, play_form}
+use Rattle.krieg_planfile.specs.NodeForms.{edges_form, play_with, no_or_edges, moved_form, played_form, any_play_form, play_form}
 use Rattle.krieg_planfile.specs.NodeText.{no_text, play_line}
+use Rattle.krieg_plan.specs.declared.limits.TheConstants.{MOST_NODES}
 
 -- ---- what is read
 
@@ -32,24 +33,24 @@ use Rattle.krieg_planfile.specs.NodeText.{no_text, play_line}
 record MovedIs (text : List ℕ) (m : Move) (play : Play) : Type 0 where
   mv : m ≡ play.mv
   is : 32 ∷ text ≡ no_text play.no ++ number_text play.edges
-  few : play.edges ≤ most_branches
+  few : play.edges ≤ MOST_NODES
 
-by_edges : (text rest : List ℕ) (m : Move) (b : Bool) (r : Result ℕ NumberFault) (play : Play) → 32 ∷ text ≡ no_text b ++ rest → number_between rest 0 most_branches ≡ r →
+by_edges : (text rest : List ℕ) (m : Move) (b : Bool) (r : Result ℕ NumberFault) (play : Play) → 32 ∷ text ≡ no_text b ++ rest → number_between rest 0 MOST_NODES ≡ r →
     play_with m b (ranged Count r) ≡ Ok play → MovedIs text m play
 by_edges text rest m b (Err NotPlain) play front is e = absurd cc
 by_edges text rest m b (Err OutOfRange) play front is e = absurd cc
 by_edges text rest m b (Ok k) play front is e =
-    let s = between_spells rest 0 most_branches k (omega arith) is in
+    let s = between_spells rest 0 MOST_NODES k (omega arith) is in
     let same : record { mv = m; no = b; edges = k } ≡ play = cc in
     subst (MovedIs text m) same (record { mv = refl; is = front ∙ ap (λ (x : List ℕ). no_text b ++ x) s.2; few = s.1 })
 
 by_no : (text : List ℕ) (m : Move) (o : Option (List ℕ)) (play : Play) → behind (codes "no ") text ≡ o → no_or_edges m o text ≡ Ok play → MovedIs text m play
-by_no text m None play is e = by_edges text text m false (number_between text 0 most_branches) play refl refl e
-by_no text m (Some rest) play is e = by_edges text rest m true (number_between rest 0 most_branches) play (ap (λ (x : List ℕ). 32 ∷ x) (behind_spells (codes "no ") text rest is)) refl e
+by_no text m None play is e = by_edges text text m false (number_between text 0 MOST_NODES) play refl refl e
+by_no text m (Some rest) play is e = by_edges text rest m true (number_between rest 0 MOST_NODES) play (ap (λ (x : List ℕ). 32 ∷ x) (behind_spells (codes "no ") text rest is)) refl e
 
 -- the text after `play `
 abbrev pub IsPlayed : List ℕ → Play → Type 0
-IsPlayed text play = (text ≡ move_text play.mv ++ (no_text play.no ++ number_text play.edges)) × IsOnBoard play.mv × (play.edges ≤ most_branches)
+IsPlayed text play = (text ≡ move_text play.mv ++ (no_text play.no ++ number_text play.edges)) × IsOnBoard play.mv × (play.edges ≤ MOST_NODES)
 
 by_move : (text first : List ℕ) (o : Option Move) (rest : Option (List ℕ)) (play : Play) → (cut 32 text).0 ≡ first → move_of first ≡ o → (cut 32 text).1 ≡ rest → moved_form o rest ≡ Ok play → IsPlayed text play
 by_move text first None rest play c is r e = absurd cc
@@ -80,10 +81,10 @@ above_free n c (b ∷ text) le h =
     let over : n < b = h.0 in
     and_from (not (eqb b c)) (list_all (λ b. not (eqb b c)) text) (ap not (ne_eqb b c (λ e. absurd (omega arith)))) (above_free n c text le h.1)
 
-edges_again : (k : ℕ) → k ≤ most_branches → edges_form (number_text k) ≡ Ok k
-edges_again k few = ap (ranged Count) (between_again 0 most_branches k (omega arith) few (omega arith))
+edges_again : (k : ℕ) → k ≤ MOST_NODES → edges_form (number_text k) ≡ Ok k
+edges_again k few = ap (ranged Count) (between_again 0 MOST_NODES k (omega arith) few (omega arith))
 
-no_again : (m : Move) (b : Bool) (k : ℕ) (rest : List ℕ) → k ≤ most_branches → 32 ∷ rest ≡ no_text b ++ number_text k → no_or_edges m (behind (codes "no ") rest) rest ≡ Ok (record { mv = m; no = b; edges = k })
+no_again : (m : Move) (b : Bool) (k : ℕ) (rest : List ℕ) → k ≤ MOST_NODES → 32 ∷ rest ≡ no_text b ++ number_text k → no_or_edges m (behind (codes "no ") rest) rest ≡ Ok (record { mv = m; no = b; edges = k })
 no_again m false k rest few is =
     let same : rest ≡ number_text k = cc in
     ap (λ (x : List ℕ). no_or_edges m (behind (codes "no ") x) x) same ∙ ap (λ (o : Option (List ℕ)). no_or_edges m o (number_text k)) (no_number k (omega (arith, few))) ∙ ap (play_with m false) (edges_again k few)
@@ -111,7 +112,7 @@ played = record { found = λ text play e. by_move text (cut 32 text).0 (move_of 
 
 -- a try of the board, and no more edges than may be told
 abbrev pub SaysPlay : List ℕ → Play → Type 0
-SaysPlay line play = (line ≡ joined (play_line play.mv play.no play.edges)) × IsOnBoard play.mv × (play.edges ≤ most_branches)
+SaysPlay line play = (line ≡ joined (play_line play.mv play.no play.edges)) × IsOnBoard play.mv × (play.edges ≤ MOST_NODES)
 
 pub any_play : IsForm any_play_form SaysPlay
 unfolding any_play_form

@@ -1,29 +1,26 @@
 -- The forms of the lines of a node: what each gives, or the kind of its fault. A space is byte 32, a slash 47.
 use Rattle.std.specs.Prelude.{ℕ, Bool, true, false, ◌==◌, ◌-◌, List, codes, length, take, slice_index, Option, Some, None, Result, Ok, Err, if◌then◌else◌}
 use Rattle.krieg_board.specs.declared.men.Move.{Move}
-use Rattle.krieg_fen.specs.declared.fault.TextKind.{TextKind}
-use Rattle.krieg_fen.specs.declared.fault.TextKind.TheVariants.{Syntax, Count, OutOfPlace, Large}
-use Rattle.krieg_fen.specs.Decimals.{number_between}
-use Rattle.krieg_fen.specs.Formats.{named}
-use Rattle.krieg_fen.specs.Forms.{ranged}
+use Rattle.krieg_text.specs.declared.fault.TextKind.{TextKind}
+use Rattle.krieg_text.specs.declared.fault.TextKind.TheVariants.{Syntax, Count, OutOfPlace, Large}
+use Rattle.krieg_text.specs.Decimals.{number_between}
+use Rattle.krieg_text.specs.Formats.{named}
+use Rattle.krieg_text.specs.Forms.{ranged}
 use Rattle.krieg_fen.specs.MoveText.{move_of}
-use Rattle.krieg_fen.specs.Names.{behind, cut}
-use Rattle.krieg_fen.specs.Outcomes.{◌>>=◌}
+use Rattle.krieg_text.specs.Names.{behind, cut}
+use Rattle.krieg_text.specs.Outcomes.{◌>>=◌}
 use Rattle.krieg_words.specs.Words.{Said}
 use Rattle.krieg_words.specs.WordsReading.{words_in}
 use Rattle.krieg_words.specs.declared.dialects.Dialect.{Dialect}
 use Rattle.krieg_game.specs.Keys.{Key, key_lt}
 use Rattle.krieg_planfile.specs.declared.forms.Play.{Play}
+use Rattle.krieg_plan.specs.declared.limits.TheConstants.{MOST_NODES}
 
 -- ---- the line of a node
 
--- the most edges that a node may have, and the most roots
-abbrev pub most_branches : ℕ
-most_branches = 100000
-
--- a number of edges
+-- a number of edges, which are no more than the nodes of a plan
 abbrev pub edges_form : List ℕ → Result ℕ TextKind
-edges_form text = ranged Count (number_between text 0 most_branches)
+edges_form text = ranged Count (number_between text 0 MOST_NODES)
 
 abbrev pub play_with : Move → Bool → Result ℕ TextKind → Result Play TextKind
 play_with m other (Ok k) = Ok (record { mv = m; no = other; edges = k })

@@ -1,9 +1,9 @@
 -- The lines of a node and of all that is below it, each as its pieces.
 use Rattle.std.specs.Prelude.{Bool, true, false, ℕ, zero, suc, List, [], ◌∷◌, ◌++◌, codes}
 use Rattle.krieg_board.specs.declared.men.Move.{Move}
-use Rattle.krieg_fen.specs.Decimals.{number_text}
+use Rattle.krieg_text.specs.Decimals.{number_text}
 use Rattle.krieg_fen.specs.MoveText.{move_text, IsOnBoard}
-use Rattle.krieg_fen.specs.Writing.{Pieces}
+use Rattle.krieg_text.specs.Writing.{Pieces}
 use Rattle.krieg_theory.specs.Tree.{Try, Maybe, Nothing, Just, Edges, NoEdges, Edge}
 use Rattle.krieg_words.specs.Words.{Said, IsSaid}
 use Rattle.krieg_words.specs.ToldWords.{Fits}

@@ -6,13 +6,14 @@ use Rattle.krieg_board.specs.Pos.{Pos}
 use Rattle.krieg_board.specs.Hand.{same_hand}
 use Rattle.krieg_board.specs.Validity.{IsValid}
 use Rattle.krieg_board.specs.declared.men.Side.{Side}
-use Rattle.krieg_fen.specs.Forms.{most_listed}
+use Rattle.krieg_fen.specs.declared.forms.TheConstants.{MOST_LISTED}
 use Rattle.krieg_words.specs.declared.dialects.Dialect.{Dialect}
 use Rattle.krieg_game.specs.Keys.{RootKey}
 use Rattle.krieg_plan.specs.Trees.{PlanTrees, plan_size, plan_depth}
 use Rattle.krieg_plan.specs.Ordered.{is_ordered_plan}
 use Rattle.krieg_plan.specs.Plans.{plan_of}
 use Rattle.krieg_plan.specs.declared.plan.PlanFile.{PlanFile}
+use Rattle.krieg_plan.specs.declared.limits.TheConstants.{MOST_NODES, MOST_ON_PATH}
 use Rattle.krieg_planfile.specs.NodeText.{IsToldIn, AreToldBranches}
 
 -- the dialect, the player's side, the listed positions, the number of own moves that is claimed, and the plan
@@ -26,16 +27,6 @@ pub record PlanState : Type 0 where
 -- what a plan file is to contracts
 abbrev pub state_of : PlanFile → PlanState
 state_of f = record { dialect = f.dialect; side = f.side; list = f.list.items; worst = f.worst; plan = plan_of f.plan }
-
--- the most nodes of a plan, the most nodes on a path, and the most own moves that a plan may claim
-abbrev pub most_nodes : ℕ
-most_nodes = 100000
-
-abbrev pub most_on_path : ℕ
-most_on_path = 2500
-
-abbrev pub most_moves : ℕ
-most_moves = 2500
 
 -- the opponent is to move in the first listed position
 abbrev pub waits : Side → List Pos → Bool
@@ -65,14 +56,14 @@ AreRootsOf waiting (r ∷ rs) = (is_some r.0.1 ≡ waiting) × AreRootsOf waitin
 -- the opponent's move exactly where he is to move.
 pub record CanBeWritten (s : PlanState) : Type 0 where
   pub some_listed : 1 ≤ length s.list
-  pub few_listed : length s.list ≤ most_listed
+  pub few_listed : length s.list ≤ MOST_LISTED
   pub alike : AreAlike s.side s.list
   pub valid : All IsValid s.list
   pub least_worst : 1 ≤ s.worst
-  pub most_worst : s.worst ≤ most_moves
+  pub most_worst : s.worst ≤ MOST_ON_PATH
   pub some_roots : 1 ≤ length s.plan
-  pub size : plan_size s.plan ≤ most_nodes
-  pub depth : plan_depth s.plan ≤ most_on_path
+  pub size : plan_size s.plan ≤ MOST_NODES
+  pub depth : plan_depth s.plan ≤ MOST_ON_PATH
   pub told : AreToldRoots s.dialect s.plan
   pub roots : AreRootsOf (waits s.side s.list) s.plan
 

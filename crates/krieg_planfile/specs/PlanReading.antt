@@ -3,22 +3,24 @@ use Rattle.std.specs.Prelude.{ℕ, ◌==◌, Bool, ◌&&◌, not, List, codes, O
 use Rattle.std.specs.Str.{bytes_eq}
 use Rattle.krieg_board.specs.Pos.{Pos}
 use Rattle.krieg_board.specs.declared.men.Side.{Side}
-use Rattle.krieg_fen.specs.declared.fault.TextKind.{TextKind}
-use Rattle.krieg_fen.specs.declared.fault.TextKind.TheVariants.{Syntax, OutOfPlace}
+use Rattle.krieg_text.specs.declared.fault.TextKind.{TextKind}
+use Rattle.krieg_text.specs.declared.fault.TextKind.TheVariants.{Syntax, OutOfPlace}
 use Rattle.krieg_fen.specs.declared.forms.Turn.{Turn}
 use Rattle.krieg_fen.specs.declared.forms.Turn.TheVariants.{Either, Own}
-use Rattle.krieg_fen.specs.Formats.{named}
-use Rattle.krieg_fen.specs.Forms.{version_form, count_form, listing_at}
-use Rattle.krieg_fen.specs.Outcomes.{◌>>=◌}
-use Rattle.krieg_fen.specs.Reading.{LineReader, taken}
+use Rattle.krieg_text.specs.Formats.{named}
+use Rattle.krieg_fen.specs.Forms.{listing_at}
+use Rattle.krieg_text.specs.Forms.{version_form, count_form}
+use Rattle.krieg_text.specs.Outcomes.{◌>>=◌}
+use Rattle.krieg_text.specs.Reading.{LineReader, taken}
 use Rattle.krieg_words.specs.Words.{Said}
 use Rattle.krieg_words.specs.WordsReading.{words_in}
 use Rattle.krieg_words.specs.Versions.{dialect_at}
 use Rattle.krieg_words.specs.declared.dialects.Dialect.{Dialect}
 use Rattle.krieg_game.specs.Keys.{Key, RootKey, root_lt}
-use Rattle.krieg_planfile.specs.NodeForms.{most_branches, key_in, or_syntax, follows}
+use Rattle.krieg_planfile.specs.NodeForms.{key_in, or_syntax, follows}
 use Rattle.krieg_planfile.specs.NodeReading.{branches_by, node_at}
-use Rattle.krieg_planfile.specs.PlanFiles.{PlanState, most_nodes, most_on_path, most_moves, waits}
+use Rattle.krieg_planfile.specs.PlanFiles.{PlanState, waits}
+use Rattle.krieg_plan.specs.declared.limits.TheConstants.{MOST_NODES, MOST_ON_PATH}
 
 -- ---- the line of a root
 
@@ -56,10 +58,10 @@ plan_version_form line = version_form (codes "krieg plan ") 2 line
 
 -- the own moves that are claimed, and the number of roots
 unfoldable pub worst_form : List ℕ → Result ℕ TextKind
-worst_form line = count_form (codes "worst ") 1 most_moves line
+worst_form line = count_form (codes "worst ") 1 MOST_ON_PATH line
 
 unfoldable pub roots_form : List ℕ → Result ℕ TextKind
-roots_form line = count_form (codes "roots ") 1 most_branches line
+roots_form line = count_form (codes "roots ") 1 MOST_NODES line
 
 unfoldable pub end_form : List ℕ → Result (Unit {0}) TextKind
 end_form line = if bytes_eq line (codes "end") then Ok tt else Err Syntax
@@ -73,7 +75,7 @@ unfoldable pub claim_at : ℕ → Dialect → Side → List Pos → LineReader P
 claim_at version d who list p = do
   worst ← taken worst_form p
   count ← taken roots_form worst.1
-  plan ← branches_by (node_at most_on_path d) (root_form version (waits who list) d) count.0 None most_nodes count.1
+  plan ← branches_by (node_at MOST_ON_PATH d) (root_form version (waits who list) d) count.0 None MOST_NODES count.1
   end ← taken end_form plan.1
   Ok (record { dialect = d; side = who; list = list; worst = worst.0; plan = plan.0.0 }, end.1)
 

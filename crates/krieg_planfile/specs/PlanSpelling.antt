@@ -1,17 +1,17 @@
 -- Which lines spell a plan file, and the grammar of the format, without a reader.
 use Rattle.std.specs.Prelude.{◌≡◌, ◌≤◌, ◌⊎◌, ℕ, List, [], ◌∷◌, codes, map, length, None, Ok}
 use Rattle.krieg_board.specs.declared.men.Move.{Move}
-use Rattle.krieg_fen.specs.FirstBad.{Has}
-use Rattle.krieg_fen.specs.Languages.{Language, One, Any, ◌⨾◌}
+use Rattle.krieg_text.specs.FirstBad.{Has}
+use Rattle.krieg_text.specs.Languages.{Language, One, Any, ◌⨾◌}
 use Rattle.krieg_fen.specs.Listing.{SpellsListing, ListingGrammar}
-use Rattle.krieg_fen.specs.Writing.{Pieces, joined}
+use Rattle.krieg_text.specs.Writing.{Pieces, joined}
 use Rattle.krieg_theory.specs.Tree.{Try, Maybe, Nothing, Just, Edges, NoEdges, Edge}
 use Rattle.krieg_words.specs.Versions.{first_version, second_version}
 use Rattle.krieg_words.specs.Dialects.{unnamed_dialect}
 use Rattle.krieg_words.specs.declared.dialects.Dialect.{Dialect}
 use Rattle.krieg_game.specs.Keys.{Key, RootKey}
 use Rattle.krieg_plan.specs.Trees.{NodeTree}
-use Rattle.krieg_planfile.specs.NodeForms.{most_branches}
+use Rattle.krieg_plan.specs.declared.limits.TheConstants.{MOST_NODES}
 use Rattle.krieg_planfile.specs.NodeText.{edge_count, node_lines, branches_lines, IsTold, AreToldBranches}
 use Rattle.krieg_planfile.specs.PlanFiles.{PlanState, IsToldRoot}
 use Rattle.krieg_planfile.specs.PlanReading.{turn_in, worst_form, roots_form}
@@ -34,7 +34,7 @@ SpellsPlan s = Any (λ version.
 abbrev mutual
   -- no node, here and below, has more edges than may be told
   pub HasFewEdges : NodeTree → Type 0
-  HasFewEdges (Try m other es) = (edge_count es ≤ most_branches) × HasFewOther other × HaveFewEdges es
+  HasFewEdges (Try m other es) = (edge_count es ≤ MOST_NODES) × HasFewOther other × HaveFewEdges es
 
   pub HasFewOther : Maybe Move Key → Type 0
   HasFewOther Nothing = Unit {0}

@@ -1,8 +1,8 @@
 -- The one written form of a plan file.
 use Rattle.std.specs.Prelude.{ℕ, Bool, List, [], ◌∷◌, ◌++◌, codes, map, length, Some, None, if◌then◌else◌}
-use Rattle.krieg_fen.specs.Decimals.{number_text}
+use Rattle.krieg_text.specs.Decimals.{number_text}
 use Rattle.krieg_fen.specs.ListText.{listing_lines}
-use Rattle.krieg_fen.specs.Writing.{Pieces, alone, put_lines}
+use Rattle.krieg_text.specs.Writing.{Pieces, alone, put_lines}
 use Rattle.krieg_words.specs.WordsText.{words_text}
 use Rattle.krieg_words.specs.Versions.{version_lines, second_version}
 use Rattle.krieg_words.specs.declared.dialects.Dialect.{Dialect}

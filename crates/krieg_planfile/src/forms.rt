@@ -1,18 +1,15 @@
 ghost use Rattle.std.specs.Prelude.{◌≡◌, IfErr, ◌≢◌, codes};
 ghost use Rattle.std.specs.Option.{option_copied};
-ghost use Rattle.krieg_fen.specs.Names.{behind};
-ghost use Rattle.krieg_fen.specs.Reading.{taken, GivesOn};
+ghost use Rattle.krieg_text.specs.Names.{behind};
+ghost use Rattle.krieg_text.specs.Reading.{taken, GivesOn};
 ghost use Rattle.krieg_game.specs.Keys.{key_lt};
 ghost use Rattle.krieg_planfile.specs.NodeForms as spec;
 
 use krieg_board::Move;
-use krieg_fen::{
-    Cursor, NumberFault, TextFault, TextKind, behind, cut, read_move, read_number_between,
-};
+use krieg_fen::read_move;
+use krieg_plan::MOST_NODES;
+use krieg_text::{Cursor, NumberFault, TextFault, TextKind, behind, cut, read_number_between};
 use krieg_words::{Dialect, Words, compare, read_words_in};
-
-/// The most edges that a node may have, and the most roots of a plan.
-pub(crate) const MOST_BRANCHES: u64 = 100_000;
 
 /// What the line of a node says: its try, whether there is a node for the illegal case, and how many edges
 /// there are.
@@ -26,7 +23,7 @@ pub(crate) struct Play {
 fn edges_form(text: &[u8]) -> Result<u64, TextKind>
     ensures { result ≡ spec.edges_form text.now }
 {
-    match read_number_between(text, 0, MOST_BRANCHES) {
+    match read_number_between(text, 0, MOST_NODES as u64) {
         Ok(number) => Ok(number),
         Err(NumberFault::NotPlain) => Err(TextKind::Syntax),
         Err(NumberFault::OutOfRange) => Err(TextKind::Count),
@@ -83,7 +80,7 @@ fn play_form(left: usize, line: &[u8]) -> Result<Play, TextKind>
 }
 
 /// The next line, as that of a node, where so many nodes may still come.
-#[tactic(auto, using(krieg_fen::proofs::ReadingLemmas::refused))]
+#[tactic(auto, using(krieg_text::proofs::ReadingLemmas::refused))]
 pub(crate) fn read_play(from: &mut Cursor<'_>, left: usize) -> Result<Play, TextFault>
     ensures { GivesOn (λ x. x) result from.new (taken (spec.play_form left) from.old) }
 {
@@ -173,7 +170,7 @@ fn on_form(
 }
 
 /// The next line, as that of an edge, after the edge with the last key.
-#[tactic(auto, using(krieg_fen::proofs::ReadingLemmas::refused))]
+#[tactic(auto, using(krieg_text::proofs::ReadingLemmas::refused))]
 pub(crate) fn read_on(
     from: &mut Cursor<'_>,
     d: Dialect,

@@ -1,12 +1,12 @@
 ghost use Rattle.std.specs.Prelude.{◌≡◌, None, IfErr, ◌≢◌, map, option_map};
-ghost use Rattle.krieg_fen.specs.Reading.{taken, GivesOn};
+ghost use Rattle.krieg_text.specs.Reading.{taken, GivesOn};
 ghost use Rattle.krieg_plan.specs.Nodes.{tree_of, edge_of, as_other, as_edges};
 ghost use Rattle.krieg_planfile.specs.NodeForms.{on_form};
 ghost use Rattle.krieg_planfile.specs.NodeReading as spec;
 
 use crate::forms::{Play, read_on, read_play};
-use krieg_fen::{Cursor, TextFault, TextKind};
 use krieg_plan::{Edge, Node};
+use krieg_text::{Cursor, TextFault, TextKind};
 use krieg_words::{Dialect, Words};
 use std::alloc::Global;
 

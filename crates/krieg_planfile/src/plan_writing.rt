@@ -1,8 +1,7 @@
 ghost use Rattle.std.specs.Prelude.{◌≡◌, ◌∷◌, [], Ok, map, codes};
-ghost use Rattle.krieg_fen.specs.Lines.{lines};
-ghost use Rattle.krieg_fen.specs.Reading.{whole};
-ghost use Rattle.krieg_fen.specs.Writing.{PutsLines, Appends, alone};
-ghost use Rattle.krieg_words.specs.Versions.{second_version};
+ghost use Rattle.krieg_text.specs.Lines.{lines};
+ghost use Rattle.krieg_text.specs.Reading.{whole};
+ghost use Rattle.krieg_text.specs.Writing.{PutsLines, Appends, alone};
 ghost use Rattle.krieg_planfile.specs.PlanFiles.{state_of, AreToldRoots, CanBeWritten};
 ghost use Rattle.krieg_planfile.specs.PlanReading.{plan_at};
 ghost use Rattle.krieg_planfile.specs.PlanSpelling.{SpellsPlan};
@@ -11,26 +10,17 @@ ghost use Rattle.krieg_planfile.specs.PlanText as spec;
 use crate::reading::waits;
 use crate::writing::put_roots;
 use krieg_board::NoMemory;
-use krieg_fen::{Text, put_listing, put_number};
+use krieg_fen::put_listing;
 use krieg_plan::{PlanFile, know_ordered};
-use krieg_words::{Dialect, dialect_name, put_version_lines};
-
-/// Adds the lines of version 2.
-fn put_second_version(d: Dialect, text: &mut Text) -> Result<(), NoMemory>
-    ensures { PutsLines result text.old text.new (map alone (second_version (codes "krieg plan ") d)) }
-{
-    text.line(b"krieg plan 2")?;
-    text.put(b"dialect ")?;
-    text.put(dialect_name(d))?;
-    text.end_line()
-}
+use krieg_text::{Text, put_number};
+use krieg_words::{Dialect, put_second_version, put_version_lines};
 
 /// Adds the lines of the version and of the dialect.
 fn put_heading(d: Dialect, waiting: bool, text: &mut Text) -> Result<(), NoMemory>
     ensures { PutsLines result text.old text.new (map alone (spec.heading d waiting)) }
 {
     if waiting {
-        put_second_version(d, text)
+        put_second_version(b"krieg plan ", d, text)
     } else {
         put_version_lines(b"krieg plan ", d, text)
     }

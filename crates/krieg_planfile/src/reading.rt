@@ -1,29 +1,21 @@
 ghost use Rattle.std.specs.Prelude.{◌≡◌, IfErr, IfOk, ◌≢◌, ◌≤◌, None};
-ghost use Rattle.krieg_fen.specs.Lines.{lines};
-ghost use Rattle.krieg_fen.specs.Reading.{taken, whole, Gives, GivesOn};
+ghost use Rattle.krieg_text.specs.Lines.{lines};
+ghost use Rattle.krieg_text.specs.Reading.{taken, whole, Gives, GivesOn};
 ghost use Rattle.krieg_plan.specs.Plans.{plan_of};
 ghost use Rattle.krieg_planfile.specs.NodeReading.{branches_by, node_at};
 ghost use Rattle.krieg_planfile.specs.PlanFiles as files;
-ghost use Rattle.krieg_fen.specs.Formats.{IsReading};
-ghost use Rattle.krieg_planfile.specs.PlanFiles.{most_on_path, state_of, IsPlanFile};
+ghost use Rattle.krieg_text.specs.Formats.{IsReading};
+ghost use Rattle.krieg_planfile.specs.PlanFiles.{state_of, IsPlanFile};
 ghost use Rattle.krieg_planfile.specs.PlanSpelling.{SpellsPlan, PlanGrammar};
 ghost use Rattle.krieg_planfile.specs.PlanReading as spec;
 
-use crate::forms::MOST_BRANCHES;
 use crate::roots::read_roots;
 use krieg_board::{Position, Side};
-use krieg_fen::{
-    Cursor, TextFault, TextKind, Turn, is_name, read_count, read_listing, read_version,
-};
-use krieg_plan::{Plan, PlanFile};
+use krieg_fen::{Turn, read_listing};
+use krieg_plan::{MOST_NODES, MOST_ON_PATH, Plan, PlanFile};
+use krieg_text::{Cursor, TextFault, TextKind, is_name, read_count, read_version};
 use krieg_words::{Dialect, read_dialect_line};
 use std::alloc::Global;
-
-/// The most nodes of a plan.
-const MOST_NODES: usize = 100_000;
-
-/// The most own moves that a plan may claim.
-const MOST_MOVES: u64 = 2_500;
 
 /// The next line, as the format's name with one of its two versions.
 #[tactic(auto, unfolding(crate::specs::PlanReading::plan_version_form))]
@@ -68,9 +60,9 @@ pub(crate) fn waits(side: Side, list: &[Position]) -> bool
 #[tactic(auto, unfolding(crate::specs::PlanReading::worst_form))]
 fn read_worst(from: &mut Cursor<'_>) -> Result<u64, TextFault>
     ensures value { GivesOn (λ n. n) result from.new (taken spec.worst_form from.old) }
-    ensures range { IfOk result (λ n. n ≤ files.most_moves) }
+    ensures range { IfOk result (λ n. n ≤ MOST_ON_PATH) }
 {
-    read_count(from, b"worst ", 1, MOST_MOVES)
+    read_count(from, b"worst ", 1, MOST_ON_PATH as u64)
 }
 
 /// The next line, as the number of roots.
@@ -78,7 +70,7 @@ fn read_worst(from: &mut Cursor<'_>) -> Result<u64, TextFault>
 fn read_root_count(from: &mut Cursor<'_>) -> Result<u64, TextFault>
     ensures { GivesOn (λ n. n) result from.new (taken spec.roots_form from.old) }
 {
-    read_count(from, b"roots ", 1, MOST_BRANCHES)
+    read_count(from, b"roots ", 1, MOST_NODES as u64)
 }
 
 #[tactic(auto, unfolding(crate::specs::PlanReading::end_form))]
@@ -93,7 +85,7 @@ fn end_form(line: &[u8]) -> Result<(), TextKind>
 }
 
 /// The next line, as `end`.
-#[tactic(auto, using(krieg_fen::proofs::ReadingLemmas::refused))]
+#[tactic(auto, using(krieg_text::proofs::ReadingLemmas::refused))]
 fn read_end(from: &mut Cursor<'_>) -> Result<(), TextFault>
     ensures { GivesOn (λ u. u) result from.new (taken spec.end_form from.old) }
 {
@@ -112,7 +104,7 @@ fn read_roots_of_plan(
     left: &mut usize,
     k: u64,
 ) -> Result<Plan, TextFault>
-    ensures { GivesOn (λ p. (plan_of p, left.new)) result from.new (branches_by (node_at most_on_path d) (spec.root_form version waiting d) k None left.old from.old) }
+    ensures { GivesOn (λ p. (plan_of p, left.new)) result from.new (branches_by (node_at MOST_ON_PATH d) (spec.root_form version waiting d) k None left.old from.old) }
 {
     let roots = read_roots(alloc, from, version, waiting, d, left, k)?;
     Ok(Plan::make(roots))

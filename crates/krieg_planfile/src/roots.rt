@@ -1,22 +1,17 @@
 ghost use Rattle.std.specs.Prelude.{◌≡◌, ◌&&◌, None, map, IfErr, ◌≢◌};
-ghost use Rattle.krieg_fen.specs.Reading.{taken, GivesOn};
-ghost use Rattle.krieg_game.specs.Keys.{heard_cmp, root_lt};
+ghost use Rattle.krieg_text.specs.Reading.{taken, GivesOn};
+ghost use Rattle.krieg_game.specs.Keys.{root_lt};
 ghost use Rattle.krieg_plan.specs.Roots.{root_of};
 ghost use Rattle.krieg_planfile.specs.NodeForms as forms;
 ghost use Rattle.krieg_planfile.specs.NodeReading as nodes;
-ghost use Rattle.krieg_planfile.specs.PlanFiles.{most_on_path};
 ghost use Rattle.krieg_planfile.specs.PlanReading as spec;
 
 use crate::forms::key_in;
 use crate::nodes::read_node;
-use krieg_fen::{Cursor, TextFault, TextKind, behind};
-use krieg_plan::Root;
+use krieg_plan::{MOST_ON_PATH, Root, compare_heard};
+use krieg_text::{Cursor, TextFault, TextKind, behind};
 use krieg_words::{Dialect, Words, compare, read_words_in};
 use std::alloc::Global;
-use std::cmp::Ordering;
-
-/// The most nodes on a path of a plan.
-pub(crate) const MOST_ON_PATH: usize = 2_500;
 
 /// What stands before a node at the root: the opening words, and the words of the opponent's move where he
 /// is to move first.
@@ -58,18 +53,6 @@ fn is_root_of(waiting: bool, key: &RootKey) -> bool
     key.1.is_some() == waiting
 }
 
-/// The order of what was heard: nothing first.
-fn compare_heard(a: &Option<Words>, b: &Option<Words>) -> Ordering
-    ensures { result ≡ heard_cmp a.now b.now }
-{
-    match (a, b) {
-        (None, None) => Ordering::Equal,
-        (None, Some(_)) => Ordering::Less,
-        (Some(_), None) => Ordering::Greater,
-        (Some(a), Some(b)) => compare(a, b),
-    }
-}
-
 fn follows(last: &Option<RootKey>, key: &RootKey) -> bool
     ensures { result ≡ forms.follows root_lt last.now key.now }
 {
@@ -104,7 +87,7 @@ fn root_form(
 }
 
 /// The next line, as that of a root, after the root with the last key.
-#[tactic(auto, using(krieg_fen::proofs::ReadingLemmas::refused))]
+#[tactic(auto, using(krieg_text::proofs::ReadingLemmas::refused))]
 fn read_root_line(
     from: &mut Cursor<'_>,
     version: u64,
@@ -128,7 +111,7 @@ fn read_root(
     left: &mut usize,
     last: &Option<RootKey>,
 ) -> Result<Root, TextFault>
-    ensures { GivesOn (λ r. (root_of r, left.new)) result from.new (nodes.branch_by (nodes.node_at most_on_path d) (spec.root_form version waiting d) last.now left.old from.old) }
+    ensures { GivesOn (λ r. (root_of r, left.new)) result from.new (nodes.branch_by (nodes.node_at MOST_ON_PATH d) (spec.root_form version waiting d) last.now left.old from.old) }
 {
     let (opens, heard) = read_root_line(from, version, waiting, d, last)?;
     let node = read_node(alloc, from, d, MOST_ON_PATH, left)?;
@@ -146,7 +129,7 @@ pub(crate) fn read_roots(
     left: &mut usize,
     k: u64,
 ) -> Result<Vec<Root>, TextFault>
-    ensures { GivesOn (λ v. (map root_of v.items, left.new)) result from.new (nodes.branches_by (nodes.node_at most_on_path d) (spec.root_form version waiting d) k None left.old from.old) }
+    ensures { GivesOn (λ v. (map root_of v.items, left.new)) result from.new (nodes.branches_by (nodes.node_at MOST_ON_PATH d) (spec.root_form version waiting d) k None left.old from.old) }
 {
     let mut roots = Vec::new(alloc);
     let mut last: Option<RootKey> = None;

@@ -1,5 +1,5 @@
 ghost use Rattle.std.specs.Prelude.{◌≡◌, ◌∷◌, [], None, Ok, map, codes};
-ghost use Rattle.krieg_fen.specs.Writing.{PutsLines};
+ghost use Rattle.krieg_text.specs.Writing.{PutsLines};
 ghost use Rattle.krieg_plan.specs.Nodes.{tree_of, edge_of};
 ghost use Rattle.krieg_plan.specs.Trees.{edges_in};
 ghost use Rattle.krieg_plan.specs.Roots.{root_of};
@@ -10,8 +10,9 @@ ghost use Rattle.krieg_planfile.specs.PlanFiles.{IsToldRoot};
 ghost use Rattle.krieg_planfile.specs.PlanText as plan;
 
 use krieg_board::{Move, NoMemory};
-use krieg_fen::{Text, put_move, put_number};
+use krieg_fen::put_move;
 use krieg_plan::{Edge, Node, Root};
+use krieg_text::{Text, put_number};
 use krieg_words::{Dialect, Words, put_words_in};
 
 fn no_text(no: bool) -> &'static [u8]

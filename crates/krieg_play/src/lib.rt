@@ -9,12 +9,12 @@
 //! (`Played`). `Calls` and `Passes` are parts of the work: what one call of a side makes of it, and of both.
 //!
 //! The calls that hold boxed seats, and `play` itself, stand in `krieg_cli`, in its module `live`, since every caller
-//! that is handed a bench stands in one crate with them. Here are what they answer (`outcome`), what came of asking
+//! that is handed a bench stands in one crate with them. Here are the faults that they answer (`outcome`), what came of asking
 //! a side (`turn`, which is internal), and the lemmas by which they are proved.
 #![tactic(auto)]
 
 mod outcome;
 mod turn;
 
-pub use outcome::{PlayFault, Played, fault_of};
+pub use outcome::{PlayFault, fault_of};
 pub use turn::{Turn, relieved_turn};

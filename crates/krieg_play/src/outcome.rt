@@ -1,19 +1,9 @@
-// What a call of play answers.
+// The faults of a call of play.
 ghost use Rattle.std.specs.Prelude.{◌≡◌};
 ghost use Rattle.krieg_play.specs.Passes as spec;
 
 use krieg_board::Side;
-use krieg_referee::{Game, Stop};
 use krieg_seats::SeatFault;
-
-/// A game that was played, and why it stopped.
-#[derive(Drop)]
-pub struct Played {
-    /// The game, with the tries that were judged.
-    pub game: Game,
-    /// It has ended, or the last seat of the side to move left, or as many asks were used as were allowed.
-    pub stop: Stop,
-}
 
 /// Why no game was played to a stop.
 #[derive(Clone, Copy, Debug, PartialEq, Eq)]

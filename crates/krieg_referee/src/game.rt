@@ -1,13 +1,12 @@
-ghost use Rattle.std.specs.Prelude.{◌≡◌, ◌+◌, ◌<◌, ◌++◌, ◌∷◌, [], max, OnOk, OnErr};
+ghost use Rattle.std.specs.Prelude.{◌≡◌, ◌+◌, ◌<◌, ◌++◌, ◌∷◌, [], max, length, IfOk, OnOk, OnErr};
 ghost use Rattle.krieg_moves.specs.Moves.{is_ended};
-ghost use Rattle.krieg_words.specs.WordsText.{has_ended};
 ghost use Rattle.krieg_referee.specs.Verdicts.{verdict, next};
-ghost use Rattle.krieg_referee.specs.Games.{judged};
+ghost use Rattle.krieg_referee.specs.Games.{judge, judged, last};
 
 use crate::verdict::{Event, Judged, Verdict};
 use krieg_board::{NoMemory, Position};
-use krieg_moves::{has_move, is_legal};
-use krieg_words::{End, make_move};
+use krieg_moves::has_move;
+use krieg_words::{has_ended, make_if_legal};
 use std::alloc::Global;
 use std::marker::Model;
 
@@ -33,15 +32,6 @@ impl Model for Game {
     ghost view = { λ g. record { position = g.position; log = g.log.items; spare = g.spare } };
 
     ghost invariant = { λ g. (g.over ≡ is_ended g.position) × (vec_len g.log + g.spare ≤ vec_capacity g.log) };
-}
-
-fn has_ended(end: End) -> bool
-    ensures { result ≡ has_ended end }
-{
-    match end {
-        End::Goes => false,
-        End::Mate | End::Stalemate => true,
-    }
 }
 
 impl Game {
@@ -86,10 +76,10 @@ impl Game {
         if e.who != self.position.side() {
             return Verdict::Early;
         }
-        if !is_legal(&self.position, e.mv) {
-            return Verdict::Illegal;
-        }
-        let made = make_move(&self.position, e.mv);
+        let made = match make_if_legal(&self.position, e.mv) {
+            None => return Verdict::Illegal,
+            Some(made) => made,
+        };
         self.position = made.position;
         self.over = has_ended(made.words.end);
         Verdict::Done(made.words)
@@ -134,4 +124,18 @@ impl Game {
     {
         self.spare
     }
+}
+
+/// The game of these tries, judged one after another. The places of all of them are taken before the first one is judged:
+/// `NoMemory` comes only for want of these, and never where there is no try.
+pub fn judge(alloc: Global, start: &Position, events: &[Event]) -> Result<Game, NoMemory>
+    ensures value { IfOk result (λ game. game ≡ record { position = last start.now events.now; log = judge start.now events.now; spare = 0 }) }
+    ensures no_memory { OnErr result (0 < length events.now) }
+{
+    let mut game = Game::start(alloc, *start);
+    game.reserve(events.len())?;
+    for event in events {
+        let _ = game.step(*event);
+    }
+    Ok(game)
 }

@@ -2,8 +2,9 @@
 //! hears what the rules tell him.
 //!
 //! The rules are the definitions of `specs/`: how one try is judged (`Verdicts`), a whole game
-//! (`Games`), and what a player hears (`Hearing`). Only `Game::reserve` takes memory, so a game that
-//! has its room is judged to the end whatever comes.
+//! (`Games`), and what a player hears (`Hearing`). A game is judged try by try (`Game`), or all of it at
+//! once (`judge`). Only `Game::reserve` takes memory, and `judge` by it: a game that has its room is judged
+//! to the end whatever comes.
 //!
 //! ```
 //! let mut game = Game::start(alloc, read_position(b"1k6/8/1K6/8/8/8/8/7R w - -")?);
@@ -20,6 +21,6 @@ mod game;
 mod hearing;
 mod verdict;
 
-pub use game::Game;
+pub use game::{Game, judge};
 pub use hearing::{hearing_law, line_for};
 pub use verdict::{Event, Judged, Stop, Verdict};

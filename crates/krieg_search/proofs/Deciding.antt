@@ -1,9 +1,10 @@
 -- What is decided over the opening sets, and what it takes.
-use Rattle.std.proofs.Common.{◌≡◌, ℕ, ◌+◌, ◌≤◌, Bool, true, false, not, ◌&&◌, ◌⊎◌, inl, inr, List, [], ◌∷◌, map, Option, Some, None, Result, Ok, Err, refl, sym, ap, subst, ◌∙◌, arith, Vec}
+use Rattle.std.proofs.Common.{◌≡◌, ℕ, ◌+◌, ◌≤◌, Bool, true, false, not, ◌&&◌, ◌⊎◌, inl, inr, List, [], map, Option, Some, None, Result, Ok, Err, refl, sym, ap, subst, ◌∙◌, arith, Vec}
 use Rattle.std.specs.declared.alloc.Global.{Global}
 use Rattle.std.specs.List.{list_all, list_any}
 use Rattle.std.specs.Result.{IsErrAnd}
 use Rattle.std.proofs.lemmas.Bool.{both_ways}
+use Rattle.std.proofs.lemmas.Simd.{map-map}
 use Rattle.krieg_board.specs.Pos.{Pos}
 use Rattle.krieg_board.specs.declared.men.Move.{Move}
 use Rattle.krieg_board.specs.declared.men.Side.{Side}
@@ -48,10 +49,6 @@ use Rattle.krieg_search.specs.Decided.{sets_in, IsAccount, IsWon, IsDecided}
 use Rattle.krieg_search.proofs.Searching.{ready_from}
 use Rattle.krieg_search.proofs.Opening.{same_openings, numbered_more}
 
-map_compose : {X Y Z : Type 0} (f : X → Y) (g : Y → Z) (xs : List X) → map g (map f xs) ≡ map (λ x. g (f x)) xs
-map_compose f g [] = refl
-map_compose f g (x ∷ xs) = ap (λ ys. g (f x) ∷ ys) (map_compose f g xs)
-
 no_entries : entries [] ≡ []
 unfolding entries
 no_entries = refl
@@ -63,9 +60,9 @@ empty_counted k = omega arith
 -- the sets of openings, whatever was stored since
 pub same_sets : (T T' : Interned) (os : List Opening) → IsMore T T' → AreNumbered T os → sets_in T' os ≡ sets_in T os
 same_sets T T' os m n =
-    sym (map_compose (opening_in T') (λ (c : RootKey × List Pos). c.1) os)
+    sym (map-map (λ (c : RootKey × List Pos). c.1) (opening_in T') os)
     ∙ ap (map (λ (c : RootKey × List Pos). c.1)) (same_openings T T' os m n)
-    ∙ map_compose (opening_in T) (λ (c : RootKey × List Pos). c.1) os
+    ∙ map-map (λ (c : RootKey × List Pos). c.1) (opening_in T) os
 
 module _ (d : Dialect) (who : Side) (S : List Pos) (n : ℕ) where
   first_within : first_made (chess d) (outset d who) S ≤ fresh (chess d) (outset d who) n S
@@ -107,9 +104,9 @@ module _ (d : Dialect) (who : Side) (S : List Pos) (n : ℕ) where
 
     at_sets : sets_in T1 os ≡ opening_sets (chess d) (outset d who) S
     at_sets =
-        sym (map_compose (opening_in T1) (λ (c : RootKey × List Pos). c.1) os)
+        sym (map-map (λ (c : RootKey × List Pos). c.1) (opening_in T1) os)
         ∙ ap (map (λ (c : RootKey × List Pos). c.1)) a.are
-        ∙ map_compose (λ (key : RootKey). (key, opening_set (chess d) (outset d who) S key)) (λ (c : RootKey × List Pos). c.1) (openings (chess d) (outset d who) S)
+        ∙ map-map (λ (c : RootKey × List Pos). c.1) (λ (key : RootKey). (key, opening_set (chess d) (outset d who) S key)) (openings (chess d) (outset d who) S)
 
     none_stored : entries T1 ≡ []
     none_stored = a.sets.noted ∙ no_entries

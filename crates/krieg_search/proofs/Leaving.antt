@@ -1,7 +1,8 @@
 -- What a try leaves to be won, by the theory's words.
-use Rattle.std.proofs.Common.{◌≡◌, ℕ, zero, suc, ◌<◌, true, false, List, [], ◌∷◌, map, Option, Some, None, refl, sym, ap, ◌∙◌, arith}
+use Rattle.std.proofs.Common.{◌≡◌, ℕ, zero, suc, ◌<◌, true, false, List, [], map, Option, Some, None, refl, sym, ap, ◌∙◌, arith}
 use Rattle.std.specs.Prelude.{IfSome}
 use Rattle.std.proofs.lemmas.Bool.{cond-true}
+use Rattle.std.proofs.lemmas.Simd.{map-map}
 use Rattle.krieg_board.specs.Pos.{Pos}
 use Rattle.krieg_board.specs.declared.men.Move.{Move}
 use Rattle.krieg_words.specs.declared.dialects.Dialect.{Dialect}
@@ -20,10 +21,6 @@ use Rattle.krieg_parting.specs.declared.parts.Parted.{Parted}
 use Rattle.krieg_search.specs.Searched.{sets_of}
 use Rattle.krieg_search.specs.Leaving.{FailsAtOnce, Leaves}
 use Rattle.krieg_search.specs.declared.left.Left.{Left}
-
-map_compose : {X Y Z : Type 0} (f : X → Y) (g : Y → Z) (xs : List X) → map g (map f xs) ≡ map (λ x. g (f x)) xs
-map_compose f g [] = refl
-map_compose f g (x ∷ xs) = ap (λ ys. g (f x) ∷ ys) (map_compose f g xs)
 
 no_pair : {X : Type 0} (o : Option X) → IfSome o (λ x. ⊥) → o ≡ None
 no_pair None h = refl
@@ -63,4 +60,4 @@ module _ (d : Dialect) where
   -- the sets of the classes are those of the keys that occur
   pub sets_are : (B : List Pos) (t : Move) (cs : List Class) → map class_pair cs ≡ map (λ key. (key, class (chess d) B t key)) (keys (chess d) B t) → sets_of cs ≡ classes (chess d) B t
   sets_are B t cs e =
-      sym (map_compose class_pair (λ (x : Key × List Pos). x.1) cs) ∙ ap (map (λ (x : Key × List Pos). x.1)) e ∙ map_compose (λ (k : Key). (k, class (chess d) B t k)) (λ (x : Key × List Pos). x.1) (keys (chess d) B t)
+      sym (map-map (λ (x : Key × List Pos). x.1) class_pair cs) ∙ ap (map (λ (x : Key × List Pos). x.1)) e ∙ map-map (λ (x : Key × List Pos). x.1) (λ (k : Key). (k, class (chess d) B t k)) (keys (chess d) B t)

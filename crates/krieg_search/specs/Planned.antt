@@ -8,24 +8,21 @@ use Rattle.krieg_game.specs.Keys.{RootKey}
 use Rattle.krieg_game.specs.Chess.{chess}
 use Rattle.krieg_plan.specs.Trees.{PlanTrees, plan_size, plan_depth}
 use Rattle.krieg_plan.specs.Plans.{plan_of}
+use Rattle.krieg_plan.specs.declared.limits.TheConstants.{MOST_ON_PATH}
 use Rattle.krieg_search.specs.declared.best_plan.Answer.{Answer}
 use Rattle.krieg_search.specs.declared.best_plan.Answer.TheVariants.{Mates, None}
 use Rattle.krieg_search.specs.declared.stop.Stop2.{Stop2}
 use Rattle.krieg_search.specs.declared.stop.Stop2.TheVariants.{Spent, Large, NoMemory}
 use Rattle.krieg_search.specs.Built.{roots_for}
 
--- so many nodes a path of a plan may have
-abbrev pub deepest : ℕ
-deepest = 2500
-
 -- the plan has at most so many nodes, and no path that is too long
 pub record IsFit (nodes : ℕ) (plan : PlanTrees) : Type 0 where
   pub size : plan_size plan ≤ nodes
-  pub depth : plan_depth plan ≤ deepest
+  pub depth : plan_depth plan ≤ MOST_ON_PATH
 
 -- it has more nodes, or a path that is too long
 abbrev pub IsUnfit : ℕ → PlanTrees → Type 0
-IsUnfit nodes plan = (nodes < plan_size plan) ⊎ (deepest < plan_depth plan)
+IsUnfit nodes plan = (nodes < plan_size plan) ⊎ (MOST_ON_PATH < plan_depth plan)
 
 module _ (d : Dialect) (j : ℕ) (cs : List (RootKey × List Pos)) where
   -- the plan has the canonical nodes of these sets as its roots, with the greatest of their least numbers, and fits

@@ -16,7 +16,7 @@ ghost use Rattle.krieg_search.specs.Solved.{IsAnswer, IsCharged, HasAccount};
 use crate::decide::{Won, decide};
 use crate::roots::{Roots, build_roots};
 use crate::stop::Stop2;
-use krieg_board::{Side, Units};
+use krieg_board::{MOST_MOVES, Side, Units};
 use krieg_pack::Belief;
 use krieg_plan::Plan;
 use krieg_words::Dialect;
@@ -65,7 +65,7 @@ fn build_plan(alloc: Global, d: Dialect, won: Won, moves: u8, nodes: usize) -> R
 /// is reached. So it is at least the floor and at most what is fresh. `Spent` comes only where fewer units are left than are
 /// fresh, and so fewer than the cost. It takes none, and neither does `NoMemory`.
 ///
-/// No more than 6 moves may be asked for; within 0 no plan mates a list that has a position. The same side is to move in all
+/// No more than [`MOST_MOVES`] moves may be asked for; within 0 no plan mates a list that has a position. The same side is to move in all
 /// listed positions; `has_one_turn` tells. `NoMemory` comes for want of memory, and for more than 100,000,000 different sets,
 /// which are all that a table keeps: each but the sets of openings takes a unit at least.
 pub fn solve(
@@ -77,7 +77,7 @@ pub fn solve(
     nodes: usize,
     units: &mut Units,
 ) -> Result<Answer, Stop2>
-    requires six { moves ≤ 6 }
+    requires most { moves ≤ MOST_MOVES }
     requires turn { IsOwnTurn who b.now ⊎ IsOthersTurn who b.now }
     ensures answer { IsAnswer d who b.now moves nodes result }
     ensures units { IsCharged d who b.now moves result units.old units.new }

@@ -9,7 +9,7 @@ ghost use Rattle.krieg_search.specs.Decided.{IsDecided, sets_in};
 use crate::openings::{Opening, find_openings};
 use crate::search::can_win;
 use crate::stop::Stop2;
-use krieg_board::{Side, Units};
+use krieg_board::{MOST_MOVES, Side, Units};
 use krieg_pack::Belief;
 use krieg_table::Table;
 use krieg_words::Dialect;
@@ -31,7 +31,7 @@ fn all_openings_win(
     moves: u8,
     units: &mut Units,
 ) -> Result<bool, Stop2>
-    requires six { moves ≤ 6 }
+    requires most { moves ≤ MOST_MOVES }
     requires ready { IsReady d table.old }
     requires numbered { AreNumbered table.old openings.now }
     ensures { Searches d result (TellsSets d table.new (sets_in table.old openings.now) moves) (CoversSets (chess d) (sets_in table.old openings.now) moves) 0 table.old table.new units.old units.new }
@@ -53,7 +53,7 @@ pub(crate) fn decide(
     moves: u8,
     units: &mut Units,
 ) -> Result<Option<Won>, Stop2>
-    requires six { moves ≤ 6 }
+    requires most { moves ≤ MOST_MOVES }
     requires turn { IsOwnTurn who b.now ⊎ IsOthersTurn who b.now }
     ensures { IsDecided d who b.now moves result units.old units.new }
 {

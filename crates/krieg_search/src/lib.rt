@@ -11,7 +11,7 @@
 //! each number the tries in their order, up to the first that begins to win; for a try first what makes it fail at once
 //! (`left`), then what is possible after each thing that may be heard, and then the members that refuse it, up to
 //! the first part that cannot be won. Each set has a number in a table (`number`), which holds what is found
-//! for 1 to 6 moves, so that no set is searched twice for the same number of moves.
+//! for each number of moves, so that no set is searched twice for the same number of moves.
 //!
 //! `roots` and `build` make the plan of the stored results. Each node is taken from the number that is allowed before
 //! anything below it is built. They split the sets once more, each by the one try that wins it, by units that are made

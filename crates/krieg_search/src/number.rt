@@ -3,10 +3,7 @@ ghost use Rattle.krieg_search.specs.Searched.{AreCounted, IsNumbered};
 
 use krieg_board::NoMemory;
 use krieg_pack::Belief;
-use krieg_table::Table;
-
-/// A table with so many sets is full.
-const FULL: usize = 100_000_000;
+use krieg_table::{MOST_SETS, Table};
 
 /// The number of the set, which is put into the table if it is new there. A table that is full is want of memory.
 #[inline(never)]
@@ -15,7 +12,7 @@ pub(crate) fn number_of(table: &mut Table, b: Belief) -> Result<u32, NoMemory>
     ensures { IfOk result (IsNumbered table.old table.new b) }
 {
     let _members = b.len();
-    if table.len() >= FULL {
+    if table.len() >= MOST_SETS {
         return Err(NoMemory);
     }
     table.intern(b)

@@ -10,13 +10,10 @@ ghost use Rattle.krieg_search.specs.Rooted.{AreRoots};
 use crate::build::{build, win_of};
 use crate::openings::Opening;
 use crate::stop::Stop2;
-use krieg_plan::Root;
+use krieg_plan::{MOST_ON_PATH, Root};
 use krieg_table::Table;
 use krieg_words::Dialect;
 use std::alloc::Global;
-
-/// So many nodes a path of a plan may have.
-const DEEP: usize = 2_500;
 
 /// The roots of a plan, and its worst case.
 #[derive(Drop)]
@@ -26,8 +23,8 @@ pub(crate) struct Roots {
 }
 
 /// A root with the canonical node of the set of each opening, all of which are stored as won within `moves`, and the
-/// greatest of their least numbers. `Large` comes exactly where they have more nodes than are left, or more than 2,500
-/// on a path.
+/// greatest of their least numbers. `Large` comes exactly where they have more nodes than are left, or more than
+/// [`MOST_ON_PATH`] on a path.
 pub(crate) fn build_roots(
     alloc: Global,
     d: Dialect,
@@ -39,14 +36,14 @@ pub(crate) fn build_roots(
     requires paid { IsPaidFor d table.old }
     requires numbered { AreNumbered table.old openings.items }
     requires won { (C : List Pos) → In C (sets_in table.old openings.items) → WonBy table.old C moves }
-    ensures { Builds result (AreRoots d moves (map (opening_in table.old) openings.items)) (plan_size (roots_for d moves (map (opening_in table.old) openings.items))) (plan_depth (roots_for d moves (map (opening_in table.old) openings.items))) table.old table.new left.old left.new 2500 }
+    ensures { Builds result (AreRoots d moves (map (opening_in table.old) openings.items)) (plan_size (roots_for d moves (map (opening_in table.old) openings.items))) (plan_depth (roots_for d moves (map (opening_in table.old) openings.items))) table.old table.new left.old left.new MOST_ON_PATH }
 {
     let mut worst = 0;
     let mut roots = Vec::new(alloc);
     for o in openings {
         let win = win_of(table, o.set, moves);
         worst = worst.max(win.moves);
-        let node = build(alloc, d, table, o.set, moves, left, DEEP)?;
+        let node = build(alloc, d, table, o.set, moves, left, MOST_ON_PATH)?;
         roots.push(Root {
             opens: o.opens,
             heard: o.heard,

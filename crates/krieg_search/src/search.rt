@@ -11,7 +11,7 @@ ghost use Rattle.krieg_search.specs.Searched.{IsReady, Searches, TellsSet, Tells
 use crate::left::{Left, left_by};
 use crate::number::number_of;
 use crate::stop::Stop2;
-use krieg_board::{Move, Units};
+use krieg_board::{MOST_MOVES, Move, Units};
 use krieg_game::Class;
 use krieg_split::tries;
 use krieg_table::{Known, Table};
@@ -29,7 +29,7 @@ pub(crate) fn can_win(
     units: &mut Units,
 ) -> Result<bool, Stop2>
     requires within { set < length table.old }
-    requires six { moves ≤ 6 }
+    requires most { moves ≤ MOST_MOVES }
     requires ready { IsReady d table.old }
     ensures { Searches d result (TellsSet d table.new (set_at table.old set) moves) (CoversSet (chess d) (set_at table.old set) moves) 0 table.old table.new units.old units.new }
 {
@@ -54,7 +54,7 @@ fn can_win_in(
 ) -> Result<bool, Stop2>
     requires some { 0 < moves }
     requires within { set < length table.old }
-    requires six { moves ≤ 6 }
+    requires most { moves ≤ MOST_MOVES }
     requires ready { IsReady d table.old }
     requires below { LostBelow (chess d) (entries table.old) (set_at table.old set) moves }
     ensures { Searches d result (TellsSet d table.new (set_at table.old set) moves) (CoversPair (chess d) (set_at table.old set) moves) 0 table.old table.new units.old units.new }
@@ -91,7 +91,7 @@ fn begins(
 ) -> Result<bool, Stop2>
     requires some { 0 < moves }
     requires within { set < length table.old }
-    requires six { moves ≤ 6 }
+    requires most { moves ≤ MOST_MOVES }
     requires ready { IsReady d table.old }
     requires legal { legal_in_some (chess d) (set_at table.old set) mv ≡ true }
     ensures { Searches d result (TellsTry d table.new (set_at table.old set) moves mv) (CoversTry (chess d) (set_at table.old set) moves mv) (made (chess d) (set_at table.old set) mv) table.old table.new units.old units.new }
@@ -120,7 +120,7 @@ fn all_can_win(
     moves: u8,
     units: &mut Units,
 ) -> Result<bool, Stop2>
-    requires six { moves ≤ 6 }
+    requires most { moves ≤ MOST_MOVES }
     requires ready { IsReady d table.old }
     ensures { Searches d result (TellsSets d table.new (sets_of classes.items) moves) (CoversSets (chess d) (sets_of classes.items) moves) 0 table.old table.new units.old units.new }
 {

@@ -18,8 +18,8 @@ pub record Account : Type 0 where
   pub leaves : ℕ
 
 -- a seat that nothing was asked of and nothing told to
-abbrev pub fresh : Account
-fresh = record { said = []; heard = []; asks = 0; faults = 0; leaves = 0 }
+abbrev pub new_account : Account
+new_account = record { said = []; heard = []; asks = 0; faults = 0; leaves = 0 }
 
 -- a call that failed: the count of faults rose, and nothing else changed
 abbrev pub Fails : Account → Account → Type 0

@@ -1,6 +1,6 @@
 -- What a player says by the bytes that he sends, a line at a time. A line feed is byte 10; a carriage return is a byte like others.
 use Rattle.std.specs.Prelude.{◌≡◌, ℕ, ◌-◌, ◌^◌, ◌≤◌, ⊤, Bool, List, [], ◌∷◌, length, Option, Some, None, option_map, unwrap_or, if◌then◌else◌}
-use Rattle.krieg_fen.specs.Names.{cut}
+use Rattle.krieg_text.specs.Names.{cut}
 use Rattle.krieg_fen.specs.MoveText.{move_of}
 use Rattle.krieg_seats.specs.declared.seat.Say.{Say}
 use Rattle.krieg_seats.specs.declared.seat.Say.TheVariants.{Try, Leave}

@@ -4,7 +4,7 @@ ghost use Rattle.std.specs.Prelude.{◌≡◌, ◌≤◌, ◌⊎◌, ℕ, true, 
 ghost use Rattle.std.specs.Io.KnownBytes.{Keeps};
 ghost use Rattle.krieg_ports.specs.Faults.{Rose};
 ghost use Rattle.krieg_fen.specs.MoveText.{move_of};
-ghost use Rattle.krieg_fen.specs.Outcomes.{Reads};
+ghost use Rattle.krieg_text.specs.Outcomes.{Reads};
 ghost use Rattle.krieg_seats.specs.Saying.{lines_left, ReadsLine, IsEndless};
 ghost use Rattle.krieg_seats.specs.LineReading.{GivesByte, said_so, IsWithin};
 

@@ -1,7 +1,7 @@
 // A player who follows a script, for tests and for callers that know beforehand what is to be said.
 ghost use Rattle.std.specs.Prelude.{◌≡◌, ◌≢◌, ◌↔◌, IsTrue, Contains, Err, IfOk, OnOk, if◌then◌else◌};
 ghost use Rattle.krieg_ports.specs.Faults.{one_more};
-ghost use Rattle.krieg_seats.specs.Accounts.{fresh, Asked, Told};
+ghost use Rattle.krieg_seats.specs.Accounts.{new_account, Asked, Told};
 ghost use Rattle.krieg_seats.specs.Scripts.{FailsNext, next_say};
 ghost use Rattle.krieg_seats.specs.Scripts.{when_asked, after_asked, after_told, after_failed, after_short};
 
@@ -54,7 +54,7 @@ impl ScriptSeat {
     /// memory.
     pub fn new(alloc: Global, script: Vec<Move>, fails: Vec<u64>) -> ScriptSeat
         ensures { result ≡ record {
-          account = fresh;
+          account = new_account;
           left = script.items;
           fails = fails.items;
           calls = 0;

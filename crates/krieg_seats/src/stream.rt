@@ -4,10 +4,10 @@ ghost use Rattle.std.specs.Prelude.{◌≡◌, false, Ok, Err, IfOk, OnOk, OnErr
 ghost use Rattle.krieg_ports.specs.Bytes.{AppendsPrefix};
 ghost use Rattle.krieg_ports.specs.Faults.{one_more};
 ghost use Rattle.std.specs.Io.KnownBytes.{Appends};
-ghost use Rattle.krieg_fen.specs.Lines.{ended_line};
+ghost use Rattle.krieg_text.specs.Lines.{ended_line};
 ghost use Rattle.krieg_words.specs.Line.{line_text};
 ghost use Rattle.krieg_words.specs.declared.dialects.Dialect.TheVariants.{Wild16};
-ghost use Rattle.krieg_seats.specs.Accounts.{fresh, Asked, Told};
+ghost use Rattle.krieg_seats.specs.Accounts.{new_account, Asked, Told};
 ghost use Rattle.krieg_seats.specs.Saying.{lines_left, ReadsLine};
 ghost use Rattle.krieg_seats.specs.Streams.{bytes_from, bytes_to, SaysNothing, Writes, FailsToWrite};
 ghost use Rattle.krieg_seats.specs.Streams.{stream_account, has_reader, has_writer, KeepsEnds, lines_of, written_of, HearsNothing};
@@ -41,7 +41,7 @@ impl<R: Read + Drop, W: Write + Drop> StreamSeat<R, W> {
     /// A seat over a reader and a writer, each of which may be missing, as where a file could not be opened. It
     /// takes no memory. A writer should keep nothing back: it is not flushed.
     pub fn new(alloc: Global, from: Option<R>, to: Option<W>) -> StreamSeat<R, W>
-        ensures account { stream_account result ≡ fresh }
+        ensures account { stream_account result ≡ new_account }
         ensures reader { has_reader result ≡ is_some from }
         ensures writer { has_writer result ≡ is_some to }
         ensures lines { lines_of R.remaining result ≡ option_and_then R.remaining from }

@@ -6,31 +6,32 @@ use Rattle.krieg_board.specs.Pos.{Pos}
 use Rattle.krieg_board.specs.declared.men.Side.{Side}
 use Rattle.krieg_board.specs.declared.men.Side.TheVariants.{White, Black}
 use Rattle.krieg_board.specs.declared.men.Move.{Move}
-use Rattle.krieg_fen.specs.declared.fault.TextFault.{TextFault}
-use Rattle.krieg_fen.specs.declared.fault.TextKind.{TextKind}
-use Rattle.krieg_fen.specs.Outcomes.{◌>>=◌}
-use Rattle.krieg_fen.specs.Names.{behind}
-use Rattle.krieg_fen.specs.Lines.{lines, is_line, AreLines}
+use Rattle.krieg_text.specs.declared.fault.TextFault.{TextFault}
+use Rattle.krieg_text.specs.declared.fault.TextKind.{TextKind}
+use Rattle.krieg_text.specs.Outcomes.{◌>>=◌}
+use Rattle.krieg_text.specs.Names.{behind}
+use Rattle.krieg_text.specs.Lines.{lines, is_line, AreLines}
 use Rattle.krieg_fen.specs.FenText.{position_text}
 use Rattle.krieg_fen.specs.MoveText.{move_of, move_text, IsOnBoard}
 use Rattle.krieg_fen.specs.Spelling.{Spells}
-use Rattle.krieg_fen.specs.Reading.{taken, whole, Step, goes_on, stops, Gives}
-use Rattle.krieg_fen.specs.Forms.{position_form}
-use Rattle.krieg_fen.specs.Writing.{joined}
-use Rattle.krieg_fen.specs.FirstBad.{Has}
-use Rattle.krieg_fen.specs.Formats.{behind_or, Always, IsReading}
-use Rattle.krieg_fen.specs.Languages.{Behind, One, UpToLast, ◌⨾◌}
-use Rattle.krieg_fen.proofs.CleanTexts.{move_line, position_line}
-use Rattle.krieg_fen.proofs.FormSpellings.{position_is, position_read}
-use Rattle.krieg_fen.proofs.Formats.{IsForm, IsFormat, named_form, word_is, line_format, last_part, part_then, IsStep, IsItemForm, items_format, whole_found, whole_only, reading}
-use Rattle.krieg_fen.proofs.Grammars.{untold, KeepsTo, line_keeps, bind_keeps, then_keeps, made_keeps}
-use Rattle.krieg_fen.proofs.ListGrammars.{form_of, lone_kings, kings_valid, written_form}
-use Rattle.krieg_fen.proofs.LoopGrammars.{Goes, HasLoopForm, loop_keeps}
-use Rattle.krieg_fen.proofs.LineTexts.{line_append, lines_append, lines_again}
+use Rattle.krieg_text.specs.Reading.{taken, whole, Step, goes_on, stops, Gives}
+use Rattle.krieg_fen.specs.Forms.{position_form, start_form, side_mark}
+use Rattle.krieg_text.specs.Writing.{joined}
+use Rattle.krieg_text.specs.FirstBad.{Has}
+use Rattle.krieg_text.specs.Formats.{behind_or, Always, IsReading}
+use Rattle.krieg_text.specs.Languages.{Behind, One, UpToLast}
+use Rattle.krieg_fen.proofs.CleanTexts.{move_line, position_line, mark_line}
+use Rattle.krieg_fen.proofs.FormSpellings.{positions, starts_form}
+use Rattle.krieg_text.proofs.Formats.{IsFormat, word_is, line_format, last_part, part_then, IsStep, IsItemForm, items_format, whole_found, whole_only, reading}
+use Rattle.krieg_text.proofs.Grammars.{untold, KeepsTo, line_keeps, bind_keeps, then_keeps, made_keeps}
+use Rattle.krieg_fen.proofs.ListGrammars.{lone_kings, kings_valid, written_form, some_start}
+use Rattle.krieg_text.proofs.FormGrammars.{form_of}
+use Rattle.krieg_text.proofs.LoopGrammars.{Goes, HasLoopForm, loop_keeps}
+use Rattle.krieg_text.proofs.LineTexts.{line_append, lines_append, lines_again}
 use Rattle.krieg_fen.proofs.ListSpellings.{written_spells}
 use Rattle.krieg_fen.proofs.MoveTexts.{move_spells, move_again}
-use Rattle.krieg_fen.proofs.NameLemmas.{behind_spells, behind_again}
-use Rattle.krieg_fen.proofs.Writings.{put_lines_is, joined_alone}
+use Rattle.krieg_text.proofs.NameLemmas.{behind_spells, behind_again}
+use Rattle.krieg_text.proofs.Writings.{put_lines_is, joined_alone}
 use Rattle.krieg_words.specs.declared.dialects.Dialect.{Dialect}
 use Rattle.krieg_words.specs.Versions.{version_lines, version_at, SpellVersion}
 use Rattle.krieg_words.proofs.VersionFormats.{version_format, version_keeps}
@@ -41,22 +42,15 @@ use Rattle.krieg_referee.specs.declared.verdict.Stop.TheVariants.{Ended, Left, A
 use Rattle.krieg_sheet.proofs.SheetsAgain.{sheet_again}
 use Rattle.krieg_session.proofs.SheetsOfGames.{sheets_in_place}
 use Rattle.krieg_session.specs.Sessions.{SessionState}
-use Rattle.krieg_session.specs.SessionReading.{start_form, tried, white_try, try_form, last_lines, last_form, unless_last, line_form, led, event_form, events_at, session_at, session_version_at, start_at}
+use Rattle.krieg_session.specs.SessionReading.{tried, white_try, try_form, last_lines, last_form, unless_last, line_form, led, event_form, events_at, session_at, session_version_at, start_at}
 use Rattle.krieg_session.specs.SessionSpelling.{SpellsTry, SpellsSession, SessionGrammar, SpellsStart, StartGrammar}
 use Rattle.krieg_session.specs.SessionText.{event_line, last_text, session_lines, session_text}
-use Rattle.krieg_session.specs.Telling.{side_mark, sheet_of}
+use Rattle.krieg_session.specs.Telling.{sheet_of}
 use Rattle.krieg_session.specs.Laws.{AreTries, IsGame, SessionsAreReadBack, SheetsAreReadBack}
 use Rattle.krieg_session.specs.declared.reading.SessionLine.{SessionLine}
 use Rattle.krieg_session.specs.declared.reading.SessionLine.TheVariants.{Try, Last}
 
 -- The forms.
-
-positions : IsForm position_form Spells
-positions = record { found = position_is; only = position_read }
-
-starts_form : IsForm start_form (λ l p. Behind (codes "start ") (λ t. Spells t p) l)
-unfolding start_form
-starts_form = named_form (codes "start ") position_form Spells positions
 
 tried_is : (who : Side) (l t : List ℕ) (e : Event) → l ≡ side_mark who ++ t → tried who (move_of t) ≡ Ok e → SpellsTry l e
 tried_is who l t e front h = go (move_of t) refl h
@@ -182,10 +176,6 @@ lines_form = record {
     item es l e is (Some stop) end = absurd (no_try stop e (ap try_form (sym (last_is l stop end)) ∙ is))
     item es l e is None end = inl (es ++ e ∷ [], ap (λ (r : Result Event TextKind). step_of es l None r) is)
 
-some_start : start_form (codes "start " ++ position_text (lone_kings White)) ≡ Ok (lone_kings White)
-unfolding start_form
-some_start = ap (behind_or position_form) (behind_again (codes "start ") (position_text (lone_kings White))) ∙ written_form (lone_kings White) (kings_valid White)
-
 pub session_keeps : KeepsTo session_at Always untold (λ u. SessionGrammar)
 unfolding session_at session_version_at
 session_keeps =
@@ -244,10 +234,6 @@ lines_spell s game = record {
     second = tries_spelled [] s.events s.stop game.tries;
   };
 }
-
-mark_line : (who : Side) → is_line (side_mark who) ≡ true
-mark_line White = refl
-mark_line Black = refl
 
 last_line : (stop : Option Stop) → is_line (last_text stop) ≡ true
 last_line None = refl

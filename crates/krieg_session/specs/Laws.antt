@@ -4,9 +4,9 @@ use Rattle.std.specs.List.{All}
 use Rattle.krieg_board.specs.Pos.{Pos}
 use Rattle.krieg_board.specs.Validity.{IsValid}
 use Rattle.krieg_board.specs.declared.men.Side.{Side}
-use Rattle.krieg_fen.specs.Lines.{lines}
+use Rattle.krieg_text.specs.Lines.{lines}
 use Rattle.krieg_fen.specs.MoveText.{IsOnBoard}
-use Rattle.krieg_fen.specs.Reading.{whole}
+use Rattle.krieg_text.specs.Reading.{whole}
 use Rattle.krieg_words.specs.declared.dialects.Dialect.{Dialect}
 use Rattle.krieg_referee.specs.declared.verdict.Event.{Event}
 use Rattle.krieg_referee.specs.Games.{last}

@@ -1,18 +1,17 @@
 -- Which lines spell a session, and which a start: the tables of the formats, without a reader.
 use Rattle.std.specs.Prelude.{◌≡◌, ℕ, List, [], ◌++◌, codes, Option, Ok}
 use Rattle.krieg_board.specs.Pos.{Pos}
-use Rattle.krieg_fen.specs.FirstBad.{Has}
-use Rattle.krieg_fen.specs.Forms.{position_form}
-use Rattle.krieg_fen.specs.Languages.{Language, One, Many, Any, Behind, UpToLast, ◌⨾◌}
+use Rattle.krieg_text.specs.FirstBad.{Has}
+use Rattle.krieg_fen.specs.Forms.{position_form, start_form, side_mark}
+use Rattle.krieg_text.specs.Languages.{Language, One, Many, Any, Behind, UpToLast, ◌⨾◌}
 use Rattle.krieg_fen.specs.MoveText.{move_text, IsOnBoard}
 use Rattle.krieg_fen.specs.Spelling.{Spells}
 use Rattle.krieg_words.specs.Versions.{SpellVersion}
 use Rattle.krieg_referee.specs.declared.verdict.Event.{Event}
 use Rattle.krieg_referee.specs.declared.verdict.Stop.{Stop}
 use Rattle.krieg_session.specs.Sessions.{SessionState}
-use Rattle.krieg_session.specs.SessionReading.{start_form, try_form}
+use Rattle.krieg_session.specs.SessionReading.{try_form}
 use Rattle.krieg_session.specs.SessionText.{last_text}
-use Rattle.krieg_session.specs.Telling.{side_mark}
 
 -- a player's mark and a move of the board
 abbrev pub SpellsTry : List ℕ → Event → Type 0

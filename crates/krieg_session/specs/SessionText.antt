@@ -3,13 +3,13 @@ use Rattle.std.specs.Prelude.{ℕ, List, [], ◌∷◌, ◌++◌, codes, Option,
 use Rattle.krieg_board.specs.declared.men.Side.TheVariants.{White, Black}
 use Rattle.krieg_fen.specs.FenText.{position_text}
 use Rattle.krieg_fen.specs.MoveText.{move_text}
-use Rattle.krieg_fen.specs.Writing.{Pieces, alone, put_lines}
+use Rattle.krieg_text.specs.Writing.{Pieces, alone, put_lines}
 use Rattle.krieg_words.specs.Versions.{version_lines}
 use Rattle.krieg_referee.specs.declared.verdict.Event.{Event}
 use Rattle.krieg_referee.specs.declared.verdict.Stop.{Stop}
 use Rattle.krieg_referee.specs.declared.verdict.Stop.TheVariants.{Ended, Left, AsksUsed}
 use Rattle.krieg_session.specs.Sessions.{SessionState}
-use Rattle.krieg_session.specs.Telling.{side_mark}
+use Rattle.krieg_fen.specs.Forms.{side_mark}
 
 -- a player's mark and his move
 abbrev pub event_line : Event → Pieces

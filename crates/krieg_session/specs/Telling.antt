@@ -1,11 +1,11 @@
 -- What the umpire tells of a session: one player's sheet, and all lines of both players.
-use Rattle.std.specs.Prelude.{ℕ, List, [], ◌∷◌, ◌++◌, codes, Option, Some, None, map, if◌then◌else◌}
+use Rattle.std.specs.Prelude.{ℕ, List, [], ◌∷◌, ◌++◌, Option, Some, None, map, if◌then◌else◌}
 use Rattle.std.specs.List.{flat_map, filter_map}
 use Rattle.krieg_board.specs.Men.{is_same_side}
 use Rattle.krieg_board.specs.Pos.{Pos}
 use Rattle.krieg_board.specs.declared.men.Side.{Side}
 use Rattle.krieg_board.specs.declared.men.Side.TheVariants.{White, Black}
-use Rattle.krieg_fen.specs.Writing.{Pieces, put_lines}
+use Rattle.krieg_text.specs.Writing.{Pieces, put_lines}
 use Rattle.krieg_words.specs.WordsOfMoves.{opening}
 use Rattle.krieg_words.specs.ToldWords.{told}
 use Rattle.krieg_words.specs.Line.{told_line, line_text}
@@ -18,6 +18,7 @@ use Rattle.krieg_referee.specs.Games.{judge}
 use Rattle.krieg_referee.specs.Hearing.{line_for, lines_for}
 use Rattle.krieg_sheet.specs.Sheets.{SheetState}
 use Rattle.krieg_sheet.specs.SheetText.{entry_line, sheet_text}
+use Rattle.krieg_fen.specs.Forms.{side_mark}
 
 -- A player's sheet of tries that were judged: it lists the position in which the game began, and has the
 -- opening words and the lines that he hears, as the dialect tells them.
@@ -64,11 +65,6 @@ if_of who l = if is_same_side l.0 who then Some l.1 else None
 
 abbrev pub lines_of : Side → List (Side × Line) → List Line
 lines_of who ls = filter_map (if_of who) ls
-
--- whose line or try it is
-abbrev pub side_mark : Side → List ℕ
-side_mark White = codes "w "
-side_mark Black = codes "b "
 
 -- a player's line with its mark
 abbrev pub marked_line : Dialect → Side × Line → Pieces

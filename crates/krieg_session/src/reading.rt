@@ -1,9 +1,10 @@
 ghost use Rattle.std.specs.Prelude.{◌≡◌, ◌≢◌, IfOk, IfErr};
-ghost use Rattle.krieg_fen.specs.Lines.{lines};
+ghost use Rattle.krieg_text.specs.Lines.{lines};
 ghost use Rattle.krieg_fen.specs.MoveText.{move_of};
-ghost use Rattle.krieg_fen.specs.Formats.{Always, IsReading};
-ghost use Rattle.krieg_fen.specs.Reading.{taken, whole, Gives, GivesOn, Passed};
-ghost use Rattle.krieg_fen.specs.declared.fault.TextFault.TheVariants.{NoMemory as OutOfMemory};
+ghost use Rattle.krieg_text.specs.Formats.{Always, IsReading};
+ghost use Rattle.krieg_text.specs.Reading.{taken, whole, Gives, GivesOn, Passed};
+ghost use Rattle.krieg_text.specs.declared.fault.TextFault.TheVariants.{NoMemory as OutOfMemory};
+ghost use Rattle.krieg_fen.specs.Forms as forms;
 ghost use Rattle.krieg_session.specs.Laws.{IsGame};
 ghost use Rattle.krieg_session.specs.Sessions.{state_of};
 ghost use Rattle.krieg_session.specs.SessionSpelling.{SpellsSession, SessionGrammar, SpellsStart, StartGrammar};
@@ -11,8 +12,9 @@ ghost use Rattle.krieg_session.specs.SessionReading as spec;
 
 use crate::session::Session;
 use krieg_board::{Position, Side};
-use krieg_fen::{Cursor, TextFault, TextKind, behind, is_name, position_line, read_move};
+use krieg_fen::{position_form, read_move, start_form};
 use krieg_referee::{Event, Stop};
+use krieg_text::{Cursor, TextFault, TextKind, behind, is_name};
 use krieg_words::{Dialect, read_version_lines};
 use std::alloc::Global;
 
@@ -33,24 +35,13 @@ fn read_session_version(from: &mut Cursor<'_>) -> Result<Dialect, TextFault>
     read_version_lines(from, b"krieg session ")
 }
 
-/// The position after the word `start`.
-#[tactic(auto, unfolding(crate::specs::SessionReading::start_form))]
-fn start_line(text: &[u8]) -> Result<Position, TextKind>
-    ensures { result ≡ spec.start_form text.now }
-{
-    match behind(b"start ", text) {
-        None => Err(TextKind::Syntax),
-        Some(position) => position_line(position),
-    }
-}
-
-#[tactic(auto, using(krieg_fen::proofs::ReadingLemmas::refused))]
+#[tactic(auto, using(krieg_text::proofs::ReadingLemmas::refused))]
 fn read_start_line(from: &mut Cursor<'_>) -> Result<Position, TextFault>
-    ensures value { GivesOn (λ p. p) result from.new (taken spec.start_form from.old) }
+    ensures value { GivesOn (λ p. p) result from.new (taken forms.start_form from.old) }
     ensures rest { Passed from.old from.new }
 {
     let line = from.number();
-    start_line(from.line()?).map_err(|kind| TextFault::At { line, kind })
+    start_form(from.line()?).map_err(|kind| TextFault::At { line, kind })
 }
 
 fn tried(who: Side, text: &[u8]) -> Result<Event, TextKind>
@@ -64,7 +55,7 @@ fn tried(who: Side, text: &[u8]) -> Result<Event, TextKind>
 
 /// The try that the line spells.
 #[tactic(auto, unfolding(crate::specs::SessionReading::try_form))]
-fn try_line(text: &[u8]) -> Result<Event, TextKind>
+fn try_form(text: &[u8]) -> Result<Event, TextKind>
     ensures { result ≡ spec.try_form text.now }
 {
     match behind(b"w ", text) {
@@ -78,7 +69,7 @@ fn try_line(text: &[u8]) -> Result<Event, TextKind>
 
 /// Why the game stopped, where the line is the last one.
 #[tactic(auto, unfolding(crate::specs::SessionReading::last_form))]
-fn last_line(text: &[u8]) -> Option<Option<Stop>>
+fn last_form(text: &[u8]) -> Option<Option<Stop>>
     ensures { result ≡ spec.last_form text.now }
 {
     if is_name(b"end", text) {
@@ -98,12 +89,12 @@ fn last_line(text: &[u8]) -> Option<Option<Stop>>
 
 /// The last line, or a try.
 #[tactic(auto, unfolding(crate::specs::SessionReading::line_form))]
-fn line_of(text: &[u8]) -> Result<SessionLine, TextKind>
+fn line_form(text: &[u8]) -> Result<SessionLine, TextKind>
     ensures { result ≡ spec.line_form text.now }
 {
-    match last_line(text) {
+    match last_form(text) {
         Some(stop) => Ok(SessionLine::Last(stop)),
-        None => match try_line(text) {
+        None => match try_form(text) {
             Ok(event) => Ok(SessionLine::Try(event)),
             Err(kind) => Err(kind),
         },
@@ -121,7 +112,7 @@ fn read_events(
     'events: loop {
         let number = from.number();
         let line = from.line()?;
-        match line_of(line) {
+        match line_form(line) {
             Err(kind) => return Err(TextFault::At { line: number, kind }),
             Ok(SessionLine::Last(stop)) => {
                 events.shrink_to_fit();
@@ -162,13 +153,13 @@ pub fn read_session(alloc: Global, text: &[u8]) -> Result<Session, TextFault>
     read_lines(alloc, text)
 }
 
-#[tactic(auto, using(krieg_fen::proofs::ReadingLemmas::refused))]
+#[tactic(auto, using(krieg_text::proofs::ReadingLemmas::refused))]
 fn read_position_line(from: &mut Cursor<'_>) -> Result<Position, TextFault>
     ensures value { GivesOn (λ p. p) result from.new (spec.start_at from.old) }
     ensures memory { IfErr result (λ e. e ≢ OutOfMemory) }
 {
     let line = from.number();
-    position_line(from.line()?).map_err(|kind| TextFault::At { line, kind })
+    position_form(from.line()?).map_err(|kind| TextFault::At { line, kind })
 }
 
 fn read_one_line(text: &[u8]) -> Result<Position, TextFault>

@@ -1,5 +1,5 @@
-ghost use Rattle.std.specs.Prelude.{◌≡◌, ◌∷◌, [], IfOk, IfSome, map};
-ghost use Rattle.krieg_fen.specs.Writing.{PutsText, PutsLines, Appends};
+ghost use Rattle.std.specs.Prelude.{◌∷◌, [], IfSome, map};
+ghost use Rattle.krieg_text.specs.Writing.{PutsText, PutsLines, Appends};
 ghost use Rattle.krieg_words.specs.Line.{told_line};
 ghost use Rattle.krieg_words.specs.WordsOfMoves.{opening};
 ghost use Rattle.krieg_words.specs.declared.line.Line.TheVariants.{Opens};
@@ -10,23 +10,12 @@ ghost use Rattle.krieg_session.specs.Telling as spec;
 
 use crate::session::Session;
 use krieg_board::{NoMemory, Position, Side};
-use krieg_fen::{Text, put_listed};
-use krieg_referee::{Event, Game, Judged, line_for};
+use krieg_fen::{put_listed, side_mark};
+use krieg_referee::{Judged, judge, line_for};
 use krieg_sheet::{put_end, put_entry, put_head};
+use krieg_text::Text;
 use krieg_words::{Dialect, Line, opening, put_line_in, told_line};
 use std::alloc::Global;
-
-/// The game of these tries. The places of all of them are taken before the first one is judged.
-fn judged(alloc: Global, start: &Position, events: &[Event]) -> Result<Game, NoMemory>
-    ensures { IfOk result (λ g. g.log ≡ judge start.now events.now) }
-{
-    let mut game = Game::start(alloc, *start);
-    game.reserve(events.len())?;
-    for event in events {
-        let _ = game.step(*event);
-    }
-    Ok(game)
-}
 
 /// Adds the line as the dialect tells it.
 #[tactic(auto, using(crate::proofs::Tellings::fitting))]
@@ -48,7 +37,7 @@ fn put_heard(d: Dialect, who: Side, judged: &Judged, text: &mut Text) -> Result<
 }
 
 /// Adds the lines of the player's sheet of a game that was judged.
-#[tactic(auto, using(krieg_fen::proofs::Writings::writings, crate::proofs::Tellings::logs))]
+#[tactic(auto, using(krieg_text::proofs::Writings::writings, crate::proofs::Tellings::logs))]
 fn put_player(
     d: Dialect,
     start: &Position,
@@ -65,15 +54,6 @@ fn put_player(
         put_heard(d, who, judged, text)?;
     }
     put_end(text)
-}
-
-pub(crate) fn side_mark(who: Side) -> &'static [u8]
-    ensures { result.now ≡ spec.side_mark who }
-{
-    match who {
-        Side::White => b"w ",
-        Side::Black => b"b ",
-    }
 }
 
 /// Adds the line as the dialect tells it, with the player's mark.
@@ -97,7 +77,7 @@ fn put_players(d: Dialect, who: Side, judged: &Judged, text: &mut Text) -> Resul
 }
 
 /// Adds White's line of a judged try and then Black's.
-#[tactic(auto, using(krieg_fen::proofs::Writings::writings, crate::proofs::Tellings::logs))]
+#[tactic(auto, using(krieg_text::proofs::Writings::writings, crate::proofs::Tellings::logs))]
 fn put_both(d: Dialect, judged: &Judged, text: &mut Text) -> Result<(), NoMemory>
     ensures { PutsLines result text.old text.new (map (spec.marked_line d) (spec.both_lines d judged.now)) }
 {
@@ -106,7 +86,7 @@ fn put_both(d: Dialect, judged: &Judged, text: &mut Text) -> Result<(), NoMemory
 }
 
 /// Adds the lines of both players of a game that was judged.
-#[tactic(auto, using(krieg_fen::proofs::Writings::writings, crate::proofs::Tellings::logs), unfolding(crate::specs::Telling::marked_lines))]
+#[tactic(auto, using(krieg_text::proofs::Writings::writings, crate::proofs::Tellings::logs), unfolding(crate::specs::Telling::marked_lines))]
 fn put_all(d: Dialect, start: &Position, log: &[Judged], text: &mut Text) -> Result<(), NoMemory>
     ensures { PutsLines result text.old text.new (spec.marked_lines d start.now log.now) }
 {
@@ -119,7 +99,7 @@ fn put_all(d: Dialect, start: &Position, log: &[Judged], text: &mut Text) -> Res
 }
 
 /// Judges the tries and adds what is told of them.
-#[tactic(auto, using(krieg_fen::proofs::Writings::lines_after), unfolding(krieg_sheet::specs::SheetText::sheet_text, crate::specs::Telling::all_text))]
+#[tactic(auto, using(krieg_text::proofs::Writings::lines_after), unfolding(krieg_sheet::specs::SheetText::sheet_text, crate::specs::Telling::all_text))]
 fn put_telling(
     alloc: Global,
     s: &Session,
@@ -128,7 +108,7 @@ fn put_telling(
 ) -> Result<(), NoMemory>
     ensures { PutsText result text.old text.new (spec.umpire_text s.now.dialect s.now.start s.now.events.items who) }
 {
-    let game = judged(alloc, &s.start, &s.events)?;
+    let game = judge(alloc, &s.start, &s.events)?;
     match who {
         Some(side) => put_player(s.dialect, &s.start, game.log(), side, text),
         None => put_all(s.dialect, &s.start, game.log(), text),

@@ -1,7 +1,7 @@
 ghost use Rattle.std.specs.Prelude.{◌≡◌, Ok};
-ghost use Rattle.krieg_fen.specs.Lines.{lines};
-ghost use Rattle.krieg_fen.specs.Reading.{whole};
-ghost use Rattle.krieg_fen.specs.Writing.{PutsPieces, PutsLines, Appends};
+ghost use Rattle.krieg_text.specs.Lines.{lines};
+ghost use Rattle.krieg_text.specs.Reading.{whole};
+ghost use Rattle.krieg_text.specs.Writing.{PutsPieces, PutsLines, Appends};
 ghost use Rattle.krieg_session.specs.Laws.{IsGame};
 ghost use Rattle.krieg_session.specs.SessionReading.{session_at};
 ghost use Rattle.krieg_session.specs.SessionSpelling.{SpellsSession};
@@ -9,10 +9,10 @@ ghost use Rattle.krieg_session.specs.Sessions.{state_of};
 ghost use Rattle.krieg_session.specs.SessionText as spec;
 
 use crate::session::{Session, know_game};
-use crate::telling::side_mark;
 use krieg_board::{NoMemory, Side};
-use krieg_fen::{Text, put_move, put_position};
+use krieg_fen::{put_move, put_position, side_mark};
 use krieg_referee::{Event, Stop};
+use krieg_text::Text;
 use krieg_words::put_version_lines;
 
 fn put_event(event: &Event, text: &mut Text) -> Result<(), NoMemory>
@@ -35,7 +35,7 @@ fn last_line(stop: &Option<Stop>) -> &'static [u8]
 }
 
 /// Adds the lines of the session.
-#[tactic(auto, using(krieg_fen::proofs::Writings::writings))]
+#[tactic(auto, using(krieg_text::proofs::Writings::writings))]
 pub fn put_session(s: &Session, text: &mut Text) -> Result<(), NoMemory>
     ensures { PutsLines result text.old text.new (spec.session_lines (state_of s.now)) }
 {

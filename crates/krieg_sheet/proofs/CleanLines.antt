@@ -3,11 +3,11 @@ use Rattle.std.proofs.Common.{◌≡◌, ◌≤◌, true, List, [], ◌∷◌, m
 use Rattle.std.specs.Prelude.{codes}
 use Rattle.std.specs.List.{All}
 use Rattle.std.proofs.lemmas.List.Elements.{All-tail}
-use Rattle.krieg_fen.specs.Forms.{most_listed}
-use Rattle.krieg_fen.specs.Lines.{is_line, AreLines}
+use Rattle.krieg_fen.specs.declared.forms.TheConstants.{MOST_LISTED}
+use Rattle.krieg_text.specs.Lines.{is_line, AreLines}
 use Rattle.krieg_fen.specs.FenText.{position_text}
 use Rattle.krieg_fen.specs.Listing.{list_head}
-use Rattle.krieg_fen.proofs.LineTexts.{line_above, lines_append}
+use Rattle.krieg_text.proofs.LineTexts.{line_above, lines_append}
 use Rattle.krieg_fen.proofs.CleanTexts.{positions_are, list_head_are}
 use Rattle.krieg_words.specs.declared.dialects.Dialect.{Dialect}
 use Rattle.krieg_words.specs.declared.line.Line.{Line}
@@ -34,7 +34,7 @@ opens_are d None is = tt
 opens_are d (Some w) is = (line_line d (Opens w) is, tt)
 
 -- every line of a written sheet
-pub sheet_are : (s : SheetState) → IsSheet s → length s.list ≤ most_listed → AreLines (written_lines s)
+pub sheet_are : (s : SheetState) → IsSheet s → length s.list ≤ MOST_LISTED → AreLines (written_lines s)
 sheet_are s h le =
     lines_append (version_lines (codes "krieg sheet ") s.dialect) _ (version_are (codes "krieg sheet ") s.dialect refl)
     (lines_append (list_head s.side (length s.list)) _ (list_head_are s.side (length s.list) (omega arith))

@@ -9,9 +9,10 @@ use Rattle.krieg_board.specs.Validity.{IsValid}
 use Rattle.krieg_board.specs.declared.men.Side.{Side}
 use Rattle.krieg_fen.specs.FenText.{position_text}
 use Rattle.krieg_fen.specs.Listing.{SpellList, SpellsListing, list_head}
-use Rattle.krieg_fen.specs.Reading.{Place}
+use Rattle.krieg_text.specs.Reading.{Place}
 use Rattle.krieg_fen.specs.declared.forms.Turn.TheVariants.{Either}
-use Rattle.krieg_fen.specs.Forms.{most_listed, listing_at}
+use Rattle.krieg_fen.specs.Forms.{listing_at}
+use Rattle.krieg_fen.specs.declared.forms.TheConstants.{MOST_LISTED}
 use Rattle.krieg_fen.proofs.ListSpellings.{written_spells, spelled_valid}
 use Rattle.krieg_fen.proofs.Listings.{listing_spells}
 use Rattle.krieg_sheet.specs.Lists.{other_hand, differs, list_fault}
@@ -24,11 +25,11 @@ same_hands [] (p ∷ ps) who f k s = absurd s
 same_hands (t ∷ ts) [] who f k s = absurd s
 same_hands (t ∷ ts) (p ∷ ps) who f k s = ap (λ (t : Bool). cond t (other_hand who f (k + 1) ps) (Some k)) s.1 ∙ same_hands ts ps who f (k + 1) s.2
 
-no_fault : (ts : List (List ℕ)) (ps : List Pos) (who : Side) → 1 ≤ length ps → length ps ≤ most_listed → SpellList Either who None ts ps → list_fault who ps ≡ None
+no_fault : (ts : List (List ℕ)) (ps : List Pos) (who : Side) → 1 ≤ length ps → length ps ≤ MOST_LISTED → SpellList Either who None ts ps → list_fault who ps ≡ None
 no_fault ts [] who low high s = absurd (omega arith)
 no_fault [] (p ∷ ps) who low high s = absurd s
 no_fault (t ∷ ts) (p ∷ ps) who low high s =
-    ap (λ (t : Bool). cond t (differs (other_hand who p 1 ps)) (Some Count)) (le-leb (length (p ∷ ps)) most_listed high) ∙ ap differs (same_hands ts ps who p 1 s.2)
+    ap (λ (t : Bool). cond t (differs (other_hand who p 1 ps)) (Some Count)) (le-leb (length (p ∷ ps)) MOST_LISTED high) ∙ ap differs (same_hands ts ps who p 1 s.2)
 
 -- a list that was read is one of a sheet
 pub record IsSheetList (who : Side) (ps : List Pos) : Type 0 where
@@ -42,21 +43,21 @@ list_read who ps p q e =
 
 -- What has no fault.
 pub record IsListable (who : Side) (f : Pos) (ps : List Pos) : Type 0 where
-  pub few : length (f ∷ ps) ≤ most_listed
+  pub few : length (f ∷ ps) ≤ MOST_LISTED
   pub same : other_hand who f 1 ps ≡ None
 
 pub listable : (who : Side) (f : Pos) (ps : List Pos) → list_fault who (f ∷ ps) ≡ None → IsListable who f ps
-listable who f ps e = go (leb (length (f ∷ ps)) most_listed) refl e
+listable who f ps e = go (leb (length (f ∷ ps)) MOST_LISTED) refl e
   where
     by_other : (o : Option ℕ) → differs o ≡ None → o ≡ None
     by_other None h = refl
     by_other (Some i) h = absurd cc
 
-    go : (t : Bool) → leb (length (f ∷ ps)) most_listed ≡ t → cond t (differs (other_hand who f 1 ps)) (Some Count) ≡ None → IsListable who f ps
-    go true is h = record { few = leb-true (length (f ∷ ps)) most_listed is; same = by_other (other_hand who f 1 ps) h }
+    go : (t : Bool) → leb (length (f ∷ ps)) MOST_LISTED ≡ t → cond t (differs (other_hand who f 1 ps)) (Some Count) ≡ None → IsListable who f ps
+    go true is h = record { few = leb-true (length (f ∷ ps)) MOST_LISTED is; same = by_other (other_hand who f 1 ps) h }
     go false is h = absurd cc
 
-pub list_size : (who : Side) (list : List Pos) → list_fault who list ≡ None → (1 ≤ length list) × (length list ≤ most_listed)
+pub list_size : (who : Side) (list : List Pos) → list_fault who list ≡ None → (1 ≤ length list) × (length list ≤ MOST_LISTED)
 list_size who [] e = absurd cc
 list_size who (f ∷ ps) e = (omega arith, (listable who f ps e).few)
 

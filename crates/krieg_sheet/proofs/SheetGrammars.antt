@@ -3,21 +3,21 @@ use Rattle.std.proofs.Common.{◌≡◌, inl, inr, ℕ, Bool, true, false, cond,
 use Rattle.std.specs.Prelude.{◌⊎◌, codes}
 use Rattle.std.specs.Str.{bytes_eq}
 use Rattle.std.proofs.lemmas.Slice.Eq.{bytes_eq-Decides}
-use Rattle.krieg_fen.specs.declared.fault.TextFault.{TextFault}
-use Rattle.krieg_fen.specs.declared.fault.TextKind.{TextKind}
-use Rattle.krieg_fen.specs.declared.fault.TextKind.TheVariants.{OutOfPlace}
+use Rattle.krieg_text.specs.declared.fault.TextFault.{TextFault}
+use Rattle.krieg_text.specs.declared.fault.TextKind.{TextKind}
+use Rattle.krieg_text.specs.declared.fault.TextKind.TheVariants.{OutOfPlace}
 use Rattle.krieg_fen.specs.declared.forms.Turn.TheVariants.{Either}
-use Rattle.krieg_fen.specs.Names.{behind}
-use Rattle.krieg_fen.specs.Outcomes.{◌>>=◌}
-use Rattle.krieg_fen.specs.Formats.{Always, IsReading}
+use Rattle.krieg_text.specs.Names.{behind}
+use Rattle.krieg_text.specs.Outcomes.{◌>>=◌}
+use Rattle.krieg_text.specs.Formats.{Always, IsReading}
 use Rattle.krieg_fen.specs.Forms.{listing_at}
-use Rattle.krieg_fen.specs.Languages.{One, Many, ◌⨾◌}
+use Rattle.krieg_text.specs.Languages.{One, Many, ◌⨾◌}
 use Rattle.krieg_fen.specs.Listing.{ListingGrammar}
-use Rattle.krieg_fen.specs.Reading.{Step, goes_on, stops, whole, Gives}
-use Rattle.krieg_fen.proofs.Formats.{reading_by}
-use Rattle.krieg_fen.proofs.Grammars.{untold, KeepsTo, bind_keeps, then_keeps}
+use Rattle.krieg_text.specs.Reading.{Step, goes_on, stops, whole, Gives}
+use Rattle.krieg_text.proofs.Formats.{reading_by}
+use Rattle.krieg_text.proofs.Grammars.{untold, KeepsTo, bind_keeps, then_keeps}
 use Rattle.krieg_fen.proofs.ListGrammars.{listing_keeps}
-use Rattle.krieg_fen.proofs.LoopGrammars.{Goes, HasLoopForm, loop_keeps}
+use Rattle.krieg_text.proofs.LoopGrammars.{Goes, HasLoopForm, loop_keeps}
 use Rattle.krieg_words.specs.LineReading.{line_in}
 use Rattle.krieg_words.specs.Versions.{SpellVersion, version_at}
 use Rattle.krieg_words.specs.declared.dialects.Dialect.{Dialect}
@@ -27,7 +27,7 @@ use Rattle.krieg_words.proofs.VersionFormats.{version_keeps}
 use Rattle.krieg_sheet.specs.Places.{IsSheet}
 use Rattle.krieg_sheet.specs.SheetReading.{may_follow, followed_by, placed, next_form, led, entry_form, sheet_at, sheet_version_at}
 use Rattle.krieg_sheet.specs.SheetSpelling.{SpellsSheet, SheetGrammar}
-use Rattle.krieg_sheet.specs.Sheets.{SheetState, fresh}
+use Rattle.krieg_sheet.specs.Sheets.{SheetState, new_sheet}
 use Rattle.krieg_sheet.proofs.SheetsAgain.{spelled_again}
 use Rattle.krieg_sheet.proofs.SheetsSpell.{sheet_spells}
 
@@ -96,7 +96,7 @@ sheet_keeps =
     bind_keeps (version_at (codes "krieg sheet ")) _ Always (λ d. d) (λ d ls. SpellVersion (codes "krieg sheet ") ls d) Always untold (λ d u. ListingGrammar ⨾ Many (IsLineOf d) ⨾ One (λ l. l ≡ codes "end"))
     (version_keeps (codes "krieg sheet "))
     (λ d h. then_keeps (listing_at Either) _ Always ListingGrammar Always untold (λ u. Many (IsLineOf d) ⨾ One (λ l. l ≡ codes "end")) (listing_keeps Either)
-    (λ x k. loop_keeps entry_form (λ s. s.dialect ≡ d) Always (IsLineOf d) (λ l. l ≡ codes "end") (entries_form d) (fresh d x.0 x.1 None) refl))
+    (λ x k. loop_keeps entry_form (λ s. s.dialect ≡ d) Always (IsLineOf d) (λ l. l ≡ codes "end") (entries_form d) (new_sheet d x.0 x.1 None) refl))
 
 pub sheet_reading : (answer : Result SheetState TextFault) (ls : List (List ℕ)) → Gives (λ s. s) answer (whole sheet_at ls) → IsReading (λ s. s) sheet_at IsSheet SpellsSheet SheetGrammar ls answer
 sheet_reading answer ls given = reading_by (λ s. s) answer sheet_at IsSheet SpellsSheet Always SheetGrammar sheet_spells spelled_again sheet_keeps ls given

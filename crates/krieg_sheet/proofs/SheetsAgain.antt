@@ -9,18 +9,18 @@ use Rattle.std.proofs.lemmas.List.Elements.{All-tail}
 use Rattle.krieg_board.specs.Men.{is_same_side}
 use Rattle.krieg_board.specs.Pos.{Pos}
 use Rattle.krieg_board.specs.declared.men.Side.{Side}
-use Rattle.krieg_fen.specs.declared.fault.TextFault.{TextFault}
-use Rattle.krieg_fen.specs.declared.fault.TextKind.TheVariants.{OutOfPlace}
-use Rattle.krieg_fen.specs.Outcomes.{◌>>=◌}
+use Rattle.krieg_text.specs.declared.fault.TextFault.{TextFault}
+use Rattle.krieg_text.specs.declared.fault.TextKind.TheVariants.{OutOfPlace}
+use Rattle.krieg_text.specs.Outcomes.{◌>>=◌}
 use Rattle.krieg_fen.specs.FenText.{position_text}
-use Rattle.krieg_fen.specs.Lines.{lines}
-use Rattle.krieg_fen.specs.Reading.{Place, place, whole}
+use Rattle.krieg_text.specs.Lines.{lines}
+use Rattle.krieg_text.specs.Reading.{Place, place, whole}
 use Rattle.krieg_fen.specs.declared.forms.Turn.TheVariants.{Either}
 use Rattle.krieg_fen.specs.Forms.{listing_at}
 use Rattle.krieg_fen.specs.Listing.{list_head}
 use Rattle.krieg_fen.proofs.Listings.{listing_reads}
-use Rattle.krieg_fen.proofs.Takings.{Read, read_whole}
-use Rattle.krieg_fen.proofs.LineTexts.{lines_again}
+use Rattle.krieg_text.proofs.Takings.{Read, read_whole}
+use Rattle.krieg_text.proofs.LineTexts.{lines_again}
 use Rattle.krieg_words.specs.Words.{Said}
 use Rattle.krieg_words.specs.Line.{line_text}
 use Rattle.krieg_words.specs.LineReading.{line_in}
@@ -30,7 +30,7 @@ use Rattle.krieg_words.specs.declared.line.Line.TheVariants.{Opens, Illegal, Don
 use Rattle.krieg_words.specs.Versions.{version_lines}
 use Rattle.krieg_words.proofs.VersionSpellings.{version_reads}
 use Rattle.krieg_words.proofs.LineLaws.{line_again}
-use Rattle.krieg_sheet.specs.Sheets.{SheetState, fresh, entered}
+use Rattle.krieg_sheet.specs.Sheets.{SheetState, new_sheet, entered}
 use Rattle.krieg_sheet.specs.Turns.{first_turn, over_at_first, turn_after, over_after, may_stand, are_in_place, turn_of, is_over, is_in_place}
 use Rattle.krieg_sheet.specs.Places.{OpeningFits, IsOpening, IsTold, IsSheet}
 use Rattle.krieg_sheet.specs.SheetReading.{may_follow, followed_by, placed, next_form, entries_at, sheet_at, sheet_version_at}
@@ -106,20 +106,20 @@ entries_again (l ∷ ls) s n told stand =
 
 body_again : (d : Dialect) (who : Side) (list : List Pos) (opens : Option Said) (ls : List Line) (n : ℕ) → OpeningFits d opens → IsOpening opens → All (IsTold d) ls →
     are_in_place who (first_turn list) (over_at_first opens) ls ≡ true →
-    Read (entries_at (fresh d who list None) (place n (opens_lines d opens ++ (map (line_text d) ls ++ (codes "end" ∷ []))))) (record { dialect = d; side = who; list = list; opens = opens; entries = ls }) []
-body_again d who list None ls n fits is told stand = entries_again ls (fresh d who list None) n told stand
+    Read (entries_at (new_sheet d who list None) (place n (opens_lines d opens ++ (map (line_text d) ls ++ (codes "end" ∷ []))))) (record { dialect = d; side = who; list = list; opens = opens; entries = ls }) []
+body_again d who list None ls n fits is told stand = entries_again ls (new_sheet d who list None) n told stand
 body_again d who list (Some w) ls n fits is told stand =
-    let more = entries_again ls (fresh d who list (Some w)) (n + 1) told stand in
+    let more = entries_again ls (new_sheet d who list (Some w)) (n + 1) told stand in
     let rest = map (line_text d) ls ++ (codes "end" ∷ []) in
     record {
       number = more.number;
-      is = entries_more (fresh d who list None) (place n (line_text d (Opens w) ∷ rest)) (place (n + 1) rest) (line_text d (Opens w)) (Opens w) refl (next_again (fresh d who list None) (Opens w) (is, ap Opens fits) refl) ∙ more.is;
+      is = entries_more (new_sheet d who list None) (place n (line_text d (Opens w) ∷ rest)) (place (n + 1) rest) (line_text d (Opens w)) (Opens w) refl (next_again (new_sheet d who list None) (Opens w) (is, ap Opens fits) refl) ∙ more.is;
     }
 
 -- the lines before the list
 
 abbrev behind_listing : Dialect → (Side × List Pos) × Place → Result (SheetState × Place) TextFault
-behind_listing d listing = entries_at (fresh d listing.0.0 listing.0.1 None) listing.1
+behind_listing d listing = entries_at (new_sheet d listing.0.0 listing.0.1 None) listing.1
 
 abbrev behind_dialect : Dialect × Place → Result (SheetState × Place) TextFault
 behind_dialect d = listing_at Either d.1 >>= behind_listing d.0

@@ -8,17 +8,17 @@ use Rattle.std.proofs.lemmas.List.{append-nil}
 use Rattle.std.proofs.lemmas.Slice.Eq.{bytes_eq-Decides}
 use Rattle.krieg_board.specs.Pos.{Pos}
 use Rattle.krieg_board.specs.declared.men.Side.{Side}
-use Rattle.krieg_fen.specs.declared.fault.TextFault.{TextFault}
-use Rattle.krieg_fen.specs.declared.fault.TextKind.{TextKind}
-use Rattle.krieg_fen.specs.declared.fault.TextKind.TheVariants.{OutOfPlace}
-use Rattle.krieg_fen.specs.Outcomes.{◌>>=◌}
-use Rattle.krieg_fen.specs.Reading.{Place, place, on, goes_on, stops, whole}
+use Rattle.krieg_text.specs.declared.fault.TextFault.{TextFault}
+use Rattle.krieg_text.specs.declared.fault.TextKind.{TextKind}
+use Rattle.krieg_text.specs.declared.fault.TextKind.TheVariants.{OutOfPlace}
+use Rattle.krieg_text.specs.Outcomes.{◌>>=◌}
+use Rattle.krieg_text.specs.Reading.{Place, place, on, goes_on, stops, whole}
 use Rattle.krieg_fen.specs.declared.forms.Turn.TheVariants.{Either}
 use Rattle.krieg_fen.specs.Forms.{listing_at}
-use Rattle.krieg_fen.proofs.Locality.{ok_is}
+use Rattle.krieg_text.proofs.Locality.{ok_is}
 use Rattle.krieg_fen.specs.Listing.{SpellsListing}
 use Rattle.krieg_fen.proofs.Listings.{listing_spells}
-use Rattle.krieg_fen.proofs.Takings.{steps, whole_read}
+use Rattle.krieg_text.proofs.Takings.{steps, whole_read}
 use Rattle.krieg_words.specs.Words.{Said}
 use Rattle.krieg_words.specs.Line.{line_text}
 use Rattle.krieg_words.specs.LineReading.{line_in}
@@ -28,8 +28,8 @@ use Rattle.krieg_words.specs.declared.line.Line.{Line}
 use Rattle.krieg_words.specs.declared.line.Line.TheVariants.{Opens, Illegal, Done, Heard, Early, Over}
 use Rattle.krieg_words.proofs.LineLaws.{line_spells}
 use Rattle.krieg_words.proofs.VersionSpellings.{version_spells}
-use Rattle.krieg_sheet.specs.Sheets.{SheetState, fresh, entered}
-use Rattle.krieg_sheet.specs.SheetReading.{may_open, may_follow, opened, followed_by, placed, next_form, led, entries_at, sheet_at, sheet_version_at}
+use Rattle.krieg_sheet.specs.Sheets.{SheetState, new_sheet, entered}
+use Rattle.krieg_sheet.specs.SheetReading.{may_open, may_follow, with_opening, followed_by, placed, next_form, led, entries_at, sheet_at, sheet_version_at}
 use Rattle.krieg_sheet.specs.SheetText.{opens_lines}
 use Rattle.krieg_sheet.specs.SheetSpelling.{SpellsSheet}
 
@@ -109,22 +109,22 @@ record BodyAt (d : Dialect) (who : Side) (list : List Pos) (t : SheetState) (ls 
   is : ◌≡◌ {A = SheetState} (record { dialect = d; side = who; list = list; opens = opens; entries = told }) t
   left : ls ≡ opens_lines d opens ++ (map (line_text d) told ++ (codes "end" ∷ q.left))
 
-from_tail : (d : Dialect) (who : Side) (list : List Pos) (opens : Option Said) (t : SheetState) (ls : List (List ℕ)) (q : Place) → TailAt (fresh d who list opens) t ls q → BodyAt d who list t (opens_lines d opens ++ ls) q
+from_tail : (d : Dialect) (who : Side) (list : List Pos) (opens : Option Said) (t : SheetState) (ls : List (List ℕ)) (q : Place) → TailAt (new_sheet d who list opens) t ls q → BodyAt d who list t (opens_lines d opens ++ ls) q
 from_tail d who list opens t ls q tail = record { opens = opens; told = tail.told; is = tail.is; left = ap (λ (x : List (List ℕ)). opens_lines d opens ++ x) tail.left }
 
-body_spells : (d : Dialect) (who : Side) (list : List Pos) (ls : List (List ℕ)) (t : SheetState) (n : ℕ) (q : Place) → entries_at (fresh d who list None) (place n ls) ≡ Ok (t, q) → BodyAt d who list t ls q
+body_spells : (d : Dialect) (who : Side) (list : List Pos) (ls : List (List ℕ)) (t : SheetState) (n : ℕ) (q : Place) → entries_at (new_sheet d who list None) (place n ls) ≡ Ok (t, q) → BodyAt d who list t ls q
 body_spells d who list [] t n q e = absurd cc
 body_spells d who list (l ∷ ls) t n q e = go (next_form s l) refl e
   where
     s : SheetState
-    s = fresh d who list None
+    s = new_sheet d who list None
 
     plain : (line : Line) → l ≡ line_text d line → entries_at (entered s line) (place (n + 1) ls) ≡ Ok (t, q) → BodyAt d who list t (l ∷ ls) q
     plain line is h = from_tail d who list None t (l ∷ ls) q (tail_more s t line l ls q is (tail_spells ls (entered s line) t (n + 1) q refl h))
 
     by_line : (line : Line) → l ≡ line_text d line → entries_at (followed_by s line) (place (n + 1) ls) ≡ Ok (t, q) → BodyAt d who list t (l ∷ ls) q
     by_line (Opens w) is h =
-        subst (λ (x : List ℕ). BodyAt d who list t (x ∷ ls) q) (sym is) (from_tail d who list (Some w) t ls q (tail_spells ls (opened s w) t (n + 1) q refl h))
+        subst (λ (x : List ℕ). BodyAt d who list t (x ∷ ls) q) (sym is) (from_tail d who list (Some w) t ls q (tail_spells ls (with_opening s w) t (n + 1) q refl h))
     by_line (Illegal m) is h = plain (Illegal m) is h
     by_line (Done m w) is h = plain (Done m w) is h
     by_line (Heard w) is h = plain (Heard w) is h
@@ -137,7 +137,7 @@ body_spells d who list (l ∷ ls) t n q e = go (next_form s l) refl e
     go (Ok (Some line)) is h = by_line line (next_is s l (Some line) is).0 h
 
 abbrev by_listing : Dialect → (Side × List Pos) × Place → Result (SheetState × Place) TextFault
-by_listing d listing = entries_at (fresh d listing.0.0 listing.0.1 None) listing.1
+by_listing d listing = entries_at (new_sheet d listing.0.0 listing.0.1 None) listing.1
 
 abbrev by_dialect : Dialect × Place → Result (SheetState × Place) TextFault
 by_dialect d = listing_at Either d.1 >>= by_listing d.0

@@ -3,7 +3,7 @@ use Rattle.std.specs.Prelude.{ℕ, ◌+◌, List, [], ◌∷◌, Option, Some, N
 use Rattle.krieg_board.specs.Pos.{Pos}
 use Rattle.krieg_board.specs.Hand.{same_hand}
 use Rattle.krieg_board.specs.declared.men.Side.{Side}
-use Rattle.krieg_fen.specs.Forms.{most_listed}
+use Rattle.krieg_fen.specs.declared.forms.TheConstants.{MOST_LISTED}
 use Rattle.krieg_sheet.specs.declared.sheet.SheetFault.{SheetFault}
 use Rattle.krieg_sheet.specs.declared.sheet.SheetFault.TheVariants.{Count, Differs}
 
@@ -20,4 +20,4 @@ differs (Some i) = Some (Differs i)
 -- at least one position, and no more than a text may list, each with the hand of the first one, which has the number 0
 abbrev pub list_fault : Side → List Pos → Option SheetFault
 list_fault who [] = Some Count
-list_fault who (first ∷ ps) = if nat_le (length (first ∷ ps)) most_listed then differs (other_hand who first 1 ps) else Some Count
+list_fault who (first ∷ ps) = if nat_le (length (first ∷ ps)) MOST_LISTED then differs (other_hand who first 1 ps) else Some Count

@@ -10,7 +10,7 @@ use Rattle.krieg_words.specs.Line.{LineFits, IsLine}
 use Rattle.krieg_words.specs.declared.dialects.Dialect.{Dialect}
 use Rattle.krieg_words.specs.declared.line.Line.{Line}
 use Rattle.krieg_sheet.specs.declared.sheet.SheetFault.{SheetFault}
-use Rattle.krieg_sheet.specs.Sheets.{SheetState, fresh}
+use Rattle.krieg_sheet.specs.Sheets.{SheetState, new_sheet}
 use Rattle.krieg_sheet.specs.Turns.{first_turn, over_at_first, are_in_place, turn_of, is_over}
 use Rattle.krieg_sheet.specs.Lists.{list_fault}
 
@@ -50,4 +50,4 @@ unless s (Some fault) = Err fault
 
 -- a sheet without entries, or the fault of its list
 abbrev pub begun : Dialect → Side → List Pos → Option Said → Result SheetState SheetFault
-begun d who list opens = unless (fresh d who list opens) (list_fault who list)
+begun d who list opens = unless (new_sheet d who list opens) (list_fault who list)

@@ -1,11 +1,11 @@
 -- The sheet that a text spells, line by line.
 use Rattle.std.specs.Prelude.{ℕ, ◌==◌, Bool, ◌&&◌, List, codes, Option, Some, None, is_none, length, Result, Ok, Err, if◌then◌else◌}
 use Rattle.std.specs.Str.{bytes_eq}
-use Rattle.krieg_fen.specs.declared.fault.TextKind.{TextKind}
+use Rattle.krieg_text.specs.declared.fault.TextKind.{TextKind}
 use Rattle.krieg_fen.specs.declared.forms.Turn.TheVariants.{Either}
-use Rattle.krieg_fen.specs.declared.fault.TextKind.TheVariants.{Syntax, OutOfPlace}
-use Rattle.krieg_fen.specs.Outcomes.{◌>>=◌}
-use Rattle.krieg_fen.specs.Reading.{LineReader, Step, goes_on, stops, up_to_last}
+use Rattle.krieg_text.specs.declared.fault.TextKind.TheVariants.{Syntax, OutOfPlace}
+use Rattle.krieg_text.specs.Outcomes.{◌>>=◌}
+use Rattle.krieg_text.specs.Reading.{LineReader, Step, goes_on, stops, up_to_last}
 use Rattle.krieg_fen.specs.Forms.{listing_at}
 use Rattle.krieg_words.specs.Words.{Said}
 use Rattle.krieg_words.specs.LineReading.{line_in}
@@ -13,7 +13,7 @@ use Rattle.krieg_words.specs.declared.dialects.Dialect.{Dialect}
 use Rattle.krieg_words.specs.Versions.{version_at}
 use Rattle.krieg_words.specs.declared.line.Line.{Line}
 use Rattle.krieg_words.specs.declared.line.Line.TheVariants.{Opens}
-use Rattle.krieg_sheet.specs.Sheets.{SheetState, fresh, entered}
+use Rattle.krieg_sheet.specs.Sheets.{SheetState, new_sheet, entered}
 use Rattle.krieg_sheet.specs.Turns.{is_in_place}
 
 -- the format's name with one of its two versions, and the dialect
@@ -30,12 +30,12 @@ may_follow s (Opens w) = may_open s
 may_follow s l = is_in_place s l
 
 -- the sheet with its opening words
-abbrev pub opened : SheetState → Said → SheetState
-opened s w = record { dialect = s.dialect; side = s.side; list = s.list; opens = Some w; entries = s.entries }
+abbrev pub with_opening : SheetState → Said → SheetState
+with_opening s w = record { dialect = s.dialect; side = s.side; list = s.list; opens = Some w; entries = s.entries }
 
 -- the sheet with one line more
 abbrev pub followed_by : SheetState → Line → SheetState
-followed_by s (Opens w) = opened s w
+followed_by s (Opens w) = with_opening s w
 followed_by s l = entered s l
 
 -- a line that the dialect does not have is syntax, and one that may not stand there is out of place
@@ -65,4 +65,4 @@ unfoldable pub sheet_at : LineReader SheetState
 sheet_at p = do
   dialect ← sheet_version_at p
   listing ← listing_at Either dialect.1
-  entries_at (fresh dialect.0 listing.0.0 listing.0.1 None) listing.1
+  entries_at (new_sheet dialect.0 listing.0.0 listing.0.1 None) listing.1

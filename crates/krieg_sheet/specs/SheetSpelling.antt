@@ -1,7 +1,7 @@
 -- Which lines spell a sheet: the table of the format, without a reader.
 use Rattle.std.specs.Prelude.{◌≡◌, ℕ, List, [], ◌∷◌, ◌++◌, codes, map, Some}
 use Rattle.krieg_fen.specs.declared.forms.Turn.TheVariants.{Either}
-use Rattle.krieg_fen.specs.Languages.{Language, One, Many, Any, ◌⨾◌}
+use Rattle.krieg_text.specs.Languages.{Language, One, Many, Any, ◌⨾◌}
 use Rattle.krieg_fen.specs.Listing.{SpellsListing, ListingGrammar}
 use Rattle.krieg_words.specs.Line.{line_text}
 use Rattle.krieg_words.specs.LineReading.{line_in}

@@ -4,14 +4,14 @@ use Rattle.krieg_board.specs.Pos.{Pos}
 use Rattle.krieg_board.specs.declared.men.Side.{Side}
 use Rattle.krieg_fen.specs.ListText.{position_line}
 use Rattle.krieg_fen.specs.ListText as list
-use Rattle.krieg_fen.specs.Writing.{Pieces, alone, put_lines}
+use Rattle.krieg_text.specs.Writing.{Pieces, alone, put_lines}
 use Rattle.krieg_words.specs.Words.{Said}
 use Rattle.krieg_words.specs.Line.{line_text}
 use Rattle.krieg_words.specs.Versions.{version_lines}
 use Rattle.krieg_words.specs.declared.dialects.Dialect.{Dialect}
 use Rattle.krieg_words.specs.declared.line.Line.{Line}
 use Rattle.krieg_words.specs.declared.line.Line.TheVariants.{Opens}
-use Rattle.krieg_sheet.specs.Sheets.{SheetState, fresh}
+use Rattle.krieg_sheet.specs.Sheets.{SheetState, new_sheet}
 
 -- the lines before the positions: version and dialect, side, number of positions
 abbrev pub head_lines : Dialect → Side → ℕ → List Pieces
@@ -44,4 +44,4 @@ sheet_text s = put_lines [] (sheet_lines s)
 
 -- a list alone, of any length: the text of a sheet that lists it and says no more
 abbrev pub answer_text : Dialect → Side → List Pos → List ℕ
-answer_text d who list = sheet_text (fresh d who list None)
+answer_text d who list = sheet_text (new_sheet d who list None)

@@ -15,8 +15,8 @@ pub record SheetState : Type 0 where
   pub entries : List Line
 
 -- a sheet without entries
-abbrev pub fresh : Dialect → Side → List Pos → Option Said → SheetState
-fresh d who list opens = record { dialect = d; side = who; list = list; opens = opens; entries = [] }
+abbrev pub new_sheet : Dialect → Side → List Pos → Option Said → SheetState
+new_sheet d who list opens = record { dialect = d; side = who; list = list; opens = opens; entries = [] }
 
 -- the sheet with one entry more
 abbrev pub entered : SheetState → Line → SheetState

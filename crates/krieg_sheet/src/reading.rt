@@ -1,14 +1,15 @@
 ghost use Rattle.std.specs.Prelude.{◌≡◌, true, IfSome, IfOk};
-ghost use Rattle.krieg_fen.specs.Lines.{lines};
-ghost use Rattle.krieg_fen.specs.Formats.{IsReading};
-ghost use Rattle.krieg_fen.specs.Reading.{whole, Gives, GivesOn, Passed};
+ghost use Rattle.krieg_text.specs.Lines.{lines};
+ghost use Rattle.krieg_text.specs.Formats.{IsReading};
+ghost use Rattle.krieg_text.specs.Reading.{whole, Gives, GivesOn, Passed};
 ghost use Rattle.krieg_words.specs.Line.{LineFits};
 ghost use Rattle.krieg_sheet.specs.Places.{IsSheet};
 ghost use Rattle.krieg_sheet.specs.SheetReading as spec;
 ghost use Rattle.krieg_sheet.specs.SheetSpelling.{SpellsSheet, SheetGrammar};
 
 use crate::sheet::Sheet;
-use krieg_fen::{Cursor, TextFault, TextKind, Turn, is_name, read_listing};
+use krieg_fen::{Turn, read_listing};
+use krieg_text::{Cursor, TextFault, TextKind, is_name};
 use krieg_words::{Dialect, Line, read_line_in, read_version_lines};
 use std::alloc::Global;
 
@@ -23,7 +24,7 @@ fn read_sheet_version(from: &mut Cursor<'_>) -> Result<Dialect, TextFault>
 
 /// `end`, or a line that may follow what was read.
 #[tactic(auto, unfolding(crate::specs::SheetReading::next_form))]
-fn next_line(sheet: &Sheet, text: &[u8]) -> Result<Option<Line>, TextKind>
+fn next_form(sheet: &Sheet, text: &[u8]) -> Result<Option<Line>, TextKind>
     ensures value { result ≡ spec.next_form sheet.now text.now }
     ensures fits { IfOk result (λ o. IfSome o (λ l. LineFits sheet.now.dialect l)) }
     ensures may { IfOk result (λ o. IfSome o (λ l. spec.may_follow sheet.now l ≡ true)) }
@@ -51,7 +52,7 @@ fn read_entries(from: &mut Cursor<'_>, sheet: &mut Sheet) -> Result<(), TextFaul
     'entries: loop {
         let number = from.number();
         let line = from.line()?;
-        match next_line(sheet, line) {
+        match next_form(sheet, line) {
             Err(kind) => return Err(TextFault::At { line: number, kind }),
             Ok(None) => return Ok(()),
             Ok(Some(entry)) => sheet.follow(entry)?,

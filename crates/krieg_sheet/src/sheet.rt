@@ -3,7 +3,7 @@ ghost use Rattle.std.specs.List.{All};
 ghost use Rattle.krieg_board.specs.Validity.{IsValid};
 ghost use Rattle.krieg_words.specs.ToldWords.{Fits};
 ghost use Rattle.krieg_words.specs.Line.{LineFits};
-ghost use Rattle.krieg_sheet.specs.Sheets.{fresh, entered};
+ghost use Rattle.krieg_sheet.specs.Sheets.{new_sheet, entered};
 ghost use Rattle.krieg_sheet.specs.Turns as turns;
 ghost use Rattle.krieg_sheet.specs.Lists as lists;
 ghost use Rattle.krieg_sheet.specs.Places as spec;
@@ -79,7 +79,7 @@ impl Sheet {
     ) -> Result<Sheet, SheetFault>
         requires { OpeningFits dialect opens }
         ensures value { result ≡ spec.begun dialect side list.items opens }
-        ensures fresh { IfOk result (λ s. s ≡ fresh dialect side list.items opens) }
+        ensures new_sheet { IfOk result (λ s. s ≡ new_sheet dialect side list.items opens) }
         ensures sheet { IfOk result (λ s. IsSheet s) }
     {
         match list_fault(&list, side) {
@@ -99,7 +99,7 @@ impl Sheet {
         requires listed { lists.list_fault side list.items ≡ None }
         requires valid { All IsValid list.items }
         requires fits { OpeningFits dialect opens }
-        ensures value { result ≡ fresh dialect side list.items opens }
+        ensures value { result ≡ new_sheet dialect side list.items opens }
         ensures sheet { IsSheet result }
     {
         know_opening(&opens);
@@ -216,7 +216,7 @@ impl Sheet {
     fn open(&mut self, w: Words)
         requires fits { Fits self.old.dialect w }
         requires may { reading.may_open self.old ≡ true }
-        ensures { self.new ≡ reading.opened self.old w }
+        ensures { self.new ≡ reading.with_opening self.old w }
     {
         know_words(&w);
         let over = ends(&w);

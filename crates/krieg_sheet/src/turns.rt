@@ -3,16 +3,13 @@ ghost use Rattle.krieg_words.specs.WordsText.{has_ended};
 ghost use Rattle.krieg_sheet.specs.Turns as spec;
 
 use krieg_board::{Position, Side};
-use krieg_words::{End, Line, Words};
+use krieg_words::{Line, Words, has_ended};
 
 /// Whether these words end the game.
 pub(crate) fn ends(w: &Words) -> bool
     ensures { result ≡ spec.ends w.now }
 {
-    match w.end {
-        End::Goes => false,
-        End::Mate | End::Stalemate => true,
-    }
+    has_ended(w.end)
 }
 
 /// The side to move in the listed positions.

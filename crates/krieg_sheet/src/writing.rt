@@ -1,8 +1,8 @@
 ghost use Rattle.std.specs.Prelude.{◌≡◌, ◌≤◌, ◌∷◌, [], ℕ, Ok, map, length};
 ghost use Rattle.krieg_board.specs.declared.men.Side.{Side as BoardSide};
-ghost use Rattle.krieg_fen.specs.Lines.{lines};
-ghost use Rattle.krieg_fen.specs.Reading.{whole};
-ghost use Rattle.krieg_fen.specs.Writing.{PutsLines, alone, Appends};
+ghost use Rattle.krieg_text.specs.Lines.{lines};
+ghost use Rattle.krieg_text.specs.Reading.{whole};
+ghost use Rattle.krieg_text.specs.Writing.{PutsLines, alone, Appends};
 ghost use Rattle.krieg_words.specs.Line.{LineFits};
 ghost use Rattle.krieg_sheet.specs.Places.{OpeningFits, IsSheet};
 ghost use Rattle.krieg_sheet.specs.SheetReading.{sheet_at};
@@ -11,12 +11,13 @@ ghost use Rattle.krieg_sheet.specs.SheetText as spec;
 
 use crate::sheet::Sheet;
 use krieg_board::{NoMemory, Side};
-use krieg_fen::{Text, put_list, put_list_head};
+use krieg_fen::{put_list, put_list_head};
+use krieg_text::Text;
 use krieg_words::{Dialect, Line, Words, put_line_in, put_version_lines, version_line_count};
 
 /// Adds the lines of a sheet that stand before `n` positions: the version and the dialect, the side, and
 /// the number of positions. After them `put_listed` adds each position, and `put_end` the last line.
-#[tactic(auto, using(krieg_fen::proofs::Writings::writings))]
+#[tactic(auto, using(krieg_text::proofs::Writings::writings))]
 pub fn put_head(d: Dialect, side: Side, n: usize, text: &mut Text) -> Result<(), NoMemory>
     ensures { PutsLines result text.old text.new (spec.head_lines d side n) }
 {
@@ -60,7 +61,7 @@ fn put_opens(d: Dialect, opens: &Option<Words>, text: &mut Text) -> Result<(), N
 }
 
 /// Adds the lines of the sheet.
-#[tactic(auto, using(krieg_fen::proofs::Writings::writings))]
+#[tactic(auto, using(krieg_text::proofs::Writings::writings))]
 pub fn put_sheet(s: &Sheet, text: &mut Text) -> Result<(), NoMemory>
     ensures value { PutsLines result text.old text.new (spec.sheet_lines s.now) }
     ensures sheet { IsSheet s.now }

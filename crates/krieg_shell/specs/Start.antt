@@ -1,6 +1,6 @@
 -- How the program ends, whatever words the system gives.
 use Rattle.std.specs.Prelude.{ℕ, ◌≡◌, ◌⊎◌, List, [], ◌∷◌, Option, Some, None, codes}
-use Rattle.krieg_seats.specs.Accounts.{Account, fresh}
+use Rattle.krieg_seats.specs.Accounts.{Account, new_account}
 use Rattle.krieg_play.specs.Teams.{team}
 use Rattle.krieg_play.specs.Played.{Sides, sides}
 use Rattle.krieg_args.specs.Command.{command_of}
@@ -33,4 +33,4 @@ StartsWith made words code before after err err' = RunsSo made words code before
 -- a start with some words, whose players have said and heard nothing yet
 abbrev pub Starts : ℕ → World → World → Stream → Stream → Type 0
 Starts code before after err err' =
-    ((words : List (List ℕ)) × StartsWith (λ tries told. fresh) words code before after err err') ⊎ HasNoMemory code before after err err'
+    ((words : List (List ℕ)) × StartsWith (λ tries told. new_account) words code before after err err') ⊎ HasNoMemory code before after err err'

@@ -1,7 +1,7 @@
 ghost use Rattle.std.specs.Prelude.{◌≡◌, ℕ, List, map, string_bytes, codes};
 ghost use Rattle.krieg_cli.specs.Top.{Gets};
 ghost use Rattle.krieg_cli.specs.World.{stream, world};
-ghost use Rattle.krieg_seats.specs.Accounts.{Account, fresh};
+ghost use Rattle.krieg_seats.specs.Accounts.{Account, new_account};
 ghost use Rattle.krieg_seats.specs.Streams.{stream_account};
 ghost use Rattle.krieg_shell.specs.Start.{StartsWith, Starts};
 
@@ -46,7 +46,7 @@ struct FilePlayers<'a, R> {
 }
 
 impl<'a, R: Files<File = File>> Players for FilePlayers<'a, R> {
-    ghost made = { λ _ _. fresh };
+    ghost made = { λ _ _. new_account };
 
     /// A file that cannot be opened is a missing reader or writer; the file in which he is told is made, and what it
     /// held is gone.

@@ -1,5 +1,6 @@
 -- The first moves in a set, and what they are at the opponent's turn.
 use Rattle.std.proofs.Common.{◌≡◌, suc, ◌+◌, Bool, false, cond, not, List, [], ◌∷◌, map, length, refl, sym, ap, ◌∙◌, arith}
+use Rattle.std.proofs.lemmas.Simd.{map-map}
 use Rattle.krieg_board.specs.Men.{is_same_side}
 use Rattle.krieg_board.specs.Pos.{Pos}
 use Rattle.krieg_board.specs.declared.men.Side.{Side}
@@ -18,9 +19,8 @@ use Rattle.krieg_parting.specs.FirstMoves.{AreFirstMoves}
 use Rattle.krieg_parting.specs.declared.firsts.FirstMoves.{FirstMoves}
 use Rattle.krieg_parting.proofs.Advancing.{some_over, as_many}
 use Rattle.krieg_split.specs.Turns.{IsOthersTurn}
-use Rattle.krieg_split.specs.Firsts.{first_cost, first_pair, first_set, AreFirsts, AreOpeningSets}
+use Rattle.krieg_split.specs.Firsts.{first_cost, first_pair, AreFirsts, AreOpeningSets}
 use Rattle.krieg_split.specs.declared.firsts.Firsts.{Firsts}
-use Rattle.krieg_split.proofs.Renaming.{map_map}
 
 -- the members, and their moves
 pub by_members : (B : List Pos) → first_cost B ≡ length B + total (λ p. length (moves p)) B
@@ -47,5 +47,5 @@ module _ (d : Dialect) (who : Side) where
   pub opening_sets_are : (B : List Pos) (r : Firsts) → IsOthersTurn who B → AreFirsts d B r → AreOpeningSets d who B r
   opening_sets_are B r h f = record {
     over_part = f.ended_part ∙ sym (some_over d who B h);
-    sets_part = sym (map_map both_heard first_pair first_set (λ c. refl) r.classes.items) ∙ ap (map both_heard) f.classes_part ∙ first_moves_are_classed d who B h;
+    sets_part = sym (map-map both_heard first_pair r.classes.items) ∙ ap (map both_heard) f.classes_part ∙ first_moves_are_classed d who B h;
   }

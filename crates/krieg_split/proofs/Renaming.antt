@@ -1,23 +1,20 @@
 -- The same classes under other names.
-use Rattle.std.proofs.Common.{◌≡◌, List, [], ◌∷◌, ◌++◌, map, refl, sym, ap, ◌∙◌, append_assoc}
+use Rattle.std.proofs.Common.{◌≡◌, List, [], ◌∷◌, ◌++◌, map, sym, ap, ◌∙◌, append_assoc}
 use Rattle.std.proofs.lemmas.List.{map_push}
+use Rattle.std.proofs.lemmas.Simd.{map-map}
 use Rattle.krieg_board.specs.Pos.{Pos}
 use Rattle.krieg_board.specs.declared.men.Side.{Side}
 use Rattle.krieg_words.specs.declared.dialects.Dialect.{Dialect}
 use Rattle.std.specs.Prelude.{None}
 use Rattle.krieg_words.specs.Words.{Said}
+use Rattle.krieg_words.specs.WordsReading.{silent}
 use Rattle.krieg_game.specs.Keys.{RootKey}
 use Rattle.krieg_game.specs.Classes.{classes_in}
-use Rattle.krieg_game.specs.ClassLaws.{opened, silence, first_heard, opening_sets}
+use Rattle.krieg_game.specs.ClassLaws.{opened, opening_sets}
 use Rattle.krieg_game.proofs.Classed.{openings_are_classed}
 use Rattle.krieg_split.specs.Turns.{IsOwnTurn}
 use Rattle.krieg_split.specs.Openings.{opened_pair, opened_set, heard_first}
 use Rattle.krieg_split.specs.declared.opening_sets.Opened.{Opened}
-
--- two steps over a list in one
-pub map_map : {X Y Z : Type 0} (f : Y → Z) (g : X → Y) (h : X → Z) → ((x : X) → f (g x) ≡ h x) → (xs : List X) → map f (map g xs) ≡ map h xs
-map_map f g h e [] = refl
-map_map f g h e (x ∷ xs) = let here = e x in let rest = map_map f g h e xs in λ i. here i ∷ rest i
 
 -- one more is named
 pub named_more : {A Z : Type 0} (f : A → Z) (xs ys : List A) (x : A) (rest left all : List Z) → ys ≡ xs ++ x ∷ [] → left ≡ f x ∷ rest → map f xs ++ left ≡ all → map f ys ++ rest ≡ all
@@ -33,9 +30,9 @@ abbrev unheard : Said × List Pos → RootKey × List Pos
 unheard o = ((o.0, None), o.1)
 
 -- at the player's turn the members by their opening words are the opening sets
-pub opening_sets_are : (d : Dialect) (who : Side) (B : List Pos) (os : List Opened) → map opened_pair os ≡ map heard_first (classes_in (map (opened d silence) B)) → IsOwnTurn who B → map opened_set os ≡ opening_sets d who B
+pub opening_sets_are : (d : Dialect) (who : Side) (B : List Pos) (os : List Opened) → map opened_pair os ≡ map heard_first (classes_in (map (opened d silent) B)) → IsOwnTurn who B → map opened_set os ≡ opening_sets d who B
 opening_sets_are d who B os is turn =
-    sym (map_map unheard opened_pair opened_set (λ o. refl) os)
+    sym (map-map unheard opened_pair os)
     ∙ ap (map unheard) is
-    ∙ map_map unheard heard_first first_heard (λ c. refl) (classes_in (map (opened d silence) B))
-    ∙ openings_are_classed d who B silence turn
+    ∙ map-map unheard heard_first (classes_in (map (opened d silent) B))
+    ∙ openings_are_classed d who B silent turn

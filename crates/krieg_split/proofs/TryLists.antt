@@ -1,69 +1,44 @@
 -- The tries of a set from the moves of its members.
-use Rattle.std.proofs.Common.{◌≡◌, ℕ, ◌+◌, ◌<◌, Bool, true, false, not, List, [], ◌∷◌, ◌++◌, ◌⊎◌, inl, inr, length, take, get_or, flat_map, filter, refl, sym, ap, subst, ◌∙◌}
+use Rattle.std.proofs.Common.{◌≡◌, ℕ, ◌+◌, ◌<◌, Bool, false, not, List, [], ◌∷◌, ◌++◌, ◌⊎◌, inl, inr, length, take, get_or, flat_map, sym, ap, subst, ◌∙◌}
 use Rattle.std.proofs.lemmas.List.{append-nil, take_more}
 use Rattle.std.proofs.lemmas.Bool.{not-false}
 use Rattle.std.proofs.lemmas.Grind.{flat_map-append}
 use Rattle.std.specs.List.{list_any, dedup}
 use Rattle.std.specs.List.Sorted.{IsSorted, IsPermutation}
-use Rattle.std.specs.Cmp.Lexicographic.{slice_cmp}
-use Rattle.std.specs.Ordering.{nat_cmp, eq_by_cmp, is_eq}
+use Rattle.std.specs.Cmp.{Equal-is}
 use Rattle.std.specs.declared.cmp.Ordering.{Ordering}
-use Rattle.std.specs.declared.cmp.Ordering.TheVariants.{Less, Equal, Greater}
-use Rattle.krieg_board.specs.Order as board
+use Rattle.std.proofs.lemmas.List.Kept.{IsStrictlySortedBy-filter}
+use Rattle.krieg_board.specs.Order.{move_lt, move_cmp}
 use Rattle.krieg_board.specs.Pos.{Pos}
 use Rattle.krieg_board.specs.contracts.men.MoveOrd.TheImpl as derived
 use Rattle.krieg_board.specs.contracts.men.MovePartialEq.TheImpl as derived_eq
-use Rattle.krieg_board.specs.contracts.men.MoveOrd.TheImpl.Laws as laws
 use Rattle.krieg_board.specs.declared.men.Move.{Move}
-use Rattle.krieg_board.specs.declared.men.Promo.{Promo}
-use Rattle.krieg_board.specs.declared.men.Promo.TheVariants.{Plain, Queen, Rook, Bishop, Knight}
-use Rattle.krieg_board.proofs.MoveOrder.{move_cmp_derived}
+use Rattle.krieg_board.proofs.MoveOrder.{move_cmp_derived, move_eq_derived, move_total, move_equal}
 use Rattle.krieg_moves.specs.Legal.{is_legal}
 use Rattle.krieg_moves.specs.Moves.{moves, all_moves}
+use Rattle.krieg_moves.proofs.Ascending.{all_moves_ascend}
 use Rattle.krieg_words.specs.declared.dialects.Dialect.{Dialect}
 use Rattle.krieg_pack.proofs.Membership.{in_at}
 use Rattle.krieg_pack.proofs.Counts.{as_set_early}
-use Rattle.krieg_pack.proofs.Sorting.{sorted_set}
+use Rattle.krieg_pack.proofs.Sorting.{ascending_from, sorted_set}
 use Rattle.krieg_theory.specs.Sets.{In, Ascending, as_set}
 use Rattle.krieg_theory.specs.Split as theory
 use Rattle.krieg_theory.proofs.Ascending.{same_set, as_set_ascending, in_as_set, as_set_in}
 use Rattle.krieg_theory.proofs.Lists.{in_append_left, append_in, in_filter, filter_in, in_flat, flat_in, any_from, any_at}
-use Rattle.krieg_game.specs.Chess.{chess, move_lt, move_cmp, promo_rank}
-use Rattle.krieg_game.proofs.MoveOrder.{move_total, move_equal, move_order, moves_up}
+use Rattle.krieg_game.specs.Chess.{chess}
+use Rattle.krieg_game.proofs.MoveOrder.{move_order}
 use Rattle.krieg_split.specs.MoveSets.{AllIn, move_set}
-
--- the derived order of moves is that of the game
-place_is_rank : (p : Promo) → board.promo_place p ≡ promo_rank p
-place_is_rank Plain = refl
-place_is_rank Queen = refl
-place_is_rank Rook = refl
-place_is_rank Bishop = refl
-place_is_rank Knight = refl
-
-derived_is : (a b : Move) → (derived.ghosts).cmp a b ≡ move_cmp a b
-unfolding board.move_cmp
-derived_is a b =
-    move_cmp_derived a b
-    ∙ (let x = place_is_rank a.promo in let y = place_is_rank b.promo in λ i. slice_cmp nat_cmp (a.from ∷ a.to ∷ x i ∷ []) (b.from ∷ b.to ∷ y i ∷ []))
-
-equal_is : (a b : Move) → (derived_eq.ghosts).eq a b ≡ eq_by_cmp move_cmp a b
-equal_is a b = laws.matches_eq-law a b ∙ ap is_eq (derived_is a b)
 
 -- what sort_unstable and then dedup leave of moves
 pub sorted_moves : (ms s : List Move) → IsPermutation ms s → IsSorted (derived.ghosts).cmp s → dedup (derived_eq.ghosts).eq s ≡ move_set ms
 unfolding move_set
 sorted_moves ms s moved sorted =
-    ap (λ (E : Move → Move → Bool). dedup E s) (λ i a b. equal_is a b i)
-    ∙ sorted_set move_cmp move_total move_equal ms s moved (subst (λ (R : Move → Move → Ordering). IsSorted R s) (λ i a b. derived_is a b i) sorted)
-
-equal_from : (o : Ordering) → is_eq o ≡ true → o ≡ Equal
-equal_from Less h = absurd cc
-equal_from Equal h = refl
-equal_from Greater h = absurd cc
+    ap (λ (E : Move → Move → Bool). dedup E s) (λ i a b. move_eq_derived a b i)
+    ∙ sorted_set move_cmp move_total move_equal ms s moved (subst (λ (R : Move → Move → Ordering). IsSorted R s) (λ i a b. move_cmp_derived a b i) sorted)
 
 -- moves that the test does not tell apart
 pub same_move : (a b : Move) (differ : Bool) → differ ≡ not ((derived_eq.ghosts).eq a b) → differ ≡ false → a ≡ b
-same_move a b differ is h = move_equal a b (equal_from (move_cmp a b) (sym (equal_is a b) ∙ not-false ((derived_eq.ghosts).eq a b) (sym is ∙ h)))
+same_move a b differ is h = move_equal a b ((Equal-is (move_cmp a b)).0 (sym (move_eq_derived a b) ∙ not-false ((derived_eq.ghosts).eq a b) (sym is ∙ h)))
 
 -- one more is known
 pub known_more : (ms known : List Move) (i place : ℕ) (m k : Move) → i < length ms → m ≡ get_or ms i m → place < length known → k ≡ get_or known place k → k ≡ m → AllIn (take i ms) known → AllIn (take (i + 1) ms) known
@@ -103,20 +78,12 @@ set_more found old ps i p within at was is =
     ∙ as_set_early move_lt move_order (flat_map moves (take i ps)) (moves p)
     ∙ ap move_set (sym (flat_map_push (take i ps) p) ∙ ap (flat_map moves) (sym (take_more ps i p within ∙ ap (λ q. take i ps ++ q ∷ []) (sym at))))
 
--- a part of an ascending list ascends
-filter_up : (f : Move → Bool) (ms : List Move) → Ascending move_lt ms → Ascending move_lt (filter f ms)
-filter_up f [] up = tt
-filter_up f (m ∷ ms) up = elim (f m) as (λ b. Ascending move_lt (Rattle.std.proofs.Common.cond b (m ∷ filter f ms) (filter f ms))) [
-  | true ↦ ((λ n i. up.0 n (filter_in f ms n i).0), filter_up f ms up.1)
-  | Rattle.std.proofs.Common.false ↦ filter_up f ms up.1
-]
-
 -- the set of all members' moves is the tries
 pub moves_are_tries : (d : Dialect) (B : List Pos) → move_set (flat_map moves B) ≡ theory.tries (chess d) B
 unfolding move_set moves
 moves_are_tries d B =
     let test = λ (t : Move). list_any (λ p. is_legal p t) B in
-    same_set move_lt move_order _ _ (as_set_ascending move_lt move_order (flat_map moves B)) (filter_up test all_moves moves_up)
+    same_set move_lt move_order _ _ (as_set_ascending move_lt move_order (flat_map moves B)) (ascending_from move_cmp move_total move_equal _ (IsStrictlySortedBy-filter move_cmp test all_moves all_moves_ascend))
     (λ t i.
     let r = flat_in moves B t (as_set_in move_lt move_order t (flat_map moves B) i) in
     let f = filter_in (is_legal r.0) all_moves t r.2 in

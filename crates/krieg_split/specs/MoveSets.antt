@@ -1,8 +1,8 @@
 -- Sets of moves.
 use Rattle.std.specs.Prelude.{List}
+use Rattle.krieg_board.specs.Order.{move_lt}
 use Rattle.krieg_board.specs.declared.men.Move.{Move}
 use Rattle.krieg_theory.specs.Sets.{In, as_set}
-use Rattle.krieg_game.specs.Chess.{move_lt}
 
 -- the moves of a list, each once, in order
 unfoldable pub move_set : List Move → List Move

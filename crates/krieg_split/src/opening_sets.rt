@@ -1,9 +1,10 @@
 ghost use Rattle.std.specs.Prelude.{◌≡◌, map, IfOk};
 ghost use Rattle.krieg_board.specs.declared.men.Side.{Side};
 ghost use Rattle.krieg_game.specs.Classes.{class_pair, classes_in};
-ghost use Rattle.krieg_game.specs.ClassLaws.{opened, opening_sets, silence};
+ghost use Rattle.krieg_game.specs.ClassLaws.{opened, opening_sets};
 ghost use Rattle.krieg_split.specs.Turns.{IsOwnTurn};
 ghost use Rattle.krieg_split.specs.Openings.{opened_pair, opened_set, heard_first};
+ghost use Rattle.krieg_words.specs.WordsReading.{silent};
 
 use krieg_board::NoMemory;
 use krieg_game::{Class, classes_of};
@@ -38,7 +39,7 @@ fn opened_of(alloc: Global, classes: Vec<Class>) -> Result<Vec<Opened>, NoMemory
 /// Where the player `who` is to move in all of them, these are the opening sets of his plans.
 #[inline(never)]
 pub fn openings(alloc: Global, d: Dialect, b: &Belief) -> Result<Vec<Opened>, NoMemory>
-    ensures value { IfOk result (λ v. map opened_pair v.items ≡ map heard_first (classes_in (map (opened d silence) b.now))) }
+    ensures value { IfOk result (λ v. map opened_pair v.items ≡ map heard_first (classes_in (map (opened d silent) b.now))) }
     ensures sets { IfOk result (λ v. (who : Side) → IsOwnTurn who b.now → map opened_set v.items ≡ opening_sets d who b.now) }
 {
     let outcomes = with_openings(alloc, d, b.members())?;

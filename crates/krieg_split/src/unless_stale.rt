@@ -10,7 +10,7 @@ ghost use Rattle.krieg_split.specs.Parted.{IsUnlessStale};
 
 use crate::parts::split;
 use krieg_board::{Move, Units};
-use krieg_moves::{after_if_legal, count_moves, is_stalemate};
+use krieg_moves::{MOST_LEGAL_MOVES, after_if_legal, count_moves, is_stalemate};
 use krieg_pack::{Belief, Packed, unpack};
 use krieg_parting::{PartStop as SplitStop, Parted, take};
 use krieg_words::Dialect;
@@ -43,7 +43,7 @@ fn is_stale_in_some(members: &[Packed], mv: &Move) -> bool
 /// How many replies there are to the try in the member.
 fn count_replies(member: &Packed, mv: &Move) -> usize
     ensures value { result ≡ replies mv.now member.now }
-    ensures few { result ≤ 20480 }
+    ensures few { result ≤ MOST_LEGAL_MOVES }
 {
     let p = unpack(member);
     match after_if_legal(&p, *mv) {

@@ -8,6 +8,7 @@ use Rattle.std.proofs.lemmas.Bool.{cases_Bool, cond-true, cond-false, both_ways}
 use Rattle.indexmap.specs.IndexMap.{insert_entry}
 use Rattle.indexmap.specs.Layout.{set_value_at}
 use Rattle.krieg_board.specs.Pos.{Pos}
+use Rattle.krieg_board.specs.declared.limits.TheConstants.{MOST_MOVES}
 use Rattle.krieg_pack.specs.Order.{position_lt, position_eq}
 use Rattle.krieg_theory.specs.Sets.{In}
 use Rattle.krieg_costs.specs.Sums.{same_list, IsOnce}
@@ -86,15 +87,15 @@ put_in (s ∷ T) (suc id) w r (inr i) = go (put_in T id w r i)
     go (inl a) = inl (inr a)
     go (inr e) = inr e
 
-pub put_table : (T : Interned) (id : ℕ) (w : Results) → IsTable T → length w ≡ 6 → IsTable (set_value_at T id w)
+pub put_table : (T : Interned) (id : ℕ) (w : Results) → IsTable T → length w ≡ MOST_MOVES → IsTable (set_value_at T id w)
 put_table T id w t h = record {
   once = subst (λ xs. IsOnce xs) (sym (put_sets T id w)) t.once;
-  six = λ r i. six r (put_in T id w r i);
+  room = λ r i. room r (put_in T id w r i);
 }
   where
-    six : (r : Row) → In r T ⊎ (w ≡ r.1) → length r.1 ≡ 6
-    six r (inl i) = t.six r i
-    six r (inr e) = sym (ap (λ (x : Results). length x) e) ∙ h
+    room : (r : Row) → In r T ⊎ (w ≡ r.1) → length r.1 ≡ MOST_MOVES
+    room r (inl i) = t.room r i
+    room r (inr e) = sym (ap (λ (x : Results). length x) e) ∙ h
 
 -- what is owed where a set has come
 pub table_from : (B : List Pos) (T E : Interned) → E ≡ interned B T → IsTable T → IsTable E
@@ -115,8 +116,8 @@ module _ (T : Interned) (id moves : ℕ) (k : Known) (now new : Results) (at : (
   pub table_put : IsTable T → id < length T → IsTable (set_value_at T id new)
   table_put t l =
       let same : length new ≡ length now = ap (λ (x : Results). length x) put ∙ with_length now moves k in
-      put_table T id new t (same ∙ ap (λ (x : Results). length x) (sym at) ∙ t.six (row_at T id) (row_in T id l))
+      put_table T id new t (same ∙ ap (λ (x : Results). length x) (sym at) ∙ t.room (row_at T id) (row_in T id l))
 
-  pub noted_put : (S : Interned) → T ≡ S → IsTable T → id < length T → 0 < moves → moves ≤ 6 → IsNoted S (set_value_at T id new) id moves k
+  pub noted_put : (S : Interned) → T ≡ S → IsTable T → id < length T → 0 < moves → moves ≤ MOST_MOVES → IsNoted S (set_value_at T id new) id moves k
   noted_put S s t l a b =
       subst (λ (x : Interned). IsNoted S x id moves k) (sym (rows_put S s)) (noted_is S id moves k (subst IsTable s t) (subst (λ (x : Interned). id < length x) s l) a b)

@@ -2,6 +2,7 @@
 use Rattle.std.proofs.Common.{◌≡◌, ℕ, zero, suc, ◌≤◌, ◌<◌, Bool, true, false, ◌⊎◌, inl, inr, List, [], ◌∷◌, ◌++◌, length, refl, sym, ap, subst, ◌∙◌, arith}
 use Rattle.std.proofs.lemmas.Bool.{cases_Bool, cond-true, cond-false, both_ways}
 use Rattle.krieg_board.specs.Pos.{Pos}
+use Rattle.krieg_board.specs.declared.limits.TheConstants.{MOST_MOVES}
 use Rattle.krieg_pack.specs.Order.{position_lt}
 use Rattle.krieg_theory.specs.Sets.{In}
 use Rattle.krieg_costs.specs.Sums.{same_list, IsOnce}
@@ -161,8 +162,8 @@ module _ (B : List Pos) where
       go (inr e) h = subst (λ (x : Interned). IsOnce (sets x)) (sym (rows_later B s T e)) ((λ i. not_there e (in_sets T s.0 i)), h)
 
   pub stays_table : (T : Interned) → IsTable T → IsTable (interned B T)
-  stays_table T t = record { once = stays_once T t.once; six = λ r i. six r (in_interned T r i) }
+  stays_table T t = record { once = stays_once T t.once; room = λ r i. room r (in_interned T r i) }
     where
-      six : (r : Row) → In r T ⊎ ((B, nothing) ≡ r) → length r.1 ≡ 6
-      six r (inl i) = t.six r i
-      six r (inr e) = ap (λ (x : Row). length x.1) (sym e)
+      room : (r : Row) → In r T ⊎ ((B, nothing) ≡ r) → length r.1 ≡ MOST_MOVES
+      room r (inl i) = t.room r i
+      room r (inr e) = ap (λ (x : Row). length x.1) (sym e)

@@ -3,6 +3,7 @@ use Rattle.std.proofs.Common.{◌≡◌, ℕ, zero, suc, ◌+◌, ◌≤◌, ◌
 use Rattle.std.proofs.lemmas.Bool.{cases_Bool, both_ways}
 use Rattle.krieg_board.specs.Pos.{Pos}
 use Rattle.krieg_board.specs.declared.men.Move.{Move}
+use Rattle.krieg_board.specs.declared.limits.TheConstants.{MOST_MOVES}
 use Rattle.krieg_pack.specs.Order.{position_lt}
 use Rattle.krieg_pack.proofs.PositionSets.{position_order}
 use Rattle.krieg_theory.specs.Sets.{In}
@@ -148,10 +149,10 @@ none_from : (o : Option Known) → option_map try_of o ≡ None → o ≡ None
 none_from None e = refl
 none_from (Some k) e = absurd (let q : ◌≡◌ {A = Option (Option Move)} (Some (try_of k)) None = e in cc)
 
-pub noted_is : (T : Interned) (id moves : ℕ) (k : Known) → IsTable T → id < length T → 0 < moves → moves ≤ 6 → IsNoted T (with_result T id moves k) id moves k
+pub noted_is : (T : Interned) (id moves : ℕ) (k : Known) → IsTable T → id < length T → 0 < moves → moves ≤ MOST_MOVES → IsNoted T (with_result T id moves k) id moves k
 noted_is T id zero k t l a b = absurd (omega arith)
 noted_is T id (suc i) k t l a b =
-    let six = t.six (row_at T id) (row_in T id l) in
+    let room = t.room (row_at T id) (row_in T id l) in
     let new = with_result T id (suc i) k in
     let at : stored position_lt (entries new) (set_at new id, suc i) ≡ Some (try_of k) =
     sym (known_is new id (suc i) (subst IsOnce (sym (same_sets (suc i) k T id)) t.once) (let n = same_length (suc i) k T id in omega arith)) ∙ ap (option_map try_of) (known_there i k T id l (omega arith)) in

@@ -1,23 +1,16 @@
 -- No pair of a set and a number has two results.
-use Rattle.std.proofs.Common.{◌≡◌, ℕ, suc, ◌≤◌, ◌⊎◌, inl, inr, List, [], ◌∷◌, ◌++◌, Option, Some, None, refl, sym, ap, subst, arith}
+use Rattle.std.proofs.Common.{◌≡◌, ℕ, suc, ◌≤◌, ◌⊎◌, inl, inr, List, [], ◌∷◌, ◌++◌, Option, Some, None, sym, ap, subst, arith}
 use Rattle.std.proofs.lemmas.List.{map-append}
 use Rattle.krieg_board.specs.Pos.{Pos}
 use Rattle.krieg_board.specs.declared.men.Move.{Move}
 use Rattle.krieg_theory.specs.Sets.{In}
 use Rattle.krieg_theory.proofs.Lists.{append_in}
 use Rattle.krieg_costs.specs.Sums.{IsOnce}
+use Rattle.krieg_costs.proofs.Onces.{once_append}
 use Rattle.krieg_accounts.specs.Stored.{PairOf, Entries, pairs}
 use Rattle.krieg_table.specs.Results.{Results}
 use Rattle.krieg_table.specs.Interned.{Interned, sets}
 use Rattle.krieg_table.specs.Entries.{row_entries, entries}
-
-once_append : {X : Type 0} (xs ys : List X) → IsOnce xs → IsOnce ys → ((x : X) → In x xs → In x ys → ⊥) → IsOnce (xs ++ ys)
-once_append [] ys a b apart = b
-once_append (x ∷ xs) ys a b apart = (λ i. there (append_in xs ys x i), once_append xs ys a.1 b (λ y i j. apart y (inr i) j))
-  where
-    there : In x xs ⊎ In x ys → ⊥
-    there (inl i) = a.0 i
-    there (inr i) = apart x (inl refl) i
 
 pairs_append : (xs ys : Entries Pos Move) → pairs (xs ++ ys) ≡ pairs xs ++ pairs ys
 pairs_append xs ys = map-append (λ (e : PairOf Pos × Option Move). e.0) xs ys

@@ -1,7 +1,8 @@
 -- Sets of positions as keys of a map: two that compare equal are one.
-use Rattle.std.proofs.Common.{◌≡◌, Bool, true, false, List, refl, sym, subst}
+use Rattle.std.proofs.Common.{◌≡◌, true, List, sym, subst}
 use Rattle.std.specs.Cmp.Lexicographic.{pointwise}
 use Rattle.krieg_board.specs.Pos.{Pos}
+use Rattle.krieg_board.proofs.SameTests.{same_tests}
 use Rattle.krieg_costs.specs.Sums.{same_list}
 use Rattle.krieg_costs.proofs.Pairs.{same_list_eq, same_list_refl}
 use Rattle.krieg_pack.specs.Order.{position_lt, position_cmp, position_eq}
@@ -9,11 +10,6 @@ use Rattle.krieg_pack.specs.OrderLaws.{position_total}
 use Rattle.krieg_pack.specs.SameNumbers.{same_position}
 use Rattle.krieg_pack.proofs.Sorting.{pointwise_same, pointwise_self}
 use Rattle.krieg_pack.proofs.PositionSets.{position_order}
-
-same_truth : (a b : Bool) → (a ≡ true → b ≡ true) → (b ≡ true → a ≡ true) → a ≡ b
-same_truth true b f g = sym (f refl)
-same_truth false true f g = g refl
-same_truth false false f g = refl
 
 pub one_set : (X B : List Pos) → same_list position_lt X B ≡ true → X ≡ B
 one_set X B e = same_list_eq position_lt position_order X B e
@@ -23,6 +19,6 @@ set_itself B = same_list_refl position_lt position_order B
 
 -- the map's test of a key is that of the definitions
 pub test_is : (B X : List Pos) → pointwise position_eq B X ≡ same_list position_lt X B
-test_is B X = same_truth _ _
+test_is B X = same_tests _ _
     (λ e. subst (λ (Y : List Pos). same_list position_lt Y B ≡ true) (pointwise_same position_cmp position_total same_position B X e) (set_itself B))
     (λ e. subst (λ (Y : List Pos). pointwise position_eq B Y ≡ true) (sym (one_set X B e)) (pointwise_self position_cmp position_total same_position B))

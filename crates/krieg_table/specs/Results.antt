@@ -1,15 +1,16 @@
 -- What is known of one set, for each number of own moves.
-use Rattle.std.specs.Prelude.{ℕ, zero, suc, List, [], ◌∷◌, set, slice_index_or, Option, Some, None}
+use Rattle.std.specs.Prelude.{ℕ, zero, suc, List, replicate, set, slice_index_or, Option, Some, None}
+use Rattle.krieg_board.specs.declared.limits.TheConstants.{MOST_MOVES}
 use Rattle.krieg_table.specs.declared.known.Known.{Known}
 
--- for the numbers 1 to 6, in this order
+-- for the numbers from 1 to the most that may be asked for, in this order
 abbrev pub Results : Type 0
 Results = List (Option Known)
 
 abbrev pub nothing : Results
-nothing = None ∷ None ∷ None ∷ None ∷ None ∷ None ∷ []
+nothing = replicate MOST_MOVES None
 
--- what is known for a number of moves: nothing for 0 and beyond 6
+-- what is known for a number of moves: nothing for 0 and beyond the most
 abbrev pub known_for : Results → ℕ → Option Known
 known_for rs zero = None
 known_for rs (suc i) = slice_index_or rs i None

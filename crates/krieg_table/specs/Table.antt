@@ -1,6 +1,7 @@
 -- What calls do to a table.
 use Rattle.std.specs.Prelude.{◌≡◌, ℕ, ◌<◌, ◌≤◌, ◌⊎◌, List, length, Some, None}
 use Rattle.krieg_board.specs.Pos.{Pos}
+use Rattle.krieg_board.specs.declared.limits.TheConstants.{MOST_MOVES}
 use Rattle.krieg_pack.specs.Order.{position_lt}
 use Rattle.krieg_theory.specs.Sets.{In}
 use Rattle.krieg_costs.specs.Sums.{IsOnce}
@@ -9,10 +10,10 @@ use Rattle.krieg_table.specs.declared.known.Known.{Known}
 use Rattle.krieg_table.specs.Interned.{Row, Interned, sets, set_at}
 use Rattle.krieg_table.specs.Entries.{try_of, entries}
 
--- no set has two numbers, and each has room for the results of 1 to 6 moves
+-- no set has two numbers, and each has room for the results of each number of moves that may be asked for
 pub record IsTable (T : Interned) : Type 0 where
   pub once : IsOnce (sets T)
-  pub six : (r : Row) → In r T → length r.1 ≡ 6
+  pub room : (r : Row) → In r T → length r.1 ≡ MOST_MOVES
 
 -- each set has kept its number
 pub record IsMore (T T' : Interned) : Type 0 where

@@ -1,8 +1,8 @@
 //! Sets of positions by number, and what a search knows of each.
 //!
 //! A search meets the same sets again and again. `Table` gives each a number, in the order in which they first come, and
-//! keeps beside it what is known for each number of own moves from 1 to 6: that the set can be won, and by which try
-//! first, or that it cannot. A set is hashed once a call of `intern`, and looked at by its number from then on.
+//! keeps beside it what is known for each number of own moves that may be asked for: that the set can be won,
+//! and by which try first, or that it cannot. A set is hashed once a call of `intern`, and looked at by its number from then on.
 //!
 //! In contracts a `Table` is the list of its rows (`Interned` in `specs/`), and every call says what they become.
 //! `Entries` has the results by sets, as `krieg_accounts` speaks of them, and `Table` what a call does to these. `results`
@@ -23,4 +23,4 @@ mod results;
 mod table;
 
 pub use known::Known;
-pub use table::Table;
+pub use table::{MOST_SETS, Table};

@@ -10,12 +10,15 @@ ghost use Rattle.krieg_table.specs.Table.{IsInterned, IsNoted};
 use crate::known::Known;
 use crate::results::Results;
 use indexmap::IndexMap;
-use krieg_board::NoMemory;
+use krieg_board::{MOST_MOVES, NoMemory};
 use krieg_pack::Belief;
 use std::alloc::Global;
 use std::marker::Model;
 
-/// Sets of positions by number, and what is known of each with 1 to 6 own moves.
+/// A table with so many sets is full.
+pub const MOST_SETS: usize = 100_000_000;
+
+/// Sets of positions by number, and what is known of each with 1 to [`MOST_MOVES`] own moves.
 ///
 /// Sets are numbered from 0 in the order in which they first came, and each has one number. In contracts a `Table` is
 /// the list of its rows: each a set with what is known of it. `entries` has the same results by sets.
@@ -64,7 +67,7 @@ impl Table {
     ///
     /// `NoMemory` comes for a new set alone, and leaves the table as it was.
     pub fn intern(&mut self, b: Belief) -> Result<u32, NoMemory>
-        requires { length self.old < 100000000 }
+        requires { length self.old < MOST_SETS }
         ensures number { IfOk result (λ id. id ≡ number_of b self.old) }
         ensures rows { OnOk result (self.new ≡ interned b self.old) }
         ensures ok { IfOk result (λ id. IsInterned self.old self.new b id) }
@@ -88,7 +91,8 @@ impl Table {
         }
     }
 
-    /// What was noted last of the set with that number and the number of own moves. It is unknown for 0 and beyond 6.
+    /// What was noted last of the set with that number and the number of own moves. It is unknown for 0 and beyond
+    /// [`MOST_MOVES`].
     pub fn result(&self, id: u32, moves: u8) -> Option<Known>
         requires { id < length self.now }
         ensures value { result ≡ known_at self.now id moves }
@@ -97,12 +101,12 @@ impl Table {
         self.rows[id as usize].get(moves)
     }
 
-    /// Notes what is known of the set with that number and the number of own moves, from 1 to 6. All other results stay. It
-    /// takes no memory.
+    /// Notes what is known of the set with that number and the number of own moves, from 1 to
+    /// [`MOST_MOVES`]. All other results stay. It takes no memory.
     pub fn note(&mut self, id: u32, moves: u8, known: Known)
         requires within { id < length self.old }
         requires some { 0 < moves }
-        requires six { moves ≤ 6 }
+        requires most { moves ≤ MOST_MOVES }
         ensures rows { self.new ≡ with_result self.old id moves known }
         ensures noted { IsNoted self.old self.new id moves known }
     {

@@ -1,7 +1,16 @@
 -- Sets as strictly ascending lists.
 use Rattle.std.proofs.Common.{◌≡◌, Bool, true, false, not, List, [], ◌∷◌, ◌⊎◌, inl, inr, refl, sym, subst, ◌∙◌}
 use Rattle.std.proofs.lemmas.Bool.{cases_Bool, cond-true, cond-false, both_ways, and_parts, and_from, not-true, not_from_false, false_from_ne_true}
+use Rattle.std.specs.Ordering.{is_lt}
+use Rattle.std.specs.declared.cmp.Ordering.{Ordering}
+use Rattle.std.specs.declared.cmp.Ordering.TheVariants.{Less, Equal, Greater}
 use Rattle.krieg_theory.specs.Sets.{In, Ascending, IsOrder, same, insert_once, as_set}
+
+-- what the test of a comparison tells
+pub less_from : (o : Ordering) → is_lt o ≡ true → o ≡ Less
+less_from Less h = refl
+less_from Equal h = cc
+less_from Greater h = cc
 
 module _ {X : Type 0} (lt : X → X → Bool) (O : IsOrder lt) where
   pub in_insert_here : (x : X) (xs : List X) → In x (insert_once lt x xs)

@@ -1,6 +1,6 @@
 -- What a player has decided in advance: a tree of tries.
 -- M are the moves. K are the keys: what the player hears between two own turns.
-use Rattle.std.specs.Prelude.{ℕ, ◌+◌, Bool, max, if◌then◌else◌}
+use Rattle.std.specs.Prelude.{ℕ, ◌+◌, Bool, max, List, [], ◌∷◌, if◌then◌else◌}
 use Rattle.krieg_theory.specs.Sets.{same}
 
 mutual
@@ -20,6 +20,11 @@ mutual
 abbrev pub first_edge : {M K : Type 0} → (K → K → Bool) → Edges M K → K → Maybe M K
 first_edge lt NoEdges key = Nothing
 first_edge lt (Edge key' n es) key = if same lt key' key then Just n else first_edge lt es key
+
+-- the tree at the first root with the key
+abbrev pub first_root : {R M K : Type 0} → (R → R → Bool) → List (R × Tree M K) → R → Maybe M K
+first_root lt [] key = Nothing
+first_root lt (r ∷ rs) key = if same lt r.0 key then Just r.1 else first_root lt rs key
 
 abbrev mutual
   -- how many nodes there are

@@ -1,6 +1,6 @@
 // A text that a run wrote, which a case tells part by part.
 
-use krieg_fen::lines_of;
+use krieg_text::lines_of;
 
 /// A text, and how much of it was told.
 #[derive(Drop)]

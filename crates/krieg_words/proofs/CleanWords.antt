@@ -5,10 +5,11 @@ use Rattle.std.specs.List.{list_all}
 use Rattle.std.proofs.lemmas.Bool.{and_parts, and_from, leb-true, le-leb, ne_eqb}
 use Rattle.krieg_board.specs.declared.men.Move.{Move}
 use Rattle.krieg_checks.specs.declared.kinds.Kinds.{Kinds}
-use Rattle.krieg_fen.specs.Decimals.{number_text}
+use Rattle.krieg_text.specs.Decimals.{number_text}
 use Rattle.krieg_fen.specs.MoveText.{square_text, move_text}
-use Rattle.krieg_fen.proofs.Free.{Above, above_less}
-use Rattle.krieg_fen.proofs.CleanTexts.{number_above, square_above, move_above}
+use Rattle.krieg_text.proofs.Free.{Above, above_less}
+use Rattle.krieg_fen.proofs.CleanTexts.{square_above, move_above}
+use Rattle.krieg_text.proofs.CleanTexts.{number_above}
 use Rattle.krieg_words.specs.declared.words.End.{End}
 use Rattle.krieg_words.specs.declared.words.End.TheVariants.{Goes, Mate, Stalemate}
 use Rattle.krieg_words.specs.declared.words.Took.{Took}
@@ -22,9 +23,10 @@ use Rattle.krieg_words.specs.declared.dialects.TriesTold.{TriesTold}
 use Rattle.krieg_words.specs.declared.dialects.TriesTold.TheVariants.{Number, Any, Untold}
 use Rattle.krieg_words.specs.declared.line.Line.{Line}
 use Rattle.krieg_words.specs.declared.line.Line.TheVariants.{Opens, Illegal, Done, Heard, Early, Over}
-use Rattle.krieg_words.specs.Words.{Said, most_tries, IsSaid}
+use Rattle.krieg_words.specs.Words.{Said, IsSaid}
+use Rattle.krieg_words.specs.declared.words.TheConstants.{MOST_TRIES}
 use Rattle.krieg_words.specs.Dialects.{dialect_rules}
-use Rattle.krieg_words.specs.Parts.{Part, text_if, texts, joined}
+use Rattle.krieg_words.specs.Parts.{Part, text_if, texts, joined_by}
 use Rattle.krieg_words.specs.WordsText.{took_text, kind_names, checks_text, tries_text, end_text, words_parts, spelled, words_text}
 use Rattle.krieg_words.specs.Line.{line_text, IsLine}
 use Rattle.krieg_words.proofs.PartLaws.{Free}
@@ -54,10 +56,10 @@ abbrev AllHave : (ℕ → Bool) → List Part → Type 0
 AllHave test [] = Unit {0}
 AllHave test (p ∷ ps) = Has test p.1 × AllHave test ps
 
-joined_has : (test : ℕ → Bool) (separator : List ℕ) (ts : List (List ℕ)) → Has test separator → AllHold test ts → Has test (joined separator ts)
+joined_has : (test : ℕ → Bool) (separator : List ℕ) (ts : List (List ℕ)) → Has test separator → AllHold test ts → Has test (joined_by separator ts)
 joined_has test separator [] h k = refl
 joined_has test separator (t ∷ []) h k = k.0
-joined_has test separator (t ∷ u ∷ ts) h k = append_has test t (separator ++ joined separator (u ∷ ts)) k.0 (append_has test separator (joined separator (u ∷ ts)) h (joined_has test separator (u ∷ ts) h k.1))
+joined_has test separator (t ∷ u ∷ ts) h k = append_has test t (separator ++ joined_by separator (u ∷ ts)) k.0 (append_has test separator (joined_by separator (u ∷ ts)) h (joined_has test separator (u ∷ ts) h k.1))
 
 texts_have : (test : ℕ → Bool) (ps : List Part) → AllHave test ps → AllHold test (texts ps)
 texts_have test [] h = tt
@@ -101,7 +103,7 @@ checks_have ByKind k =
     (texts_have is_part_byte ((k.file, codes "file") ∷ (k.rank, codes "rank") ∷ (k.long, codes "long") ∷ (k.short, codes "short") ∷ (k.knight, codes "knight") ∷ []) (refl, (refl, (refl, (refl, (refl, tt))))))
 checks_have Bare k = refl
 
-pub tries_have : (tries : TriesTold) (n : ℕ) → n ≤ most_tries → Has is_part_byte (tries_text tries n)
+pub tries_have : (tries : TriesTold) (n : ℕ) → n ≤ MOST_TRIES → Has is_part_byte (tries_text tries n)
 tries_have Number n few = let small : n < 2 ^ 64 = omega arith in above_has (number_text n) (number_above n small)
 tries_have Any n few = refl
 tries_have Untold n few = refl

@@ -2,13 +2,13 @@
 use Rattle.std.proofs.Common.{◌≡◌, ◌≢◌, ℕ, ◌<◌, ◌≤◌, true, false, not, ◌==◌, cond, List, [], ◌∷◌, ◌++◌, Option, Some, None, Result, Ok, Err, refl, sym, ap, ◌∙◌, arith, zero, suc, eqb-true, lit<, lit≤}
 use Rattle.std.specs.Prelude.{codes}
 use Rattle.std.specs.Str.{bytes_eq}
-use Rattle.krieg_fen.specs.Names.{behind}
-use Rattle.krieg_fen.specs.Decimals.{number_text, number_between}
+use Rattle.krieg_text.specs.Names.{behind}
+use Rattle.krieg_text.specs.Decimals.{number_text, number_between}
 use Rattle.krieg_fen.specs.MoveText.{square_text}
-use Rattle.krieg_fen.specs.declared.number.NumberFault.{NumberFault}
-use Rattle.krieg_fen.proofs.NameLemmas.{behind_again}
+use Rattle.krieg_text.specs.declared.number.NumberFault.{NumberFault}
+use Rattle.krieg_text.proofs.NameLemmas.{behind_again}
 use Rattle.krieg_fen.proofs.MoveTexts.{named_spells, named_again}
-use Rattle.krieg_fen.proofs.Numbers.{between_spells, between_again}
+use Rattle.krieg_text.proofs.Numbers.{between_spells, between_again}
 use Rattle.krieg_checks.specs.Kinds.{bits_of}
 use Rattle.krieg_checks.specs.declared.kinds.Kinds.{Kinds}
 use Rattle.krieg_words.specs.declared.words.End.{End}
@@ -21,9 +21,10 @@ use Rattle.krieg_words.specs.declared.dialects.ChecksTold.{ChecksTold}
 use Rattle.krieg_words.specs.declared.dialects.ChecksTold.TheVariants.{ByKind, Bare}
 use Rattle.krieg_words.specs.declared.dialects.TriesTold.{TriesTold}
 use Rattle.krieg_words.specs.declared.dialects.TriesTold.TheVariants.{Number, Any, Untold}
-use Rattle.krieg_words.specs.Words.{most_tries, IsTaken}
+use Rattle.krieg_words.specs.Words.{IsTaken}
+use Rattle.krieg_words.specs.declared.words.TheConstants.{MOST_TRIES}
 use Rattle.krieg_words.specs.ToldWords.{took_told, checks_told, tries_told, no_kinds, some_kind}
-use Rattle.krieg_words.specs.Parts.{joined}
+use Rattle.krieg_words.specs.Parts.{joined_by}
 use Rattle.krieg_words.specs.WordsText.{kind_names, took_text, is_capture, checks_text, is_check, tries_text, are_tries, end_text, has_ended}
 use Rattle.krieg_words.specs.WordsReading.{square_in, pawn_or_piece, took_in, checks_named, checks_in, number_in, count_in, tries_in, end_in, read_parts}
 use Rattle.krieg_words.proofs.OrderLaws.{bits_of_same}
@@ -93,7 +94,7 @@ no_check : (k : Kinds) → is_check k ≡ false → no_kinds ≡ k
 no_check k h = by_test (λ t. not t ≡ false → no_kinds ≡ k) (bits_of k == 0) (λ e h. sym (bits_of_same k no_kinds (eqb-true (bits_of k) 0 e))) (λ e h. absurd cc) h
 
 checks_take : (checks : ChecksTold) (k : Kinds) → TellsChecks checks k → is_check k ≡ true → checks_in checks (checks_text checks k) ≡ k
-checks_take ByKind k fits held = ap checks_named (behind_again (codes "check ") (joined (codes "+") (kind_names k))) ∙ kinds_again k
+checks_take ByKind k fits held = ap checks_named (behind_again (codes "check ") (joined_by (codes "+") (kind_names k))) ∙ kinds_again k
 checks_take Bare k fits held = by_test (λ t. not t ≡ true → cond t no_kinds some_kind ≡ k → some_kind ≡ k) (bits_of k == 0) (λ z h e. absurd cc) (λ z h e. e) held fits
 
 checks_tell : (checks : ChecksTold) (s : List ℕ) → TellsChecks checks (checks_in checks s)
@@ -117,7 +118,7 @@ checks_part checks = record {
 
 -- The pawn tries.
 abbrev pub TellsTries : TriesTold → ℕ → Type 0
-TellsTries tries n = (n ≤ most_tries) × (tries_told tries n ≡ n)
+TellsTries tries n = (n ≤ MOST_TRIES) × (tries_told tries n ≡ n)
 
 not_zero : (n : ℕ) → not (n == 0) ≡ true → 1 ≤ n
 not_zero zero h = absurd cc
@@ -133,7 +134,7 @@ no_tries Untold n k h = k.1
 
 tries_take : (tries : TriesTold) (n : ℕ) → TellsTries tries n → are_tries tries n ≡ true → tries_in tries (tries_text tries n) ≡ n
 tries_take Number n k there =
-    ap count_in (behind_again (codes "tries ") (number_text n)) ∙ ap number_in (between_again 1 most_tries n (not_zero n there) k.0 (lit< tt))
+    ap count_in (behind_again (codes "tries ") (number_text n)) ∙ ap number_in (between_again 1 MOST_TRIES n (not_zero n there) k.0 (lit< tt))
 tries_take Any n k there = by_test (λ t. not t ≡ true → cond t 0 1 ≡ n → 1 ≡ n) (n == 0) (λ z h e. absurd cc) (λ z h e. e) there k.1
 tries_take Untold n k there = absurd cc
 
@@ -141,16 +142,16 @@ record TriesAre (tries : TriesTold) (s : List ℕ) (n : ℕ) : Type 0 where
   tells : TellsTries tries n
   text : are_tries tries n ≡ true → (s ≡ tries_text tries n) × (tries_text tries n ≢ [])
 
-number_is : (s rest : List ℕ) (r : Result ℕ NumberFault) → s ≡ codes "tries " ++ rest → number_between rest 1 most_tries ≡ r → TriesAre Number s (number_in r)
+number_is : (s rest : List ℕ) (r : Result ℕ NumberFault) → s ≡ codes "tries " ++ rest → number_between rest 1 MOST_TRIES ≡ r → TriesAre Number s (number_in r)
 number_is s rest (Err fault) is e = record { tells = (lit≤ tt, refl); text = λ there. absurd cc }
 number_is s rest (Ok n) is e =
-    let b = between_spells rest 1 most_tries n (lit< tt) e in
+    let b = between_spells rest 1 MOST_TRIES n (lit< tt) e in
     record { tells = (b.1, refl); text = λ there. (is ∙ ap (λ (t : List ℕ). codes "tries " ++ t) b.2, λ e. cc) }
 
 tries_are : (tries : TriesTold) (s : List ℕ) → TriesAre tries s (tries_in tries s)
 tries_are Number s =
     by_front (λ y. TriesAre Number s (count_in y)) (codes "tries ") s
-    (λ rest is. number_is s rest (number_between rest 1 most_tries) is refl) (record { tells = (lit≤ tt, refl); text = λ there. absurd cc })
+    (λ rest is. number_is s rest (number_between rest 1 MOST_TRIES) is refl) (record { tells = (lit≤ tt, refl); text = λ there. absurd cc })
 tries_are Any s =
     by_name (λ t. TriesAre Any s (cond t 1 0)) s (codes "tries some")
     (λ is. record { tells = (lit≤ tt, refl); text = λ there. (is, λ e. cc) }) (record { tells = (lit≤ tt, refl); text = λ there. absurd cc })

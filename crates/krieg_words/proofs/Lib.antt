@@ -19,3 +19,4 @@ pub mod DialectNames
 pub mod VersionTexts
 pub mod VersionSpellings
 pub mod VersionFormats
+pub mod WordNumbers

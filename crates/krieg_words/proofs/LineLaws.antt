@@ -4,11 +4,11 @@ use Rattle.std.specs.Prelude.{codes}
 use Rattle.std.specs.Str.{bytes_eq}
 use Rattle.std.specs.Option.{option_map}
 use Rattle.krieg_board.specs.declared.men.Move.{Move}
-use Rattle.krieg_fen.specs.Names.{behind, cut}
+use Rattle.krieg_text.specs.Names.{behind, cut}
 use Rattle.krieg_fen.specs.MoveText.{move_text, move_of, IsOnBoard}
-use Rattle.krieg_fen.proofs.Free.{above_less}
+use Rattle.krieg_text.proofs.Free.{above_less}
 use Rattle.krieg_fen.proofs.CleanTexts.{move_above}
-use Rattle.krieg_fen.proofs.NameLemmas.{behind_again, cut_again, cut_spells}
+use Rattle.krieg_text.proofs.NameLemmas.{behind_again, cut_again, cut_spells}
 use Rattle.krieg_fen.proofs.MoveTexts.{move_spells, move_again}
 use Rattle.krieg_words.specs.declared.dialects.Dialect.{Dialect}
 use Rattle.krieg_words.specs.declared.dialects.Dialect.TheVariants.{Wild16}

@@ -6,7 +6,7 @@ use Rattle.std.specs.Option.{option_map}
 use Rattle.std.proofs.lemmas.Slice.Eq.{bytes_eq-Decides}
 use Rattle.krieg_checks.specs.declared.kinds.Kinds.{Kinds}
 use Rattle.krieg_words.specs.ToldWords.{no_kinds}
-use Rattle.krieg_words.specs.Parts.{Part, joined, PartsReader, no_more}
+use Rattle.krieg_words.specs.Parts.{Part, joined_by, PartsReader, no_more}
 use Rattle.krieg_words.specs.WordsText.{kind_names, is_check}
 use Rattle.krieg_words.specs.WordsReading.{name_then, kinds_of, names_in, checks_named}
 use Rattle.krieg_words.proofs.PartLaws.{Free, left, Leaves, AreParts, no_parts, parts_then}
@@ -41,16 +41,16 @@ named_parts =
     (λ y. ((λ h. (refl, refl)), ((λ h. (refl, refl)), ((λ h. (refl, refl)), ((λ h. (refl, refl)), refl)))))
 
 -- the written names are read again
-pub named_again : (k : Kinds) → checks_named (Some (joined (codes "+") (kind_names k))) ≡ k
+pub named_again : (k : Kinds) → checks_named (Some (joined_by (codes "+") (kind_names k))) ≡ k
 named_again k =
     by_names (kind_names k)
     (ap (option_map kinds_of) (named_parts.again (k.file, (k.rank, (k.long, (k.short, (k.knight, tt))))) (tt, (tt, (tt, (tt, (tt, tt)))))))
   where
-    by_names : (ts : List (List ℕ)) → names_in (left 43 [] ts) ≡ Some k → checks_named (Some (joined (codes "+") ts)) ≡ k
+    by_names : (ts : List (List ℕ)) → names_in (left 43 [] ts) ≡ Some k → checks_named (Some (joined_by (codes "+") ts)) ≡ k
     by_names [] e = cc
     by_names (t ∷ ts) e = ap (λ (x : Option Kinds). unwrap_or x no_kinds) e
 
-some_is : (names : List ℕ) (ts : List (List ℕ)) → Some names ≡ left 43 [] ts → names ≡ joined (codes "+") ts
+some_is : (names : List ℕ) (ts : List (List ℕ)) → Some names ≡ left 43 [] ts → names ≡ joined_by (codes "+") ts
 some_is names [] e = absurd cc
 some_is names (t ∷ ts) e = cc
 
@@ -59,10 +59,10 @@ map_is None k e = absurd cc
 map_is (Some x) k e = (x, refl, cc)
 
 -- names that are read as a check are these names
-pub named_spells : (names : List ℕ) → is_check (checks_named (Some names)) ≡ true → names ≡ joined (codes "+") (kind_names (checks_named (Some names)))
+pub named_spells : (names : List ℕ) → is_check (checks_named (Some names)) ≡ true → names ≡ joined_by (codes "+") (kind_names (checks_named (Some names)))
 named_spells names held = by_names (names_in (Some names)) refl held
   where
-    by_names : (o : Option Kinds) → names_in (Some names) ≡ o → is_check (unwrap_or o no_kinds) ≡ true → names ≡ joined (codes "+") (kind_names (unwrap_or o no_kinds))
+    by_names : (o : Option Kinds) → names_in (Some names) ≡ o → is_check (unwrap_or o no_kinds) ≡ true → names ≡ joined_by (codes "+") (kind_names (unwrap_or o no_kinds))
     by_names None e h = absurd cc
     by_names (Some k) e h =
         let m = map_is _ k e in

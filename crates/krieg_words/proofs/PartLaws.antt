@@ -3,9 +3,9 @@ use Rattle.std.proofs.Common.{◌≡◌, ◌≢◌, ℕ, Bool, true, false, not,
 use Rattle.std.specs.Prelude.{unwrap_or}
 use Rattle.std.specs.List.{list_all}
 use Rattle.std.proofs.lemmas.Bool.{and_parts, not-true}
-use Rattle.krieg_fen.specs.Names.{behind, cut}
-use Rattle.krieg_fen.proofs.NameLemmas.{behind_again, behind_spells, cut_again, cut_spells}
-use Rattle.krieg_words.specs.Parts.{Part, text_if, texts, joined, front, after_gap, past, left_by, PartsReader, no_more, with, part_then}
+use Rattle.krieg_text.specs.Names.{behind, cut}
+use Rattle.krieg_text.proofs.NameLemmas.{behind_again, behind_spells, cut_again, cut_spells}
+use Rattle.krieg_words.specs.Parts.{Part, text_if, texts, joined_by, front, after_gap, past, left_by, PartsReader, no_more, with, part_then}
 
 -- the mark does not occur
 abbrev pub Free : ℕ → List ℕ → Type 0
@@ -14,7 +14,7 @@ Free mark text = list_all (λ b. not (eqb b mark)) text ≡ true
 -- what is left to read of these parts
 abbrev pub left : ℕ → List ℕ → List (List ℕ) → Option (List ℕ)
 left mark gap [] = None
-left mark gap (p ∷ ps) = Some (joined (mark ∷ gap) (p ∷ ps))
+left mark gap (p ∷ ps) = Some (joined_by (mark ∷ gap) (p ∷ ps))
 
 -- where something is left, it begins with a part that is not empty
 abbrev pub IsSolid : List (List ℕ) → Type 0
@@ -39,13 +39,13 @@ cut_whole mark (b ∷ text) e = by_test (eqb b mark) refl (cut_whole mark text)
 
 pub front_left : (mark : ℕ) (gap p : List ℕ) (ps : List (List ℕ)) → Free mark p → front mark (left mark gap (p ∷ ps)) ≡ p
 front_left mark gap p [] free = ap (λ (x : List ℕ × Option (List ℕ)). x.0) (cut_end mark p free)
-front_left mark gap p (q ∷ qs) free = ap (λ (x : List ℕ × Option (List ℕ)). x.0) (cut_again mark p (gap ++ joined (mark ∷ gap) (q ∷ qs)) free)
+front_left mark gap p (q ∷ qs) free = ap (λ (x : List ℕ × Option (List ℕ)). x.0) (cut_again mark p (gap ++ joined_by (mark ∷ gap) (q ∷ qs)) free)
 
 pub past_left : (mark : ℕ) (gap p : List ℕ) (ps : List (List ℕ)) → Free mark p → past mark gap (left mark gap (p ∷ ps)) ≡ left mark gap ps
 past_left mark gap p [] free = ap (λ (x : List ℕ × Option (List ℕ)). after_gap gap x.1) (cut_end mark p free)
 past_left mark gap p (q ∷ qs) free =
-    ap (λ (x : List ℕ × Option (List ℕ)). after_gap gap x.1) (cut_again mark p (gap ++ joined (mark ∷ gap) (q ∷ qs)) free)
-    ∙ ap (λ (x : Option (List ℕ)). Some (unwrap_or x [])) (behind_again gap (joined (mark ∷ gap) (q ∷ qs)))
+    ap (λ (x : List ℕ × Option (List ℕ)). after_gap gap x.1) (cut_again mark p (gap ++ joined_by (mark ∷ gap) (q ∷ qs)) free)
+    ∙ ap (λ (x : Option (List ℕ)). Some (unwrap_or x [])) (behind_again gap (joined_by (mark ∷ gap) (q ∷ qs)))
 
 -- a part that is there is found at the front, and leaves those after it; one that is not there leaves the same texts
 pub part_again : {A : Type 0} (mark : ℕ) (gap : List ℕ) (form : List ℕ → A) (t : Bool) (text : List ℕ) (ps : List (List ℕ)) (x : A) →
@@ -56,7 +56,7 @@ part_again mark gap form true text ps x takes leaves =
     (ap form (front_left mark gap text ps t.1) ∙ t.0, past_left mark gap text ps t.1)
 part_again mark gap form false text ps x takes leaves = (leaves refl, refl)
 
-not_joined : (separator q : List ℕ) (qs : List (List ℕ)) → q ≢ [] → [] ≡ joined separator (q ∷ qs) → ⊥
+not_joined : (separator q : List ℕ) (qs : List (List ℕ)) → q ≢ [] → [] ≡ joined_by separator (q ∷ qs) → ⊥
 not_joined separator [] qs solid e = solid refl
 not_joined separator (b ∷ q) [] solid e = cc
 not_joined separator (b ∷ q) (r ∷ rs) solid e = cc
@@ -65,7 +65,7 @@ some_is : (x y : List ℕ) → Some x ≡ Some y → x ≡ y
 some_is x y e = cc
 
 back_gap : (mark : ℕ) (gap text t rest : List ℕ) (q : List ℕ) (qs : List (List ℕ)) (y : Option (List ℕ)) → text ≡ t ++ (mark ∷ rest) → behind gap rest ≡ y → q ≢ [] →
-    unwrap_or y [] ≡ joined (mark ∷ gap) (q ∷ qs) → text ≡ joined (mark ∷ gap) (t ∷ q ∷ qs)
+    unwrap_or y [] ≡ joined_by (mark ∷ gap) (q ∷ qs) → text ≡ joined_by (mark ∷ gap) (t ∷ q ∷ qs)
 back_gap mark gap text t rest q qs None whole is solid e = absurd (not_joined (mark ∷ gap) q qs solid e)
 back_gap mark gap text t rest q qs (Some more) whole is solid e =
     whole ∙ ap (λ (x : List ℕ). t ++ (mark ∷ x)) (behind_spells gap rest more is) ∙ ap (λ (x : List ℕ). t ++ (mark ∷ (gap ++ x))) e

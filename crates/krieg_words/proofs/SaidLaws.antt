@@ -7,8 +7,7 @@ use Rattle.krieg_board.specs.declared.men.Man.{Man}
 use Rattle.krieg_board.specs.declared.men.Move.{Move}
 use Rattle.krieg_moves.specs.After.{after, is_en_passant, passed_square}
 use Rattle.krieg_moves.specs.Legal.{is_legal}
-use Rattle.krieg_moves.proofs.LegalMoves.{legal}
-use Rattle.krieg_moves.proofs.Movers.{below_from}
+use Rattle.krieg_moves.proofs.LegalMoves.{legal_squares}
 use Rattle.krieg_moves.proofs.KeepsValid.{valid_after}
 use Rattle.krieg_words.specs.declared.words.Took.{Took}
 use Rattle.krieg_words.specs.declared.words.Took.TheVariants.{Pawn, Piece}
@@ -39,7 +38,7 @@ opening_said p valid = (tries_le p valid, tt)
 pub words_said : (p : Pos) (m : Move) → IsValid p → is_legal p m ≡ true → IsSaid (words p m)
 unfolding words
 words_said p m valid h =
-    let l = legal p m h in
-    (tries_le (after p m) (valid_after p m valid h), took_inside p (man_at p.board m.from) m (below_from m.from 64 l.from_in) (below_from m.to 64 l.to_in))
+    let s = legal_squares p m h in
+    (tries_le (after p m) (valid_after p m valid h), took_inside p (man_at p.board m.from) m s.0 s.1)
 
 pub ruleset said = (opening_said, words_said)

@@ -14,7 +14,8 @@ use Rattle.krieg_words.specs.declared.dialects.TriesTold.TheVariants.{Number, An
 use Rattle.krieg_words.specs.declared.line.Line.{Line}
 use Rattle.krieg_words.specs.declared.line.Line.TheVariants.{Opens, Done, Heard}
 use Rattle.krieg_words.proofs.Cases.{by_test}
-use Rattle.krieg_words.specs.Words.{Said, most_tries, IsSaid, IsTaken}
+use Rattle.krieg_words.specs.Words.{Said, IsSaid, IsTaken}
+use Rattle.krieg_words.specs.declared.words.TheConstants.{MOST_TRIES}
 use Rattle.krieg_words.specs.Dialects.{dialect_rules}
 use Rattle.krieg_words.specs.ToldWords.{told, took_told, checks_told, tries_told, no_kinds, some_kind, Fits}
 use Rattle.krieg_words.specs.Line.{told_line, LineFits}
@@ -57,9 +58,9 @@ told_taken Alike Nothing h = tt
 told_taken Alike (Pawn s) h = h
 told_taken Alike (Piece s) h = h
 
-told_few : (tries : TriesTold) (n : ℕ) → n ≤ most_tries → tries_told tries n ≤ most_tries
+told_few : (tries : TriesTold) (n : ℕ) → n ≤ MOST_TRIES → tries_told tries n ≤ MOST_TRIES
 told_few Number n h = h
-told_few Any n h = by_test (λ t. cond t 0 1 ≤ most_tries) (n == 0) (λ z. lit≤ tt) (λ z. lit≤ tt)
+told_few Any n h = by_test (λ t. cond t 0 1 ≤ MOST_TRIES) (n == 0) (λ z. lit≤ tt) (λ z. lit≤ tt)
 told_few Untold n h = lit≤ tt
 
 -- words that can be said are told as words that can be said

@@ -1,19 +1,19 @@
 -- A dialect tells words of a move exactly where it tells the capture of the move, and the checks, the end and the tries of the position after it.
-use Rattle.std.proofs.Common.{◌≡◌, Bool, true, false, cond, refl, sym, ap, ◌∙◌}
+use Rattle.std.proofs.Common.{◌≡◌, Bool, true, false, cond, ◌&&◌, refl, sym, ap, ◌∙◌}
 use Rattle.std.proofs.lemmas.Bool.{and_parts, and_from, cond-true, both_ways, eqb-true, eq-eqb}
-use Rattle.std.specs.Prelude.{Some, None}
-use Rattle.std.specs.Option.{is_some}
+use Rattle.std.specs.Prelude.{Option, Some, None}
 use Rattle.std.specs.Ordering.{is_eq}
 use Rattle.std.specs.Cmp.{Equal-is}
 use Rattle.krieg_board.specs.Pos.{Pos}
 use Rattle.krieg_board.specs.declared.men.Move.{Move}
 use Rattle.krieg_moves.specs.After.{after}
+use Rattle.krieg_moves.specs.Legal.{is_legal}
 use Rattle.krieg_checks.specs.Kinds.{bits_of}
 use Rattle.krieg_words.specs.declared.dialects.Dialect.{Dialect}
 use Rattle.krieg_words.specs.Words.{Said, end_rank, took_rank, took_square, words_cmp}
 use Rattle.krieg_words.specs.WordsOfMoves.{words}
 use Rattle.krieg_words.specs.ToldWords.{told}
-use Rattle.krieg_words.specs.ToldMoves.{are_told, after_told, is_took_told, is_rest_told}
+use Rattle.krieg_words.specs.ToldMoves.{are_told, after_told, after_told_if_legal, is_took_told, is_rest_told}
 use Rattle.krieg_words.proofs.OrderLaws.{words_cmp_equal, words_cmp_self, bits_of_same, end_same, took_same}
 
 same_told : (d : Dialect) (w : Said) (p : Pos) (m : Move) → are_told d w p m ≡ true → w ≡ told d (words p m)
@@ -62,11 +62,21 @@ another_rest d w p m h = unless (are_told d w p m) (after p m) (λ told. both_wa
 pub all_parts : (d : Dialect) (w : Said) (p : Pos) (m : Move) → is_took_told d w.took p m ≡ true → is_rest_told d w (after p m) ≡ true → Some (after p m) ≡ after_told d w p m
 all_parts d w p m took rest = sym (cond-true (are_told d w p m) (Some (after p m)) None (told_same d w p m (parts_told d w p m took rest)))
 
-some_where : (b : Bool) (p : Pos) → is_some (cond b (Some p) None) ≡ b
-some_where true p = refl
-some_where false p = refl
+pub ruleset told_moves = (another_capture, another_rest, all_parts)
 
-pub some_told : (d : Dialect) (w : Said) (p : Pos) (m : Move) → is_some (after_told d w p m) ≡ are_told d w p m
-some_told d w p m = some_where (are_told d w p m) (after p m)
+-- of a try
+after_try : (legal told : Bool) (p : Pos) (r : Option Pos) → legal ≡ true → r ≡ cond told (Some p) None → r ≡ cond (legal && told) (Some p) None
+after_try true told p r h e = e
+after_try false told p r h e = cc
 
-pub ruleset told_moves = (another_capture, another_rest, all_parts, some_told)
+pub legal_try : (d : Dialect) (w : Said) (p : Pos) (m : Move) (r : Option Pos) → is_legal p m ≡ true → r ≡ after_told d w p m → r ≡ after_told_if_legal d w p m
+legal_try d w p m r h e = after_try (is_legal p m) (are_told d w p m) (after p m) r h e
+
+pub illegal_try : (d : Dialect) (w : Said) (p : Pos) (m : Move) → is_legal p m ≡ false → None ≡ after_told_if_legal d w p m
+illegal_try d w p m h = unless (is_legal p m && are_told d w p m) (after p m) (λ e. both_ways _ h (and_parts (is_legal p m) (are_told d w p m) e).0)
+
+pub try_captures_otherwise : (d : Dialect) (w : Said) (p : Pos) (m : Move) → is_took_told d w.took p m ≡ false → None ≡ after_told_if_legal d w p m
+try_captures_otherwise d w p m h =
+    unless (is_legal p m && are_told d w p m) (after p m) (λ e. both_ways _ h (took_told d w p m (same_told d w p m (and_parts (is_legal p m) (are_told d w p m) e).1)))
+
+pub ruleset told_tries = (legal_try, illegal_try, try_captures_otherwise)

@@ -15,7 +15,7 @@ use Rattle.krieg_board.specs.Board.{Board, man_at, is_man}
 use Rattle.krieg_board.specs.Attacks.{apart, is_forward}
 use Rattle.krieg_board.specs.Validity.{IsValid, is_small, count_kind, count_side}
 use Rattle.krieg_board.proofs.Facts.{Facts, facts}
-use Rattle.krieg_words.specs.Words.{most_tries}
+use Rattle.krieg_words.specs.declared.words.TheConstants.{MOST_TRIES}
 use Rattle.krieg_words.specs.PawnTries.{is_try, tries_from, tries}
 use Rattle.krieg_words.proofs.PawnCaptures.{is_aimed, is_own_pawn, try_tells}
 use Rattle.krieg_words.proofs.RangeSums.{sum_range_same, sum_range_add, sum_range_one}
@@ -106,7 +106,7 @@ from_le p f n = by_pawn (is_own_pawn p f) refl
         omega (arith, a, b, c, d, e1, e2)
     by_pawn false none = omega (arith, none_from p f (range_with_len 0 n) none)
 
-pub tries_sum_le : (p : Pos) → Facts p → sum_by (λ f. count_by (is_try p f) (range_with_len 0 (length p.board))) (range_with_len 0 (length p.board)) ≤ most_tries
+pub tries_sum_le : (p : Pos) → Facts p → sum_by (λ f. count_by (is_try p f) (range_with_len 0 (length p.board))) (range_with_len 0 (length p.board)) ≤ MOST_TRIES
 tries_sum_le p fs =
     let n = length p.board in
     let h : ℕ → ℕ = λ f. one (is_own_pawn p f) in
@@ -128,7 +128,7 @@ squares_are : (n : ℕ) → n ≡ 64 → squares ≡ range_with_len 0 n
 unfolding squares
 squares_are n e = ap (range_with_len 0) (sym e)
 
-pub tries_le : (p : Pos) → IsValid p → tries p ≤ most_tries
+pub tries_le : (p : Pos) → IsValid p → tries p ≤ MOST_TRIES
 unfolding tries tries_from
 tries_le p v =
-    subst (λ (xs : List ℕ). sum_by (λ f. count_by (is_try p f) xs) xs ≤ most_tries) (sym (squares_are (length p.board) v.squares)) (tries_sum_le p (facts p v))
+    subst (λ (xs : List ℕ). sum_by (λ f. count_by (is_try p f) xs) xs ≤ MOST_TRIES) (sym (squares_are (length p.board) v.squares)) (tries_sum_le p (facts p v))

@@ -15,7 +15,7 @@ use Rattle.krieg_board.proofs.SetLemmas.{same_sets}
 use Rattle.krieg_board.proofs.Picked.{picked, picked_zero, picked_step, picked_all}
 use Rattle.krieg_board.proofs.SquareTests.{length_squares, get_or_squares}
 use Rattle.krieg_moves.specs.Moves.{can_go}
-use Rattle.krieg_words.specs.Words.{most_tries}
+use Rattle.krieg_words.specs.declared.words.TheConstants.{MOST_TRIES}
 use Rattle.krieg_words.specs.PawnTries.{is_try, tries_from, tries}
 use Rattle.krieg_words.proofs.PawnCaptures.{is_own_pawn, try_own}
 use Rattle.krieg_words.proofs.RangeSums.{sum_range_more}
@@ -63,7 +63,7 @@ some_tries p captures set t rest some l others e h = ap not (ne_eqb (tries p) 0 
 
 -- what was counted and the tries of the next pawn are not too many
 pub counted_below : (p : Pos) (n c set t rest : ℕ) → IsValid p → IsLowest set t → ((k : ℕ) → k < 64 → has rest k ≡ (has set k && not (k == t))) → c ≡ tries_from p t →
-    n + sum_over set (tries_from p) ≡ tries p → n + c ≤ most_tries
+    n + sum_over set (tries_from p) ≡ tries p → n + c ≤ MOST_TRIES
 counted_below p n c set t rest v l others e h = omega (arith, counted_step p n c set t rest l others e h, tries_le p v)
 
 gathered_sum : (g : ℕ → ℕ) (n : ℕ) → length (gathered (copies g) n) ≡ sum_by g (range_with_len 0 n)

@@ -1,8 +1,8 @@
 -- No line of the first lines of a text has a line feed.
 use Rattle.std.proofs.Common.{◌≡◌, true, ℕ, List, refl}
 use Rattle.std.specs.Prelude.{codes}
-use Rattle.krieg_fen.specs.Lines.{is_line, AreLines}
-use Rattle.krieg_fen.proofs.LineTexts.{line_append}
+use Rattle.krieg_text.specs.Lines.{is_line, AreLines}
+use Rattle.krieg_text.proofs.LineTexts.{line_append}
 use Rattle.krieg_words.specs.declared.dialects.Dialect.{Dialect}
 use Rattle.krieg_words.specs.declared.dialects.Dialect.TheVariants.{Wild16, Anytry, Plain}
 use Rattle.krieg_words.specs.declared.dialects.TextVersion.{TextVersion}

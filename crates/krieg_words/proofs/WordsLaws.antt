@@ -9,7 +9,7 @@ use Rattle.krieg_words.specs.Dialects.{dialect_rules}
 use Rattle.krieg_words.specs.ToldWords.{Fits}
 use Rattle.krieg_words.specs.Parts.{texts}
 use Rattle.krieg_words.specs.WordsText.{words_parts, spelled, words_text}
-use Rattle.krieg_fen.specs.Names.{behind}
+use Rattle.krieg_text.specs.Names.{behind}
 use Rattle.krieg_words.specs.WordsReading.{said_of, read_parts, parts_in, silent, words_in}
 use Rattle.krieg_words.proofs.Cases.{by_name}
 use Rattle.krieg_words.proofs.PartLaws.{left}

@@ -9,7 +9,7 @@ use Rattle.krieg_words.specs.declared.words.Took.TheVariants.{Nothing, Pawn, Pie
 use Rattle.krieg_words.specs.declared.dialects.Dialect.{Dialect}
 use Rattle.krieg_words.specs.declared.dialects.MenTold.{MenTold}
 use Rattle.krieg_words.specs.Dialects.{dialect_rules}
-use Rattle.krieg_words.specs.Parts.{Part, text_if, texts, joined, piece}
+use Rattle.krieg_words.specs.Parts.{Part, text_if, texts, joined_by, piece}
 use Rattle.krieg_words.specs.WordsText.{kind_names, took_text, is_capture, checks_text, is_check, tries_text, are_tries, end_text, has_ended, words_parts, spelled, words_text}
 
 -- texts, each after a separator
@@ -17,7 +17,7 @@ abbrev following : List ℕ → List (List ℕ) → List ℕ
 following separator [] = []
 following separator (t ∷ ts) = separator ++ (t ++ following separator ts)
 
-joined_first : (separator t : List ℕ) (ts : List (List ℕ)) → joined separator (t ∷ ts) ≡ t ++ following separator ts
+joined_first : (separator t : List ℕ) (ts : List (List ℕ)) → joined_by separator (t ∷ ts) ≡ t ++ following separator ts
 joined_first separator t [] = sym (append-nil t)
 joined_first separator t (u ∷ ts) = ap (λ (x : List ℕ). t ++ (separator ++ x)) (joined_first separator u ts)
 
@@ -39,29 +39,29 @@ more_put separator old (p ∷ ps) = more_put separator (old ++ piece separator t
     by_test true = simp append_assoc refl
     by_test false = ap (λ (x : List ℕ). x ++ following separator (texts ps)) (append-nil old)
 
-all_put : (separator old : List ℕ) (ps : List Part) → put_parts separator old false ps ≡ old ++ joined separator (texts ps)
+all_put : (separator old : List ℕ) (ps : List Part) → put_parts separator old false ps ≡ old ++ joined_by separator (texts ps)
 all_put separator old [] = sym (append-nil old)
 all_put separator old (p ∷ ps) = by_test p.0 (all_put separator (old ++ []) ps)
   where
-    by_test : (t : Bool) → put_parts separator (old ++ []) false ps ≡ (old ++ []) ++ joined separator (texts ps) →
-        put_parts separator (old ++ piece separator false t p.1) t ps ≡ old ++ joined separator (text_if t p.1 ++ texts ps)
+    by_test : (t : Bool) → put_parts separator (old ++ []) false ps ≡ (old ++ []) ++ joined_by separator (texts ps) →
+        put_parts separator (old ++ piece separator false t p.1) t ps ≡ old ++ joined_by separator (text_if t p.1 ++ texts ps)
     by_test true rest =
         more_put separator (old ++ p.1) ps ∙ append_assoc old p.1 (following separator (texts ps))
         ∙ ap (λ (x : List ℕ). old ++ x) (sym (joined_first separator p.1 (texts ps)))
-    by_test false rest = rest ∙ ap (λ (x : List ℕ). x ++ joined separator (texts ps)) (append-nil old)
+    by_test false rest = rest ∙ ap (λ (x : List ℕ). x ++ joined_by separator (texts ps)) (append-nil old)
 
 any_more : (ps : List Part) → is_any true ps ≡ true
 any_more [] = refl
 any_more (p ∷ ps) = any_more ps
 
 -- silence stands where no part is there
-or_silent : (ps : List Part) → joined (codes ", ") (texts ps) ++ cond (is_any false ps) [] (codes "silent") ≡ spelled (texts ps)
+or_silent : (ps : List Part) → joined_by (codes ", ") (texts ps) ++ cond (is_any false ps) [] (codes "silent") ≡ spelled (texts ps)
 or_silent [] = refl
 or_silent (p ∷ ps) = by_test p.0 (or_silent ps)
   where
-    by_test : (t : Bool) → joined (codes ", ") (texts ps) ++ cond (is_any false ps) [] (codes "silent") ≡ spelled (texts ps) →
-        joined (codes ", ") (text_if t p.1 ++ texts ps) ++ cond (is_any t ps) [] (codes "silent") ≡ spelled (text_if t p.1 ++ texts ps)
-    by_test true rest = rw any_more (append-nil (joined (codes ", ") (p.1 ∷ texts ps)))
+    by_test : (t : Bool) → joined_by (codes ", ") (texts ps) ++ cond (is_any false ps) [] (codes "silent") ≡ spelled (texts ps) →
+        joined_by (codes ", ") (text_if t p.1 ++ texts ps) ++ cond (is_any t ps) [] (codes "silent") ≡ spelled (text_if t p.1 ++ texts ps)
+    by_test true rest = rw any_more (append-nil (joined_by (codes ", ") (p.1 ∷ texts ps)))
     by_test false rest = rest
 
 -- the names of the kinds of check after an old text
@@ -71,7 +71,7 @@ pub names_after : (old : List ℕ) (k : Kinds) (b2 b3 b4 : Bool) → b2 ≡ (k.f
     ++ piece (codes "+") b2 k.long (codes "long"))
     ++ piece (codes "+") b3 k.short (codes "short"))
     ++ piece (codes "+") b4 k.knight (codes "knight")
-    ≡ old ++ joined (codes "+") (kind_names k)
+    ≡ old ++ joined_by (codes "+") (kind_names k)
 names_after old k b2 b3 b4 h2 h3 h4 =
     rw (h4, h3, h2) (all_put (codes "+") old ((k.file, codes "file") ∷ (k.rank, codes "rank") ∷ (k.long, codes "long") ∷ (k.short, codes "short") ∷ (k.knight, codes "knight") ∷ []))
 
@@ -95,7 +95,7 @@ words_after old d took k tries end b1 b2 b3 b4 h1 h2 h3 h4 =
     rw (h4, h3, h2, h1) (
     ap (λ (t : List ℕ). put_parts (codes ", ") (old ++ t) (is_capture took) (tail ps) ++ cond (is_any false ps) [] (codes "silent")) (first_took (dialect_rules d).men took)
     ∙ ap (λ (t : List ℕ). t ++ cond (is_any false ps) [] (codes "silent")) (all_put (codes ", ") old ps)
-    ∙ append_assoc old (joined (codes ", ") (texts ps)) (cond (is_any false ps) [] (codes "silent"))
+    ∙ append_assoc old (joined_by (codes ", ") (texts ps)) (cond (is_any false ps) [] (codes "silent"))
     ∙ ap (λ (t : List ℕ). old ++ t) (or_silent ps)
     )
   where

@@ -1,4 +1,5 @@
 pub mod Words
+pub mod WordNumbers
 pub mod PawnTries
 pub mod WordsOfMoves
 pub mod Dialects

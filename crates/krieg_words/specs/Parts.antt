@@ -1,6 +1,6 @@
 -- A text of parts that are there or not, with a separator between two of them.
 use Rattle.std.specs.Prelude.{ℕ, Bool, true, false, List, [], ◌∷◌, ◌++◌, Option, Some, None, is_none, unwrap_or, if◌then◌else◌}
-use Rattle.krieg_fen.specs.Names.{behind, cut}
+use Rattle.krieg_text.specs.Names.{behind, cut}
 
 -- whether a part is there, and its text
 abbrev pub Part : Type 0
@@ -15,10 +15,10 @@ texts [] = []
 texts (p ∷ ps) = text_if p.0 p.1 ++ texts ps
 
 -- texts one after another, with the separator between two of them
-abbrev pub joined : List ℕ → List (List ℕ) → List ℕ
-joined separator [] = []
-joined separator (p ∷ []) = p
-joined separator (p ∷ q ∷ ps) = p ++ (separator ++ joined separator (q ∷ ps))
+abbrev pub joined_by : List ℕ → List (List ℕ) → List ℕ
+joined_by separator [] = []
+joined_by separator (p ∷ []) = p
+joined_by separator (p ∷ q ∷ ps) = p ++ (separator ++ joined_by separator (q ∷ ps))
 
 -- Written part by part.
 

@@ -5,6 +5,7 @@ use Rattle.krieg_board.specs.Board.{man_at}
 use Rattle.krieg_board.specs.Pos.{Pos}
 use Rattle.krieg_board.specs.declared.men.Move.{Move}
 use Rattle.krieg_moves.specs.After.{after}
+use Rattle.krieg_moves.specs.Legal.{is_legal}
 use Rattle.krieg_checks.specs.Kinds.{kinds, bits_of}
 use Rattle.krieg_words.specs.declared.words.End.{End}
 use Rattle.krieg_words.specs.declared.words.Took.{Took}
@@ -22,6 +23,10 @@ are_told d w p m = is_eq (words_cmp w (told d (words p m)))
 -- the position after the move, where the words are told of it
 abbrev pub after_told : Dialect → Said → Pos → Move → Option Pos
 after_told d w p m = if are_told d w p m then Some (after p m) else None
+
+-- the same of a try, which need not be legal
+abbrev pub after_told_if_legal : Dialect → Said → Pos → Move → Option Pos
+after_told_if_legal d w p m = if is_legal p m && are_told d w p m then Some (after p m) else None
 
 -- Of the parts of the words.
 

@@ -1,11 +1,11 @@
 -- The first lines of a text in one of two versions, which tell the dialect of its words.
 use Rattle.std.specs.Prelude.{◌≡◌, ◌⊎◌, ℕ, ◌==◌, List, [], ◌∷◌, ◌++◌, codes, Option, Some, None, Result, Ok, Err, if◌then◌else◌}
-use Rattle.krieg_fen.specs.declared.fault.TextKind.{TextKind}
-use Rattle.krieg_fen.specs.declared.fault.TextKind.TheVariants.{Syntax}
-use Rattle.krieg_fen.specs.Names.{behind}
-use Rattle.krieg_fen.specs.Outcomes.{◌>>=◌}
-use Rattle.krieg_fen.specs.Forms.{version_form}
-use Rattle.krieg_fen.specs.Reading.{LineReader, taken}
+use Rattle.krieg_text.specs.declared.fault.TextKind.{TextKind}
+use Rattle.krieg_text.specs.declared.fault.TextKind.TheVariants.{Syntax}
+use Rattle.krieg_text.specs.Names.{behind}
+use Rattle.krieg_text.specs.Outcomes.{◌>>=◌}
+use Rattle.krieg_text.specs.Forms.{version_form}
+use Rattle.krieg_text.specs.Reading.{LineReader, taken}
 use Rattle.krieg_words.specs.declared.dialects.Dialect.{Dialect}
 use Rattle.krieg_words.specs.declared.dialects.TextVersion.{TextVersion}
 use Rattle.krieg_words.specs.declared.dialects.TextVersion.TheVariants.{First, Second}

@@ -9,6 +9,7 @@ use Rattle.krieg_words.specs.declared.words.End.{End}
 use Rattle.krieg_words.specs.declared.words.End.TheVariants.{Goes, Mate, Stalemate}
 use Rattle.krieg_words.specs.declared.words.Took.{Took}
 use Rattle.krieg_words.specs.declared.words.Took.TheVariants.{Nothing, Pawn, Piece}
+use Rattle.krieg_words.specs.declared.words.TheConstants.{MOST_TRIES}
 
 -- how the game stands, what was captured, the kinds of check and the number of pawn tries
 pub record Said : Type 0 where
@@ -16,10 +17,6 @@ pub record Said : Type 0 where
   pub took : Took
   pub checks : Kinds
   pub tries : ℕ
-
--- eight pawns have two pawn tries each at most
-abbrev pub most_tries : ℕ
-most_tries = 16
 
 -- the square is one of the board
 abbrev pub IsTaken : Took → Type 0
@@ -29,7 +26,7 @@ IsTaken (Piece s) = s < 64
 
 -- words that can be said
 abbrev pub IsSaid : Said → Type 0
-IsSaid w = (w.tries ≤ most_tries) × IsTaken w.took
+IsSaid w = (w.tries ≤ MOST_TRIES) × IsTaken w.took
 
 abbrev pub end_rank : End → ℕ
 end_rank Goes = 0

@@ -2,10 +2,10 @@
 use Rattle.std.specs.Prelude.{ℕ, Bool, List, [], codes, Option, Some, None, Result, Ok, Err, unwrap_or, if◌then◌else◌}
 use Rattle.std.specs.Str.{bytes_eq}
 use Rattle.std.specs.Option.{option_map}
-use Rattle.krieg_fen.specs.Names.{behind}
-use Rattle.krieg_fen.specs.Decimals.{number_between}
+use Rattle.krieg_text.specs.Names.{behind}
+use Rattle.krieg_text.specs.Decimals.{number_between}
 use Rattle.krieg_fen.specs.MoveText.{square_named}
-use Rattle.krieg_fen.specs.declared.number.NumberFault.{NumberFault}
+use Rattle.krieg_text.specs.declared.number.NumberFault.{NumberFault}
 use Rattle.krieg_checks.specs.declared.kinds.Kinds.{Kinds}
 use Rattle.krieg_words.specs.declared.words.End.{End}
 use Rattle.krieg_words.specs.declared.words.End.TheVariants.{Goes, Mate, Stalemate}
@@ -18,7 +18,8 @@ use Rattle.krieg_words.specs.declared.dialects.ChecksTold.{ChecksTold}
 use Rattle.krieg_words.specs.declared.dialects.ChecksTold.TheVariants.{ByKind, Bare}
 use Rattle.krieg_words.specs.declared.dialects.TriesTold.{TriesTold}
 use Rattle.krieg_words.specs.declared.dialects.TriesTold.TheVariants.{Number, Any, Untold}
-use Rattle.krieg_words.specs.Words.{Said, most_tries}
+use Rattle.krieg_words.specs.Words.{Said}
+use Rattle.krieg_words.specs.declared.words.TheConstants.{MOST_TRIES}
 use Rattle.krieg_words.specs.Dialects.{dialect_rules}
 use Rattle.krieg_words.specs.ToldWords.{no_kinds, some_kind}
 use Rattle.krieg_words.specs.Parts.{PartsReader, no_more, part_then}
@@ -67,7 +68,7 @@ number_in (Err fault) = 0
 -- a number from 1 to the most tries
 abbrev pub count_in : Option (List ℕ) → ℕ
 count_in None = 0
-count_in (Some text) = number_in (number_between text 1 most_tries)
+count_in (Some text) = number_in (number_between text 1 MOST_TRIES)
 
 abbrev pub tries_in : TriesTold → List ℕ → ℕ
 tries_in Number part = count_in (behind (codes "tries ") part)
@@ -91,7 +92,7 @@ said_of x = record { took = x.0; checks = x.1.0; tries = x.1.1.0; end = x.1.1.1.
 unfoldable pub parts_in : Dialect → List ℕ → Option Said
 parts_in d text = option_map said_of (read_parts (dialect_rules d).men (dialect_rules d).checks (dialect_rules d).tries (Some text))
 
--- the words of `silent`
+-- what is heard where there is nothing to say, and the game goes on
 abbrev pub silent : Said
 silent = record { end = Goes; took = Nothing; checks = no_kinds; tries = 0 }
 

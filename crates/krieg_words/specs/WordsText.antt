@@ -1,6 +1,6 @@
 -- The text of words in each dialect.
 use Rattle.std.specs.Prelude.{ℕ, Bool, true, false, ◌==◌, not, List, [], ◌∷◌, ◌++◌, codes}
-use Rattle.krieg_fen.specs.Decimals.{number_text}
+use Rattle.krieg_text.specs.Decimals.{number_text}
 use Rattle.krieg_fen.specs.MoveText.{square_text}
 use Rattle.krieg_checks.specs.Kinds.{bits_of}
 use Rattle.krieg_checks.specs.declared.kinds.Kinds.{Kinds}
@@ -17,7 +17,7 @@ use Rattle.krieg_words.specs.declared.dialects.TriesTold.{TriesTold}
 use Rattle.krieg_words.specs.declared.dialects.TriesTold.TheVariants.{Number, Any, Untold}
 use Rattle.krieg_words.specs.Words.{Said}
 use Rattle.krieg_words.specs.Dialects.{dialect_rules}
-use Rattle.krieg_words.specs.Parts.{Part, texts, joined}
+use Rattle.krieg_words.specs.Parts.{Part, texts, joined_by}
 
 abbrev pub pawn_name : MenTold → List ℕ
 pawn_name Apart = codes "pawn "
@@ -43,7 +43,7 @@ abbrev pub kind_names : Kinds → List (List ℕ)
 kind_names k = texts ((k.file, codes "file") ∷ (k.rank, codes "rank") ∷ (k.long, codes "long") ∷ (k.short, codes "short") ∷ (k.knight, codes "knight") ∷ [])
 
 abbrev pub checks_text : ChecksTold → Kinds → List ℕ
-checks_text ByKind k = codes "check " ++ joined (codes "+") (kind_names k)
+checks_text ByKind k = codes "check " ++ joined_by (codes "+") (kind_names k)
 checks_text Bare k = codes "check"
 
 abbrev pub is_check : Kinds → Bool
@@ -81,7 +81,7 @@ words_parts d w =
 -- joined by a comma and a space, or `silent` where there is no part
 abbrev pub spelled : List (List ℕ) → List ℕ
 spelled [] = codes "silent"
-spelled (p ∷ ps) = joined (codes ", ") (p ∷ ps)
+spelled (p ∷ ps) = joined_by (codes ", ") (p ∷ ps)
 
 unfoldable pub words_text : Dialect → Said → List ℕ
 words_text d w = spelled (texts (words_parts d w))

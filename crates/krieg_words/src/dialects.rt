@@ -2,7 +2,7 @@ ghost use Rattle.std.specs.Prelude.{◌≡◌, IfSome, Some};
 ghost use Rattle.krieg_words.specs.Dialects.{dialect_rules, dialect_text, dialect_of};
 ghost use Rattle.krieg_words.specs.declared.dialects.Dialect.{Dialect as SomeDialect};
 
-use krieg_fen::is_name;
+use krieg_text::is_name;
 
 /// How much the umpire tells.
 #[derive(Clone, Copy, Debug, PartialEq, Eq)]

@@ -9,15 +9,14 @@
 //! tries (`PawnTries`), the words of a move and of a position (`WordsOfMoves`), the dialects (`Dialects`), what
 //! they tell of words (`ToldWords`) and of a move (`ToldMoves`), texts of parts (`Parts`), the text of words (`WordsText`) and the words
 //! of a text (`WordsReading`), a player's line and its text (`Line`) and the line of a text (`LineReading`),
-//! and the first lines of a text, which tell its dialect (`Versions`). Only the writers take memory.
+//! the first lines of a text, which tell its dialect (`Versions`), and words as numbers (`WordNumbers`). Only the writers take memory.
 //!
 //! ```
 //! let p = read_position(b"1k6/8/1K6/8/8/8/8/7R w - -")?;
 //! let h1h8 = read_move(b"h1h8")?;
-//! if is_legal(&p, h1h8) {
-//!     let words = words_of(&p, h1h8);
-//!     write_words(words, &mut text)?; // "check rank, mate"
-//!     let plain = told(Dialect::Plain, words);
+//! if let Some(made) = make_if_legal(&p, h1h8) {
+//!     write_words(made.words, &mut text)?; // "check rank, mate"
+//!     let plain = told(Dialect::Plain, made.words);
 //!     write_words_in(Dialect::Plain, plain, &mut other)?; // "check, mate"
 //! }
 //! ```
@@ -31,6 +30,7 @@ mod pawn_tries;
 mod told_moves;
 mod told_words;
 mod versions;
+mod word_numbers;
 mod words;
 mod words_of_moves;
 mod words_reading;
@@ -40,10 +40,14 @@ pub use dialects::{Dialect, dialect_name, read_dialect};
 pub use line::{Line, know_line, put_line, put_line_in, told_line, write_line, write_line_in};
 pub use line_reading::{LineFault, read_line, read_line_in};
 pub use pawn_tries::tries;
-pub use told_moves::{after_told, are_told};
+pub use told_moves::{after_told, after_told_if_legal};
 pub use told_words::told;
-pub use versions::{put_version_lines, read_dialect_line, read_version_lines, version_line_count};
-pub use words::{End, Took, Words, compare, know_words};
-pub use words_of_moves::{Made, make_move, opening, words_of};
+pub use versions::{
+    put_second_version, put_version_lines, read_dialect_line, read_version_lines,
+    version_line_count,
+};
+pub use word_numbers::{WORDS_LIMIT, words_at, words_number};
+pub use words::{End, MOST_TRIES, SILENT, Took, Words, compare, know_words};
+pub use words_of_moves::{Made, make_if_legal, make_move, opening, words_of};
 pub use words_reading::{WordsFault, read_words, read_words_in};
-pub use words_text::{put_words, put_words_in, write_words, write_words_in};
+pub use words_text::{has_ended, put_words, put_words_in, write_words, write_words_in};

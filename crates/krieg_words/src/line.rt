@@ -1,6 +1,6 @@
 ghost use Rattle.std.specs.Prelude.{◌≡◌, ◌++◌, codes};
 ghost use Rattle.krieg_fen.specs.MoveText.{move_text, IsOnBoard};
-ghost use Rattle.krieg_fen.specs.Writing.{PutsText, Appends};
+ghost use Rattle.krieg_text.specs.Writing.{PutsText, Appends};
 ghost use Rattle.krieg_words.specs.WordsText.{words_text};
 ghost use Rattle.krieg_words.specs.Line as spec;
 ghost use Rattle.krieg_words.specs.Line.{line_text, IsLine, LineFits};
@@ -11,7 +11,8 @@ use crate::told_words::told;
 use crate::words::{Words, know_words};
 use crate::words_text::put_said;
 use krieg_board::{Move, NoMemory, know_squares};
-use krieg_fen::{Text, put_move};
+use krieg_fen::put_move;
+use krieg_text::Text;
 
 /// One line of what a player hears.
 #[derive(Clone, Copy, Debug, PartialEq, Eq)]

@@ -1,7 +1,7 @@
 ghost use Rattle.std.specs.Prelude.{◌≡◌, codes, IfOk, Some, None, Ok};
 ghost use Rattle.std.specs.Option.{option_copied};
-ghost use Rattle.krieg_fen.specs.Names.{behind};
-ghost use Rattle.krieg_fen.specs.Outcomes.{Reads};
+ghost use Rattle.krieg_text.specs.Names.{behind};
+ghost use Rattle.krieg_text.specs.Outcomes.{Reads};
 ghost use Rattle.krieg_words.specs.Line.{line_text, IsLine, LineFits};
 ghost use Rattle.krieg_words.specs.LineReading as spec;
 ghost use Rattle.krieg_words.specs.declared.dialects.Dialect.TheVariants.{Wild16};
@@ -11,7 +11,8 @@ use crate::dialects::Dialect;
 use crate::line::Line;
 use crate::words_reading::words_in;
 use krieg_board::Move;
-use krieg_fen::{behind, cut, is_name, read_move};
+use krieg_fen::read_move;
+use krieg_text::{behind, cut, is_name};
 
 /// The text is no line of the dialect.
 #[derive(Clone, Copy, Debug, PartialEq, Eq)]

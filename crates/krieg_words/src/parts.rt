@@ -1,10 +1,10 @@
 ghost use Rattle.std.specs.Prelude.{◌≡◌};
 ghost use Rattle.std.specs.Option.{option_copied};
-ghost use Rattle.krieg_fen.specs.Writing.{PutsText};
+ghost use Rattle.krieg_text.specs.Writing.{PutsText};
 ghost use Rattle.krieg_words.specs.Parts as spec;
 
 use krieg_board::NoMemory;
-use krieg_fen::{Text, behind, cut};
+use krieg_text::{Text, behind, cut};
 
 /// The separator, where another part stands before.
 pub(crate) fn put_separator(separator: &[u8], before: bool, text: &mut Text) -> Result<(), NoMemory>

@@ -1,7 +1,7 @@
 ghost use Rattle.std.specs.Prelude.{◌≡◌, ◌≤◌, ◌==◌, not};
 ghost use Rattle.krieg_moves.specs.Guarding.{IsGuard};
-ghost use Rattle.krieg_words.specs.Words.{most_tries};
 ghost use Rattle.krieg_words.specs.PawnTries as spec;
+ghost use Rattle.krieg_words.specs.declared.words.TheConstants.{MOST_TRIES};
 
 use krieg_board::{Position, know_valid, lowest, without_lowest};
 use krieg_moves::{Guard, own_pawns, pawn_captures};
@@ -10,7 +10,7 @@ use krieg_moves::{Guard, own_pawns, pawn_captures};
 pub(crate) fn count_tries(p: &Position, guard: &Guard) -> u8
     requires { IsGuard p.now guard.now }
     ensures value { result ≡ spec.tries p.now }
-    ensures few { result ≤ most_tries }
+    ensures few { result ≤ MOST_TRIES }
 {
     know_valid(p);
     let mut rest = own_pawns(p);
@@ -46,7 +46,7 @@ pub(crate) fn has_tries(p: &Position, guard: &Guard) -> bool
 /// capture, in passing too. Four promotions on one pair count once.
 pub fn tries(p: &Position) -> u8
     ensures value { result ≡ spec.tries p.now }
-    ensures few { result ≤ most_tries }
+    ensures few { result ≤ MOST_TRIES }
 {
     count_tries(p, &Guard::of(p))
 }

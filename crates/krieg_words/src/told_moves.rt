@@ -1,5 +1,6 @@
 ghost use Rattle.std.specs.Prelude.{◌≡◌, ◌==◌, ◌&&◌, true, IsTrue};
 ghost use Rattle.krieg_moves.specs.Guarding.{IsGuard};
+ghost use Rattle.krieg_moves.specs.After.{after};
 ghost use Rattle.krieg_moves.specs.Legal.{is_legal};
 ghost use Rattle.krieg_words.specs.ToldMoves as spec;
 ghost use Rattle.krieg_words.specs.Dialects as dialects;
@@ -13,7 +14,7 @@ use crate::words::{End, Took, Words};
 use crate::words_of_moves::took_by;
 use krieg_board::{Move, Position};
 use krieg_checks::kinds_of;
-use krieg_moves::{Guard, after, has_move_by, in_check};
+use krieg_moves::{Guard, after, after_if_legal, has_move_by, in_check};
 
 fn is_same_took(a: &Took, b: &Took) -> bool
     ensures { result ≡ spec.is_same_took a.now b.now }
@@ -78,6 +79,20 @@ fn is_rest_told(d: Dialect, w: &Words, p: &Position) -> bool
         && are_moves_told(d, w, p)
 }
 
+/// The position after the move whose capture is told, where the rest is told of it too.
+#[tactic(auto, using(crate::proofs::ToldMoves::told_moves))]
+fn if_rest_told(d: Dialect, w: &Words, p: &Position, mv: &Move, next: Position) -> Option<Position>
+    requires took { spec.is_took_told d w.now.took p.now mv.now ≡ true }
+    requires next { next ≡ after p.now mv.now }
+    ensures { result ≡ spec.after_told d w.now p.now mv.now }
+{
+    if is_rest_told(d, w, &next) {
+        Some(next)
+    } else {
+        None
+    }
+}
+
 /// The position after the legal move, where the dialect tells just these words of it, and otherwise `None`.
 ///
 /// It looks at the capture first, for which the move is not made: of many moves that might have been made, few
@@ -92,18 +107,20 @@ pub fn after_told(d: Dialect, w: &Words, p: &Position, mv: Move) -> Option<Posit
         return None;
     }
     let next = after(p, mv);
-    if is_rest_told(d, w, &next) {
-        Some(next)
-    } else {
-        None
-    }
+    if_rest_told(d, w, p, &mv, next)
 }
 
-/// Whether the dialect tells just these words of the legal move.
-#[tactic(auto, using(crate::proofs::ToldMoves::told_moves))]
-pub fn are_told(d: Dialect, w: &Words, p: &Position, mv: Move) -> bool
-    requires { IsTrue (is_legal p.now mv) }
-    ensures { result ≡ spec.are_told d w.now p.now mv }
+/// The same of a try: the position after it, where it is legal and the dialect tells just these words of it. The move is
+/// made once, and not at all where another capture was heard.
+#[tactic(auto, using(crate::proofs::ToldMoves::told_tries))]
+pub fn after_told_if_legal(d: Dialect, w: &Words, p: &Position, mv: Move) -> Option<Position>
+    ensures { result ≡ spec.after_told_if_legal d w.now p.now mv }
 {
-    after_told(d, w, p, mv).is_some()
+    if !is_took_told(d, &w.took, p, &mv) {
+        return None;
+    }
+    match after_if_legal(p, mv) {
+        None => None,
+        Some(next) => if_rest_told(d, w, p, &mv, next),
+    }
 }

@@ -3,16 +3,7 @@ ghost use Rattle.krieg_words.specs.ToldWords as spec;
 
 use crate::dialects::{ChecksTold, Dialect, MenTold, TriesTold, dialect_rules};
 use crate::words::{Took, Words};
-use krieg_checks::Kinds;
-
-/// What is told where there is no check.
-pub(crate) const NO_KINDS: Kinds = Kinds {
-    knight: false,
-    short: false,
-    long: false,
-    rank: false,
-    file: false,
-};
+use krieg_checks::{Kinds, NO_KINDS};
 
 /// A check without its kinds is told as one on a file.
 pub(crate) const SOME_KIND: Kinds = Kinds {

@@ -1,18 +1,18 @@
 ghost use Rattle.std.specs.Prelude.{◌≡◌, ◌≢◌, ◌≤◌, ℕ, List, IfErr, map, length};
-ghost use Rattle.krieg_fen.specs.Reading.{GivesOn, Passed};
-ghost use Rattle.krieg_fen.specs.declared.fault.TextFault.TheVariants.{NoMemory as OutOfMemory};
-ghost use Rattle.krieg_fen.specs.Writing.{PutsLines, alone};
+ghost use Rattle.krieg_text.specs.Reading.{GivesOn, Passed};
+ghost use Rattle.krieg_text.specs.declared.fault.TextFault.TheVariants.{NoMemory as OutOfMemory};
+ghost use Rattle.krieg_text.specs.Writing.{PutsLines, alone};
 ghost use Rattle.krieg_words.specs.Versions as spec;
 
 use crate::dialects::{
     Dialect, TextVersion, UNNAMED_DIALECT, dialect_name, dialect_rules, read_dialect,
 };
 use krieg_board::NoMemory;
-use krieg_fen::{Cursor, Text, TextFault, TextKind, behind, read_version};
+use krieg_text::{Cursor, Text, TextFault, TextKind, behind, read_version};
 
 /// The dialect that the line names.
 #[tactic(auto, unfolding(crate::specs::Versions::dialect_form))]
-fn dialect_line(line: &[u8]) -> Result<Dialect, TextKind>
+fn dialect_form(line: &[u8]) -> Result<Dialect, TextKind>
     ensures { result ≡ spec.dialect_form line.now }
 {
     match behind(b"dialect ", line) {
@@ -23,7 +23,7 @@ fn dialect_line(line: &[u8]) -> Result<Dialect, TextKind>
 
 /// The dialect of a text of that version: version 1 is in one dialect, and in every other version the next line
 /// names the dialect.
-#[tactic(auto, using(krieg_fen::proofs::ReadingLemmas::refused))]
+#[tactic(auto, using(krieg_text::proofs::ReadingLemmas::refused))]
 pub fn read_dialect_line(from: &mut Cursor<'_>, version: u64) -> Result<Dialect, TextFault>
     ensures value { GivesOn (λ d. d) result from.new (spec.dialect_at version from.old) }
     ensures rest { Passed from.old from.new }
@@ -33,12 +33,12 @@ pub fn read_dialect_line(from: &mut Cursor<'_>, version: u64) -> Result<Dialect,
         return Ok(UNNAMED_DIALECT);
     }
     let line = from.number();
-    dialect_line(from.line()?).map_err(|kind| TextFault::At { line, kind })
+    dialect_form(from.line()?).map_err(|kind| TextFault::At { line, kind })
 }
 
 /// The dialect of a text by its first lines: the format's name with version 1 or 2, and after version 2
 /// the line of the dialect.
-#[tactic(auto, using(krieg_fen::proofs::ReadingLemmas::passed), unfolding(crate::specs::Versions::version_at))]
+#[tactic(auto, using(krieg_text::proofs::ReadingLemmas::passed), unfolding(crate::specs::Versions::version_at))]
 pub fn read_version_lines(from: &mut Cursor<'_>, name: &[u8]) -> Result<Dialect, TextFault>
     ensures value { GivesOn (λ d. d) result from.new (spec.version_at name.now from.old) }
     ensures rest { Passed from.old from.new }
@@ -48,23 +48,29 @@ pub fn read_version_lines(from: &mut Cursor<'_>, name: &[u8]) -> Result<Dialect,
     read_dialect_line(from, version)
 }
 
+/// Puts the first lines of a text in version 2: the format's name, the version, and the line of the dialect.
+pub fn put_second_version(name: &[u8], d: Dialect, text: &mut Text) -> Result<(), NoMemory>
+    ensures { PutsLines result text.old text.new (map alone (spec.second_version name.now d)) }
+{
+    text.put(name)?;
+    text.put(b"2")?;
+    text.end_line()?;
+    text.put(b"dialect ")?;
+    text.put(dialect_name(d))?;
+    text.end_line()
+}
+
 /// Puts the first lines of a text: the format's name, the version and, in version 2, the line of the dialect.
 pub fn put_version_lines(name: &[u8], d: Dialect, text: &mut Text) -> Result<(), NoMemory>
     ensures { PutsLines result text.old text.new (map alone (spec.version_lines name.now d)) }
 {
-    text.put(name)?;
     match dialect_rules(d).version {
         TextVersion::First => {
+            text.put(name)?;
             text.put(b"1")?;
             text.end_line()
         }
-        TextVersion::Second => {
-            text.put(b"2")?;
-            text.end_line()?;
-            text.put(b"dialect ")?;
-            text.put(dialect_name(d))?;
-            text.end_line()
-        }
+        TextVersion::Second => put_second_version(name, d, text),
     }
 }
 

@@ -2,12 +2,12 @@ ghost use Rattle.std.specs.Prelude.{◌≡◌};
 ghost use Rattle.krieg_words.specs.Words.{IsSaid, IsTaken, words_cmp};
 
 use krieg_board::Square;
-use krieg_checks::Kinds;
+use krieg_checks::{Kinds, NO_KINDS};
 use std::cmp::Ordering;
 use std::marker::Model;
 
 /// Eight pawns have two pawn tries each at most.
-pub(crate) const MOST_TRIES: u8 = 16;
+pub const MOST_TRIES: u8 = 16;
 
 /// Whether the game goes on, and how it has ended otherwise.
 #[derive(Clone, Copy, Debug, PartialEq, Eq, PartialOrd, Ord)]
@@ -40,19 +40,28 @@ pub struct Words {
     pub end: End,
     pub took: Took,
     pub checks: Kinds,
-    /// How many pawn captures the side to move has: 16 at most.
+    /// How many pawn captures the side to move has, at most [`MOST_TRIES`].
     pub tries: u8,
 }
 
+/// What is heard where there is nothing to say, and the game goes on.
+pub const SILENT: Words = Words {
+    end: End::Goes,
+    took: Took::Nothing,
+    checks: NO_KINDS,
+    tries: 0,
+};
+
 impl Model for Words {
     ghost use Rattle.std.specs.Prelude.{◌≤◌};
-    ghost use Rattle.krieg_words.specs.Words.{Said, most_tries};
+    ghost use Rattle.krieg_words.specs.Words.{Said};
+    ghost use Rattle.krieg_words.specs.declared.words.TheConstants.{MOST_TRIES};
 
     ghost Value = { Said };
 
     ghost view = { λ w. record { end = w.end; took = w.took; checks = w.checks; tries = w.tries } };
 
-    ghost invariant = { λ w. w.tries ≤ most_tries };
+    ghost invariant = { λ w. w.tries ≤ MOST_TRIES };
 
     ghost inverse = { λ s. record { end = s.end; took = s.took; checks = s.checks; tries = s.tries } };
 }

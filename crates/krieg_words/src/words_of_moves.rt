@@ -1,4 +1,4 @@
-ghost use Rattle.std.specs.Prelude.{◌≡◌, true, ℕ, Some, IsTrue};
+ghost use Rattle.std.specs.Prelude.{◌≡◌, true, false, ℕ, Some, IsTrue, IfSome, IfNone};
 ghost use Rattle.krieg_board.specs.Board.{man_at};
 ghost use Rattle.krieg_moves.specs.Legal.{is_legal};
 ghost use Rattle.krieg_moves.specs.After.{after};
@@ -10,7 +10,9 @@ use crate::pawn_tries::count_tries;
 use crate::words::{End, Took, Words};
 use krieg_board::{Kind, Man, Move, Position, Side, Square, is_man, know_valid};
 use krieg_checks::kinds_of;
-use krieg_moves::{Guard, after, has_move_by, in_check, is_en_passant, passed_square};
+use krieg_moves::{
+    Guard, after, after_if_legal, has_move_by, in_check, is_en_passant, passed_square,
+};
 
 /// A legal move that was made: what both players hear of it, and the position after it.
 #[derive(Clone, Copy)]
@@ -101,17 +103,35 @@ pub fn make_move(p: &Position, mv: Move) -> Made
     ensures said { IsSaid result.words }
 {
     know_valid(p);
-    made_move(p, &mv)
+    let position = after(p, mv);
+    made_to(p, &mv, position)
 }
 
+/// Makes the try where its move is legal, and says the same of it as `make_move`. `None` exactly where it is not legal.
+/// The move is made once, for both.
+#[tactic(auto, using(crate::proofs::SaidLaws::said))]
+pub fn make_if_legal(p: &Position, mv: Move) -> Option<Made>
+    ensures legal { IfSome result (λ made. is_legal p.now mv ≡ true) }
+    ensures illegal { IfNone result (is_legal p.now mv ≡ false) }
+    ensures words { IfSome result (λ made. made.words ≡ spec.words p.now mv) }
+    ensures position { IfSome result (λ made. made.position ≡ after p.now mv) }
+    ensures said { IfSome result (λ made. IsSaid made.words) }
+{
+    know_valid(p);
+    match after_if_legal(p, mv) {
+        None => None,
+        Some(position) => Some(made_to(p, &mv, position)),
+    }
+}
+
+/// The move that was made, after which the game stands in `position`.
 #[tactic(auto, unfolding(crate::specs::WordsOfMoves::words))]
-fn made_move(p: &Position, mv: &Move) -> Made
-    requires { IsTrue (is_legal p.now mv.now) }
+fn made_to(p: &Position, mv: &Move, position: Position) -> Made
+    requires { position ≡ after p.now mv.now }
     ensures words { result.words ≡ spec.words p.now mv.now }
     ensures position { result.position ≡ after p.now mv.now }
 {
     let took = took_by(p, p.man_at(mv.from), mv);
-    let position = after(p, *mv);
     Made {
         words: said(&took, &position),
         position,

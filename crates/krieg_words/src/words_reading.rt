@@ -1,8 +1,8 @@
 ghost use Rattle.std.specs.Prelude.{◌≡◌, ◌≤◌, codes, ℕ, IfOk, Some, None, Ok};
 ghost use Rattle.std.specs.Str.{bytes_eq};
 ghost use Rattle.std.specs.Option.{option_copied};
-ghost use Rattle.krieg_fen.specs.Outcomes.{Reads};
-ghost use Rattle.krieg_words.specs.Words.{Said, IsSaid, most_tries};
+ghost use Rattle.krieg_text.specs.Outcomes.{Reads};
+ghost use Rattle.krieg_words.specs.Words.{Said, IsSaid};
 ghost use Rattle.krieg_words.specs.ToldWords.{Fits};
 ghost use Rattle.krieg_words.specs.WordsText.{words_text};
 ghost use Rattle.krieg_words.specs.Parts as parts;
@@ -11,12 +11,13 @@ ghost use Rattle.krieg_words.specs.declared.dialects.Dialect.TheVariants.{Wild16
 
 use crate::dialects::{ChecksTold, Dialect, MenTold, TriesTold, dialect_rules};
 use crate::parts::{front, left_by};
-use crate::told_words::{NO_KINDS, SOME_KIND};
-use crate::words::{End, MOST_TRIES, Took, Words};
+use crate::told_words::SOME_KIND;
+use crate::words::{End, MOST_TRIES, SILENT, Took, Words};
 use crate::words_text::{are_tries, has_ended, is_capture, is_check};
 use krieg_board::Square;
-use krieg_checks::Kinds;
-use krieg_fen::{behind, is_name, read_number_between, read_square};
+use krieg_checks::{Kinds, NO_KINDS};
+use krieg_fen::read_square;
+use krieg_text::{behind, is_name, read_number_between};
 
 /// The text is no words of the dialect.
 #[derive(Clone, Copy, Debug, PartialEq, Eq)]
@@ -115,7 +116,7 @@ fn checks_in(checks: ChecksTold, part: &[u8]) -> Kinds
 /// A number from 1 to the most tries.
 fn count_in(text: Option<&[u8]>) -> u8
     ensures value { result ≡ spec.count_in (option_copied text.entry) }
-    ensures bound { result ≤ most_tries }
+    ensures bound { result ≤ MOST_TRIES }
 {
     match text {
         None => 0,
@@ -128,7 +129,7 @@ fn count_in(text: Option<&[u8]>) -> u8
 
 fn tries_in(tries: TriesTold, part: &[u8]) -> u8
     ensures value { result ≡ spec.tries_in tries part.now }
-    ensures bound { result ≤ most_tries }
+    ensures bound { result ≤ MOST_TRIES }
 {
     match tries {
         TriesTold::Number => count_in(behind(b"tries ", part)),
@@ -182,12 +183,7 @@ pub(crate) fn words_in(d: Dialect, text: &[u8]) -> Option<Words>
     ensures { result ≡ spec.words_in d text.now }
 {
     if is_name(b"silent", text) {
-        return Some(Words {
-            end: End::Goes,
-            took: Took::Nothing,
-            checks: NO_KINDS,
-            tries: 0,
-        });
+        return Some(SILENT);
     }
     parts_in(d, text)
 }

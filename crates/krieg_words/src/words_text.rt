@@ -1,9 +1,9 @@
 ghost use Rattle.std.specs.Prelude.{◌≡◌, ◌||◌, codes, if◌then◌else◌, []};
-ghost use Rattle.krieg_fen.specs.Writing.{PutsText, Appends};
+ghost use Rattle.krieg_text.specs.Writing.{PutsText, Appends};
 ghost use Rattle.krieg_words.specs.ToldWords.{Fits};
 ghost use Rattle.krieg_words.specs.WordsText as spec;
 ghost use Rattle.krieg_words.specs.WordsText.{words_text};
-ghost use Rattle.krieg_words.specs.Parts.{piece, joined};
+ghost use Rattle.krieg_words.specs.Parts.{piece, joined_by};
 ghost use Rattle.krieg_words.specs.declared.dialects.Dialect.TheVariants.{Wild16};
 
 use crate::dialects::{ChecksTold, Dialect, MenTold, TriesTold, dialect_rules};
@@ -11,7 +11,8 @@ use crate::parts::{put_piece, put_separator};
 use crate::words::{End, Took, Words};
 use krieg_board::NoMemory;
 use krieg_checks::Kinds;
-use krieg_fen::{Text, put_number, put_square};
+use krieg_fen::put_square;
+use krieg_text::{Text, put_number};
 
 fn pawn_name(men: MenTold) -> &'static [u8]
     ensures { result.now ≡ spec.pawn_name men }
@@ -70,7 +71,7 @@ fn either(a: bool, b: bool) -> bool
 
 #[tactic(auto, using(crate::proofs::WordsWritten::names_after))]
 fn put_names(kinds: Kinds, text: &mut Text) -> Result<(), NoMemory>
-    ensures { PutsText result text.old text.new (joined (codes "+") (spec.kind_names kinds)) }
+    ensures { PutsText result text.old text.new (joined_by (codes "+") (spec.kind_names kinds)) }
 {
     put_piece(b"+", false, kinds.file, b"file", text)?;
     let before = kinds.file;
@@ -140,7 +141,8 @@ fn end_text(end: End) -> &'static [u8]
     }
 }
 
-pub(crate) fn has_ended(end: End) -> bool
+/// Whether these words say that the game has ended.
+pub fn has_ended(end: End) -> bool
     ensures { result ≡ spec.has_ended end }
 {
     match end {

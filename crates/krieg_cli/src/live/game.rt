@@ -5,15 +5,24 @@ ghost use Rattle.krieg_cli.specs.Seated.{bench_sides};
 ghost use Rattle.krieg_play.specs.Calls.{IsReady};
 ghost use Rattle.krieg_play.specs.Passes.{PlaysOn, ComesTo};
 
+use crate::PlayFault;
 use crate::live::bench::Bench;
 use crate::live::table::{relieved_count, take_turn, tell_both};
-use crate::{PlayFault, Played};
 use krieg_board::{NoMemory, Position, Side};
 use krieg_moves::has_move;
 use krieg_referee::{Game, Stop};
 use krieg_seats::Seat;
 use krieg_words::{Line, opening};
 use std::alloc::Global;
+
+/// A game that was played, and why it stopped.
+#[derive(Drop)]
+pub struct Played {
+    /// The game, with the tries that were judged.
+    pub game: Game,
+    /// It has ended, or the last seat of the side to move left, or as many asks were used as were allowed.
+    pub stop: Stop,
+}
 
 /// Plays on until the game stops. `seats` is how many seats stood in both lists when the call began.
 fn play_on(

@@ -2,7 +2,7 @@ use Rattle.std.proofs.Common.{◌≡◌, ◌≤◌, ◌<◌, ℕ, List, Err, sym
 use Rattle.std.specs.Prelude.{IfOk}
 use Rattle.krieg_board.specs.Pos.{Pos}
 use Rattle.krieg_pack.specs.Members.{set_of}
-use Rattle.krieg_belief.specs.Steps.{run, opened}
+use Rattle.krieg_belief.specs.Steps.{run, after_opening}
 use Rattle.krieg_belief.specs.Possible.{IsPossible, HaveOneHand}
 use Rattle.krieg_belief.specs.Limits.{AllWithin, IsStop, IsLateStop}
 use Rattle.krieg_belief.proofs.Prefixes.{begun, possible_all, possible_hand, list_exceeds, opening_exceeds, entry_exceeds, all_within, if_ok, if_err, on_ok}
@@ -16,19 +16,19 @@ returns-then-len-limit-clause-stop c =
     list_exceeds s c.args.limit c.list_line.result c.in-Ok.listed listed over
     (c.list_line.ensures.value s.side (length s.list) ∙ ap (λ d. length (Rattle.krieg_sheet.specs.SheetText.head_lines d s.side (length s.list))) c.dialect-d.ensures.value)
 
-pub returns-in-Err-opened-clause-stop : goal.returns-in-Err-opened-clause-stop
-returns-in-Err-opened-clause-stop c =
+pub returns-in-Err-after_opening-clause-stop : goal.returns-in-Err-after_opening-clause-stop
+returns-in-Err-after_opening-clause-stop c =
     let s = c.args.s.now in
     let listed : c.in-Ok.listed ≡ set_of s.list = c.in-Ok.ensures.value ∙ ap set_of c.list.ensures.value in
     let fits : length c.in-Ok.listed ≤ c.args.limit = omega (arith, c.len.ensures.value) in
-    let set : opened c.dialect-d.result c.side-who.result c.opens.result c.in-Ok.listed ≡ begun s = λ i. opened (c.dialect-d.ensures.value i) (c.side-who.ensures.value i) (c.opens.ensures.value i) (listed i) in
-    opening_exceeds s c.args.limit c.line_behind-behind.result c.in-Err-opened.stop c.stopped.result c.opens.ensures.sheet (subst (λ (ps : List Pos). length ps ≤ c.args.limit) listed fits)
-    (λ e. subst (λ (ps : List Pos). c.args.limit < length ps) set (c.in-Err-opened.ensures.too_many (ap Err e))) c.line_behind-behind.ensures.value c.stopped.ensures
+    let set : after_opening c.dialect-d.result c.side-who.result c.opens.result c.in-Ok.listed ≡ begun s = λ i. after_opening (c.dialect-d.ensures.value i) (c.side-who.ensures.value i) (c.opens.ensures.value i) (listed i) in
+    opening_exceeds s c.args.limit c.line_behind-behind.result c.in-Err-after_opening.stop c.stopped.result c.opens.ensures.sheet (subst (λ (ps : List Pos). length ps ≤ c.args.limit) listed fits)
+    (λ e. subst (λ (ps : List Pos). c.args.limit < length ps) set (c.in-Err-after_opening.ensures.too_many (ap Err e))) c.line_behind-behind.ensures.value c.stopped.ensures
 
-starts : (c : goal.After-go_through) → c.in-Ok-opened.start ≡ begun c.args.s.now
+starts : (c : goal.After-go_through) → c.in-Ok-after_opening.start ≡ begun c.args.s.now
 starts c =
     let listed : c.in-Ok.listed ≡ set_of c.args.s.now.list = c.in-Ok.ensures.value ∙ ap set_of c.list.ensures.value in
-    c.in-Ok-opened.ensures.value ∙ (λ i. opened (c.dialect-d.ensures.value i) (c.side-who.ensures.value i) (c.opens.ensures.value i) (listed i))
+    c.in-Ok-after_opening.ensures.value ∙ (λ i. after_opening (c.dialect-d.ensures.value i) (c.side-who.ensures.value i) (c.opens.ensures.value i) (listed i))
 
 fitting : (c : goal.After-go_through) → length (set_of c.args.s.now.list) ≤ c.args.limit
 fitting c =
@@ -39,7 +39,7 @@ fitting c =
 possible : (c : goal.After-go_through) → IfOk c.go_through.result (λ b. IsPossible c.args.s.now b)
 possible c =
     let s = c.args.s.now in
-    let behind : run c.dialect-d.result c.side-who.result c.entries.result.now c.in-Ok-opened.start ≡ run s.dialect s.side s.entries (begun s) =
+    let behind : run c.dialect-d.result c.side-who.result c.entries.result.now c.in-Ok-after_opening.start ≡ run s.dialect s.side s.entries (begun s) =
     λ i. run (c.dialect-d.ensures.value i) (c.side-who.ensures.value i) (c.entries.ensures.value i) (starts c i) in
     if_ok _ (IsPossible s) c.go_through.result (λ b is. subst (IsPossible s) (sym (is ∙ behind)) (possible_all s c.entries.ensures.sheet)) c.go_through.ensures.value
 

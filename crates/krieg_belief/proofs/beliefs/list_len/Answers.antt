@@ -1,8 +1,8 @@
 use Rattle.std.proofs.Common.{◌≤◌, List, sym, subst, length}
 use Rattle.krieg_board.specs.Pos.{Pos}
-use Rattle.krieg_fen.specs.Forms.{most_listed}
+use Rattle.krieg_fen.specs.declared.forms.TheConstants.{MOST_LISTED}
 use Rattle.krieg_belief.proofs.Prefixes.{sheet_le}
 use Rattle.krieg_belief.proofs.beliefs.list_len.Goals as goal
 
 pub returns-clause-small : goal.returns-clause-small
-returns-clause-small c = subst (λ (ps : List Pos). length ps ≤ most_listed) (sym c.list.ensures.value) (sheet_le c.args.s.now c.list.ensures.sheet)
+returns-clause-small c = subst (λ (ps : List Pos). length ps ≤ MOST_LISTED) (sym c.list.ensures.value) (sheet_le c.args.s.now c.list.ensures.sheet)

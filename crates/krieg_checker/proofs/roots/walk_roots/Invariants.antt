@@ -5,11 +5,12 @@ use Rattle.krieg_plan.specs.Plans.{plan_of}
 use Rattle.krieg_checker.specs.Found.{within}
 use Rattle.krieg_checker.specs.Starting.{heard_of, roots_won, roots_cost}
 use Rattle.krieg_checker.proofs.roots.walk_roots.Given as goal
+use Rattle.krieg_checker.specs.declared.walk.TheConstants.{MOST_COUNTED}
 
 -- what was found so far, with what is left, is all
 abbrev pub invariant-loop-class : goal.invariant-loop-class
 invariant-loop-class l = record {
-  found : (k : ℕ) → k ≤ 65535 → within l.need k && roots_won l.d (plan_of l.plan) (map (heard_of l.own) (map class_pair (into_iter_items l.class-iterator))) k ≡ roots_won l.d (plan_of l.plan) (map (heard_of l.own) (map class_pair (into_iter_items l.initial.class-iterator))) k;
+  found : (k : ℕ) → k ≤ MOST_COUNTED → within l.need k && roots_won l.d (plan_of l.plan) (map (heard_of l.own) (map class_pair (into_iter_items l.class-iterator))) k ≡ roots_won l.d (plan_of l.plan) (map (heard_of l.own) (map class_pair (into_iter_items l.initial.class-iterator))) k;
   taken : l.units + roots_cost l.d (plan_of l.plan) (map (heard_of l.own) (map class_pair (into_iter_items l.initial.class-iterator))) ≡ l.initial.units + roots_cost l.d (plan_of l.plan) (map (heard_of l.own) (map class_pair (into_iter_items l.class-iterator)));
   counted : into_iter_len l.class-iterator ≡ length (into_iter_items l.class-iterator);
 }

@@ -1,10 +1,11 @@
 use Rattle.std.proofs.Common.{map, refl, ap, ◌∙◌}
 use Rattle.krieg_game.specs.Classes.{classes_in}
-use Rattle.krieg_game.specs.ClassLaws.{opened, silence}
+use Rattle.krieg_game.specs.ClassLaws.{opened}
 use Rattle.krieg_checker.proofs.Starting.{own_started}
 use Rattle.krieg_checker.proofs.start.at_own_turn.Goals as goal
+use Rattle.krieg_words.specs.WordsReading.{silent}
 
 pub returns : goal.returns
 returns c =
-    let classes = c.in_ok-classes.ensures ∙ ap classes_in (c.in_ok-outcomes.ensures ∙ ap (map (opened c.args.d silence)) c.members.ensures.value) in
+    let classes = c.in_ok-classes.ensures ∙ ap classes_in (c.in_ok-outcomes.ensures ∙ ap (map (opened c.args.d silent)) c.members.ensures.value) in
     (λ who turn. own_started c.args.d who c.args.b turn _ refl refl classes, refl)

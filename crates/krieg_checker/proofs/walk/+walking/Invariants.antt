@@ -9,6 +9,7 @@ use Rattle.krieg_checker.specs.Found.{within}
 use Rattle.krieg_checker.specs.Walked.{classes_won, classes_cost}
 use Rattle.krieg_checker.proofs.Walking.{IsWalked}
 use Rattle.krieg_checker.proofs.walk.+walking.Given as goal
+use Rattle.krieg_checker.specs.declared.walk.TheConstants.{MOST_COUNTED}
 
 abbrev pub invariant-walk-nodes : goal.invariant-walk-nodes
 invariant-walk-nodes l = record {
@@ -23,7 +24,7 @@ decreases-walk-nodes l = size (tree_of l.here)
 -- what was found so far, with what is left, is all
 abbrev pub invariant-walk_classes-loop-class : goal.invariant-walk_classes-loop-class
 invariant-walk_classes-loop-class l = record {
-  found : (k : ℕ) → k ≤ 65535 → within l.need k && classes_won l.d (edges_in (tree_of l.n)) (map class_pair (into_iter_items l.class-iterator)) k ≡ classes_won l.d (edges_in (tree_of l.n)) (map class_pair (into_iter_items l.initial.class-iterator)) k;
+  found : (k : ℕ) → k ≤ MOST_COUNTED → within l.need k && classes_won l.d (edges_in (tree_of l.n)) (map class_pair (into_iter_items l.class-iterator)) k ≡ classes_won l.d (edges_in (tree_of l.n)) (map class_pair (into_iter_items l.initial.class-iterator)) k;
   taken : l.units + classes_cost l.d (edges_in (tree_of l.n)) (map class_pair (into_iter_items l.initial.class-iterator)) ≡ l.initial.units + classes_cost l.d (edges_in (tree_of l.n)) (map class_pair (into_iter_items l.class-iterator));
   counted : into_iter_len l.class-iterator ≡ length (into_iter_items l.class-iterator);
 }

@@ -2,9 +2,7 @@ use Rattle.std.proofs.Common.{◌≡◌, ◌∙◌, ap, ◌&&◌, false}
 use Rattle.krieg_board.specs.Board.{man_at, is_of}
 use Rattle.krieg_board.specs.Attacks.{attacks}
 use Rattle.krieg_rays.proofs.Kings.{one_king_on}
-use Rattle.krieg_checks.specs.Kinds.{kinds, is_checked}
-use Rattle.krieg_checks.specs.declared.kinds.CheckKind.{CheckKind}
-use Rattle.krieg_checks.specs.declared.kinds.CheckKind.TheVariants.{File, Rank, Long, Short, Leap}
+use Rattle.krieg_checks.specs.Kinds.{CheckKind, File, Rank, Long, Short, Leap, kinds, is_checked}
 use Rattle.krieg_checks.proofs.Givers.{Attack, not_checked, leap_checked, file_checked, rank_checked, long_checked, short_checked}
 use Rattle.krieg_checks.proofs.kinds.kinds_of.Goals as goal
 

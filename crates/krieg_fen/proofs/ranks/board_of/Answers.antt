@@ -1,7 +1,7 @@
 use Rattle.std.proofs.Common.{◌≡◌, ◌∷◌, ◌*◌, ◌-◌, arith, rules, Some, false, drop}
 use Rattle.std.specs.Option.{option_copied, is_none}
 use Rattle.krieg_fen.specs.Ranks.{eight, row_of}
-use Rattle.krieg_fen.specs.Pieces.{pieces_left}
+use Rattle.krieg_text.specs.Pieces.{pieces_left}
 use Rattle.krieg_fen.proofs.RankReading.{rank_step, rank_over}
 use Rattle.krieg_fen.proofs.ranks.board_of.Goals as goal
 

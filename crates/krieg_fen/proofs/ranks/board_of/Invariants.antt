@@ -1,7 +1,7 @@
 use Rattle.std.proofs.Common.{◌≡◌, ◌-◌, ◌*◌, drop, Some}
 use Rattle.std.specs.Option.{option_copied}
 use Rattle.krieg_fen.specs.Ranks.{ranks_of, onto_row}
-use Rattle.krieg_fen.specs.Pieces.{pieces, pieces_left}
+use Rattle.krieg_text.specs.Pieces.{pieces, pieces_left}
 use Rattle.krieg_fen.proofs.ranks.board_of.Given as goal
 
 abbrev pub invariant-loop-rank : goal.invariant-loop-rank

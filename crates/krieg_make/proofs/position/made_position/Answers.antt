@@ -5,12 +5,13 @@ use Rattle.krieg_board.specs.declared.men.Side.TheVariants.{White}
 use Rattle.krieg_make.specs.MadePositions.{made_position, made_board, pair_at}
 use Rattle.krieg_make.proofs.ValidPositions.{made_valid}
 use Rattle.krieg_make.proofs.position.made_position.Goals as goal
+use Rattle.krieg_make.specs.declared.position.TheConstants.{POSITION_COUNT}
 
-has_squares : (i : ℕ) (b : Board) → i < 1380 → b ≡ made_board (i % 5) (pair_at (i / 5)) → length b ≡ 64
+has_squares : (i : ℕ) (b : Board) → i < POSITION_COUNT → b ≡ made_board (i % 5) (pair_at (i / 5)) → length b ≡ 64
 unfolding made_position
 has_squares i b h is = ap length is ∙ (made_valid i h).squares
 
-has_no_fault : (i : ℕ) (b : Board) → i < 1380 → b ≡ made_board (i % 5) (pair_at (i / 5)) →
+has_no_fault : (i : ℕ) (b : Board) → i < POSITION_COUNT → b ≡ made_board (i % 5) (pair_at (i / 5)) →
     first_fault (record {
       board = b;
       side = White;

@@ -1,10 +1,13 @@
-use Rattle.std.proofs.Common.{◌∙◌, ◌≡◌, ◌++◌, List, ap, refl, arith, rules}
+use Rattle.std.proofs.Common.{◌∙◌, ◌≡◌, ◌++◌, List, ap, refl, sym, subst, arith, rules}
 use Rattle.std.specs.List.{filter}
+use Rattle.std.specs.List.Sorted.{IsStrictlySortedBy}
 use Rattle.krieg_board.specs.Board.{man_at, is_of}
+use Rattle.krieg_board.specs.Order.{move_cmp}
 use Rattle.krieg_board.proofs.Picked.{picked, picked_taken, picked_ended}
 use Rattle.krieg_board.specs.declared.men.Move.{Move}
 use Rattle.krieg_moves.specs.Legal.{is_legal}
 use Rattle.krieg_moves.specs.Moves.{moves_from, moves}
+use Rattle.krieg_moves.proofs.Ascending.{moves_ascend}
 use Rattle.krieg_moves.proofs.Listing.{picked_men, past_whole, on_err}
 use Rattle.krieg_moves.proofs.list.legal_moves.Goals as goal
 
@@ -25,6 +28,9 @@ returns-clause-exact c =
     (omega (arith, c.loop-rest-test.false)) c.loop-rest.invariant.1
     ∙ ap (λ (xs : List Move). xs ++ picked c.men_of-rest.result (λ k. filter (is_legal c.args.p.now) (moves_from k))) c.new-moves.ensures.items
     ∙ picked_men c.args.p.now c.men_of-rest.result (λ k h. c.men_of-rest.ensures k h ∙ (λ i. is_of (c.side.ensures.value i) (man_at (c.bits.ensures.value i) k)))
+
+pub returns-clause-ascending : goal.returns-clause-ascending
+returns-clause-ascending c = subst (λ (ms : List Move). IsStrictlySortedBy move_cmp ms) (sym (returns-clause-exact c)) (moves_ascend c.args.p.now)
 
 pub returns-in_err-push_from-clause-few : goal.returns-in_err-push_from-clause-few
 unfolding moves

@@ -1,6 +1,6 @@
 use Rattle.std.proofs.Common.{rules, ◌≡◌, ◌+◌, ◌-◌, ◌∷◌, [], ◌++◌, List, Vec, Global, Some, Ok, Err, map, sym, ap, ◌∙◌, arith}
 use Rattle.std.proofs.lemmas.List.{map-append}
-use Rattle.krieg_fen.specs.Reading.{GivesOn}
+use Rattle.krieg_text.specs.Reading.{GivesOn}
 use Rattle.krieg_game.specs.Keys.{Key}
 use Rattle.krieg_plan.specs.Trees.{NodeTree}
 use Rattle.krieg_plan.specs.Nodes.{edge_of, edge_step, node_step}

@@ -2,7 +2,7 @@ use Rattle.std.proofs.Common.{rules, ℕ, ◌∷◌, [], ◌++◌, map, length, 
 use Rattle.std.proofs.lemmas.List.{length-map}
 use Rattle.std.specs.Prelude.{codes}
 use Rattle.krieg_fen.specs.ListText.{listing_lines}
-use Rattle.krieg_fen.specs.Writing.{HasLines, alone}
+use Rattle.krieg_text.specs.Writing.{HasLines, alone}
 use Rattle.krieg_plan.specs.Roots.{root_of}
 use Rattle.krieg_planfile.specs.PlanFiles.{state_of, waits}
 use Rattle.krieg_planfile.specs.PlanText.{heading, roots_lines, worst_line, count_line, claim_lines}

@@ -1,19 +1,19 @@
 use Rattle.std.proofs.Common.{rules, ◌≡◌, ◌+◌, ◌-◌, ◌∷◌, [], ◌++◌, List, Vec, Global, Some, Ok, Err, map, ap, ◌∙◌, arith}
 use Rattle.std.proofs.lemmas.List.{map-append}
-use Rattle.krieg_fen.specs.Reading.{GivesOn}
+use Rattle.krieg_text.specs.Reading.{GivesOn}
 use Rattle.krieg_game.specs.Keys.{RootKey}
 use Rattle.krieg_plan.specs.Trees.{NodeTree}
 use Rattle.krieg_plan.specs.Roots.{root_of}
 use Rattle.krieg_plan.specs.declared.plan.Root.{Root}
+use Rattle.krieg_plan.specs.declared.limits.TheConstants.{MOST_ON_PATH}
 use Rattle.krieg_planfile.specs.NodeReading.{branch_by, branches_by, node_at}
-use Rattle.krieg_planfile.specs.PlanFiles.{most_on_path}
 use Rattle.krieg_planfile.specs.PlanReading.{root_form}
 use Rattle.krieg_planfile.proofs.Branches.{with_front, branch_ok, branch_refused}
 use Rattle.krieg_planfile.proofs.roots.read_roots.Goals as goal
 
 pub loop-i-preserved : goal.loop-i-preserved
 loop-i-preserved c =
-    let node = node_at most_on_path c.args.d in
+    let node = node_at MOST_ON_PATH c.args.d in
     let form = root_form c.args.version c.args.waiting c.args.d in
     let r = c.in-Ok.root in
     let first : branch_by node form c.loop-i.last c.loop-i.left c.loop-i.from ≡ Ok ((root_of r, c.read_root.new.left), c.read_root.new.from) = search rules in
@@ -24,7 +24,7 @@ loop-i-preserved c =
 
 pub returns-in-Err : goal.returns-in-Err
 returns-in-Err c =
-    let node = node_at most_on_path c.args.d in
+    let node = node_at MOST_ON_PATH c.args.d in
     let form = root_form c.args.version c.args.waiting c.args.d in
     let one : Root → (RootKey × NodeTree) × _ = λ r. (root_of r, c.read_root.new.left) in
     let view : Vec Root Global → List (RootKey × NodeTree) × _ = λ v. (map root_of v.items, c.read_root.new.left) in

@@ -1,7 +1,7 @@
 use Rattle.std.proofs.Common.{◌≡◌, ◌-◌, None, map}
 use Rattle.krieg_plan.specs.Roots.{root_of}
+use Rattle.krieg_plan.specs.declared.limits.TheConstants.{MOST_ON_PATH}
 use Rattle.krieg_planfile.specs.NodeReading.{branches_by, node_at}
-use Rattle.krieg_planfile.specs.PlanFiles.{most_on_path}
 use Rattle.krieg_planfile.specs.PlanReading.{root_form}
 use Rattle.krieg_planfile.proofs.Branches.{with_front}
 use Rattle.krieg_planfile.proofs.roots.read_roots.Given as goal
@@ -9,5 +9,5 @@ use Rattle.krieg_planfile.proofs.roots.read_roots.Given as goal
 -- the rest, read after the roots that are there, gives the whole
 abbrev pub invariant-loop-i : goal.invariant-loop-i
 invariant-loop-i l =
-    with_front (node_at most_on_path l.d) (root_form l.version l.waiting l.d) (map root_of l.roots.items) (branches_by (node_at most_on_path l.d) (root_form l.version l.waiting l.d) (l.k - l.i) l.last l.left l.from)
-    ≡ branches_by (node_at most_on_path l.d) (root_form l.version l.waiting l.d) l.k None l.initial.left l.initial.from
+    with_front (node_at MOST_ON_PATH l.d) (root_form l.version l.waiting l.d) (map root_of l.roots.items) (branches_by (node_at MOST_ON_PATH l.d) (root_form l.version l.waiting l.d) (l.k - l.i) l.last l.left l.from)
+    ≡ branches_by (node_at MOST_ON_PATH l.d) (root_form l.version l.waiting l.d) l.k None l.initial.left l.initial.from

@@ -1,6 +1,6 @@
 use Rattle.std.proofs.Common.{rules, ◌≡◌, ◌+◌, ◌<◌, ◌∷◌, [], ◌++◌, map, take, get_or, length, List, sym, ap, subst, ◌∙◌, arith}
 use Rattle.std.proofs.lemmas.Grind.{take_at_read}
-use Rattle.krieg_fen.specs.Writing.{Pieces, HasLines, PutsLines}
+use Rattle.krieg_text.specs.Writing.{Pieces, HasLines, PutsLines}
 use Rattle.krieg_plan.specs.Nodes.{tree_of, edge_of}
 use Rattle.krieg_plan.specs.Trees.{edges_in}
 use Rattle.krieg_plan.specs.declared.node.Edge.TheViews.{out-Node}

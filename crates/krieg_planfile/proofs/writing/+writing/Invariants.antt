@@ -1,5 +1,5 @@
 use Rattle.std.proofs.Common.{◌+◌, ◌*◌, map, take}
-use Rattle.krieg_fen.specs.Writing.{HasLines}
+use Rattle.krieg_text.specs.Writing.{HasLines}
 use Rattle.krieg_theory.specs.Tree.{size, size_other, size_edges}
 use Rattle.krieg_plan.specs.Nodes.{tree_of, edge_of}
 use Rattle.krieg_plan.specs.Trees.{edges_in}

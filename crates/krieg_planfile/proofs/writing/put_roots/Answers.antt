@@ -1,6 +1,6 @@
 use Rattle.std.proofs.Common.{rules, ◌≡◌, ◌+◌, ◌∷◌, [], ◌++◌, map, take, get_or, List, ap, subst, ◌∙◌}
 use Rattle.std.proofs.lemmas.Grind.{take_at_read}
-use Rattle.krieg_fen.specs.Writing.{Pieces, HasLines}
+use Rattle.krieg_text.specs.Writing.{Pieces, HasLines}
 use Rattle.krieg_plan.specs.Roots.{root_of}
 use Rattle.krieg_planfile.specs.NodeText.{node_lines, branches_lines}
 use Rattle.krieg_planfile.specs.PlanFiles.{IsToldRoot}

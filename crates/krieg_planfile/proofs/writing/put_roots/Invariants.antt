@@ -1,5 +1,5 @@
 use Rattle.std.proofs.Common.{map, take}
-use Rattle.krieg_fen.specs.Writing.{HasLines}
+use Rattle.krieg_text.specs.Writing.{HasLines}
 use Rattle.krieg_plan.specs.Roots.{root_of}
 use Rattle.krieg_planfile.specs.NodeText.{branches_lines}
 use Rattle.krieg_planfile.specs.PlanText.{root_line}

@@ -9,6 +9,7 @@ use Rattle.krieg_game.specs.Chess.{chess}
 use Rattle.krieg_plan.specs.Nodes.{tree_of}
 use Rattle.krieg_plan.specs.Roots.{root_of}
 use Rattle.krieg_plan.specs.declared.plan.Root.{Root}
+use Rattle.krieg_plan.specs.declared.limits.TheConstants.{MOST_ON_PATH}
 use Rattle.krieg_table.specs.Interned.{set_at}
 use Rattle.krieg_search.specs.Opened.{opening_in}
 use Rattle.krieg_search.proofs.Checking.{no_items}
@@ -25,8 +26,8 @@ loop-o-init c =
     let gives = c.into_iter-o-iterator.ensures.into_iter_gives in
     record {
       rooting =
-          subst (λ pushed. IsRooting d c.args.moves T T pushed 0 (map (opening_in T) (into_iter_items c.into_iter-o-iterator.result)) all left left 2500) (ap (map root_of) (sym c.new-roots.ensures.items))
-          (subst (λ ahead. IsRooting d c.args.moves T T [] 0 ahead all left left 2500) (ap (map (opening_in T)) (sym gives.0)) (no_root d c.args.moves T all left 2500 (adds_nothing T c.requires.paid.ready.counted)));
+          subst (λ pushed. IsRooting d c.args.moves T T pushed 0 (map (opening_in T) (into_iter_items c.into_iter-o-iterator.result)) all left left MOST_ON_PATH) (ap (map root_of) (sym c.new-roots.ensures.items))
+          (subst (λ ahead. IsRooting d c.args.moves T T [] 0 ahead all left left MOST_ON_PATH) (ap (map (opening_in T)) (sym gives.0)) (no_root d c.args.moves T all left MOST_ON_PATH (adds_nothing T c.requires.paid.ready.counted)));
       inside = λ o i. subst (λ ys. In o ys) gives.0 i;
       counted = omega (arith, gives.1, ap length gives.0);
     }
@@ -62,12 +63,12 @@ returns-in_err-node c =
     let rest = map (opening_in T0) (into_iter_items c.next.new.self) in
     let had = c.args.left.now in
     let has = c.loop-o.left in
-    let a = subst (λ ahead. IsRooting d j T0 T1 old c.loop-o.worst ahead all had has 2500) (ap (map (opening_in T0)) c.in-Some.ensures.steps.0) c.loop-o.invariant.rooting in
+    let a = subst (λ ahead. IsRooting d j T0 T1 old c.loop-o.worst ahead all had has MOST_ON_PATH) (ap (map (opening_in T0)) c.in-Some.ensures.steps.0) c.loop-o.invariant.rooting in
     let same = root_same c.args.d c.args.moves c.args.table.now c.loop-o.table c.args.openings.items (into_iter_items c.loop-o.o-iterator) (into_iter_items c.next.new.self) c.in-Some.o c.in-Some.ensures.steps.0 c.loop-o.invariant.inside c.loop-o.invariant.rooting.sets c.requires.paid c.requires.numbered c.requires.won in
     let n = root_node c.args.d c.args.moves c.args.table.now c.loop-o.table c.args.openings.items (into_iter_items c.loop-o.o-iterator) (into_iter_items c.next.new.self) c.in-Some.o c.in-Some.ensures.steps.0 c.loop-o.invariant.inside c.loop-o.invariant.rooting.sets c.requires.paid c.requires.numbered c.requires.won in
-    let f = root_large d j T0 T1 old c.loop-o.worst (opening_in T0 x) rest all n.0 had has 2500 a (ap (canon (chess d) j) (sym same) ∙ n.1) in
+    let f = root_large d j T0 T1 old c.loop-o.worst (opening_in T0 x) rest all n.0 had has MOST_ON_PATH a (ap (canon (chess d) j) (sym same) ∙ n.1) in
     too_large _ c.from_residual.result c.in_err-node.field-0.0 _ _ _ _ _ _ _ _ _ _ _ _ _ _ _ _ (λ x h. cc) c.from_residual.ensures.1
-    (λ h. f (subst (λ m. (has < size_other m) ⊎ (2500 < depth_other m)) n.1 h)) c.in_err-node.ensures
+    (λ h. f (subst (λ m. (has < size_other m) ⊎ (MOST_ON_PATH < depth_other m)) n.1 h)) c.in_err-node.ensures
 
 pub loop-o-preserved : goal.loop-o-preserved
 loop-o-preserved c =
@@ -82,7 +83,7 @@ loop-o-preserved c =
     let had = c.args.left.now in
     let has = c.loop-o.left in
     let steps = c.in-Some.ensures.steps in
-    let a = subst (λ ahead. IsRooting d j T0 T1 old c.loop-o.worst ahead all had has 2500) (ap (map (opening_in T0)) steps.0) c.loop-o.invariant.rooting in
+    let a = subst (λ ahead. IsRooting d j T0 T1 old c.loop-o.worst ahead all had has MOST_ON_PATH) (ap (map (opening_in T0)) steps.0) c.loop-o.invariant.rooting in
     let same = root_same c.args.d c.args.moves c.args.table.now c.loop-o.table c.args.openings.items (into_iter_items c.loop-o.o-iterator) (into_iter_items c.next.new.self) c.in-Some.o c.in-Some.ensures.steps.0 c.loop-o.invariant.inside c.loop-o.invariant.rooting.sets c.requires.paid c.requires.numbered c.requires.won in
     let number = root_least c.args.d c.args.moves c.args.table.now c.loop-o.table c.args.openings.items (into_iter_items c.loop-o.o-iterator) (into_iter_items c.next.new.self) c.in-Some.o c.in-Some.ensures.steps.0 c.loop-o.invariant.inside c.loop-o.invariant.rooting.sets c.requires.paid c.requires.numbered c.requires.won c.win_of-win.result c.win_of-win.ensures.stored in
     let b = c.in_ok-node.ensures in
@@ -90,12 +91,12 @@ loop-o-preserved c =
     let r : Root = record { opens = x.opens; heard = x.heard; node = c.in_ok-node.node } in
     let pushed : map root_of c.push.new.self.items ≡ old ++ ((x.opens, x.heard), m) ∷ [] = ap (map root_of) c.in_ok-push.ensures.items ∙ map-append root_of c.loop-o.roots.items (r ∷ []) in
     let sizes : c.build.new.left + size m ≡ has = ap (λ o. c.build.new.left + size_other o) (sym b.0) ∙ b.1 in
-    let depths : depth m ≤ 2500 = subst (λ o. depth_other o ≤ 2500) b.0 b.2 in
+    let depths : depth m ≤ MOST_ON_PATH = subst (λ o. depth_other o ≤ MOST_ON_PATH) b.0 b.2 in
     let worst : c.max-worst.result ≡ max c.loop-o.worst (least (chess d) j (set_at T0 x.set)) = c.max-worst.ensures ∙ greater_is c.loop-o.worst c.win_of-win.result.moves ∙ ap (max c.loop-o.worst) (sym number) in
     record {
       rooting =
-          subst (λ rs. IsRooting d j T0 c.build.new.table rs c.max-worst.result rest all had c.build.new.left 2500) (sym pushed)
-          (one_root d j T0 T1 old c.loop-o.worst (opening_in T0 x) rest all m had has 2500 a (ap (canon (chess d) j) (sym same) ∙ b.0) c.build.new.table c.max-worst.result c.build.new.left worst sizes depths b.3);
+          subst (λ rs. IsRooting d j T0 c.build.new.table rs c.max-worst.result rest all had c.build.new.left MOST_ON_PATH) (sym pushed)
+          (one_root d j T0 T1 old c.loop-o.worst (opening_in T0 x) rest all m had has MOST_ON_PATH a (ap (canon (chess d) j) (sym same) ∙ b.0) c.build.new.table c.max-worst.result c.build.new.left worst sizes depths b.3);
       inside = λ o k. c.loop-o.invariant.inside o (subst (λ ys. In o ys) (sym steps.0) (inr k));
       counted = omega (arith, c.loop-o.invariant.counted, steps.1, ap length steps.0);
     }
@@ -111,5 +112,5 @@ returns c =
     let all = map (opening_in T0) c.args.openings.items in
     let pushed = map root_of c.loop-o.roots.items in
     let none = no_items (into_iter_items c.loop-o.o-iterator) (let n = c.in-None.ensures.steps in let k = c.loop-o.invariant.counted in omega arith) in
-    let a = all_roots d j T0 T pushed c.loop-o.worst all had has 2500 (subst (λ ahead. IsRooting d j T0 T pushed c.loop-o.worst ahead all had has 2500) (ap (map (opening_in T0)) none) c.loop-o.invariant.rooting) in
+    let a = all_roots d j T0 T pushed c.loop-o.worst all had has MOST_ON_PATH (subst (λ ahead. IsRooting d j T0 T pushed c.loop-o.worst ahead all had has MOST_ON_PATH) (ap (map (opening_in T0)) none) c.loop-o.invariant.rooting) in
     (record { are = a.0; worst = a.1 }, a.2, a.3, a.4)

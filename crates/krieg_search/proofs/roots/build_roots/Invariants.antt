@@ -2,6 +2,7 @@ use Rattle.std.proofs.Common.{◌≡◌, length, map}
 use Rattle.std.specs.Vec.Iter.{into_iter_items, into_iter_len}
 use Rattle.krieg_theory.specs.Sets.{In}
 use Rattle.krieg_plan.specs.Roots.{root_of}
+use Rattle.krieg_plan.specs.declared.limits.TheConstants.{MOST_ON_PATH}
 use Rattle.krieg_search.specs.declared.openings.Opening.{Opening}
 use Rattle.krieg_search.specs.Opened.{opening_in}
 use Rattle.krieg_search.proofs.Rooting.{IsRooting}
@@ -9,7 +10,7 @@ use Rattle.krieg_search.proofs.roots.build_roots.Given as goal
 
 abbrev pub invariant-loop-o : goal.invariant-loop-o
 invariant-loop-o l = record {
-  rooting : IsRooting l.d l.moves l.initial.table l.table (map root_of l.roots.items) l.worst (map (opening_in l.initial.table) (into_iter_items l.o-iterator)) (map (opening_in l.initial.table) l.fn.openings.items) l.initial.left l.left 2500;
+  rooting : IsRooting l.d l.moves l.initial.table l.table (map root_of l.roots.items) l.worst (map (opening_in l.initial.table) (into_iter_items l.o-iterator)) (map (opening_in l.initial.table) l.fn.openings.items) l.initial.left l.left MOST_ON_PATH;
   inside : (o : Opening) → In o (into_iter_items l.o-iterator) → In o l.fn.openings.items;
   counted : into_iter_len l.o-iterator ≡ length (into_iter_items l.o-iterator);
 }

@@ -39,7 +39,7 @@ can_win-can_win_in-requires t c =
         (
           (let w = c.requires.within in omega arith),
           (
-            (let l = c.loop-fewer-test.true in let m = c.requires.six in omega arith),
+            (let l = c.loop-fewer-test.true in let m = c.requires.most in omega arith),
             (
               ready_from d (CoversSet (chess d) B c.args.moves) 0 T0 T1 c.args.units.now c.loop-fewer.units a.searched,
               subst (λ (X : List Pos). LostBelow (chess d) (entries T1) X (c.loop-fewer.fewer + 1)) (sym same) a.lost,
@@ -150,7 +150,7 @@ can_win_in-begins-requires t c =
         (
           (let w = c.requires.within in omega arith),
           (
-            c.requires.six,
+            c.requires.most,
             (
               ready_from d (CoversTries (chess d) B j) (total (made (chess d) B) (take k ts)) T0 T1 c.args.units.now u1 a.searched,
               subst (λ (X : List Pos). legal_in_some (chess d) X c.mv-item.result ≡ true) (sym same) legal,
@@ -320,7 +320,7 @@ begins-can_win-requires t c =
     let n = some_is l.refused c.is_empty.result c.is_empty.ensures c.if-is_empty.false in
     let i = c.in_ok-rest.ensures in
     let smaller = rest_smaller d T B mv j l u0 u1 a T1 won T2 c.in_ok-rest.rest u2 w.1 n i in
-    (omega (arith, smaller), (i.interned.within, (c.requires.six, ready_from d (CoversTry (chess d) B j mv) (made (chess d) B mv) T T2 u0 u2 (before_rest d T B mv j l u0 u1 a T1 won T2 c.in_ok-rest.rest u2 w.1 n i))))
+    (omega (arith, smaller), (i.interned.within, (c.requires.most, ready_from d (CoversTry (chess d) B j mv) (made (chess d) B mv) T T2 u0 u2 (before_rest d T B mv j l u0 u1 a T1 won T2 c.in_ok-rest.rest u2 w.1 n i))))
 
 pub begins-returns : goal.begins-returns
 begins-returns t c =

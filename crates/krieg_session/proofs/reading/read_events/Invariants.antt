@@ -1,5 +1,5 @@
 use Rattle.std.proofs.Common.{◌≡◌, [], length}
-use Rattle.krieg_fen.specs.Reading.{up_to_last}
+use Rattle.krieg_text.specs.Reading.{up_to_last}
 use Rattle.krieg_session.specs.SessionReading.{event_form}
 use Rattle.krieg_session.proofs.reading.read_events.Given as goal
 

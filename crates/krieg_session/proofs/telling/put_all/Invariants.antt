@@ -1,6 +1,6 @@
 use Rattle.std.proofs.Common.{map, take}
 use Rattle.std.specs.List.{flat_map}
-use Rattle.krieg_fen.specs.Writing.{HasLines}
+use Rattle.krieg_text.specs.Writing.{HasLines}
 use Rattle.krieg_session.specs.Telling.{both_lines, marked_line}
 use Rattle.krieg_session.proofs.telling.put_all.Given as goal
 

@@ -1,5 +1,5 @@
 use Rattle.std.proofs.Common.{take}
-use Rattle.krieg_fen.specs.Writing.{HasLines}
+use Rattle.krieg_text.specs.Writing.{HasLines}
 use Rattle.krieg_session.specs.Telling.{heard_lines}
 use Rattle.krieg_session.proofs.telling.put_player.Given as goal
 

@@ -1,5 +1,5 @@
 use Rattle.std.proofs.Common.{map, take}
-use Rattle.krieg_fen.specs.Writing.{HasLines}
+use Rattle.krieg_text.specs.Writing.{HasLines}
 use Rattle.krieg_session.specs.SessionText.{event_line}
 use Rattle.krieg_session.proofs.writing.put_session.Given as goal
 

@@ -1,5 +1,5 @@
 use Rattle.std.proofs.Common.{map, take}
-use Rattle.krieg_fen.specs.Writing.{HasLines}
+use Rattle.krieg_text.specs.Writing.{HasLines}
 use Rattle.krieg_sheet.specs.SheetText.{entry_line}
 use Rattle.krieg_sheet.proofs.writing.put_sheet.Given as goal
 

@@ -1,12 +1,13 @@
 use Rattle.std.proofs.Common.{ap, map, ◌∙◌}
 use Rattle.std.proofs.lemmas.Result.{IfOk-weaker}
-use Rattle.krieg_game.specs.ClassLaws.{opened, silence}
+use Rattle.krieg_game.specs.ClassLaws.{opened}
 use Rattle.krieg_game.specs.Classes.{classes_in}
 use Rattle.krieg_split.specs.Openings.{heard_first}
 use Rattle.krieg_split.proofs.Renaming.{opening_sets_are}
 use Rattle.krieg_split.proofs.opening_sets.openings.Goals as goal
+use Rattle.krieg_words.specs.WordsReading.{silent}
 
 pub returns-clause-sets : goal.returns-clause-sets
 returns-clause-sets c =
-    let classed = c.in_ok-classes_of.ensures ∙ ap classes_in (c.in_ok-outcomes.ensures ∙ ap (map (opened c.args.d silence)) c.members.ensures.value) in
+    let classed = c.in_ok-classes_of.ensures ∙ ap classes_in (c.in_ok-outcomes.ensures ∙ ap (map (opened c.args.d silent)) c.members.ensures.value) in
     IfOk-weaker c.opened_of.result _ _ (λ v named who turn. opening_sets_are c.args.d who c.args.b.now v.items (named ∙ ap (map heard_first) classed) turn) c.opened_of.ensures

@@ -18,4 +18,4 @@ pub returns-clause-noted : goal.returns-clause-noted
 returns-clause-noted c =
     let at = results_at c.self.inside.rows.entries c.args.id c.index_mut.result.now c.index_mut.ensures.value in
     let l = subst (λ (T : Interned). c.args.id < length T) (sym c.self.view_is) c.requires.within in
-    noted_put c.self.inside.rows.entries c.args.id c.args.moves c.args.known c.index_mut.result.now c.put.new.self at c.put.ensures c.args.self.now c.self.view_is c.self.invariant l c.requires.some c.requires.six
+    noted_put c.self.inside.rows.entries c.args.id c.args.moves c.args.known c.index_mut.result.now c.put.new.self at c.put.ensures c.args.self.now c.self.view_is c.self.invariant l c.requires.some c.requires.most

@@ -1,0 +1,21 @@
+use Rattle.std.proofs.Common.{ℕ, List, Err, sym, ap, subst, ◌∙◌}
+use Rattle.std.proofs.lemmas.Result.{err_from_is_err_and}
+use Rattle.krieg_board.specs.declared.men.Side.TheVariants.{White}
+use Rattle.krieg_board.specs.declared.limits.TheConstants.{MOST_UNITS}
+use Rattle.krieg_words.specs.declared.dialects.Dialect.TheVariants.{Wild16}
+use Rattle.krieg_cli.specs.Parts.{Decides}
+use Rattle.krieg_cli.specs.Job.{Plans, found_lines}
+use Rattle.krieg_cli.proofs.Jobs.{turns, search_stopped}
+use Rattle.krieg_cli.proofs.Searching.{stop_told}
+use Rattle.krieg_cli.proofs.commands.job.found.Goals as goal
+use Rattle.krieg_cli.specs.declared.commands.job.TheConstants.{JOB_MOVES}
+
+pub solve-requires-clause-turn : goal.solve-requires-clause-turn
+solve-requires-clause-turn c = turns White c.args.set.now c.requires
+
+pub returns-in_err-answer : goal.returns-in_err-answer
+returns-in_err-answer c =
+    let p = err_from_is_err_and c.from_residual.result c.from_residual.ensures.1 in
+    subst (λ r. Decides found_lines r (Plans c.args.set.now)) (sym (p.1 ∙ ap Err p.2))
+    (search_stopped c.args.set.now (λ (xs : List ℕ). xs) c.in_err-answer.field-0.0
+    (stop_told Wild16 White c.args.set.now JOB_MOVES MOST_UNITS c.new-units.result c.solve.new.units c.new-units.ensures (λ (xs : List ℕ). xs) c.in_err-answer.field-0.0 c.in_err-answer.ensures.answer c.in_err-answer.ensures.units))

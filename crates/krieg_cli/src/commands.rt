@@ -1,0 +1,9 @@
+//! What each command makes of its text, one file each.
+
+pub(crate) mod believe;
+pub(crate) mod check;
+pub(crate) mod job;
+pub(crate) mod make;
+pub(crate) mod play;
+pub(crate) mod solve;
+pub(crate) mod umpire;

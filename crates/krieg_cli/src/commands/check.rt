@@ -1,0 +1,70 @@
+ghost use Rattle.std.specs.Prelude.{◌≡◌, ◌∷◌, [], IfOk};
+ghost use Rattle.krieg_text.specs.Writing.{PutsLines};
+ghost use Rattle.krieg_checker.specs.Starting.{IsOneTurn};
+ghost use Rattle.krieg_planfile.specs.PlanFiles.{state_of};
+ghost use Rattle.krieg_cli.specs.Parts.{Decides};
+ghost use Rattle.krieg_cli.specs.Check as spec;
+
+use crate::ending::Ending;
+use crate::refusal::Refusal;
+use krieg_board::{NoMemory, Units};
+use krieg_checker::{CheckStop, Checked, check};
+use krieg_plan::PlanFile;
+use krieg_planfile::read_plan;
+use krieg_text::{Text, put_number};
+use std::alloc::Global;
+
+impl From<CheckStop> for Ending {
+    ghost use Rattle.krieg_cli.specs.Parts.{of_check};
+
+    ghost from_gives = { λ stop e. e ≡ of_check stop };
+
+    fn from(stop: CheckStop) -> Ending {
+        match stop {
+            CheckStop::Spent => Ending::Refused(Refusal::BudgetSpent),
+            CheckStop::NoMemory => Ending::NoMemory,
+        }
+    }
+}
+
+/// Adds the line of the worst case.
+fn put_worst(worst: u16, text: &mut Text) -> Result<(), NoMemory>
+    ensures { PutsLines result text.old text.new (spec.worst_line worst ∷ []) }
+{
+    text.put(b"mates ")?;
+    put_number(worst as u64, text)?;
+    text.end_line()
+}
+
+/// The text that tells the worst case.
+#[tactic(auto, unfolding(crate::specs::Check::worst_text))]
+fn worst_text(alloc: Global, worst: u16) -> Result<Vec<u8>, NoMemory>
+    ensures { IfOk result (λ text. text.items ≡ spec.worst_text worst) }
+{
+    let mut answer = Vec::new(alloc);
+    let mut text = Text::after(&mut answer);
+    let done = put_worst(worst, &mut text);
+    text.end(done, &mut answer)?;
+    Ok(answer)
+}
+
+/// What the check of a plan file comes to, within so many units.
+fn judged(alloc: Global, budget: u64, file: &PlanFile) -> Result<Vec<u8>, Ending>
+    requires { IsOneTurn file.now.list.items }
+    ensures { Decides (λ answer. answer.items) result (spec.Checked budget (state_of file.now)) }
+{
+    let mut units = Units::new(budget);
+    match check(alloc, file, &mut units)? {
+        Checked::Mates(worst) => Ok(worst_text(alloc, worst)?),
+        Checked::Fails => Err(Ending::Refused(Refusal::PlanFails)),
+    }
+}
+
+/// What `check` answers to the text of a plan file.
+pub(crate) fn answer(alloc: Global, budget: u64, text: Vec<u8>) -> Result<Vec<u8>, Ending>
+    ensures { Decides (λ answer. answer.items) result (spec.Checks budget text.items) }
+{
+    let file = read_plan(alloc, &text)?;
+    drop(text);
+    judged(alloc, budget, &file)
+}

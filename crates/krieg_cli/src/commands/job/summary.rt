@@ -1,0 +1,63 @@
+// What a job tells, as lines.
+ghost use Rattle.std.specs.Prelude.{◌≡◌, [], IfOk};
+ghost use Rattle.krieg_text.specs.Writing.{PutsLines, put_lines};
+ghost use Rattle.krieg_cli.specs.Job as spec;
+
+use crate::commands::job::tally::{Tally, put_count, put_counted, put_tally};
+use crate::commands::job::{Finding, JOB_MOVES};
+use crate::commands::solve::put_none;
+use krieg_board::NoMemory;
+use krieg_text::Text;
+use std::alloc::Global;
+
+/// Adds the lines of what was found.
+fn put_found(found: &Finding, text: &mut Text) -> Result<(), NoMemory>
+    ensures { PutsLines result text.old text.new (spec.found_lines found.now) }
+{
+    match found {
+        Finding::Plan {
+            worst,
+            nodes,
+            checked,
+        } => {
+            put_count(b"mates ", usize::from(*worst), text)?;
+            put_counted(b" nodes ", *nodes, text)?;
+            put_counted(b"checked ", usize::from(*checked), text)
+        }
+        Finding::NoPlan => put_none(u64::from(JOB_MOVES), text),
+    }
+}
+
+/// Adds all lines of a summary.
+#[tactic(auto, using(krieg_text::proofs::Writings::writings))]
+fn put_summary(
+    listed: usize,
+    positions: usize,
+    found: &Finding,
+    tally: &Tally,
+    text: &mut Text,
+) -> Result<(), NoMemory>
+    ensures { PutsLines result text.old text.new (spec.summary_lines listed positions found.now tally.now) }
+{
+    put_counted(b"listed ", listed, text)?;
+    put_counted(b"positions ", positions, text)?;
+    put_found(found, text)?;
+    put_tally(tally, text)
+}
+
+/// The text of a summary.
+pub(crate) fn summary(
+    alloc: Global,
+    listed: usize,
+    positions: usize,
+    found: &Finding,
+    tally: &Tally,
+) -> Result<Vec<u8>, NoMemory>
+    ensures { IfOk result (λ text. text.items ≡ put_lines [] (spec.summary_lines listed positions found.now tally.now)) }
+{
+    let mut answer = Vec::new(alloc);
+    let mut text = Text::after(&mut answer);
+    let done = put_summary(listed, positions, found, tally, &mut text);
+    text.end(done, &mut answer)?;
+    Ok(answer)
+}

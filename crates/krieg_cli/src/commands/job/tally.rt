@@ -1,0 +1,119 @@
+ghost use Rattle.std.specs.Prelude.{◌≡◌, ◌∷◌, [], IfOk};
+ghost use Rattle.krieg_text.specs.Decimals.{number_text};
+ghost use Rattle.krieg_text.specs.Writing.{PutsPieces, PutsLines};
+ghost use Rattle.krieg_referee.specs.Games.{judge};
+ghost use Rattle.krieg_make.specs.MadeSessions.{made_session};
+ghost use Rattle.krieg_cli.specs.Tally as spec;
+
+use krieg_board::NoMemory;
+use krieg_make::made_session;
+use krieg_referee::{Judged, Verdict, judge};
+use krieg_text::{Text, put_number};
+use std::alloc::Global;
+
+/// How many tries there are, and of each verdict.
+#[derive(Clone, Copy, Debug, PartialEq, Eq)]
+pub(crate) struct Tally {
+    tries: usize,
+    done: usize,
+    illegal: usize,
+    early: usize,
+    over: usize,
+}
+
+/// How the tries of the made session are judged.
+pub(crate) fn made_tally(alloc: Global, number: u32) -> Result<Tally, NoMemory>
+    ensures { let session = made_session number in IfOk result (λ tally. tally ≡ spec.tally_of (judge session.start session.events)) }
+{
+    let session = made_session(alloc, number)?;
+    let game = judge(alloc, &session.start, &session.events)?;
+    Ok(tally_of(game.log()))
+}
+
+fn is_done(verdict: &Verdict) -> bool
+    ensures { result ≡ spec.is_done verdict.now }
+{
+    matches!(verdict, Verdict::Done(_))
+}
+
+fn is_illegal(verdict: &Verdict) -> bool
+    ensures { result ≡ spec.is_illegal verdict.now }
+{
+    matches!(verdict, Verdict::Illegal)
+}
+
+fn is_early(verdict: &Verdict) -> bool
+    ensures { result ≡ spec.is_early verdict.now }
+{
+    matches!(verdict, Verdict::Early)
+}
+
+fn is_over(verdict: &Verdict) -> bool
+    ensures { result ≡ spec.is_over verdict.now }
+{
+    matches!(verdict, Verdict::Over)
+}
+
+fn count_done(log: &[Judged]) -> usize
+    ensures { result ≡ spec.count_judged spec.is_done log.now }
+{
+    log.iter().filter(|j| is_done(&j.verdict)).count()
+}
+
+fn count_illegal(log: &[Judged]) -> usize
+    ensures { result ≡ spec.count_judged spec.is_illegal log.now }
+{
+    log.iter().filter(|j| is_illegal(&j.verdict)).count()
+}
+
+fn count_early(log: &[Judged]) -> usize
+    ensures { result ≡ spec.count_judged spec.is_early log.now }
+{
+    log.iter().filter(|j| is_early(&j.verdict)).count()
+}
+
+fn count_over(log: &[Judged]) -> usize
+    ensures { result ≡ spec.count_judged spec.is_over log.now }
+{
+    log.iter().filter(|j| is_over(&j.verdict)).count()
+}
+
+/// How the tries were judged.
+fn tally_of(log: &[Judged]) -> Tally
+    ensures { result ≡ spec.tally_of log.now }
+{
+    Tally {
+        tries: log.len(),
+        done: count_done(log),
+        illegal: count_illegal(log),
+        early: count_early(log),
+        over: count_over(log),
+    }
+}
+
+/// Adds what is counted, and how many there are.
+pub(crate) fn put_count(name: &[u8], count: usize, text: &mut Text) -> Result<(), NoMemory>
+    ensures { PutsPieces result text.old text.new (name.now ∷ number_text count ∷ []) }
+{
+    text.put(name)?;
+    put_number(count as u64, text)
+}
+
+/// Adds a line with one number.
+pub(crate) fn put_counted(name: &[u8], count: usize, text: &mut Text) -> Result<(), NoMemory>
+    ensures { PutsLines result text.old text.new ((name.now ∷ number_text count ∷ []) ∷ []) }
+{
+    put_count(name, count, text)?;
+    text.end_line()
+}
+
+/// Adds the line of the tries.
+pub(crate) fn put_tally(tally: &Tally, text: &mut Text) -> Result<(), NoMemory>
+    ensures { PutsLines result text.old text.new (spec.tally_line tally.now ∷ []) }
+{
+    put_count(b"tries ", tally.tries, text)?;
+    put_count(b" done ", tally.done, text)?;
+    put_count(b" illegal ", tally.illegal, text)?;
+    put_count(b" early ", tally.early, text)?;
+    put_counted(b" over ", tally.over, text)
+}

@@ -1,0 +1,11 @@
+pub mod Outcomes
+pub mod Writing
+pub mod Lines
+pub mod Pieces
+pub mod Names
+pub mod Decimals
+pub mod Reading
+pub mod Languages
+pub mod Formats
+pub mod FirstBad
+pub mod Forms

@@ -1,0 +1,79 @@
+ghost use Rattle.std.specs.Prelude.{◌≡◌, ◌≢◌, ◌≤◌, IfOk, IfErr};
+ghost use Rattle.krieg_text.specs.Forms as spec;
+ghost use Rattle.krieg_text.specs.Reading.{taken, Passed, GivesOn};
+ghost use Rattle.krieg_text.specs.declared.fault.TextFault.TheVariants.{NoMemory as OutOfMemory};
+
+use crate::cursor::Cursor;
+use crate::fault::{TextFault, TextKind};
+use crate::names::behind;
+use crate::number::{NumberFault, read_number_between};
+
+/// The number from `least` to `most` that stands after the name. A plain decimal outside the range is of
+/// the kind `outside`, and everything else is `Syntax`.
+#[tactic(auto, unfolding(crate::specs::Forms::number_form))]
+pub fn number_form(
+    outside: TextKind,
+    name: &[u8],
+    least: u64,
+    most: u64,
+    text: &[u8],
+) -> Result<u64, TextKind>
+    ensures exact { result ≡ spec.number_form outside name.now least most text.now }
+    ensures range { IfOk result (λ n. (least ≤ n) × (n ≤ most)) }
+{
+    match behind(name, text) {
+        None => Err(TextKind::Syntax),
+        Some(number) => match read_number_between(number, least, most) {
+            Ok(number) => Ok(number),
+            Err(NumberFault::NotPlain) => Err(TextKind::Syntax),
+            Err(NumberFault::OutOfRange) => Err(outside),
+        },
+    }
+}
+
+/// The version, from 1 to `newest`, that stands after a format's name. Another plain decimal is of the
+/// kind `Version`.
+pub fn version_form(name: &[u8], newest: u64, text: &[u8]) -> Result<u64, TextKind>
+    ensures exact { result ≡ spec.version_form name.now newest text.now }
+    ensures range { IfOk result (λ n. (1 ≤ n) × (n ≤ newest)) }
+{
+    number_form(TextKind::Version, name, 1, newest, text)
+}
+
+/// The number from `least` to `most` that stands after the name. Another plain decimal is of the kind
+/// `Count`.
+pub fn count_form(name: &[u8], least: u64, most: u64, text: &[u8]) -> Result<u64, TextKind>
+    ensures exact { result ≡ spec.count_form name.now least most text.now }
+    ensures range { IfOk result (λ n. (least ≤ n) × (n ≤ most)) }
+{
+    number_form(TextKind::Count, name, least, most, text)
+}
+
+/// The next line, as a format's name and its version.
+#[tactic(auto, using(crate::proofs::ReadingLemmas::refused))]
+pub fn read_version(from: &mut Cursor<'_>, name: &[u8], newest: u64) -> Result<u64, TextFault>
+    ensures value { GivesOn (λ n. n) result from.new (taken (spec.version_form name.now newest) from.old) }
+    ensures range { IfOk result (λ n. (1 ≤ n) × (n ≤ newest)) }
+    ensures rest { Passed from.old from.new }
+    ensures memory { IfErr result (λ e. e ≢ OutOfMemory) }
+{
+    let line = from.number();
+    version_form(name, newest, from.line()?).map_err(|kind| TextFault::At { line, kind })
+}
+
+/// The next line, as a name and a number from `least` to `most`.
+#[tactic(auto, using(crate::proofs::ReadingLemmas::refused))]
+pub fn read_count(
+    from: &mut Cursor<'_>,
+    name: &[u8],
+    least: u64,
+    most: u64,
+) -> Result<u64, TextFault>
+    ensures value { GivesOn (λ n. n) result from.new (taken (spec.count_form name.now least most) from.old) }
+    ensures range { IfOk result (λ n. (least ≤ n) × (n ≤ most)) }
+    ensures rest { Passed from.old from.new }
+    ensures memory { IfErr result (λ e. e ≢ OutOfMemory) }
+{
+    let line = from.number();
+    count_form(name, least, most, from.line()?).map_err(|kind| TextFault::At { line, kind })
+}
