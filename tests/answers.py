@@ -5,6 +5,7 @@ The scripts beside this file use it; it does nothing by itself."""
 import collections
 import pathlib
 import re
+import shutil
 import subprocess
 
 TOP = pathlib.Path(__file__).resolve().parent.parent
@@ -68,6 +69,18 @@ def program(argument):
     return str(TOP / "crates/krieg/out/krieg")
 
 
+def checkout(folder, krieg):
+    """Makes a folder look as the top of this checkout does to one who has built it, with that program; without the sources."""
+    for name in ["krieg", "crates.txt", "README.md"]:
+        shutil.copy2(TOP / name, folder)
+    for name in ["examples", "docs", "bench", "tests"]:
+        shutil.copytree(TOP / name, folder / name)
+    home = folder / "crates/krieg/out"
+    home.mkdir(parents=True)
+    (home / "krieg").symlink_to(krieg)
+    (home / "built").touch()
+
+
 def run(krieg, words, text, folder=None):
     """What the program answers to the text under these words, in that folder."""
     try:
@@ -110,8 +123,8 @@ def flaw(answer, words, text, statuses=None):
 
 
 def examples():
-    """The name, the kind and the text of each sheet, session and plan below examples/, by their first lines."""
-    for path in sorted((TOP / "examples").rglob("*")):
+    """The name, the kind and the text of each sheet, session and plan directly in examples/, by their first lines."""
+    for path in sorted((TOP / "examples").glob("*")):
         if path.is_file():
             text = path.read_bytes()
             kind = re.match(rb"krieg (sheet|session|plan) [12]\n", text)

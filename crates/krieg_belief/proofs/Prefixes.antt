@@ -45,7 +45,7 @@ standing mine over (Heard w) h = tt
 standing mine over (Early m) h = tt
 standing mine over (Over m) h = tt
 
-in_place : (who turn : Side) (over : Bool) (ls : List Line) → are_in_place who turn over ls ≡ true → AreEntries ls
+pub in_place : (who turn : Side) (over : Bool) (ls : List Line) → are_in_place who turn over ls ≡ true → AreEntries ls
 in_place who turn over [] h = tt
 in_place who turn over (l ∷ ls) h =
     let a = and_parts (may_stand (is_same_side turn who) over l) (are_in_place who (turn_after turn l) (over_after over l) ls) h in

@@ -10,7 +10,6 @@ use Rattle.krieg_pack.specs.Order.{position_lt}
 use Rattle.krieg_pack.proofs.PositionSets.{position_order, set_of_set}
 use Rattle.krieg_theory.specs.Sets.{as_set, same}
 use Rattle.krieg_theory.specs.Tree.{Nothing, Just}
-use Rattle.krieg_theory.specs.Wins.{wins, wins_other}
 use Rattle.krieg_theory.specs.Plans.{is_over, openings, opening_set, wins_root, mates}
 use Rattle.krieg_costs.specs.Sums.{total}
 use Rattle.krieg_costs.proofs.Totals.{total_agree}
@@ -20,6 +19,7 @@ use Rattle.krieg_game.specs.Outset.{outset}
 use Rattle.krieg_game.specs.Classes.{class_pair}
 use Rattle.krieg_game.proofs.KeyLaws.{root_order}
 use Rattle.krieg_plan.specs.Trees.{PlanTrees, first_root_in}
+use Rattle.krieg_plan.proofs.WonRoots.{root_wins}
 use Rattle.krieg_checker.specs.CheckCost.{first_cost, check_cost}
 use Rattle.krieg_checker.specs.Walked.{other_cost}
 use Rattle.krieg_checker.specs.Found.{within, Tells, worse, all_won_other}
@@ -45,15 +45,6 @@ pub no_root : (d : Dialect) (plan : PlanTrees) (key : RootKey) (B : List Pos) (r
 no_root d plan key B r units none h = (λ k small. ap (λ o. all_won_other (chess d) o B k) none ∙ h k small, omega (arith, ap (λ o. other_cost (chess d) o B) none))
 
 module _ (d : Dialect) (who : Side) (plan : PlanTrees) where
-  root_wins : (rs : PlanTrees) (key : RootKey) (p : Pos) (k : ℕ) → wins_root (chess d) (outset d who) rs key p k ≡ wins_other (chess d) (first_root_in rs key) p k
-  root_wins [] key p k = refl
-  root_wins (r ∷ rs) key p k = go (same root_lt r.0 key) (root_wins rs key p k)
-    where
-      go : (b : Bool) → wins_root (chess d) (outset d who) rs key p k ≡ wins_other (chess d) (first_root_in rs key) p k →
-          cond b (wins (chess d) r.1 p k) (wins_root (chess d) (outset d who) rs key p k) ≡ wins_other (chess d) (cond b (Just r.1) (first_root_in rs key)) p k
-      go true h = refl
-      go false h = h
-
   first_same : (S : List Pos) → first_cost (chess d) (outset d who) (set_of S) ≡ first_cost (chess d) (outset d who) S
   unfolding set_of
   first_same S = ap (total _) (set_of_set S)
@@ -77,7 +68,7 @@ module _ (d : Dialect) (who : Side) (plan : PlanTrees) where
     won k =
         ap (λ xs. roots_won d plan xs k) sets_are
         ∙ all_map (λ (c : RootKey × List Pos). all_won_other (chess d) (first_root_in plan c.0) c.1 k) (λ key. (key, opening_set (chess d) (outset d who) B key)) (openings (chess d) (outset d who) B)
-        ∙ all_agree _ _ (openings (chess d) (outset d who) B) (λ key. all_agree _ _ (opening_set (chess d) (outset d who) B key) (λ p. sym (root_wins plan key p k)))
+        ∙ all_agree _ _ (openings (chess d) (outset d who) B) (λ key. all_agree _ _ (opening_set (chess d) (outset d who) B key) (λ p. sym (root_wins d who plan key p k)))
 
     over_is : r.over ≡ list_any (is_over (chess d) (outset d who)) B
     unfolding set_of

@@ -1,5 +1,5 @@
 -- What comes before the first own turn.
-use Rattle.std.proofs.Common.{◌≡◌, ℕ, zero, suc, Bool, true, false, not, cond, ◌||◌, List, [], ◌∷◌, map, length, inl, inr, refl, sym, ap, subst, ◌∙◌}
+use Rattle.std.proofs.Common.{◌≡◌, ℕ, Bool, true, false, not, cond, ◌||◌, List, [], ◌∷◌, map, length, inl, inr, refl, sym, ap, subst, ◌∙◌}
 use Rattle.std.specs.Prelude.{◌↔◌, IsTrue, slice_get, Some, None}
 use Rattle.std.specs.List.{list_any, list_all}
 use Rattle.krieg_board.specs.Pos.{Pos}
@@ -28,13 +28,10 @@ use Rattle.krieg_checker.specs.CheckCost.{first_cost}
 use Rattle.krieg_checker.proofs.Sets.{total_none}
 use Rattle.krieg_game.specs.Chess.{chess}
 use Rattle.krieg_game.specs.ClassLaws.{first_outcomes, opened}
-use Rattle.krieg_checker.specs.Starting.{IsOneTurn, IsStarted, heard_of}
+use Rattle.krieg_plan.specs.Listed.{IsOneTurn}
+use Rattle.krieg_plan.proofs.Listed.{get_in}
+use Rattle.krieg_checker.specs.Starting.{IsStarted, heard_of}
 use Rattle.krieg_checker.specs.declared.start.Started.{Started}
-
-pub get_in : {X : Type 0} (xs : List X) (i : ℕ) (x : X) → slice_get xs i ≡ Some x → In x xs
-get_in [] i x e = absurd cc
-get_in (y ∷ ys) zero x e = inl cc
-get_in (y ∷ ys) (suc i) x e = inr (get_in ys i x e)
 
 any_same : (f g : Pos → Bool) (ps : List Pos) → ((p : Pos) → In p ps → f p ≡ g p) → list_any f ps ≡ list_any g ps
 any_same f g [] h = refl

@@ -5,7 +5,6 @@ use Rattle.krieg_board.specs.Pos.{Pos}
 use Rattle.krieg_board.specs.declared.men.Side.{Side}
 use Rattle.krieg_words.specs.Words.{Said}
 use Rattle.krieg_words.specs.declared.dialects.Dialect.{Dialect}
-use Rattle.krieg_theory.specs.Sets.{In}
 use Rattle.krieg_theory.specs.Plans.{is_over}
 use Rattle.krieg_costs.specs.Sums.{total}
 use Rattle.krieg_game.specs.Keys.{Key, RootKey}
@@ -17,10 +16,6 @@ use Rattle.krieg_plan.specs.Trees.{PlanTrees, first_root_in}
 use Rattle.krieg_checker.specs.Found.{all_won_other}
 use Rattle.krieg_checker.specs.Walked.{other_cost}
 use Rattle.krieg_checker.specs.declared.start.Started.{Started}
-
--- the same side is to move in all positions of a list
-pub record IsOneTurn (S : List Pos) : Type 0 where
-  pub same_side : (p q : Pos) → In p S → In q S → p.side ≡ q.side
 
 -- what is heard before the first own turn: no move where the own turn comes first
 abbrev pub heard : Bool → Said → Option Said

@@ -2,7 +2,7 @@ ghost use Rattle.std.specs.Prelude.{◌≡◌, ◌↔◌, IsTrue};
 ghost use Rattle.std.specs.List.{list_all};
 ghost use Rattle.krieg_board.specs.Men.{is_same_side};
 ghost use Rattle.krieg_parting.specs.Charged.{Charged};
-ghost use Rattle.krieg_checker.specs.Starting.{IsOneTurn};
+ghost use Rattle.krieg_plan.specs.Listed.{IsOneTurn};
 ghost use Rattle.krieg_checker.specs.Verdict as spec;
 ghost use Rattle.krieg_checker.specs.Verdict.{IsVerdict, check_cost};
 

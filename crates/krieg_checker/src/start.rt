@@ -10,7 +10,8 @@ ghost use Rattle.krieg_game.specs.Outset.{outset};
 ghost use Rattle.krieg_parting.specs.Charged.{Charged};
 ghost use Rattle.krieg_parting.specs.Turns.{IsOwnTurn, IsOthersTurn};
 ghost use Rattle.krieg_checker.specs.CheckCost.{first_cost};
-ghost use Rattle.krieg_checker.specs.Starting.{IsOneTurn, IsStarted};
+ghost use Rattle.krieg_plan.specs.Listed.{IsOneTurn};
+ghost use Rattle.krieg_checker.specs.Starting.{IsStarted};
 
 use krieg_board::{Side, Units};
 use krieg_game::{Class, classes_of};

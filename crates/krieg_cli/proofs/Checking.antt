@@ -9,7 +9,7 @@ use Rattle.krieg_moves.proofs.Hands.{same_hand_alike}
 use Rattle.krieg_theory.specs.Sets.{In}
 use Rattle.krieg_plan.specs.declared.plan.PlanFile.{PlanFile}
 use Rattle.krieg_planfile.specs.PlanFiles.{AreAlike, state_of}
-use Rattle.krieg_checker.specs.Starting.{IsOneTurn}
+use Rattle.krieg_plan.specs.Listed.{IsOneTurn}
 use Rattle.krieg_checker.specs.Verdict.{IsVerdict, check_cost as cost_of}
 use Rattle.krieg_checker.specs.declared.plan_check.Checked.{Checked as Found}
 use Rattle.krieg_checker.specs.declared.plan_check.Checked.TheVariants.{Mates}

@@ -29,7 +29,7 @@ use Rattle.krieg_plan.specs.declared.plan.PlanFile.{PlanFile}
 use Rattle.krieg_plan.specs.declared.limits.TheConstants.{MOST_NODES}
 use Rattle.krieg_planfile.specs.PlanFiles.{PlanState, state_of}
 use Rattle.krieg_checker.specs.Charged.{Charged}
-use Rattle.krieg_checker.specs.Starting.{IsOneTurn}
+use Rattle.krieg_plan.specs.Listed.{IsOneTurn}
 use Rattle.krieg_checker.specs.Verdict.{IsVerdict, check_cost as cost_of}
 use Rattle.krieg_checker.specs.declared.plan_check.Checked.{Checked}
 use Rattle.krieg_checker.specs.declared.plan_check.Checked.TheVariants.{Mates, Fails}

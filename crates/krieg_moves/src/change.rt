@@ -73,7 +73,9 @@ pub fn passed_square(mv: &Move) -> Square
     Square::new(passed_number(mv)).unwrap()
 }
 
-fn is_castling(wing: Wing, man: Man, mv: &Move) -> bool
+/// Whether the move of this man castles on the wing (FIDE Laws, article 3.8.2): the king goes from its
+/// own square to the square where it arrives in castling.
+pub fn is_castling(wing: Wing, man: Man, mv: &Move) -> bool
     ensures { result ≡ spec.is_castling wing man mv.now }
 {
     man.kind == Kind::King

@@ -28,7 +28,7 @@ mod target;
 mod ways;
 mod wing;
 
-pub use change::{after, is_en_passant, passed_square};
+pub use change::{after, is_castling, is_en_passant, passed_square};
 pub use count::{MOST_LEGAL_MOVES, count_moves};
 pub use ends::{
     has_move, has_move_by, in_check, is_mate, is_mate_by, is_stalemate, is_stalemate_by,
@@ -37,4 +37,4 @@ pub use guard::Guard;
 pub use legality::{after_if_legal, is_legal};
 pub use list::legal_moves;
 pub use target::{own_pawns, pawn_captures, targets};
-pub use wing::Wing;
+pub use wing::{Wing, arrival};

@@ -1,5 +1,7 @@
 pub mod NodeTrees
 pub mod OrderedTrees
+pub mod Listed
+pub mod WonRoots
 mod Dropping
 mod Bisection
 mod Lookups

@@ -4,3 +4,4 @@ pub mod Ordered
 pub mod Nodes
 pub mod Roots
 pub mod Plans
+pub mod Listed

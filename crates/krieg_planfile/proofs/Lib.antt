@@ -12,3 +12,4 @@ mod PlanGrammars
 mod PlanSpellings
 mod NodeWriting
 mod PlansAgain
+mod HeardLines

@@ -210,6 +210,10 @@ plan_read p q s e =
       };
     }
 
+-- what is taken is a plan file, whatever stands behind it
+pub plan_taken : (p q : Place) (s : PlanState) → plan_at p ≡ Ok (s, q) → IsPlanFile s
+plan_taken p q s e = (plan_read p q s e).file
+
 whole_plan : (ls : List (List ℕ)) (s : PlanState) → whole plan_at ls ≡ Ok s → SpellsPlan s ls × IsPlanFile s
 whole_plan ls s e =
     let w = whole_read plan_at ls s e in

@@ -5,3 +5,5 @@ pub mod PlanFiles
 pub mod PlanReading
 pub mod PlanText
 pub mod PlanSpelling
+pub mod HeardReading
+pub mod HeardStates

@@ -137,14 +137,21 @@ fn read_claim(
     })
 }
 
+/// The lines of a plan file, up to its line `end`.
 #[tactic(auto, unfolding(crate::specs::PlanReading::plan_at))]
+pub(crate) fn read_plan_lines(alloc: Global, from: &mut Cursor<'_>) -> Result<PlanFile, TextFault>
+    ensures value { GivesOn (λ f. state_of f) result from.new (spec.plan_at from.old) }
+{
+    let (version, dialect) = read_heading(from)?;
+    let (side, list) = read_listing(alloc, from, turn_in(version))?;
+    read_claim(alloc, from, version, dialect, side, list)
+}
+
 fn read_lines(alloc: Global, text: &[u8]) -> Result<PlanFile, TextFault>
     ensures { Gives (λ f. state_of f) result (whole spec.plan_at (lines text.now)) }
 {
     let mut from = Cursor::new(text);
-    let (version, dialect) = read_heading(&mut from)?;
-    let (side, list) = read_listing(alloc, &mut from, turn_in(version))?;
-    let file = read_claim(alloc, &mut from, version, dialect, side, list)?;
+    let file = read_plan_lines(alloc, &mut from)?;
     from.end()?;
     Ok(file)
 }

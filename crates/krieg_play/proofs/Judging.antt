@@ -25,11 +25,11 @@ use Rattle.krieg_play.proofs.Tellings.{lone}
 
 -- ---- the judgement of one more try, and where it leads
 
-judge_end : (p : Pos) (es : List Event) (e : Event) → judge p (es ++ e ∷ []) ≡ judge p es ++ judged (last p es) e ∷ []
+pub judge_end : (p : Pos) (es : List Event) (e : Event) → judge p (es ++ e ∷ []) ≡ judge p es ++ judged (last p es) e ∷ []
 judge_end p [] e = refl
 judge_end p (x ∷ es) e = ap (λ (js : List Judged). judged p x ∷ js) (judge_end (next p x.who x.mv) es e)
 
-last_end : (p : Pos) (es : List Event) (e : Event) → last p (es ++ e ∷ []) ≡ next (last p es) e.who e.mv
+pub last_end : (p : Pos) (es : List Event) (e : Event) → last p (es ++ e ∷ []) ≡ next (last p es) e.who e.mv
 last_end p [] e = refl
 last_end p (x ∷ es) e = last_end (next p x.who x.mv) es e
 
@@ -37,7 +37,7 @@ on_turn_end : (p : Pos) (es : List Event) (e : Event) → AreOnTurn p es → e.w
 on_turn_end p [] e h t = (t, tt)
 on_turn_end p (x ∷ es) e h t = (h.0, on_turn_end (next p x.who x.mv) es e h.1 t)
 
-events_end : (log : List Judged) (j : Judged) → events_of (log ++ j ∷ []) ≡ events_of log ++ j.event ∷ []
+pub events_end : (log : List Judged) (j : Judged) → events_of (log ++ j ∷ []) ≡ events_of log ++ j.event ∷ []
 events_end [] j = refl
 events_end (x ∷ log) j = ap (λ (es : List Event). x.event ∷ es) (events_end log j)
 

@@ -1,5 +1,6 @@
 -- What is decided over the opening sets, and what it takes.
-use Rattle.std.proofs.Common.{◌≡◌, ℕ, ◌+◌, ◌≤◌, Bool, true, false, not, ◌&&◌, ◌⊎◌, inl, inr, List, [], map, Option, Some, None, Result, Ok, Err, refl, sym, ap, subst, ◌∙◌, arith, Vec}
+use Rattle.std.proofs.Common.{◌≡◌, ℕ, ◌+◌, ◌<◌, ◌≤◌, Bool, true, false, not, ◌&&◌, ◌⊎◌, inl, inr, List, [], ◌∷◌, map, find, Option, Some, None, Result, Ok, Err, refl, sym, ap, subst, ◌∙◌, arith, Vec}
+use Rattle.std.specs.Prelude.{IfSome}
 use Rattle.std.specs.declared.alloc.Global.{Global}
 use Rattle.std.specs.List.{list_all, list_any}
 use Rattle.std.specs.Result.{IsErrAnd}
@@ -17,7 +18,8 @@ use Rattle.krieg_costs.specs.Sums.{IsOnce, once}
 use Rattle.krieg_costs.specs.Cost.{first_made}
 use Rattle.krieg_costs.specs.Reach.{reach_of, fresh}
 use Rattle.krieg_costs.proofs.Pairs.{once_in}
-use Rattle.krieg_accounts.specs.Stored.{pairs}
+use Rattle.krieg_pack.specs.Order.{position_lt}
+use Rattle.krieg_accounts.specs.Stored.{stored, pairs}
 use Rattle.krieg_accounts.specs.Sound.{known, IsSound}
 use Rattle.krieg_accounts.specs.Charges.{charged}
 use Rattle.krieg_accounts.specs.Stretch.{IsStretch, FallsShort, CoversSets}
@@ -38,16 +40,18 @@ use Rattle.krieg_table.specs.Interned.{Interned}
 use Rattle.krieg_table.specs.Entries.{entries}
 use Rattle.krieg_table.specs.Table.{IsMore}
 use Rattle.krieg_search.specs.declared.openings.Opening.{Opening}
-use Rattle.krieg_search.specs.declared.decide.Won.{Won}
+use Rattle.krieg_search.specs.declared.decide.Found.{Found}
+use Rattle.krieg_search.specs.declared.decide.Decided.{Decided}
+use Rattle.krieg_search.specs.declared.decide.Decided.TheVariants.{Over}
 use Rattle.krieg_search.specs.declared.stop.Stop2.{Stop2}
 use Rattle.krieg_search.specs.declared.stop.Stop2.TheVariants.{Spent, Large, NoMemory}
 use Rattle.krieg_search.specs.Stops.{stop_of}
 use Rattle.krieg_search.specs.Searched.{AreCounted, IsReady, IsSearched, Searches, TellsSets}
 use Rattle.krieg_search.specs.Opened.{opening_in, AreNumbered, AreAdded, IsOpened}
 use Rattle.krieg_search.specs.Built.{WonBy}
-use Rattle.krieg_search.specs.Decided.{sets_in, IsAccount, IsWon, IsDecided}
+use Rattle.krieg_search.specs.Decided.{sets_in, IsAccount, IsFound, IsLost, IsWon, IsDecided}
 use Rattle.krieg_search.proofs.Searching.{ready_from}
-use Rattle.krieg_search.proofs.Opening.{same_openings, numbered_more}
+use Rattle.krieg_search.proofs.OpenedSets.{same_openings, numbered_more}
 
 no_entries : entries [] ≡ []
 unfolding entries
@@ -69,7 +73,7 @@ module _ (d : Dialect) (who : Side) (S : List Pos) (n : ℕ) where
   first_within = omega arith
 
   -- the openings were stopped
-  pub openings_stopped : {A : Type 0} (P : Stop2 → Type 0) (r : Result (Option Won) Stop2) (stop : SplitStop) (holds : A → Type 0) (u0 u1 u2 : ℕ)
+  pub openings_stopped : {A : Type 0} (P : Stop2 → Type 0) (r : Result Decided Stop2) (stop : SplitStop) (holds : A → Type 0) (u0 u1 u2 : ℕ)
       → ((x : Stop2) → P x → stop_of stop ≡ x) → IsErrAnd r P → Charged {A = A} (Err stop) holds (first_made (chess d) (outset d who) S) u0 u1 → IsDecided d who S n r u0 u2
   openings_stopped P (Ok x) stop holds u0 u1 u2 same fails k = absurd fails
   openings_stopped {A = A} P (Err x) stop holds u0 u1 u2 same fails k = subst (λ (y : Stop2). IsDecided d who S n (Err y) u0 u2) (same x fails) (go stop k)
@@ -83,9 +87,10 @@ module _ (d : Dialect) (who : Side) (S : List Pos) (n : ℕ) where
   are_opened T T1 r os e f o = subst (λ (T : Interned). IsOpened d who S T T1 (Some os)) e (subst (λ (r : Option (Vec Opening Global)). IsOpened d who S T T1 r) f o)
 
   -- some listed position is over
-  pub over : (u0 u1 : ℕ) → list_any (is_over (chess d) (outset d who)) S ≡ true → u1 + first_made (chess d) (outset d who) S ≡ u0 → (can_plan (chess d) (outset d who) n S ≡ false) × IsAccount d who S n u0 u1
+  pub over : (u0 u1 : ℕ) → list_any (is_over (chess d) (outset d who)) S ≡ true → u1 + first_made (chess d) (outset d who) S ≡ u0 → IsDecided d who S n (Ok Over) u0 u1
   over u0 u1 o e =
       let none : can_plan (chess d) (outset d who) n S ≡ false = ap (λ b. not b && list_all (λ key. can (chess d) n (opening_set (chess d) (outset d who) S key)) (openings (chess d) (outset d who) S)) o in (
+        o,
         none,
         record {
           results = [];
@@ -112,7 +117,7 @@ module _ (d : Dialect) (who : Side) (S : List Pos) (n : ℕ) where
     none_stored = a.sets.noted ∙ no_entries
 
     -- they were stopped
-    pub search_stopped : {A : Type 0} (P : Stop2 → Type 0) (r : Result (Option Won) Stop2) (e : Stop2) (holds : A → Type 0) (T2 : Interned) (u0 u1 u2 u3 : ℕ)
+    pub search_stopped : {A : Type 0} (P : Stop2 → Type 0) (r : Result Decided Stop2) (e : Stop2) (holds : A → Type 0) (T2 : Interned) (u0 u1 u2 u3 : ℕ)
         → ((x : Stop2) → P x → e ≡ x) → IsErrAnd r P → u1 + first_made (chess d) (outset d who) S ≡ u0 → Searches d {A = A} (Err e) holds (CoversSets (chess d) (sets_in T1 os) n) 0 T1 T2 u1 u2 → IsDecided d who S n r u0 u3
     search_stopped P (Ok x) e holds T2 u0 u1 u2 u3 same fails taken k = absurd fails
     search_stopped {A = A} P (Err x) e holds T2 u0 u1 u2 u3 same fails taken k =
@@ -155,30 +160,46 @@ module _ (d : Dialect) (who : Side) (S : List Pos) (n : ℕ) where
       account : IsAccount d who S n u0 u2
       account = record { results = entries T2; sound = stretch.sound; answer = plan; once = o; reached = reached; exact = (let x = stretch.exact in omega arith) }
 
+      ready : IsReady d T2
+      ready = ready_from d (CoversSets (chess d) (sets_in T1 os) n) 0 T1 T2 u1 u2 s
+
+      -- what the search leaves, whatever its answer
+      is_found : (w : Found) → w.table ≡ T2 → w.openings.items ≡ os → IsFound d who S n w u0
+      is_found w t o = record {
+        ready = subst (IsReady d) (sym t) ready;
+        paid = subst (λ (T : Interned). charged (chess d) (entries T) ≤ u0) (sym t) (let x = stretch.exact in omega arith);
+        numbered = subst (λ (T : Interned). AreNumbered T w.openings.items) (sym t) (subst (λ (xs : List Opening). AreNumbered T2 xs) (sym o) (numbered_more T1 T2 os s.more a.numbered));
+        sets = subst (λ (T : Interned). map (opening_in T) w.openings.items ≡ game.opening_sets d who S) (sym t) (subst (λ (xs : List Opening). map (opening_in T2) xs ≡ game.opening_sets d who S) (sym o) (same_openings T1 T2 os s.more a.numbered ∙ a.are));
+      }
+
       -- some opening set cannot be won
-      pub not_won : yes ≡ false → (can_plan (chess d) (outset d who) n S ≡ false) × IsAccount d who S n u0 u2
-      not_won e = (sym answer ∙ e, account)
+      pub not_won : yes ≡ false → (lost : Found) → lost.table ≡ T2 → lost.openings.items ≡ os → IsLost d who S n lost u0 × IsAccount d who S n u0 u2
+      not_won e lost t o = (
+        record {
+          cannot = sym answer ∙ e;
+          none_over = none;
+          found = is_found lost t o;
+          lost =
+              subst (λ (T : Interned). FirstIsLost T (sets_in T lost.openings.items)) (sym t) (subst (λ (xs : List Opening). FirstIsLost T2 (sets_in T2 xs)) (sym o)
+              (subst (FirstIsLost T2) (sym (same_sets T1 T2 os s.more a.numbered)) (w.stored.lost e)));
+        },
+        account,
+      )
+        where
+          FirstIsLost : Interned → List (List Pos) → Type 0
+          FirstIsLost T Cs = IfSome (find (λ C. not (can (chess d) n C)) Cs) (λ C. 0 < n → stored position_lt (entries T) (C, n) ≡ Some None)
 
       -- all can
-      pub all_are_won : yes ≡ true → (won : Won) → won.table ≡ T2 → won.openings.items ≡ os → IsWon d who S n won u0 × IsAccount d who S n u0 u2
+      pub all_are_won : yes ≡ true → (won : Found) → won.table ≡ T2 → won.openings.items ≡ os → IsWon d who S n won u0 × IsAccount d who S n u0 u2
       all_are_won e won t o = (
         record {
           can = sym answer ∙ e;
-          ready = subst (IsReady d) (sym t) ready;
-          paid = subst (λ (T : Interned). charged (chess d) (entries T) ≤ u0) (sym t) paid;
-          numbered = subst (λ (T : Interned). AreNumbered T won.openings.items) (sym t) (subst (λ (xs : List Opening). AreNumbered T2 xs) (sym o) (numbered_more T1 T2 os s.more a.numbered));
-          sets = subst (λ (T : Interned). map (opening_in T) won.openings.items ≡ game.opening_sets d who S) (sym t) (subst (λ (xs : List Opening). map (opening_in T2) xs ≡ game.opening_sets d who S) (sym o) (same_openings T1 T2 os s.more a.numbered ∙ a.are));
+          found = is_found won t o;
           won = subst (λ (T : Interned). (C : List Pos) → In C (sets_in T won.openings.items) → WonBy T C n) (sym t) (subst (λ (xs : List Opening). (C : List Pos) → In C (sets_in T2 xs) → WonBy T2 C n) (sym o) each);
         },
         account,
       )
         where
-          ready : IsReady d T2
-          ready = ready_from d (CoversSets (chess d) (sets_in T1 os) n) 0 T1 T2 u1 u2 s
-
-          paid : charged (chess d) (entries T2) ≤ u0
-          paid = let x = stretch.exact in omega arith
-
           each : (C : List Pos) → In C (sets_in T2 os) → WonBy T2 C n
           each C i =
               let k = subst (In C) (same_sets T1 T2 os s.more a.numbered) i in

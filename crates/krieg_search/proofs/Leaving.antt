@@ -43,15 +43,17 @@ module _ (d : Dialect) where
   }
 
   -- one that mates wherever it is legal
-  pub leaves_refused : (B : List Pos) (t : Move) (l : Left) (rest : List Pos) → l.classes.items ≡ [] → l.refused ≡ rest → AllMate d B t rest → Leaves d B t l
+  pub leaves_refused : (B : List Pos) (t : Move) (l : Left) (rest : List Pos) → l.classes.items ≡ [] → l.refused ≡ rest → AllMate d B t rest → Leaves d B t 1 l
   leaves_refused B t l rest none is a = record {
+    none_lives = λ e. a.none_lives;
     none_stale = a.none_stale;
     classes_part = ap (map class_pair) none ∙ ap (map (λ (key : Key). (key, class (chess d) B t key))) (sym a.no_keys);
     refused_part = is ∙ a.refused_part;
   }
 
-  pub leaves_parts : (B : List Pos) (t : Move) (l : Left) (p : Parted) → l.classes.items ≡ p.classes.items → l.refused ≡ p.refused → p.stale ≡ false → IsParted d B t p → Leaves d B t l
-  leaves_parts B t l p same is none a = record {
+  pub leaves_parts : (B : List Pos) (t : Move) (j : ℕ) (l : Left) (p : Parted) → l.classes.items ≡ p.classes.items → l.refused ≡ p.refused → p.stale ≡ false → IsParted d B t p → (j ≡ 1 → ⊥) → Leaves d B t j l
+  leaves_parts B t j l p same is none a more = record {
+    none_lives = λ e. absurd (more e);
     none_stale = sym a.stale_part ∙ none;
     classes_part = ap (map class_pair) same ∙ a.classes_part;
     refused_part = is ∙ a.refused_part;

@@ -1,18 +1,18 @@
-mod Searching
+pub mod Searching
 mod Leaving
 mod Trying
 mod Tries
 mod Numbers
 mod Noting
-mod Checking
+pub mod Checking
 mod Asking
-mod Opening
-mod Accounting
-mod Deciding
-mod Building
+pub mod OpenedSets
+pub mod Accounting
+pub mod Deciding
+pub mod Building
 mod Edging
 mod Rooting
 mod Ordering
-mod Solving
+pub mod Solving
 mod Turning
 mod ChessLaws

@@ -22,7 +22,7 @@ use Rattle.krieg_plan.specs.Plans.{plan_of}
 use Rattle.krieg_plan.specs.Ordered.{is_ordered_plan}
 use Rattle.krieg_search.specs.declared.best_plan.Answer.{Answer}
 use Rattle.krieg_search.specs.declared.best_plan.Answer.TheVariants.{Mates, None}
-use Rattle.krieg_search.specs.declared.decide.Won.{Won}
+use Rattle.krieg_search.specs.declared.decide.Found.{Found}
 use Rattle.krieg_search.specs.declared.stop.Stop2.{Stop2}
 use Rattle.krieg_search.specs.declared.stop.Stop2.TheVariants.{Spent, Large, NoMemory}
 use Rattle.krieg_search.specs.Opened.{opening_in}
@@ -62,18 +62,18 @@ module _ (d : Dialect) (who : Side) (S : List Pos) (n : ℕ) where
     cannot = c;
   }
 
-  module _ (w : Won) (had : ℕ) (a : IsWon d who S n w had) where
+  module _ (w : Found) (had : ℕ) (a : IsWon d who S n w had) where
     pairs : List (RootKey × List Pos)
     pairs = map (opening_in w.table) w.openings.items
 
     plan_is : roots_for d n (map (opening_in w.table) w.openings.items) ≡ canon_plan (chess d) (outset d who) n S
-    plan_is = ap (roots_for d n) a.sets ∙ roots_are (openings (chess d) (outset d who) S)
+    plan_is = ap (roots_for d n) a.found.sets ∙ roots_are (openings (chess d) (outset d who) S)
 
     worst_is : greatest (λ (c : RootKey × List Pos). least (chess d) n c.1) (map (opening_in w.table) w.openings.items) ≡ canon_worst (chess d) (outset d who) n S
-    worst_is = ap (greatest (λ (c : RootKey × List Pos). least (chess d) n c.1)) a.sets ∙ greatest_is (openings (chess d) (outset d who) S)
+    worst_is = ap (greatest (λ (c : RootKey × List Pos). least (chess d) n c.1)) a.found.sets ∙ greatest_is (openings (chess d) (outset d who) S)
 
     pub is_paid : had < 2 ^ 64 → IsPaidFor d w.table
-    is_paid h = record { ready = a.ready; paid = (let p = a.paid in omega arith) }
+    is_paid h = record { ready = a.found.ready; paid = (let p = a.found.paid in omega arith) }
 
     pub is_ordered : is_ordered_plan (roots_for d n (map (opening_in w.table) w.openings.items)) ≡ true
     is_ordered = ap is_ordered_plan plan_is ∙ plan_ordered d who (canon_plan (chess d) (outset d who) n S) S (best a.can).canonical
@@ -106,6 +106,6 @@ module _ (d : Dialect) (who : Side) (S : List Pos) (n : ℕ) where
       go NoMemory q v = absurd (cc)
 
   -- the plan was built
-  pub built : (w : Won) (had nodes : ℕ) (a : Answer) → IsWon d who S n w had → IsPlanned d n (map (opening_in w.table) w.openings.items) nodes (Ok a) → IsAnswer d who S n nodes (Ok a)
+  pub built : (w : Found) (had nodes : ℕ) (a : Answer) → IsWon d who S n w had → IsPlanned d n (map (opening_in w.table) w.openings.items) nodes (Ok a) → IsAnswer d who S n nodes (Ok a)
   built w had nodes (Mates worst plan) k p = (is_best d who S n w had k nodes worst (plan_of plan) p, p.fit)
   built w had nodes None k p = absurd p

@@ -55,7 +55,7 @@ module _ (d : Dialect) where
     pub some : 0 < j
     pub ready : IsReady d T
     pub legal : legal_in_some (chess d) B t ≡ true
-    pub leaves : Leaves d B t l
+    pub leaves : Leaves d B t j l
     pub taken : u1 + made (chess d) B t ≡ u0
 
   pub tried_at : (T : Interned) (B0 B : List Pos) (t : Move) (j : ℕ) (found : Option Left) (l : Left) (u0 u1 : ℕ) → B0 ≡ B → found ≡ Some l → 0 < j → IsReady d T → legal_in_some (chess d) B t ≡ true → IsLeft d B0 t j found → u1 + made (chess d) B0 t ≡ u0 → IsTried T B t j l u0 u1
@@ -63,7 +63,7 @@ module _ (d : Dialect) where
     some = some;
     ready = ready;
     legal = legal;
-    leaves = subst (λ (X : List Pos). Leaves d X t l) same (subst (λ (o : Option Left). IsLeft d B0 t j o) is left);
+    leaves = subst (λ (X : List Pos). Leaves d X t j l) same (subst (λ (o : Option Left). IsLeft d B0 t j o) is left);
     taken = subst (λ (X : List Pos). u1 + made (chess d) X t ≡ u0) same taken;
   }
 

@@ -9,7 +9,7 @@ use Rattle.krieg_board.specs.declared.men.Side.TheVariants.{White, Black}
 use Rattle.krieg_theory.specs.Sets.{In}
 use Rattle.krieg_theory.proofs.Lists.{all_at, all_from}
 use Rattle.krieg_split.specs.Turns.{IsOwnTurn, IsOthersTurn}
-use Rattle.krieg_search.proofs.Opening.{first_in}
+use Rattle.krieg_search.proofs.OpenedSets.{first_in}
 
 alike : (a s who : Side) → is_same_side a s ≡ true → is_same_side a who ≡ is_same_side s who
 alike White White who e = refl

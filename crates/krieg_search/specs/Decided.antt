@@ -1,15 +1,18 @@
 -- Whether some plan mates, as the search finds it.
-use Rattle.std.specs.Prelude.{◌≡◌, ℕ, ◌+◌, ◌<◌, ◌≤◌, true, false, List, map, Option, Some, None, Result, Ok, Err, ⊤}
+use Rattle.std.specs.Prelude.{◌≡◌, ℕ, ◌+◌, ◌<◌, ◌≤◌, true, false, not, List, map, find, Some, None, IfSome, Result, Ok, Err, ⊤}
+use Rattle.std.specs.List.{list_any}
 use Rattle.krieg_board.specs.Pos.{Pos}
 use Rattle.krieg_board.specs.declared.men.Side.{Side}
 use Rattle.krieg_words.specs.declared.dialects.Dialect.{Dialect}
 use Rattle.krieg_theory.specs.Sets.{In}
-use Rattle.krieg_theory.specs.Plans.{can_plan}
+use Rattle.krieg_theory.specs.Can.{can}
+use Rattle.krieg_theory.specs.Plans.{is_over, can_plan}
+use Rattle.krieg_pack.specs.Order.{position_lt}
 use Rattle.krieg_costs.specs.Sums.{IsOnce}
 use Rattle.krieg_costs.specs.Cost.{first_made}
 use Rattle.krieg_costs.specs.Reach.{reach_of, fresh}
 use Rattle.krieg_costs.specs.Backing.{floor}
-use Rattle.krieg_accounts.specs.Stored.{pairs}
+use Rattle.krieg_accounts.specs.Stored.{stored, pairs}
 use Rattle.krieg_accounts.specs.Sound.{Table, IsSound}
 use Rattle.krieg_accounts.specs.Charges.{charged}
 use Rattle.krieg_accounts.specs.Answers.{AnswersPlan}
@@ -19,7 +22,9 @@ use Rattle.krieg_game.specs.ClassLaws.{opening_sets}
 use Rattle.krieg_table.specs.Interned.{Interned, set_at}
 use Rattle.krieg_table.specs.Entries.{entries}
 use Rattle.krieg_search.specs.declared.openings.Opening.{Opening}
-use Rattle.krieg_search.specs.declared.decide.Won.{Won}
+use Rattle.krieg_search.specs.declared.decide.Found.{Found}
+use Rattle.krieg_search.specs.declared.decide.Decided.{Decided}
+use Rattle.krieg_search.specs.declared.decide.Decided.TheVariants.{Over, Lost, Won}
 use Rattle.krieg_search.specs.declared.stop.Stop2.{Stop2}
 use Rattle.krieg_search.specs.declared.stop.Stop2.TheVariants.{Spent, Large, NoMemory}
 use Rattle.krieg_search.specs.Searched.{IsReady}
@@ -47,18 +52,30 @@ module _ (d : Dialect) (who : Side) (S : List Pos) (n : ℕ) where
     pub at_least : has + floor (chess d) (outset d who) n S ≤ had
     pub at_most : had ≤ has + fresh (chess d) (outset d who) n S
 
-  -- each opening that occurs has its set in the table, where it is stored as won
-  pub record IsWon (w : Won) (had : ℕ) : Type 0 where
-    pub can : can_plan (chess d) (outset d who) n S ≡ true
+  -- the results are right and paid for, and each opening that occurs has its set in the table
+  pub record IsFound (w : Found) (had : ℕ) : Type 0 where
     pub ready : IsReady d w.table
     pub paid : charged (chess d) (entries w.table) ≤ had
     pub numbered : AreNumbered w.table w.openings.items
     pub sets : map (opening_in w.table) w.openings.items ≡ opening_sets d who S
+
+  -- no listed position is over, and the first opening set that cannot be won within n is stored as such
+  pub record IsLost (w : Found) (had : ℕ) : Type 0 where
+    pub cannot : can_plan (chess d) (outset d who) n S ≡ false
+    pub none_over : list_any (is_over (chess d) (outset d who)) S ≡ false
+    pub found : IsFound w had
+    pub lost : IfSome (find (λ C. not (can (chess d) n C)) (sets_in w.table w.openings.items)) (λ C. 0 < n → stored position_lt (entries w.table) (C, n) ≡ Some None)
+
+  -- each opening set is stored as won
+  pub record IsWon (w : Found) (had : ℕ) : Type 0 where
+    pub can : can_plan (chess d) (outset d who) n S ≡ true
+    pub found : IsFound w had
     pub won : (C : List Pos) → In C (sets_in w.table w.openings.items) → WonBy w.table C n
 
-  abbrev pub IsDecided : Result (Option Won) Stop2 → ℕ → ℕ → Type 0
-  IsDecided (Ok None) had has = (can_plan (chess d) (outset d who) n S ≡ false) × IsAccount had has
-  IsDecided (Ok (Some w)) had has = IsWon w had × IsAccount had has
+  abbrev pub IsDecided : Result Decided Stop2 → ℕ → ℕ → Type 0
+  IsDecided (Ok Over) had has = (list_any (is_over (chess d) (outset d who)) S ≡ true) × (can_plan (chess d) (outset d who) n S ≡ false) × IsAccount had has
+  IsDecided (Ok (Lost w)) had has = IsLost w had × IsAccount had has
+  IsDecided (Ok (Won w)) had has = IsWon w had × IsAccount had has
   IsDecided (Err Spent) had has = had < fresh (chess d) (outset d who) n S
   IsDecided (Err Large) had has = ⊥
   IsDecided (Err NoMemory) had has = ⊤

@@ -5,7 +5,7 @@ use Rattle.krieg_board.specs.declared.men.Move.{Move}
 use Rattle.krieg_words.specs.declared.dialects.Dialect.{Dialect}
 use Rattle.krieg_theory.specs.Split.{refused, stale_in_some, keys, class}
 use Rattle.krieg_theory.specs.Can.{begins}
-use Rattle.krieg_costs.specs.Block.{block_pair}
+use Rattle.krieg_costs.specs.Block.{block_pair, lives_in_some}
 use Rattle.krieg_game.specs.Chess.{chess}
 use Rattle.krieg_game.specs.Classes.{class_pair}
 use Rattle.krieg_search.specs.declared.left.Left.{Left}
@@ -16,12 +16,14 @@ module _ (d : Dialect) where
     pub fails : begins (chess d) j B t ≡ false
     pub no_pair : block_pair (chess d) j B t ≡ None
 
-  -- it stalemates in no member, and these are the class of each key that occurs, and the members that refuse it
-  pub record Leaves (B : List Pos) (t : Move) (l : Left) : Type 0 where
+  -- it stalemates in no member and, where one move is left, lives in none; these are the class of each key that occurs, and
+  -- the members that refuse it
+  pub record Leaves (B : List Pos) (t : Move) (j : ℕ) (l : Left) : Type 0 where
+    pub none_lives : j ≡ 1 → lives_in_some (chess d) B t ≡ false
     pub none_stale : stale_in_some (chess d) B t ≡ false
     pub classes_part : map class_pair l.classes.items ≡ map (λ key. (key, class (chess d) B t key)) (keys (chess d) B t)
     pub refused_part : l.refused ≡ refused (chess d) B t
 
   abbrev pub IsLeft : List Pos → Move → ℕ → Option Left → Type 0
   IsLeft B t j None = FailsAtOnce B t j
-  IsLeft B t j (Some l) = Leaves B t l
+  IsLeft B t j (Some l) = Leaves B t j l

@@ -13,7 +13,7 @@ ghost use Rattle.krieg_search.specs.Built.{WonBy, IsPaidFor, roots_for};
 ghost use Rattle.krieg_search.specs.Planned.{IsPlanned};
 ghost use Rattle.krieg_search.specs.Solved.{IsAnswer, IsCharged, HasAccount};
 
-use crate::decide::{Won, decide};
+use crate::decide::{Decided, Found, decide};
 use crate::roots::{Roots, build_roots};
 use crate::stop::Stop2;
 use krieg_board::{MOST_MOVES, Side, Units};
@@ -33,14 +33,20 @@ pub enum Answer {
 
 /// The canonical plan, where the set of every opening can be won. `Large` comes exactly where it has more than `nodes`
 /// nodes, or more than 2,500 on a path.
-fn build_plan(alloc: Global, d: Dialect, won: Won, moves: u8, nodes: usize) -> Result<Answer, Stop2>
+fn build_plan(
+    alloc: Global,
+    d: Dialect,
+    won: Found,
+    moves: u8,
+    nodes: usize,
+) -> Result<Answer, Stop2>
     requires paid { IsPaidFor d won.table }
     requires numbered { AreNumbered won.table won.openings.items }
     requires won { (C : List Pos) → In C (sets_in won.table won.openings.items) → WonBy won.table C moves }
     requires ordered { is_ordered_plan (roots_for d moves (map (opening_in won.table) won.openings.items)) ≡ true }
     ensures { IsPlanned d moves (map (opening_in won.table) won.openings.items) nodes result }
 {
-    let Won {
+    let Found {
         mut table,
         openings,
     } = won;
@@ -85,9 +91,16 @@ pub fn solve(
     ensures cost { result ≡ Err Spent → units.old < cost_of (chess d) (outset d who) moves b.now }
 {
     let mut left = Units::new(units.left());
-    let Some(won) = decide(alloc, d, who, b, moves, &mut left)? else {
-        *units = left;
-        return Ok(Answer::None);
+    let won = match decide(alloc, d, who, b, moves, &mut left)? {
+        Decided::Over => {
+            *units = left;
+            return Ok(Answer::None);
+        }
+        Decided::Lost(_found) => {
+            *units = left;
+            return Ok(Answer::None);
+        }
+        Decided::Won(won) => won,
     };
     match build_plan(alloc, d, won, moves, nodes) {
         Ok(answer) => {

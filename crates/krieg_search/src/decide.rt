@@ -15,11 +15,22 @@ use krieg_table::Table;
 use krieg_words::Dialect;
 use std::alloc::Global;
 
-/// What a search leaves where some plan mates: the results, and what may be heard before the first own turn.
+/// What a search leaves: the results, and what may be heard before the first own turn.
 #[derive(Drop)]
-pub(crate) struct Won {
+pub struct Found {
     pub table: Table,
     pub openings: Vec<Opening>,
+}
+
+/// Whether some plan mates every listed position.
+#[derive(Drop)]
+pub enum Decided {
+    /// None does, since some listed position is over.
+    Over,
+    /// None does: the set of some opening cannot be won, and the first such is stored.
+    Lost(Found),
+    /// Some plan does: the set of each opening is stored as one that can be won.
+    Won(Found),
 }
 
 /// Whether the set of each opening can be won within `moves`, up to the first that cannot.
@@ -45,26 +56,26 @@ fn all_openings_win(
 }
 
 /// Whether some plan mates every listed position within `moves`, and by which results.
-pub(crate) fn decide(
+pub fn decide(
     alloc: Global,
     d: Dialect,
     who: Side,
     b: &Belief,
     moves: u8,
     units: &mut Units,
-) -> Result<Option<Won>, Stop2>
+) -> Result<Decided, Stop2>
     requires most { moves ≤ MOST_MOVES }
     requires turn { IsOwnTurn who b.now ⊎ IsOthersTurn who b.now }
     ensures { IsDecided d who b.now moves result units.old units.new }
 {
     let mut table = Table::new(alloc);
     let Some(openings) = find_openings(alloc, d, who, b, &mut table, units)? else {
-        return Ok(None);
+        return Ok(Decided::Over);
     };
     let all_win = all_openings_win(alloc, d, &mut table, &openings, moves, units)?;
     table.know_once();
     if !all_win {
-        return Ok(None);
+        return Ok(Decided::Lost(Found { table, openings }));
     }
-    Ok(Some(Won { table, openings }))
+    Ok(Decided::Won(Found { table, openings }))
 }

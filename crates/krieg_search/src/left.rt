@@ -15,7 +15,7 @@ use std::alloc::Global;
 /// What a try leaves to be won: what is possible after each thing that may be heard, with one move less, and the
 /// members that refuse it, with the same number.
 #[derive(Drop)]
-pub(crate) struct Left {
+pub struct Left {
     pub classes: Vec<Class>,
     pub refused: Belief,
 }
@@ -45,7 +45,7 @@ fn left_by_last(
 ///
 /// It takes as many units as a split, or none with an error.
 #[inline(never)]
-pub(crate) fn left_by(
+pub fn left_by(
     alloc: Global,
     d: Dialect,
     b: &Belief,

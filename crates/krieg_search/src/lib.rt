@@ -17,6 +17,9 @@
 //! anything below it is built. They split the sets once more, each by the one try that wins it, by units that are made
 //! for that alone: `paid` (in `Built`) says that the search has paid for all of these splits.
 //!
+//! Who goes on by what a search leaves, as krieg_refute does, calls `decide` itself: it gives the table and the openings,
+//! whatever the answer. `left_by` makes one split of it again, and `number_of` finds the number of a part.
+//!
 //! The search calls itself for each part of a set, and building for each node below a node. Where one try after another
 //! is refused, they go a level deeper for each, some 2,490 levels at most. A level of the search takes less than 400
 //! bytes of the stack, or less than 1,500 in a program that Rattle's own compiler builds, and a level of building less
@@ -37,7 +40,7 @@
 
 mod best_plan;
 mod build;
-mod decide;
+pub mod decide;
 pub mod laws;
 mod left;
 mod number;
@@ -48,5 +51,8 @@ mod stop;
 mod turn;
 
 pub use best_plan::{Answer, solve};
+pub use left::{Left, left_by};
+pub use number::number_of;
+pub use openings::Opening;
 pub use stop::Stop2;
 pub use turn::has_one_turn;

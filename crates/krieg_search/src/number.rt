@@ -7,7 +7,7 @@ use krieg_table::{MOST_SETS, Table};
 
 /// The number of the set, which is put into the table if it is new there. A table that is full is want of memory.
 #[inline(never)]
-pub(crate) fn number_of(table: &mut Table, b: Belief) -> Result<u32, NoMemory>
+pub fn number_of(table: &mut Table, b: Belief) -> Result<u32, NoMemory>
     requires { AreCounted table.old }
     ensures { IfOk result (IsNumbered table.old table.new b) }
 {

@@ -22,7 +22,7 @@ use std::alloc::Global;
 
 /// What may be heard before the first own turn, and the number of the set of what is possible then.
 #[derive(Drop)]
-pub(crate) struct Opening {
+pub struct Opening {
     /// The opening words.
     pub opens: Words,
     /// The words of the opponent's first move, where he is to move first.

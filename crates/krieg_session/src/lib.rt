@@ -25,4 +25,4 @@ pub use laws::{lines_law, reading_law, sheet_law};
 pub use reading::{read_session, read_start};
 pub use session::Session;
 pub use telling::umpire;
-pub use writing::write_session;
+pub use writing::{put_event, write_session};

@@ -15,7 +15,8 @@ use krieg_referee::{Event, Stop};
 use krieg_text::Text;
 use krieg_words::put_version_lines;
 
-fn put_event(event: &Event, text: &mut Text) -> Result<(), NoMemory>
+/// Adds the line of a try, without its line feed.
+pub fn put_event(event: &Event, text: &mut Text) -> Result<(), NoMemory>
     ensures { PutsPieces result text.old text.new (spec.event_line event.now) }
 {
     text.put(side_mark(event.who))?;

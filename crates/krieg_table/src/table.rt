@@ -55,9 +55,10 @@ impl Table {
         self.rows.len()
     }
 
-    /// Tells a proof that no two results are of the same set with the same number of moves.
+    /// Tells a proof that no set has two numbers, and that no two results are of the same set with the same number of moves.
     pub fn know_once(&self)
-        ensures { IsOnce (pairs (entries self.now)) }
+        ensures sets { IsOnce (sets self.now) }
+        ensures results { IsOnce (pairs (entries self.now)) }
     {
         let _rows = self.rows.len();
     }

@@ -1,6 +1,6 @@
 ghost use Rattle.std.specs.Prelude.{◌≡◌, ◌∷◌, [], IfOk};
 ghost use Rattle.krieg_text.specs.Writing.{PutsLines};
-ghost use Rattle.krieg_checker.specs.Starting.{IsOneTurn};
+ghost use Rattle.krieg_plan.specs.Listed.{IsOneTurn};
 ghost use Rattle.krieg_planfile.specs.PlanFiles.{state_of};
 ghost use Rattle.krieg_cli.specs.Parts.{Decides};
 ghost use Rattle.krieg_cli.specs.Check as spec;

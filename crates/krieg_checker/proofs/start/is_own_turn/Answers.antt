@@ -1,6 +1,6 @@
 use Rattle.std.proofs.Common.{rules, ap, ◌∙◌}
 use Rattle.krieg_board.specs.Men.{is_same_side}
-use Rattle.krieg_checker.proofs.Starting.{get_in}
+use Rattle.krieg_plan.proofs.Listed.{get_in}
 use Rattle.krieg_checker.proofs.start.is_own_turn.Goals as goal
 
 pub returns-else-is_empty : goal.returns-else-is_empty

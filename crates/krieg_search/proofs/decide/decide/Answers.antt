@@ -3,7 +3,7 @@ use Rattle.std.specs.declared.alloc.Global.{Global}
 use Rattle.krieg_accounts.specs.Stretch.{CoversSets}
 use Rattle.krieg_game.specs.Chess.{chess}
 use Rattle.krieg_search.specs.declared.openings.Opening.{Opening}
-use Rattle.krieg_search.specs.declared.decide.Won.{Won}
+use Rattle.krieg_search.specs.declared.decide.Found.{Found}
 use Rattle.krieg_search.specs.Searched.{AreCounted, IsSearched, Searches, TellsSets}
 use Rattle.krieg_search.specs.Opened.{AreNumbered, IsOpened}
 use Rattle.krieg_search.specs.Decided.{sets_in}
@@ -82,8 +82,9 @@ returns-then-not-all_win c =
     let u2 = c.all_openings_win.new.units in
     let os = c.in-Some.openings in
     let o = are_opened d who S n c.new-table.result T1 c.in_ok-openings.field-0 os c.new-table.ensures c.in-Some.is c.in_ok-openings.ensures.0 in
+    let lost : Found = record { table = T2; openings = os } in
     let w = subst (λ (xs : List Opening). TellsSets d T2 (sets_in T1 xs) n c.in_ok-all_win.all_win × IsSearched d (CoversSets (chess d) (sets_in T1 xs) n) 0 T1 T2 u1 u2) c.deref.ensures.value c.in_ok-all_win.ensures in
-    not_won d who S n T1 os.items o.1 T2 c.in_ok-all_win.all_win u0 u1 u2 o.0 c.in_ok-openings.ensures.1 w.0 w.1 c.know_once.ensures c.if-not-all_win.true
+    not_won d who S n T1 os.items o.1 T2 c.in_ok-all_win.all_win u0 u1 u2 o.0 c.in_ok-openings.ensures.1 w.0 w.1 c.know_once.ensures.results c.if-not-all_win.true lost refl refl
 
 pub returns : goal.returns
 returns c =
@@ -98,6 +99,6 @@ returns c =
     let u2 = c.all_openings_win.new.units in
     let os = c.in-Some.openings in
     let o = are_opened d who S n c.new-table.result T1 c.in_ok-openings.field-0 os c.new-table.ensures c.in-Some.is c.in_ok-openings.ensures.0 in
-    let won : Won = record { table = T2; openings = os } in
+    let won : Found = record { table = T2; openings = os } in
     let w = subst (λ (xs : List Opening). TellsSets d T2 (sets_in T1 xs) n c.in_ok-all_win.all_win × IsSearched d (CoversSets (chess d) (sets_in T1 xs) n) 0 T1 T2 u1 u2) c.deref.ensures.value c.in_ok-all_win.ensures in
-    all_are_won d who S n T1 os.items o.1 T2 c.in_ok-all_win.all_win u0 u1 u2 o.0 c.in_ok-openings.ensures.1 w.0 w.1 c.know_once.ensures c.if-not-all_win.false won refl refl
+    all_are_won d who S n T1 os.items o.1 T2 c.in_ok-all_win.all_win u0 u1 u2 o.0 c.in_ok-openings.ensures.1 w.0 w.1 c.know_once.ensures.results c.if-not-all_win.false won refl refl

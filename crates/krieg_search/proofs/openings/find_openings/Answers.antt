@@ -8,7 +8,7 @@ use Rattle.krieg_split.specs.Turns.{IsOwnTurn, IsOthersTurn}
 use Rattle.krieg_split.specs.Firsts.{first_cost}
 use Rattle.krieg_split.specs.declared.firsts.Firsts.{Firsts}
 use Rattle.krieg_search.specs.Opened.{AreAdded, IsOpened}
-use Rattle.krieg_search.proofs.Opening.{none_over, none_made, stopped_first}
+use Rattle.krieg_search.proofs.OpenedSets.{none_over, none_made, stopped_first}
 use Rattle.krieg_search.proofs.openings.find_openings.Goals as goal
 
 pub returns-then-is_own_turn : goal.returns-then-is_own_turn

@@ -1,5 +1,5 @@
 use Rattle.std.proofs.Common.{rules, ◌∙◌}
-use Rattle.krieg_search.proofs.Opening.{turn_of, first_in}
+use Rattle.krieg_search.proofs.OpenedSets.{turn_of, first_in}
 use Rattle.krieg_search.proofs.openings.is_own_turn.Goals as goal
 
 pub returns-else-is_empty : goal.returns-else-is_empty

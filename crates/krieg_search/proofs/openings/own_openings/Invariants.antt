@@ -1,7 +1,7 @@
 use Rattle.std.proofs.Common.{◌≡◌, length, map}
 use Rattle.std.specs.Vec.Iter.{into_iter_items, into_iter_len}
 use Rattle.krieg_split.specs.Openings.{opened_set}
-use Rattle.krieg_search.proofs.Opening.{IsOpening}
+use Rattle.krieg_search.proofs.OpenedSets.{IsOpening}
 use Rattle.krieg_search.proofs.openings.own_openings.Given as goal
 
 abbrev pub invariant-loop-o : goal.invariant-loop-o

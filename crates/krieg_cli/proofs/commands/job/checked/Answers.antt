@@ -4,7 +4,7 @@ use Rattle.krieg_board.specs.Pos.{Pos}
 use Rattle.krieg_board.specs.declared.men.Side.TheVariants.{White}
 use Rattle.krieg_words.specs.declared.dialects.Dialect.TheVariants.{Wild16}
 use Rattle.krieg_plan.specs.Plans.{plan_of}
-use Rattle.krieg_checker.specs.Starting.{IsOneTurn}
+use Rattle.krieg_plan.specs.Listed.{IsOneTurn}
 use Rattle.krieg_cli.specs.Parts.{Decides}
 use Rattle.krieg_cli.specs.Solve.{file_of}
 use Rattle.krieg_cli.specs.Job.{Plans, found_lines}

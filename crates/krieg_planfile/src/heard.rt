@@ -1,0 +1,66 @@
+ghost use Rattle.std.specs.Prelude.{◌≡◌, IfOk};
+ghost use Rattle.krieg_text.specs.Lines.{lines};
+ghost use Rattle.krieg_text.specs.Reading.{Gives};
+ghost use Rattle.krieg_planfile.specs.HeardReading as spec;
+ghost use Rattle.krieg_planfile.specs.HeardStates.{heard_state_of};
+ghost use Rattle.krieg_planfile.specs.PlanFiles.{state_of, IsPlanFile};
+
+use crate::reading::read_plan_lines;
+use krieg_plan::PlanFile;
+use krieg_text::{Cursor, TextFault, TextKind};
+use krieg_words::{Dialect, Line, read_line_in};
+use std::alloc::Global;
+
+/// A plan file, and what its player heard.
+#[derive(Drop)]
+pub struct HeardPlan {
+    /// The plan file.
+    pub file: PlanFile,
+    /// The lines that the player heard, in order, in the dialect of the file.
+    pub heard: Vec<Line>,
+}
+
+/// The line of the dialect that the text spells.
+fn heard_line(d: Dialect, text: &[u8]) -> Result<Line, TextKind>
+    ensures { result ≡ spec.heard_form d text.now }
+{
+    match read_line_in(d, text) {
+        Ok(line) => Ok(line),
+        Err(_) => Err(TextKind::Syntax),
+    }
+}
+
+/// All lines that are left, in that dialect.
+#[tactic(auto, using(crate::proofs::HeardLines::heard_lines))]
+fn read_heard(alloc: Global, from: &mut Cursor<'_>, d: Dialect) -> Result<Vec<Line>, TextFault>
+    ensures { Gives (λ heard. heard.items) result (spec.all_by (spec.heard_form d) from.old.number from.old.left) }
+{
+    let mut heard = Vec::new(alloc);
+    'lines: loop {
+        let line = from.number();
+        let Ok(text) = from.line() else {
+            return Ok(heard);
+        };
+        match heard_line(d, text) {
+            Ok(told) => heard.push(told)?,
+            Err(kind) => return Err(TextFault::At { line, kind }),
+        }
+    }
+}
+
+/// The plan file that the text spells up to its line `end`, and behind it the lines that its player heard.
+///
+/// The fault is the first line that is not accepted: of the plan file as [`read_plan`](crate::read_plan) tells it, and
+/// behind it each line that is none of the file's dialect, with `Syntax`. Where no line is refused and the plan file is
+/// not complete it is the number of lines plus 1 with `Syntax`.
+#[tactic(auto, using(crate::proofs::HeardLines::heard_plans), unfolding(crate::specs::HeardReading::heard_plan))]
+pub fn read_heard_plan(alloc: Global, text: &[u8]) -> Result<HeardPlan, TextFault>
+    ensures exact { Gives (λ h. heard_state_of h) result (spec.heard_plan (lines text.now)) }
+    // What is read first is a plan file.
+    ensures plan { IfOk result (λ h. IsPlanFile (state_of h.file)) }
+{
+    let mut from = Cursor::new(text);
+    let file = read_plan_lines(alloc, &mut from)?;
+    let heard = read_heard(alloc, &mut from, file.dialect)?;
+    Ok(HeardPlan { file, heard })
+}

@@ -1,0 +1,73 @@
+"""What the scripts beside this file share: calls of the program, positions by squares, and the listed positions of a sheet.
+
+It knows no rules: whether a position is valid and a move legal, the program says."""
+
+import pathlib
+import subprocess
+import sys
+
+TOP = pathlib.Path(__file__).resolve().parent.parent
+KRIEG = TOP / "krieg"
+BUILT = TOP / "crates/krieg/out"
+# What is called: ./krieg once, which builds the program where it is stale, and then the program itself, which saves time.
+called = [KRIEG]
+
+
+def ask(words, text):
+    """The status of a run, its answer, and what it says on standard error."""
+    done = subprocess.run([called[-1], *words], input=text, capture_output=True, text=True)
+    if called == [KRIEG]:
+        called.append(BUILT / "krieg" if (BUILT / "built").exists() else KRIEG)
+    # Where nothing is built ./krieg says so first.
+    said = [line for line in done.stderr.splitlines() if not line.startswith("krieg: this answer comes from")]
+    return done.returncode, done.stdout, "\n".join(said)
+
+
+def answer(words, text):
+    """The answer of a run, which ends this script where the program refuses."""
+    status, out, err = ask(words, text)
+    if status != 0:
+        sys.exit(f"{pathlib.Path(sys.argv[0]).name}: krieg {' '.join(words)}: {err}")
+    return out
+
+
+def men(position):
+    """The men of a position by their squares, as {"b6": "K"}."""
+    placed = {}
+    for rank, row in zip("87654321", position.split()[0].split("/")):
+        file = 0
+        for letter in row:
+            if letter.isdigit():
+                file += int(letter)
+            else:
+                placed["abcdefgh"[file] + rank] = letter
+                file += 1
+    return placed
+
+
+def position(placed, rest):
+    """The text of the position with these men, and these fields behind them."""
+    ranks = ["".join(placed.get(file + rank, " ") for file in "abcdefgh") for rank in "87654321"]
+    board = "/".join(ranks)
+    for empty in range(8, 0, -1):
+        board = board.replace(" " * empty, str(empty))
+    return f"{board} {rest}"
+
+
+def drawn(placed):
+    """The lines of a board with these men or words on its squares."""
+    ranks = [rank + "".join(f"{placed.get(file + rank, '.'):>4}" for file in "abcdefgh") for rank in "87654321"]
+    return [*ranks, " " + "".join(f"{file:>4}" for file in "abcdefgh")]
+
+
+def parts(sheet):
+    """A sheet's first lines up to its side, its listed positions, and the lines behind them up to `end`."""
+    lines = sheet.splitlines()
+    here = next(i for i, line in enumerate(lines) if line.startswith("list "))
+    count = int(lines[here].split()[1])
+    return lines[:here], lines[here + 1 : here + 1 + count], lines[here + 1 + count : -1]
+
+
+def sheet(head, positions, entries=()):
+    """The text of a sheet of these parts."""
+    return "\n".join([*head, f"list {len(positions)}", *positions, *entries, "end", ""])
