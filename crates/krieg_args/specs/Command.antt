@@ -9,7 +9,7 @@ use Rattle.krieg_text.specs.Decimals.{number_between}
 use Rattle.krieg_fen.specs.declared.forms.TheConstants.{MOST_LISTED}
 use Rattle.krieg_args.specs.declared.command.TheConstants.{MOST_ASKS, MOST_SEED}
 use Rattle.krieg_args.specs.declared.command.Command.{Command}
-use Rattle.krieg_args.specs.declared.command.Command.TheVariants.{Solve, Check, Believe, Umpire, Play, Make, Job}
+use Rattle.krieg_args.specs.declared.command.Command.TheVariants.{Solve, Check, Believe, Umpire, San, Unsan, Play, Lead, Next, Make, Job}
 use Rattle.krieg_args.specs.declared.command.Made.{Made}
 use Rattle.krieg_args.specs.declared.command.Made.TheVariants.{Session, Sheet}
 
@@ -33,6 +33,10 @@ limit_of word = number 1 MOST_LISTED word
 -- ASKS: how often the players of a game are asked
 abbrev pub asks_of : List ℕ → Option ℕ
 asks_of word = number 1 MOST_ASKS word
+
+-- NUMBER: that of a listed position, from 1 on
+abbrev pub place_of : List ℕ → Option ℕ
+place_of word = number 1 MOST_LISTED word
 
 -- NUMBER: that of a made input, of 32 bits
 abbrev pub seed_of : List ℕ → Option ℕ
@@ -78,6 +82,21 @@ make what seed = do
 abbrev pub play : List ℕ → List ℕ → List ℕ → List ℕ → List ℕ → Option Command
 play asks win wout bin bout = if is_file win && is_file wout && is_file bin && is_file bout then option_map Play (asks_of asks) else None
 
+abbrev pub lead_from : List ℕ → List ℕ → Option Command
+lead_from asks number = do
+  a ← asks_of asks
+  n ← place_of number
+  Some (Lead a n)
+
+-- the opponent has a file for what he says and one for what he hears
+abbrev pub lead : List ℕ → List ℕ → List ℕ → List ℕ → Option Command
+lead asks number tries told = if is_file tries && is_file told then lead_from asks number else None
+
+-- the command of a name alone
+abbrev pub command_of_name : List ℕ → Option Command
+command_of_name name =
+    if bytes_eq name (codes "san") then Some San else (if bytes_eq name (codes "unsan") then Some Unsan else (if bytes_eq name (codes "next") then Some Next else None))
+
 -- the command of a name with one word
 abbrev pub command_of_one : List ℕ → List ℕ → Option Command
 command_of_one name word =
@@ -88,9 +107,11 @@ command_of_one name word =
 
 -- the command of these words, where they are the form of one: a name, and after it as many words as the name asks for
 abbrev pub command_of : List (List ℕ) → Option Command
+command_of (name ∷ []) = command_of_name name
 command_of (name ∷ word ∷ []) = command_of_one name word
 command_of (name ∷ what ∷ seed ∷ []) = if bytes_eq name (codes "make") then make what seed else None
 command_of (name ∷ moves ∷ budget ∷ limit ∷ []) = if bytes_eq name (codes "solve") then solve moves budget limit else None
+command_of (name ∷ asks ∷ number ∷ tries ∷ told ∷ []) = if bytes_eq name (codes "lead") then lead asks number tries told else None
 command_of (name ∷ asks ∷ win ∷ wout ∷ bin ∷ bout ∷ []) = if bytes_eq name (codes "play") then play asks win wout bin bout else None
 command_of _ = None
 

@@ -49,12 +49,26 @@ pub enum Command {
         /// The player, or none for both.
         who: Option<Side>,
     },
+    /// `san`: the record of a session, with the moves that were made in algebraic notation.
+    San,
+    /// `unsan`: the session of a record.
+    Unsan,
     /// `play ASKS WIN WOUT BIN BOUT`: a game from a position between the players of four files, with so
     /// many asks at most.
     Play {
         /// From 1 to [`MOST_ASKS`].
         asks: u64,
     },
+    /// `lead ASKS NUMBER IN OUT`: a game that a plan leads from the listed position with that number, against the
+    /// player of two files, with so many tries at most.
+    Lead {
+        /// From 1 to [`MOST_ASKS`].
+        asks: u64,
+        /// From 1 to [`MOST_LISTED`].
+        number: u64,
+    },
+    /// `next`: what a player does next who follows a plan and heard these lines.
+    Next,
     /// `make session NUMBER`, `make sheet NUMBER`: a made input with that number.
     Make {
         /// Its kind.
@@ -106,6 +120,13 @@ fn asks_of(word: &str) -> Option<u64>
     ensures { result ≡ spec.asks_of word.now }
 {
     number(1, MOST_ASKS, word)
+}
+
+/// A listed position has one of the numbers that a limit may have.
+fn place_of(word: &str) -> Option<u64>
+    ensures { result ≡ spec.place_of word.now }
+{
+    limit_of(word)
 }
 
 fn seed_of(word: &str) -> Option<u64>
@@ -179,6 +200,34 @@ fn play(asks: &str, win: &str, wout: &str, bin: &str, bout: &str) -> Option<Comm
     }
 }
 
+fn lead(asks: &str, number: &str, tries: &str, told: &str) -> Option<Command>
+    ensures { result ≡ spec.lead asks.now number.now tries.now told.now }
+{
+    if is_file(tries) && is_file(told) {
+        Some(Command::Lead {
+            asks: asks_of(asks)?,
+            number: place_of(number)?,
+        })
+    } else {
+        None
+    }
+}
+
+fn command_of_name(name: &str) -> Option<Command>
+    ensures { result ≡ spec.command_of_name name.now }
+{
+    let name = name.as_bytes();
+    if is_name(b"san", name) {
+        Some(Command::San)
+    } else if is_name(b"unsan", name) {
+        Some(Command::Unsan)
+    } else if is_name(b"next", name) {
+        Some(Command::Next)
+    } else {
+        None
+    }
+}
+
 fn command_of_one(name: &str, word: &str) -> Option<Command>
     ensures { result ≡ spec.command_of_one name.now word.now }
 {
@@ -208,10 +257,14 @@ pub fn command_of(words: &[String]) -> Option<Command>
     ensures { result ≡ spec.command_of (map string_bytes words.now) }
 {
     match words {
+        [name] => command_of_name(name),
         [name, word] => command_of_one(name, word),
         [name, what, seed] if is_name(b"make", name.as_bytes()) => make(what, seed),
         [name, moves, budget, limit] if is_name(b"solve", name.as_bytes()) => {
             solve(moves, budget, limit)
+        }
+        [name, asks, number, tries, told] if is_name(b"lead", name.as_bytes()) => {
+            lead(asks, number, tries, told)
         }
         [name, asks, win, wout, bin, bout] if is_name(b"play", name.as_bytes()) => {
             play(asks, win, wout, bin, bout)

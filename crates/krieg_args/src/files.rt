@@ -34,3 +34,18 @@ pub fn seat_files(words: &[String]) -> Option<SeatFiles<'_>>
         _ => None,
     }
 }
+
+/// The files that the words name, exactly where they are those of a well-formed `lead`: where the opponent's tries come
+/// from, and where he is told.
+#[tactic(auto, using(crate::proofs::OtherWords::other_files))]
+pub fn lead_files(words: &[String]) -> Option<(&str, &str)>
+    ensures { option_map (λ files. (files.0.now, files.1.now)) result ≡ spec.lead_files (map string_bytes words.now) }
+{
+    match words {
+        [_, _, _, tries, told] => match command_of(words) {
+            Some(Command::Lead { .. }) => Some((tries.as_str(), told.as_str())),
+            _ => None,
+        },
+        _ => None,
+    }
+}

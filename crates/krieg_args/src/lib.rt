@@ -16,4 +16,4 @@ mod command;
 mod files;
 
 pub use command::{Command, MOST_ASKS, MOST_SEED, Made, command_of};
-pub use files::{SeatFiles, seat_files};
+pub use files::{SeatFiles, lead_files, seat_files};

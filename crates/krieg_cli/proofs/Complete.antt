@@ -2,12 +2,12 @@
 use Rattle.std.proofs.Common.{◌≡◌, Bool, ◌⊎◌, inl, inr, ℕ, ◌<◌, ◌≤◌, true, false, List, [], ◌∷◌, ◌++◌, length, drop, map, Option, Some, Result, Ok, Err, refl, sym, ap, subst, ◌∙◌, arith}
 use Rattle.std.specs.Prelude.{MatchBool}
 use Rattle.std.proofs.lemmas.Bool.{both_ways}
+use Rattle.std.proofs.lemmas.List.{append-nil}
 use Rattle.krieg_board.specs.Pos.{Pos}
-use Rattle.krieg_board.specs.declared.men.Side.{Side}
 use Rattle.krieg_board.specs.declared.men.Side.TheVariants.{White, Black}
 use Rattle.krieg_pack.proofs.PositionSets.{same_members}
 use Rattle.krieg_sheet.specs.Sheets.{SheetState}
-use Rattle.krieg_session.specs.Sessions.{SessionState}
+use Rattle.krieg_score.specs.Scores.{san_of, unsan_of}
 use Rattle.krieg_belief.specs.Possible.{IsPossible}
 use Rattle.krieg_belief.proofs.Prefixes.{excess_not_within}
 use Rattle.krieg_theory.specs.Sets.{is_nil}
@@ -19,7 +19,7 @@ use Rattle.krieg_play.specs.Teams.{Team, Turns, Service, BrokenCourse, HasFailed
 use Rattle.krieg_play.specs.Played.{Sides}
 use Rattle.krieg_args.specs.Command.{takes_input}
 use Rattle.krieg_args.specs.declared.command.Command.{Command}
-use Rattle.krieg_args.specs.declared.command.Command.TheVariants.{Solve, Check, Believe, Umpire, Play, Make, Job}
+use Rattle.krieg_args.specs.declared.command.Command.TheVariants.{Solve, Check, Believe, Umpire, San, Unsan, Play, Lead, Next, Make, Job}
 use Rattle.krieg_args.specs.declared.command.Made.{Made}
 use Rattle.krieg_cli.specs.World.{World, FaultsRose}
 use Rattle.krieg_cli.specs.Input.{WasRead}
@@ -29,10 +29,14 @@ use Rattle.krieg_cli.specs.Solve.{fresh_units, IsBestFile, Asks, Searched, Solve
 use Rattle.krieg_cli.specs.Check.{Checked}
 use Rattle.krieg_cli.specs.Umpire.{told_text}
 use Rattle.krieg_cli.specs.Believe.{Believed}
-use Rattle.krieg_cli.specs.Play.{PlaysFrom, PlaysWhole, Plays}
+use Rattle.krieg_planfile.specs.HeardReading.{HeardState}
+use Rattle.krieg_cli.specs.Play.{PlaysFrom, PlaysWhole}
+use Rattle.krieg_cli.specs.Lead.{LeadsFrom, LeadsWhole}
+use Rattle.krieg_cli.specs.Next.{Says}
+use Rattle.krieg_cli.specs.Live.{LivesBy}
 use Rattle.krieg_cli.specs.Make.{Makes}
 use Rattle.krieg_cli.specs.Job.{Plans, Summarizes}
-use Rattle.krieg_cli.specs.Outcome.{PlayOutcome, HasOutcome}
+use Rattle.krieg_cli.specs.Outcome.{LiveOutcome, HasOutcome}
 use Rattle.krieg_cli.specs.Top.{ComesTo, Ends, Runs}
 use Rattle.krieg_cli.specs.Complete.{CanBeChecked, CanBeSummed, HoldsText, MustAnswer, NoneFailed, seats_since, CanPlay, BenchHolds, Completes}
 use Rattle.krieg_cli.specs.declared.refusal.Refusal.{Refusal}
@@ -59,6 +63,7 @@ module _ (n budget limit : ℕ) (s : SheetState) (S : List Pos) (asks : Asks lim
   searching refusal.NonePossible T same h = h
   searching refusal.GameOver T same h = h
   searching refusal.PlanFails T same h = h
+  searching refusal.NoSuchPosition T same h = h
   searching (refusal.NoSeat who) T same h = h
   searching (refusal.SeatFault who) T same h = h
 
@@ -70,13 +75,14 @@ module _ (n budget limit : ℕ) (s : SheetState) (S : List Pos) (asks : Asks lim
   solving refusal.BudgetSpent (T, other, h) = searching refusal.BudgetSpent T (one_list s T S other.possible asks.possible) h
   solving refusal.PlanTooLarge (T, other, h) = searching refusal.PlanTooLarge T (one_list s T S other.possible asks.possible) h
   solving refusal.PlanFails (T, other, h) = searching refusal.PlanFails T (one_list s T S other.possible asks.possible) h
+  solving refusal.NoSuchPosition (T, other, h) = searching refusal.NoSuchPosition T (one_list s T S other.possible asks.possible) h
   solving (refusal.NoSeat who) (T, other, h) = searching (refusal.NoSeat who) T (one_list s T S other.possible asks.possible) h
   solving (refusal.SeatFault who) (T, other, h) = searching (refusal.SeatFault who) T (one_list s T S other.possible asks.possible) h
 
--- ---- umpire, check, and believe
+-- ---- umpire, san, unsan, check, and believe
 
-umpiring : (who : Option Side) (s : SessionState) (r : Refusal) → ◌≡◌ {A = Result (List ℕ) Refusal} (Err r) (Ok (told_text s who)) → ⊥
-umpiring who s r e = cc
+answering : (text : List ℕ) (r : Refusal) → ◌≡◌ {A = Result (List ℕ) Refusal} (Err r) (Ok text) → ⊥
+answering text r e = cc
 
 checking : (budget : ℕ) (text : List ℕ) (can : CanBeChecked budget text) (r : Refusal) → Checked budget can.file (Err r) → ⊥
 checking budget text can refusal.BudgetSpent h = let enough = can.enough in omega (arith, h, enough)
@@ -138,18 +144,45 @@ playing account asks entry now start (refusal.SeatFault White) w b h = side_hold
 playing account asks entry now start (refusal.SeatFault Black) w b h = side_holds account entry.black now.black _ _ b h.black
 playing account asks entry now start _ w b h = h
 
+-- ---- lead and next
+
+leading : {X : Type 0} (account : X → Account) (asks number : ℕ) (entry now : Sides X) (s : PlanState) (r : Refusal) → number ≤ length s.list → CanPlay account entry.white now.white →
+    LeadsFrom account asks number entry now s (Err r) → ⊥
+leading account asks number entry now s refusal.NoSuchPosition listed w h = let less = h.0 in omega (arith, less, listed)
+leading account asks number entry now s (refusal.NoSeat who) listed w h = some_seat entry.white.seats w.some h.1
+leading {X = X} account asks number entry now s (refusal.SeatFault who) listed w h =
+    let c = h.2.opponent in
+    let none_out : drop (length entry.white.out) entry.white.out ≡ [] = ap (drop (length entry.white.out)) (sym (append-nil entry.white.out)) ∙ drop_front entry.white.out [] in
+    let since : seats_since entry.white now.white ≡ c.seats.first' ∷ c.seats.behind =
+    ap (λ out. drop (length entry.white.out) out ++ now.white.seats) c.out
+    ∙ ap (λ xs. xs ++ now.white.seats) none_out
+    ∙ c.seats.now_is in
+    let none : NoneFailed (map account (c.seats.first ∷ c.seats.behind)) (map account (c.seats.first' ∷ c.seats.behind)) =
+    subst (λ (xs : List X). NoneFailed (map account (c.seats.first ∷ c.seats.behind)) (map account xs)) since
+    (subst (λ (xs : List X). NoneFailed (map account xs) (map account (seats_since entry.white now.white))) c.seats.then_is w.none_failed) in
+    none.0 c.seats.changes.is_broken.counts.0
+leading account asks number entry now s _ listed w h = h
+
+saying : (h : HeardState) (r : Refusal) → Says h (Err r) → ⊥
+saying h r e = cc
+
 -- ---- any command
 
 -- no refusal has a cause
-refused : {X : Type 0} (account : X → Account) (entry now : Sides X) (c : Command) (text : List ℕ) (r : Refusal) → HasOutcome (Plays account entry now) c text (Err r) → MustAnswer c text →
+refused : {X : Type 0} (account : X → Account) (entry now : Sides X) (c : Command) (text : List ℕ) (r : Refusal) → HasOutcome (LivesBy account entry now) c text (Err r) → MustAnswer c text →
     BenchHolds account c entry now → ⊥
 refused account entry now (Solve n budget limit) text r h can bench =
     solving n budget limit can.sheet can.positions can.asks can.enough can.fits r (subst (λ x. OfText x (Solved n budget limit) (Err r)) can.spelled h)
 refused account entry now (Check budget) text r h can bench = checking budget text can r (subst (λ x. OfText x (Checked budget) (Err r)) can.spelled h)
 refused account entry now (Believe limit) text r h can bench = believing limit can.sheet r (subst (λ x. OfText x (Believed limit) (Err r)) can.spelled h) can.within
-refused account entry now (Umpire who) text r h (s, spelled) bench = umpiring who s r (subst (λ x. OfText x (λ session told. told ≡ Ok (told_text session who)) (Err r)) spelled h)
+refused account entry now (Umpire who) text r h (s, spelled) bench = answering (told_text s who) r (subst (λ x. OfText x (λ session told. told ≡ Ok (told_text session who)) (Err r)) spelled h)
+refused account entry now San text r h (s, spelled) bench = answering (san_of s) r (subst (λ x. OfText x (λ session written. written ≡ Ok (san_of session)) (Err r)) spelled h)
+refused account entry now Unsan text r h (g, spelled) bench = answering (unsan_of g) r (subst (λ x. OfText x (λ game written. written ≡ Ok (unsan_of game)) (Err r)) spelled h)
 refused account entry now (Play asks) text r h (start, spelled) bench =
     playing account asks entry now start r bench.0 bench.1 (subst (λ x. PlaysWhole account asks entry now x (Err r)) spelled h)
+refused account entry now (Lead asks number) text r h (s, spelled, listed) bench =
+    leading account asks number entry now s r listed bench (subst (λ x. LeadsWhole account asks number entry now x (Err r)) spelled h)
+refused account entry now Next text r h (heard, spelled) bench = saying heard r (subst (λ x. OfText x Says (Err r)) spelled h)
 refused account entry now (Make what number) text r h can bench = making what number r h
 refused account entry now (Job number) text r h can bench = summing number can r h
 
@@ -160,8 +193,8 @@ by_input Q false e h = absurd cc
 
 module _ {X : Type 0} (account : X → Account) (entry now : Sides X) (before after : World) (text : List ℕ)
     (no_read_fault : FaultsRose before.input after.input → ⊥) (no_write_fault : FaultsRose before.out after.out → ⊥) where
-  abbrev plays : PlayOutcome
-  plays = Plays account entry now
+  abbrev live : LiveOutcome
+  live = LivesBy account entry now
 
   -- the text that was taken is the one that the input holds, or none where no input is taken
   same_text : (read : List ℕ) (takes : Bool) → MatchBool takes ((before.input.bytes ≡ Some text) × (length text ≤ MOST_INPUT)) (text ≡ []) →
@@ -170,10 +203,10 @@ module _ {X : Type 0} (account : X → Account) (entry now : Sides X) (before af
   same_text read false holds was = was.0 ∙ sym holds
 
   -- what the command comes to, it comes to on that text
-  on_text : (c : Command) (outcome : Result (List ℕ) Refusal) → HoldsText c before.input text → ComesTo plays c before after outcome → HasOutcome plays c text outcome
-  on_text c outcome holds (read, was, made) = subst (λ t. HasOutcome plays c t outcome) (same_text read (takes_input c) holds was) made
+  on_text : (c : Command) (outcome : Result (List ℕ) Refusal) → HoldsText c before.input text → ComesTo live c before after outcome → HasOutcome live c text outcome
+  on_text c outcome holds (read, was, made) = subst (λ t. HasOutcome live c t outcome) (same_text read (takes_input c) holds was) made
 
-  ends_well : (e : Ending) (c : Command) → HoldsText c before.input text → MustAnswer c text → BenchHolds account c entry now → Ends plays e c before after → (status e ≡ 0) ⊎ (status e ≡ 11)
+  ends_well : (e : Ending) (c : Command) → HoldsText c before.input text → MustAnswer c text → BenchHolds account c entry now → Ends live e c before after → (status e ≡ 0) ⊎ (status e ≡ 11)
   ends_well ending.Answered c holds can bench h = inl refl
   ends_well ending.NoMemory c holds can bench h = inr refl
   ends_well ending.TooLong c holds can bench ((takes, (took, consumed, long), kept), out) =
@@ -185,9 +218,9 @@ module _ {X : Type 0} (account : X → Account) (entry now : Sides X) (before af
   ends_well (ending.Refused r) c holds can bench (comes, out) = absurd (refused account entry now c text r (on_text c (Err r) holds comes) can bench)
   ends_well ending.Usage c holds can bench h = absurd h
 
-pub completes : {X : Type 0} (account : X → Account) (entry now : Sides X) (e : Ending) (asked : Option Command) (before after : World) (code : ℕ) → Runs (Plays account entry now) e asked before after → code ≡ status e →
+pub completes : {X : Type 0} (account : X → Account) (entry now : Sides X) (e : Ending) (asked : Option Command) (before after : World) (code : ℕ) → Runs (LivesBy account entry now) e asked before after → code ≡ status e →
     Completes account entry now asked code before after
 completes account entry now e asked before after code runs is c text words holds can no_read no_write bench =
     subst (λ n. (n ≡ 0) ⊎ (n ≡ 11)) (sym is)
     (ends_well account entry now before after text no_read no_write e c holds can bench
-    (subst (λ x. Runs (Plays account entry now) e x before after) words runs))
+    (subst (λ x. Runs (LivesBy account entry now) e x before after) words runs))

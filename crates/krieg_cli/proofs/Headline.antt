@@ -16,7 +16,7 @@ use Rattle.krieg_cli.specs.Input.{WasRead}
 use Rattle.krieg_cli.specs.Refusal.{OfText}
 use Rattle.krieg_cli.specs.Ending.{status}
 use Rattle.krieg_cli.specs.Solve.{Tells, Solved}
-use Rattle.krieg_cli.specs.Outcome.{PlayOutcome}
+use Rattle.krieg_cli.specs.Outcome.{LiveOutcome}
 use Rattle.krieg_cli.specs.Top.{Answers, Ends, Runs, Reports}
 use Rattle.krieg_cli.specs.Headline.{HasSheet, WritesPlan, WritesNone, SolvesSheets}
 use Rattle.krieg_cli.specs.declared.ending.Ending.{Ending}
@@ -49,11 +49,11 @@ of_text n budget limit before after err err' text answer (Ok s) is read written 
 of_text n budget limit before after err err' text answer (Err (fault.At line kind)) is read written quiet e = absurd cc
 of_text n budget limit before after err err' text answer (Err fault.NoMemory) is read written quiet e = absurd e
 
-kept : (plays : PlayOutcome) (n budget limit : ℕ) (before after : World) (err err' : Stream) → Answers plays (Solve n budget limit) before after → err' ≡ err → Keeps n before after err err'
+kept : (plays : LiveOutcome) (n budget limit : ℕ) (before after : World) (err err' : Stream) → Answers plays (Solve n budget limit) before after → err' ≡ err → Keeps n before after err err'
 kept plays n budget limit before after err err' (answer, (text, read, comes), written, no_fault) quiet =
     of_text n budget limit before after err err' text answer (whole sheet_at (lines text)) refl read written quiet comes
 
-pub solves_sheets : (plays : PlayOutcome) (e : Ending) (asked : Option Command) (before after : World) (err err' : Stream) (code : ℕ) → Runs plays e asked before after → Reports e err err' → code ≡ status e →
+pub solves_sheets : (plays : LiveOutcome) (e : Ending) (asked : Option Command) (before after : World) (err err' : Stream) (code : ℕ) → Runs plays e asked before after → Reports e err err' → code ≡ status e →
     SolvesSheets asked code before after err err'
 solves_sheets plays e asked before after err err' code runs reports is n budget limit words zero =
     let done = answered e (sym is ∙ zero) in

@@ -4,6 +4,8 @@ mod Checking
 mod Complete
 mod Headline
 mod Jobs
+mod Leading
+mod LedGames
 mod Pieces
 mod Playing
 mod Ranges
@@ -12,4 +14,5 @@ mod Searching
 mod ToldPlans
 mod WholeGames
 mod WholePlans
+mod WholeRecords
 pub mod Tables

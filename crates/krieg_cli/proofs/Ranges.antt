@@ -8,9 +8,9 @@ use Rattle.krieg_fen.specs.declared.forms.TheConstants.{MOST_LISTED}
 use Rattle.krieg_text.specs.declared.number.NumberFault.{NumberFault}
 use Rattle.krieg_text.proofs.Numbers.{between_spells}
 use Rattle.krieg_args.specs.Command as words
-use Rattle.krieg_args.specs.Command.{◌>>=◌, command_of, command_of_one, solve, make, play, number, moves_of, budget_of, limit_of, made_input, seed_of}
+use Rattle.krieg_args.specs.Command.{◌>>=◌, command_of, command_of_name, command_of_one, solve, make, play, lead, lead_from, number, moves_of, budget_of, limit_of, asks_of, place_of, made_input, seed_of}
 use Rattle.krieg_args.specs.declared.command.Command.{Command}
-use Rattle.krieg_args.specs.declared.command.Command.TheVariants.{Solve, Check, Believe, Umpire, Play, Make, Job}
+use Rattle.krieg_args.specs.declared.command.Command.TheVariants.{Solve, Check, Believe, Umpire, San, Unsan, Play, Lead, Next, Make, Job}
 use Rattle.krieg_args.specs.declared.command.Made.{Made}
 use Rattle.krieg_args.specs.declared.command.TheConstants.{MOST_SEED}
 use Rattle.krieg_cli.specs.Outcome.{IsInRange}
@@ -27,15 +27,25 @@ either : (t : Bool) (x y : Option Command) → Ranged x → Ranged y → Ranged 
 either true x y a b = a
 either false x y a b = b
 
+alone : (c : Command) → IsInRange c → Ranged (Some c)
+alone c i d e = let same : c ≡ d = cc in subst IsInRange same i
+
 mapped : {X : Type 0} (name : X → Command) (o : Option X) → ((x : X) → IsInRange (name x)) → Ranged (option_map name o)
 mapped name None each = none
-mapped name (Some x) each = λ c e. let same : name x ≡ c = cc in subst IsInRange same (each x)
+mapped name (Some x) each = alone (name x) (each x)
 
 at_most : (least most n : ℕ) (word : List ℕ) → most < 2 ^ 64 → number least most word ≡ Some n → n ≤ most
 at_most least most n word small e = go (number_between word least most) refl e
   where
     go : (r : Result ℕ NumberFault) → number_between word least most ≡ r → result_ok r ≡ Some n → n ≤ most
     go (Ok m) is e = let same : m ≡ n = cc in let b = between_spells word least most m small is in omega (arith, b.1, same)
+    go (Err f) is e = absurd cc
+
+at_least : (least most n : ℕ) (word : List ℕ) → most < 2 ^ 64 → number least most word ≡ Some n → least ≤ n
+at_least least most n word small e = go (number_between word least most) refl e
+  where
+    go : (r : Result ℕ NumberFault) → number_between word least most ≡ r → result_ok r ≡ Some n → least ≤ n
+    go (Ok m) is e = let same : m ≡ n = cc in let b = between_spells word least most m small is in omega (arith, b.0, same)
     go (Err f) is e = absurd cc
 
 solving : (moves budget limit : List ℕ) → Ranged (solve moves budget limit)
@@ -67,6 +77,19 @@ of_job word = go (seed_of word) refl
 playing : (asks win wout bin bout : List ℕ) → Ranged (play asks win wout bin bout)
 playing asks win wout bin bout = either _ (option_map Play (words.asks_of asks)) None (mapped Play (words.asks_of asks) (λ n. tt)) none
 
+leading : (asks number tries told : List ℕ) → Ranged (lead asks number tries told)
+leading asks number tries told = either _ (lead_from asks number) None (go (asks_of asks) (place_of number) refl) none
+  where
+    go : (a : Option ℕ) (n : Option ℕ) → place_of number ≡ n → Ranged (a >>= λ a. n >>= λ n. Some (Lead a n))
+    go None n en = none
+    go (Some a) None en = none
+    go (Some a) (Some n) en = λ c e. let same : Lead a n ≡ c = cc in subst IsInRange same (at_least 1 MOST_LISTED n number (omega arith) en)
+
+of_name : (name : List ℕ) → Ranged (command_of_name name)
+of_name name =
+    either (bytes_eq name (codes "san")) _ _ (alone San tt)
+    (either (bytes_eq name (codes "unsan")) _ _ (alone Unsan tt) (either (bytes_eq name (codes "next")) _ _ (alone Next tt) none))
+
 of_one : (name word : List ℕ) → Ranged (command_of_one name word)
 of_one name word =
     either (bytes_eq name (codes "check")) _ _ (mapped Check (budget_of word) (λ n. tt))
@@ -76,10 +99,10 @@ of_one name word =
 
 pub in_range : (ws : List (List ℕ)) (c : Command) → command_of ws ≡ Some c → IsInRange c
 in_range [] = none
-in_range (name ∷ []) = none
+in_range (name ∷ []) = of_name name
 in_range (name ∷ word ∷ []) = of_one name word
 in_range (name ∷ what ∷ seed ∷ []) = either (bytes_eq name (codes "make")) (make what seed) None (making what seed) none
 in_range (name ∷ moves ∷ budget ∷ limit ∷ []) = either (bytes_eq name (codes "solve")) (solve moves budget limit) None (solving moves budget limit) none
-in_range (a ∷ b ∷ c ∷ d ∷ e ∷ []) = none
+in_range (name ∷ asks ∷ number ∷ tries ∷ told ∷ []) = either (bytes_eq name (codes "lead")) (lead asks number tries told) None (leading asks number tries told) none
 in_range (name ∷ asks ∷ win ∷ wout ∷ bin ∷ bout ∷ []) = either (bytes_eq name (codes "play")) (play asks win wout bin bout) None (playing asks win wout bin bout) none
 in_range (a ∷ b ∷ c ∷ d ∷ e ∷ f ∷ g ∷ more) = none

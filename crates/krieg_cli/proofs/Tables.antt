@@ -1,5 +1,5 @@
--- What a run shows, where more is known of what `play` makes of a text.
-use Rattle.std.proofs.Common.{ℕ, List, Option, Some, None, Result, Ok, Err, ap, inl, inr}
+-- What a run shows, where more is known of what seats make of a text.
+use Rattle.std.proofs.Common.{ℕ, List, map, Option, Some, None, Result, Ok, Err, ap, inl, inr}
 use Rattle.krieg_board.specs.Pos.{Pos}
 use Rattle.krieg_text.specs.Lines.{lines}
 use Rattle.krieg_text.specs.Reading.{whole}
@@ -7,38 +7,46 @@ use Rattle.krieg_text.specs.declared.fault.TextFault.{TextFault}
 use Rattle.krieg_text.specs.declared.fault.TextFault.TheVariants as fault
 use Rattle.krieg_session.specs.SessionReading.{start_at}
 use Rattle.krieg_seats.specs.Accounts.{Account}
-use Rattle.krieg_play.specs.Played.{Sides, seen}
+use Rattle.krieg_play.specs.Played.{Sides, seen, seen_team}
 use Rattle.krieg_play.specs.declared.outcome.PlayFault.TheVariants.{Vacant, Seat, NoMemory}
 use Rattle.krieg_play.proofs.Seen.{played_seen, refuses_seen}
 use Rattle.krieg_args.specs.declared.command.Command.{Command}
-use Rattle.krieg_args.specs.declared.command.Command.TheVariants.{Play}
+use Rattle.krieg_args.specs.declared.command.Command.TheVariants.{Play, Lead}
 use Rattle.krieg_cli.specs.World.{Stream, World}
-use Rattle.krieg_cli.specs.Outcome.{PlayOutcome, HasOutcome}
-use Rattle.krieg_cli.specs.Play.{PlaysFrom, PlaysWhole, Plays, HasBegun}
+use Rattle.krieg_cli.specs.Outcome.{LiveOutcome, HasOutcome}
+use Rattle.krieg_planfile.specs.PlanFiles.{PlanState}
+use Rattle.krieg_planfile.specs.PlanReading.{plan_at}
+use Rattle.krieg_robot.specs.declared.led.Led.{Led}
+use Rattle.krieg_robot.specs.declared.led.LeadFault.{LeadFault}
+use Rattle.krieg_robot.specs.declared.led.LeadFault.TheVariants as lead
+use Rattle.krieg_cli.specs.Play.{PlaysFrom, PlaysWhole, HasBegun}
+use Rattle.krieg_cli.specs.Lead.{OpponentChanges, IsLedTo, IsGivenUp, LeadsFrom, LeadsWhole, HasLedText}
+use Rattle.krieg_cli.specs.Live.{LivesBy}
 use Rattle.krieg_cli.specs.Top.{ComesTo, Ends, Runs, LeavesBench, IsRun}
 use Rattle.krieg_cli.specs.declared.refusal.Refusal.{Refusal}
-use Rattle.krieg_cli.specs.declared.refusal.Refusal.TheVariants.{NoSeat, SeatFault}
+use Rattle.krieg_cli.specs.declared.refusal.Refusal.TheVariants.{NoSuchPosition, NoSeat, SeatFault}
 use Rattle.krieg_cli.specs.declared.ending.Ending.{Ending}
 use Rattle.krieg_cli.specs.declared.ending.Ending.TheVariants.{Answered, WriteFault, Refused}
 use Rattle.krieg_cli.specs.declared.ending.Ending.TheVariants as ending
 
-abbrev Follows : PlayOutcome → PlayOutcome → Type 0
-Follows t u = (asks : ℕ) (text : List ℕ) (outcome : Result (List ℕ) Refusal) → t asks text outcome → u asks text outcome
+abbrev Follows : LiveOutcome → LiveOutcome → Type 0
+Follows t u = (c : Command) (text : List ℕ) (outcome : Result (List ℕ) Refusal) → t c text outcome → u c text outcome
 
-outcome_as : (t u : PlayOutcome) → Follows t u → (c : Command) (text : List ℕ) (outcome : Result (List ℕ) Refusal) → HasOutcome t c text outcome → HasOutcome u c text outcome
-outcome_as t u f (Play asks) text outcome h = f asks text outcome h
+outcome_as : (t u : LiveOutcome) → Follows t u → (c : Command) (text : List ℕ) (outcome : Result (List ℕ) Refusal) → HasOutcome t c text outcome → HasOutcome u c text outcome
+outcome_as t u f (Play asks) text outcome h = f (Play asks) text outcome h
+outcome_as t u f (Lead asks number) text outcome h = f (Lead asks number) text outcome h
 outcome_as t u f _ text outcome h = h
 
-comes_as : (t u : PlayOutcome) → Follows t u → (c : Command) (before after : World) (outcome : Result (List ℕ) Refusal) → ComesTo t c before after outcome → ComesTo u c before after outcome
+comes_as : (t u : LiveOutcome) → Follows t u → (c : Command) (before after : World) (outcome : Result (List ℕ) Refusal) → ComesTo t c before after outcome → ComesTo u c before after outcome
 comes_as t u f c before after outcome (text, was, made) = (text, was, outcome_as t u f c text outcome made)
 
-ends_as : (t u : PlayOutcome) → Follows t u → (e : Ending) (c : Command) (before after : World) → Ends t e c before after → Ends u e c before after
+ends_as : (t u : LiveOutcome) → Follows t u → (e : Ending) (c : Command) (before after : World) → Ends t e c before after → Ends u e c before after
 ends_as t u f Answered c before after (answer, comes, written, kept) = (answer, comes_as t u f c before after (Ok answer) comes, written, kept)
 ends_as t u f WriteFault c before after (answer, comes, front, rose) = (answer, comes_as t u f c before after (Ok answer) comes, front, rose)
 ends_as t u f (Refused refusal) c before after (comes, out) = (comes_as t u f c before after (Err refusal) comes, out)
 ends_as t u f _ c before after h = h
 
-runs_as : (t u : PlayOutcome) → Follows t u → (e : Ending) (asked : Option Command) (before after : World) → Runs t e asked before after → Runs u e asked before after
+runs_as : (t u : LiveOutcome) → Follows t u → (e : Ending) (asked : Option Command) (before after : World) → Runs t e asked before after → Runs u e asked before after
 runs_as t u f e None before after h = h
 runs_as t u f e (Some c) before after h = ends_as t u f e c before after h
 
@@ -65,18 +73,66 @@ whole_seen account asks before after (Ok start) outcome h = from_seen account as
 whole_seen account asks before after (Err (fault.At line kind)) outcome h = (h.0, ap (seen account) h.1)
 whole_seen account asks before after (Err fault.NoMemory) outcome h = h
 
-plays_seen : {X : Type 0} (account : X → Account) (before after : Sides X) → Follows (Plays account before after) (Plays itself (seen account before) (seen account after))
-plays_seen account before after asks text outcome h = whole_seen account asks before after (whole start_at (lines text)) outcome h
+-- ---- a game that was led
+
+abbrev opponent_seen : {X : Type 0} (account : X → Account) (R : Account → Account → Type 0) (before after : Sides X) → OpponentChanges account R before after → OpponentChanges itself R (seen account before) (seen account after)
+opponent_seen account R before after c = record {
+  seats = record {
+    first = account c.seats.first;
+    first' = account c.seats.first';
+    behind = map account c.seats.behind;
+    then_is = ap (map account) c.seats.then_is;
+    now_is = ap (map account) c.seats.now_is;
+    changes = c.seats.changes;
+  };
+  out = ap (map account) c.out;
+  black = ap (seen_team account) c.black;
+}
+
+abbrev led_seen : {X : Type 0} (account : X → Account) (asks number : ℕ) (before after : Sides X) (s : PlanState) (led : Led) → IsLedTo account asks number before after s led → IsLedTo itself asks number (seen account before) (seen account after) s led
+led_seen account asks number before after s led h = record { file = h.file; file_is = h.file_is; opponent = opponent_seen account _ before after h.opponent; won = h.won }
+
+given_up_seen : {X : Type 0} (account : X → Account) (asks number : ℕ) (before after : Sides X) (s : PlanState) (f : LeadFault) → IsGivenUp account asks number before after s f → IsGivenUp itself asks number (seen account before) (seen account after) s f
+given_up_seen account asks number before after s f h = record { file = h.file; file_is = h.file_is; opponent = opponent_seen account _ before after h.opponent }
+
+leads_seen : {X : Type 0} (account : X → Account) (asks number : ℕ) (before after : Sides X) (s : PlanState) (outcome : Result (List ℕ) Refusal) →
+    LeadsFrom account asks number before after s outcome → LeadsFrom itself asks number (seen account before) (seen account after) s outcome
+leads_seen account asks number before after s (Ok answer) h = record {
+  led = h.led;
+  is_led = led_seen account asks number before after s h.led h.is_led;
+  is_session = h.is_session;
+}
+leads_seen account asks number before after s (Err NoSuchPosition) h = (h.0, ap (seen account) h.1)
+leads_seen account asks number before after s (Err (NoSeat who)) h = (h.0, ap (map account) h.1, h.2, ap (seen account) h.3)
+leads_seen account asks number before after s (Err (SeatFault who)) h = (h.0, h.1, given_up_seen account asks number before after s lead.Seat h.2)
+leads_seen account asks number before after s (Err _) h = h
+
+whole_led_seen : {X : Type 0} (account : X → Account) (asks number : ℕ) (before after : Sides X) (r : Result PlanState TextFault) (outcome : Result (List ℕ) Refusal) →
+    LeadsWhole account asks number before after r outcome → LeadsWhole itself asks number (seen account before) (seen account after) r outcome
+whole_led_seen account asks number before after (Ok s) outcome h = leads_seen account asks number before after s outcome h
+whole_led_seen account asks number before after (Err (fault.At line kind)) outcome h = (h.0, ap (seen account) h.1)
+whole_led_seen account asks number before after (Err fault.NoMemory) outcome h = h
+
+lives_seen : {X : Type 0} (account : X → Account) (before after : Sides X) → Follows (LivesBy account before after) (LivesBy itself (seen account before) (seen account after))
+lives_seen account before after (Play asks) text outcome h = whole_seen account asks before after (whole start_at (lines text)) outcome h
+lives_seen account before after (Lead asks number) text outcome h = whole_led_seen account asks number before after (whole plan_at (lines text)) outcome h
+lives_seen account before after _ text outcome h = h
 
 -- the same of a whole run, with what becomes of the bench
 begun_seen : {X : Type 0} (account : X → Account) (asks : ℕ) (entry now : Sides X) (text : List ℕ) → HasBegun account asks entry now text → HasBegun itself asks (seen account entry) (seen account now) text
 begun_seen account asks entry now text (start, is, inl broken) = (start, is, inl (refuses_seen account start asks entry now NoMemory broken))
 begun_seen account asks entry now text (start, is, inr (game, stop, played)) = (start, is, inr (game, stop, played_seen account start asks entry now game stop played))
 
+has_led_seen : {X : Type 0} (account : X → Account) (asks number : ℕ) (entry now : Sides X) (text : List ℕ) → HasLedText account asks number entry now text → HasLedText itself asks number (seen account entry) (seen account now) text
+has_led_seen account asks number entry now text (s, is, inl up) = (s, is, inl (given_up_seen account asks number entry now s lead.NoMemory up))
+has_led_seen account asks number entry now text (s, is, inr (led, h)) = (s, is, inr (led, led_seen account asks number entry now s led h))
+
 bench_seen : {X : Type 0} (account : X → Account) (asked : Option Command) (e : Ending) (input input' : Stream) (entry now : Sides X) →
     LeavesBench account asked e input input' entry now → LeavesBench itself asked e input input' (seen account entry) (seen account now)
 bench_seen account (Some (Play asks)) ending.NoMemory input input' entry now (inl same) = inl (ap (seen account) same)
 bench_seen account (Some (Play asks)) ending.NoMemory input input' entry now (inr (text, was, begun)) = inr (text, was, begun_seen account asks entry now text begun)
+bench_seen account (Some (Lead asks number)) ending.NoMemory input input' entry now (inl same) = inl (ap (seen account) same)
+bench_seen account (Some (Lead asks number)) ending.NoMemory input input' entry now (inr (text, was, led)) = inr (text, was, has_led_seen account asks number entry now text led)
 bench_seen account _ _ input input' entry now h = λ none. ap (seen account) (h none)
 
 pub run_seen : {X : Type 0} {account : X → Account} {entry now : Sides X} {asked : Option Command} {code : ℕ} {before after : World} {err err' : Stream} →
@@ -84,7 +140,7 @@ pub run_seen : {X : Type 0} {account : X → Account} {entry now : Sides X} {ask
 run_seen {account = account} {entry = entry} {now = now} {asked = asked} {before = before} {after = after} run = record {
   ending = run.ending;
   status_is = run.status_is;
-  runs = runs_as (Plays account entry now) (Plays itself (seen account entry) (seen account now)) (plays_seen account entry now) run.ending asked before after run.runs;
+  runs = runs_as (LivesBy account entry now) (LivesBy itself (seen account entry) (seen account now)) (lives_seen account entry now) run.ending asked before after run.runs;
   reports = run.reports;
   bench = bench_seen account asked run.ending before.input after.input entry now run.bench;
 }

@@ -31,7 +31,7 @@ use Rattle.krieg_cli.specs.Refusal.{text_status, refusal_status, OfText}
 use Rattle.krieg_cli.specs.Ending.{status}
 use Rattle.krieg_cli.specs.Believe.{Believed}
 use Rattle.krieg_cli.specs.Umpire.{told_text}
-use Rattle.krieg_cli.specs.Outcome.{PlayOutcome}
+use Rattle.krieg_cli.specs.Outcome.{LiveOutcome}
 use Rattle.krieg_cli.specs.Top.{ComesTo, Answers, Ends, Runs}
 use Rattle.krieg_cli.specs.WholeGames.{heard_sheet, standing, stripped, IsUmpired, IsHeard, TellsGame, EndsOnHeard, UmpiresGames, BelievesGames}
 use Rattle.krieg_cli.specs.declared.refusal.Refusal.{Refusal}
@@ -80,12 +80,12 @@ session_of given text who (Ok s) is e = (s, record { spelled = is; told = same_a
 session_of given text who (Err (fault.At line kind)) is e = absurd cc
 session_of given text who (Err fault.NoMemory) is e = absurd e
 
-told_game : (plays : PlayOutcome) (who : Side) (before after : World) → Answers plays (Umpire (Some who)) before after → TellsGame who before after
+told_game : (plays : LiveOutcome) (who : Side) (before after : World) → Answers plays (Umpire (Some who)) before after → TellsGame who before after
 told_game plays who before after (text, (given, read, comes), written, kept) =
     let (s, u) = session_of given text who (whole session_at (lines given)) refl comes in
     record { given = given; session = s; text = text; was_read = read; umpired = u; heard = heard given s who text u; same = u.told ∙ same s who; written = written }
 
-pub umpires_games : (plays : PlayOutcome) (e : Ending) (asked : Option Command) (before after : World) (code : ℕ) → Runs plays e asked before after → code ≡ status e → UmpiresGames asked code before after
+pub umpires_games : (plays : LiveOutcome) (e : Ending) (asked : Option Command) (before after : World) (code : ℕ) → Runs plays e asked before after → code ≡ status e → UmpiresGames asked code before after
 umpires_games plays e asked before after code runs is who words zero =
     told_game plays who before after
     (subst (λ x. Ends plays x (Umpire (Some who)) before after) (answered e (sym is ∙ zero)) (subst (λ x. Runs plays e x before after) words runs))
@@ -104,7 +104,7 @@ given_le old new text given holds took = within new (subst (λ b. Consumes b new
     within (Some rest) h = omega (arith, ap (λ (t : List ℕ). length t) h, length-append given rest)
 
 -- what `believe` comes to on that text
-believed : (plays : PlayOutcome) (limit : ℕ) (given : List ℕ) (s : SessionState) (who : Side) (text : List ℕ) (before after : World) (outcome : Result (List ℕ) Refusal) →
+believed : (plays : LiveOutcome) (limit : ℕ) (given : List ℕ) (s : SessionState) (who : Side) (text : List ℕ) (before after : World) (outcome : Result (List ℕ) Refusal) →
     IsUmpired given s who text → before.input.bytes ≡ Some text → ComesTo plays (Believe limit) before after outcome → Believed limit (heard_sheet s who) outcome
 believed plays limit given s who text before after outcome u holds (read, was, made) =
     subst (λ r. OfText r (Believed limit) outcome)
@@ -116,7 +116,7 @@ refused_on_heard : (r : Refusal) (limit : ℕ) (s : SessionState) (who : Side) (
 refused_on_heard (TooMany line) limit s who text before after h = excess_not_within (heard_sheet s who) limit line h
 refused_on_heard _ limit s who text before after h = h
 
-ends_on_heard : (plays : PlayOutcome) (e : Ending) (limit : ℕ) (given : List ℕ) (s : SessionState) (who : Side) (text : List ℕ) (before after : World) →
+ends_on_heard : (plays : LiveOutcome) (e : Ending) (limit : ℕ) (given : List ℕ) (s : SessionState) (who : Side) (text : List ℕ) (before after : World) →
     IsUmpired given s who text → before.input.bytes ≡ Some text → Ends plays e (Believe limit) before after → EndsOnHeard e limit s who text before after
 ends_on_heard plays ending.Answered limit given s who text before after u holds (answer, comes, written, kept) =
     let (list, possible, within, is) = believed plays limit given s who text before after (Ok answer) u holds comes in
@@ -135,6 +135,6 @@ ends_on_heard plays (ending.Refused r) limit given s who text before after u hol
     refused_on_heard r limit s who text before after (believed plays limit given s who text before after (Err r) u holds e.0)
 ends_on_heard plays _ limit given s who text before after u holds e = e
 
-pub believes_games : (plays : PlayOutcome) (e : Ending) (asked : Option Command) (before after : World) (code : ℕ) → Runs plays e asked before after → code ≡ status e → BelievesGames asked code before after
+pub believes_games : (plays : LiveOutcome) (e : Ending) (asked : Option Command) (before after : World) (code : ℕ) → Runs plays e asked before after → code ≡ status e → BelievesGames asked code before after
 believes_games plays e asked before after code runs ended =
     (e, ended, λ limit given s who text is u holds. ends_on_heard plays e limit given s who text before after u holds (subst (λ x. Runs plays e x before after) is runs))

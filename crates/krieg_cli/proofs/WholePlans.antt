@@ -12,7 +12,7 @@ use Rattle.krieg_cli.specs.World.{World}
 use Rattle.krieg_cli.specs.Refusal.{OfText}
 use Rattle.krieg_cli.specs.Ending.{status}
 use Rattle.krieg_cli.specs.Check.{worst_text, Checked}
-use Rattle.krieg_cli.specs.Outcome.{PlayOutcome}
+use Rattle.krieg_cli.specs.Outcome.{LiveOutcome}
 use Rattle.krieg_cli.specs.Top.{ComesTo, Ends, Runs}
 use Rattle.krieg_cli.specs.WholePlans.{IsSolution, EndsOnSolution, ChecksSolutions}
 use Rattle.krieg_cli.specs.declared.refusal.Refusal.{Refusal}
@@ -22,7 +22,7 @@ use Rattle.krieg_cli.specs.declared.ending.Ending.TheVariants as ending
 use Rattle.krieg_cli.proofs.WholeGames.{text_read, given_le}
 
 -- what `check` comes to on that text
-checked : (plays : PlayOutcome) (budget : ℕ) (f : PlanState) (text : List ℕ) (before after : World) (outcome : Result (List ℕ) Refusal) → IsSolution f text → before.input.bytes ≡ Some text →
+checked : (plays : LiveOutcome) (budget : ℕ) (f : PlanState) (text : List ℕ) (before after : World) (outcome : Result (List ℕ) Refusal) → IsSolution f text → before.input.bytes ≡ Some text →
     ComesTo plays (Check budget) before after outcome → Checked budget f outcome
 checked plays budget f text before after outcome solution holds (read, was, made) =
     subst (λ r. OfText r (Checked budget) outcome) (ap (λ t. whole plan_at (lines t)) (text_read before.input after.input text read holds was) ∙ solution.read) made
@@ -39,7 +39,7 @@ refused BudgetSpent budget f text before after solution h = h
 refused PlanFails budget f text before after solution h = both_ways _ h.1 solution.mates
 refused _ budget f text before after solution h = h
 
-ends_on_solution : (plays : PlayOutcome) (e : Ending) (budget : ℕ) (f : PlanState) (text : List ℕ) (before after : World) → IsSolution f text → before.input.bytes ≡ Some text →
+ends_on_solution : (plays : LiveOutcome) (e : Ending) (budget : ℕ) (f : PlanState) (text : List ℕ) (before after : World) → IsSolution f text → before.input.bytes ≡ Some text →
     Ends plays e (Check budget) before after → EndsOnSolution e budget f text before after
 ends_on_solution plays ending.Answered budget f text before after solution holds (answer, comes, written, kept) =
     subst (Appends before.out.bytes after.out.bytes) (same_worst f budget text answer solution (checked plays budget f text before after (Ok answer) solution holds comes)) written
@@ -52,6 +52,6 @@ ends_on_solution plays (ending.Refused r) budget f text before after solution ho
     refused r budget f text before after solution (checked plays budget f text before after (Err r) solution holds e.0)
 ends_on_solution plays _ budget f text before after solution holds e = e
 
-pub checks_solutions : (plays : PlayOutcome) (e : Ending) (asked : Option Command) (before after : World) (code : ℕ) → Runs plays e asked before after → code ≡ status e → ChecksSolutions asked code before after
+pub checks_solutions : (plays : LiveOutcome) (e : Ending) (asked : Option Command) (before after : World) (code : ℕ) → Runs plays e asked before after → code ≡ status e → ChecksSolutions asked code before after
 checks_solutions plays e asked before after code runs ended =
     (e, ended, λ budget f text is solution holds. ends_on_solution plays e budget f text before after solution holds (subst (λ x. Runs plays e x before after) is runs))

@@ -14,14 +14,17 @@ use Rattle.krieg_belief.specs.Possible.{IsPossible}
 use Rattle.krieg_belief.specs.Limits.{AllWithin}
 use Rattle.krieg_session.specs.Sessions.{SessionState}
 use Rattle.krieg_session.specs.SessionReading.{session_at, start_at}
+use Rattle.krieg_record.specs.Records.{RecordState}
+use Rattle.krieg_record.specs.RecordReading.{record_at}
 use Rattle.krieg_planfile.specs.PlanFiles.{PlanState}
 use Rattle.krieg_planfile.specs.PlanReading.{plan_at}
+use Rattle.krieg_planfile.specs.HeardReading.{HeardState, heard_plan}
 use Rattle.krieg_seats.specs.Accounts.{Account}
 use Rattle.krieg_play.specs.Teams.{Team}
 use Rattle.krieg_play.specs.Played.{Sides}
 use Rattle.krieg_args.specs.Command.{takes_input}
 use Rattle.krieg_args.specs.declared.command.Command.{Command}
-use Rattle.krieg_args.specs.declared.command.Command.TheVariants.{Solve, Check, Believe, Umpire, Play, Make, Job}
+use Rattle.krieg_args.specs.declared.command.Command.TheVariants.{Solve, Check, Believe, Umpire, San, Unsan, Play, Lead, Next, Make, Job}
 use Rattle.krieg_cli.specs.World.{Stream, World, FaultsRose}
 use Rattle.krieg_cli.specs.Solve.{mates_all, fresh_units, IsBestFile, IsTooLarge, Asks}
 use Rattle.krieg_cli.specs.Check.{check_cost}
@@ -71,7 +74,11 @@ MustAnswer (Solve n budget limit) text = CanBeSolved n budget limit text
 MustAnswer (Check budget) text = CanBeChecked budget text
 MustAnswer (Believe limit) text = CanBeBelieved limit text
 MustAnswer (Umpire who) text = (s : SessionState) × (whole session_at (lines text) ≡ Ok s)
+MustAnswer San text = (s : SessionState) × (whole session_at (lines text) ≡ Ok s)
+MustAnswer Unsan text = (r : RecordState) × (whole record_at (lines text) ≡ Ok r)
 MustAnswer (Play asks) text = (start : Pos) × (whole start_at (lines text) ≡ Ok start)
+MustAnswer (Lead asks number) text = (s : PlanState) × (whole plan_at (lines text) ≡ Ok s) × (number ≤ length s.list)
+MustAnswer Next text = (h : HeardState) × (heard_plan (lines text) ≡ Ok h)
 MustAnswer (Make what number) text = Unit {0}
 MustAnswer (Job number) text = CanBeSummed number
 
@@ -94,6 +101,7 @@ pub record CanPlay {X : Type 0} (account : X → Account) (entry now : Team X) :
 -- what is asked of the bench
 abbrev pub BenchHolds : {X : Type 0} → (X → Account) → Command → Sides X → Sides X → Type 0
 BenchHolds account (Play asks) entry now = CanPlay account entry.white now.white × CanPlay account entry.black now.black
+BenchHolds account (Lead asks number) entry now = CanPlay account entry.white now.white
 BenchHolds account _ entry now = Unit {0}
 
 -- ---- the run

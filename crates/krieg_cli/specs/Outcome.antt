@@ -2,35 +2,43 @@
 use Rattle.std.specs.Prelude.{ℕ, ◌≤◌, List, Result}
 use Rattle.krieg_fen.specs.declared.forms.TheConstants.{MOST_LISTED}
 use Rattle.krieg_args.specs.declared.command.Command.{Command}
-use Rattle.krieg_args.specs.declared.command.Command.TheVariants.{Solve, Check, Believe, Umpire, Play, Make, Job}
+use Rattle.krieg_args.specs.declared.command.Command.TheVariants.{Solve, Check, Believe, Umpire, San, Unsan, Play, Lead, Next, Make, Job}
 use Rattle.krieg_args.specs.declared.command.TheConstants.{MOST_SEED}
 use Rattle.krieg_cli.specs.Solve.{Solves}
 use Rattle.krieg_cli.specs.Check.{Checks}
 use Rattle.krieg_cli.specs.Believe.{Believes}
 use Rattle.krieg_cli.specs.Umpire.{Umpires}
+use Rattle.krieg_cli.specs.Next.{SaysNext}
+use Rattle.krieg_cli.specs.San.{WritesRecord}
+use Rattle.krieg_cli.specs.Unsan.{WritesSession}
 use Rattle.krieg_cli.specs.Make.{Makes}
 use Rattle.krieg_cli.specs.Job.{Summarizes}
 use Rattle.krieg_cli.specs.declared.refusal.Refusal.{Refusal}
 use Rattle.krieg_board.specs.declared.limits.TheConstants.{MOST_MOVES}
 
--- what `play` makes of a text with so many asks, at the bench that it has
-abbrev pub PlayOutcome : Type 1
-PlayOutcome = ℕ → List ℕ → Result (List ℕ) Refusal → Type 0
+-- what a command that calls seats makes of a text, at the bench that it has
+abbrev pub LiveOutcome : Type 1
+LiveOutcome = Command → List ℕ → Result (List ℕ) Refusal → Type 0
 
--- The numbers of a search are within the most own moves and the most positions that may be asked for, and that of a made input is
--- within the greatest.
+-- The numbers of a search are within the most own moves and the most positions that may be asked for, listed positions are numbered from
+-- 1, and the number of a made input is within the greatest.
 abbrev pub IsInRange : Command → Type 0
 IsInRange (Solve moves budget limit) = (moves ≤ MOST_MOVES) × (limit ≤ MOST_LISTED)
+IsInRange (Lead asks number) = 1 ≤ number
 IsInRange (Make what number) = number ≤ MOST_SEED
 IsInRange (Job number) = number ≤ MOST_SEED
 IsInRange _ = Unit {0}
 
 -- what a command makes of the text that it takes
-abbrev pub HasOutcome : PlayOutcome → Command → List ℕ → Result (List ℕ) Refusal → Type 0
-HasOutcome plays (Solve moves budget limit) text outcome = Solves moves budget limit text outcome
-HasOutcome plays (Check budget) text outcome = Checks budget text outcome
-HasOutcome plays (Believe limit) text outcome = Believes limit text outcome
-HasOutcome plays (Umpire who) text outcome = Umpires who text outcome
-HasOutcome plays (Play asks) text outcome = plays asks text outcome
-HasOutcome plays (Make what number) text outcome = Makes what number outcome
-HasOutcome plays (Job number) text outcome = Summarizes number outcome
+abbrev pub HasOutcome : LiveOutcome → Command → List ℕ → Result (List ℕ) Refusal → Type 0
+HasOutcome live (Solve moves budget limit) text outcome = Solves moves budget limit text outcome
+HasOutcome live (Check budget) text outcome = Checks budget text outcome
+HasOutcome live (Believe limit) text outcome = Believes limit text outcome
+HasOutcome live (Umpire who) text outcome = Umpires who text outcome
+HasOutcome live San text outcome = WritesRecord text outcome
+HasOutcome live Unsan text outcome = WritesSession text outcome
+HasOutcome live (Play asks) text outcome = live (Play asks) text outcome
+HasOutcome live (Lead asks number) text outcome = live (Lead asks number) text outcome
+HasOutcome live Next text outcome = SaysNext text outcome
+HasOutcome live (Make what number) text outcome = Makes what number outcome
+HasOutcome live (Job number) text outcome = Summarizes number outcome

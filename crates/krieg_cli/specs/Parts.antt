@@ -13,8 +13,13 @@ use Rattle.krieg_search.specs.declared.stop.Stop2.TheVariants as search
 use Rattle.krieg_seats.specs.Accounts.{Account}
 use Rattle.krieg_play.specs.Played.{Sides}
 use Rattle.krieg_args.specs.declared.command.Command.{Command}
-use Rattle.krieg_args.specs.declared.command.Command.TheVariants.{Play}
-use Rattle.krieg_cli.specs.Play.{HasBegun, calls_seats}
+use Rattle.krieg_args.specs.declared.command.Command.TheVariants.{Play, Lead}
+use Rattle.krieg_cli.specs.Play.{HasBegun}
+use Rattle.krieg_cli.specs.Lead.{HasLedText}
+use Rattle.krieg_cli.specs.Live.{calls_seats}
+use Rattle.krieg_board.specs.declared.men.Side.{Side}
+use Rattle.krieg_robot.specs.declared.led.LeadFault.{LeadFault}
+use Rattle.krieg_robot.specs.declared.led.LeadFault.TheVariants as led
 use Rattle.krieg_cli.specs.declared.refusal.Refusal.{Refusal}
 use Rattle.krieg_play.specs.declared.outcome.PlayFault.{PlayFault}
 use Rattle.krieg_play.specs.declared.outcome.PlayFault.TheVariants as played
@@ -55,6 +60,11 @@ of_play (played.Vacant who) = Refused (NoSeat who)
 of_play (played.Seat who) = Refused (SeatFault who)
 of_play played.NoMemory = NoMemory
 
+-- a game that a plan led and that was given up, against the player of that side
+abbrev pub of_lead : Side → LeadFault → Ending
+of_lead who led.Seat = Refused (SeatFault who)
+of_lead who led.NoMemory = NoMemory
+
 abbrev pub ending_of : {X : Type 0} → Result X Ending → Ending
 ending_of (Ok x) = Answered
 ending_of (Err ending) = ending
@@ -69,4 +79,5 @@ Decides view (Err _) Outcome = ⊥
 -- what becomes of the bench where a command made this of its text
 abbrev pub LeavesSeats : {X : Type 0} → (X → Account) → Command → Ending → List ℕ → Sides X → Sides X → Type 0
 LeavesSeats account (Play asks) NoMemory text entry now = (now ≡ entry) ⊎ HasBegun account asks entry now text
+LeavesSeats account (Lead asks number) NoMemory text entry now = (now ≡ entry) ⊎ HasLedText account asks number entry now text
 LeavesSeats account c ending text entry now = calls_seats ending (Some c) ≡ false → now ≡ entry

@@ -1,5 +1,5 @@
 -- What `play` answers to a start, and what becomes of the bench: the session of the game that its seats play.
-use Rattle.std.specs.Prelude.{◌≡◌, ◌⊎◌, ℕ, Bool, true, false, List, Option, Some, Result, Ok, Err}
+use Rattle.std.specs.Prelude.{◌≡◌, ◌⊎◌, ℕ, List, Result, Ok, Err}
 use Rattle.krieg_board.specs.Pos.{Pos}
 use Rattle.krieg_text.specs.Lines.{lines}
 use Rattle.krieg_text.specs.Reading.{whole}
@@ -8,31 +8,22 @@ use Rattle.krieg_text.specs.declared.fault.TextFault.TheVariants as fault
 use Rattle.krieg_words.specs.declared.dialects.Dialect.TheVariants.{Wild16}
 use Rattle.krieg_referee.specs.Games.{GameState}
 use Rattle.krieg_referee.specs.declared.verdict.Stop.{Stop}
-use Rattle.krieg_session.specs.Sessions.{SessionState}
 use Rattle.krieg_session.specs.SessionReading.{start_at}
 use Rattle.krieg_session.specs.SessionText.{session_text}
 use Rattle.krieg_seats.specs.Accounts.{Account}
-use Rattle.krieg_play.specs.Games.{events_of}
 use Rattle.krieg_play.specs.Played.{Sides, IsPlayed, IsBroken, Refuses}
 use Rattle.krieg_play.specs.declared.outcome.PlayFault.TheVariants.{Vacant, Seat}
 use Rattle.krieg_play.specs.declared.outcome.PlayFault.TheVariants as played
-use Rattle.krieg_args.specs.declared.command.Command.{Command}
-use Rattle.krieg_args.specs.declared.command.Command.TheVariants.{Play}
+use Rattle.krieg_cli.specs.Recorded.{session_of}
 use Rattle.krieg_cli.specs.declared.refusal.Refusal.{Refusal}
 use Rattle.krieg_cli.specs.declared.refusal.Refusal.TheVariants.{BadText, NoSeat, SeatFault}
-use Rattle.krieg_cli.specs.declared.ending.Ending.{Ending}
-use Rattle.krieg_cli.specs.declared.ending.Ending.TheVariants.{Answered, WriteFault, NoMemory, Refused}
-
--- the session of a game that was played until it stopped
-abbrev pub session_of : Pos → GameState → Stop → SessionState
-session_of start game stop = record { dialect = Wild16; start = start; events = events_of game.log; stop = Some stop }
 
 -- the seats played a game from this start, and the answer is its session
 pub record Records {X : Type 0} (account : X → Account) (asks : ℕ) (before after : Sides X) (start : Pos) (answer : List ℕ) : Type 0 where
   pub game : GameState
   pub stop : Stop
   pub is_played : IsPlayed account start asks before after game stop
-  pub is_session : answer ≡ session_text (session_of start game stop)
+  pub is_session : answer ≡ session_text (session_of Wild16 start game stop)
 
 -- what comes of a start: the session, or that a side has no seat, or that the last seat of a side failed
 abbrev pub PlaysFrom : {X : Type 0} → (X → Account) → ℕ → Sides X → Sides X → Pos → Result (List ℕ) Refusal → Type 0
@@ -56,11 +47,3 @@ abbrev pub HasBegun : {X : Type 0} → (X → Account) → ℕ → Sides X → S
 HasBegun account asks before after text =
     (start : Pos) × (whole start_at (lines text) ≡ Ok start)
     × (IsBroken account start asks before after played.NoMemory ⊎ ((game : GameState) × (stop : Stop) × IsPlayed account start asks before after game stop))
-
--- whether seats may have been called in a run that ends so: `play` calls them once it has its start and both sides have a seat
-abbrev pub calls_seats : Ending → Option Command → Bool
-calls_seats Answered (Some (Play asks)) = true
-calls_seats WriteFault (Some (Play asks)) = true
-calls_seats (Refused (SeatFault who)) (Some (Play asks)) = true
-calls_seats NoMemory (Some (Play asks)) = true
-calls_seats _ _ = false

@@ -3,7 +3,12 @@
 pub(crate) mod believe;
 pub(crate) mod check;
 pub(crate) mod job;
+pub(crate) mod lead;
 pub(crate) mod make;
+pub(crate) mod next;
 pub(crate) mod play;
+pub(crate) mod recorded;
+pub(crate) mod san;
 pub(crate) mod solve;
 pub(crate) mod umpire;
+pub(crate) mod unsan;

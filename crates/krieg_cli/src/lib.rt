@@ -1,14 +1,14 @@
 //! The whole program as one call over streams: `run`.
 //!
-//! The commands are `umpire` on any session, `believe` and `solve` on any sheet, `check` on any plan file, `play` from
+//! The commands are `umpire` and `san` on any session, `unsan` on any record, `believe` and `solve` on any sheet, `check` on any plan file, `play` from
 //! any position, and `make` and `job` on no input. The definitions of `specs/` say what is seen of a run before it and
 //! after it (`World`), what comes of its input (`Input`), how it ends (`Ending`, `Refusal`), what each command makes of its
-//! input (`Solve`, `Check`, `Believe`, `Umpire`, `Play`, `Make`, `Job` with `Tally`, and `Outcome` for all), and by what causes a run
+//! input (`Solve`, `Check`, `Believe`, `Umpire`, `San`, `Unsan`, `Play`, `Make`, `Job` with `Tally`, and `Outcome` for all), and by what causes a run
 //! ends so (`Top`).
 //!
 //! `Headline` is the promise of `solve` on one page. `WholePlans` says that `check` finds what `solve` states, and
-//! `WholeGames` that `believe` lists where a game stands, given what `umpire` writes of it. `Complete` says when there must
-//! be an answer.
+//! `WholeGames` that `believe` lists where a game stands, given what `umpire` writes of it, and `WholeRecords` what comes back
+//! of a session by `san` and `unsan`. `Complete` says when there must be an answer.
 //!
 //! `commands` has a file for each command, and `outcome` chooses among them.
 //!
@@ -36,7 +36,7 @@ mod report;
 mod top;
 
 pub use input::MOST_INPUT;
-pub use krieg_args::{SeatFiles, seat_files};
+pub use krieg_args::{SeatFiles, lead_files, seat_files};
 pub use krieg_play::PlayFault;
 pub(crate) use krieg_play::{Turn, fault_of, relieved_turn};
 pub use live::{Bench, Played, play};

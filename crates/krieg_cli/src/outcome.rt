@@ -1,9 +1,9 @@
 ghost use Rattle.krieg_cli.specs.Seated.{bench_sides};
 ghost use Rattle.krieg_cli.specs.Parts.{Decides, LeavesSeats, ending_of};
-ghost use Rattle.krieg_cli.specs.Play.{Plays};
+ghost use Rattle.krieg_cli.specs.Live.{LivesBy};
 ghost use Rattle.krieg_cli.specs.Outcome as spec;
 
-use crate::commands::{believe, check, job, make, play, solve, umpire};
+use crate::commands::{believe, check, job, lead, make, next, play, san, solve, umpire, unsan};
 use crate::ending::Ending;
 use crate::live::Bench;
 use krieg_args::Command;
@@ -18,9 +18,9 @@ pub(crate) fn outcome(
     bench: &mut Bench,
 ) -> Result<Vec<u8>, Ending>
     requires { spec.IsInRange command.now }
-    ensures outcome { let plays = Plays (λ b. account b)
+    ensures outcome { let live = LivesBy (λ b. account b)
         (bench_sides bench.old) (bench_sides bench.new) in
-        Decides (λ answer. answer.items) result (spec.HasOutcome plays command.now text.items) }
+        Decides (λ answer. answer.items) result (spec.HasOutcome live command.now text.items) }
     ensures bench { LeavesSeats (λ b. account b) command.now (ending_of result) text.items
         (bench_sides bench.old) (bench_sides bench.new) }
 {
@@ -33,7 +33,11 @@ pub(crate) fn outcome(
         Command::Check { budget } => check::answer(alloc, *budget, text),
         Command::Believe { limit } => believe::answer(alloc, *limit, text),
         Command::Umpire { who } => umpire::answer(alloc, *who, text),
+        Command::San => san::answer(alloc, text),
+        Command::Unsan => unsan::answer(alloc, text),
         Command::Play { asks } => play::answer(alloc, *asks, text, bench),
+        Command::Lead { asks, number } => lead::answer(alloc, *asks, *number, text, bench),
+        Command::Next => next::answer(alloc, text),
         Command::Make { what, number } => make::answer(alloc, *what, *number),
         Command::Job { number } => job::answer(alloc, *number),
     }

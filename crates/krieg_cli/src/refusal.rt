@@ -21,6 +21,8 @@ pub(crate) enum Refusal {
     PlanFails,
     /// The best plan has more nodes than a plan file may have.
     PlanTooLarge,
+    /// The plan file lists fewer positions than the number that was asked for.
+    NoSuchPosition,
     /// No seat plays for the side.
     NoSeat(Side),
     /// The last seat of the side failed.
@@ -83,6 +85,7 @@ impl Refusal {
             Refusal::PlanFails => 13,
             Refusal::PlanTooLarge => 14,
             Refusal::NoSeat(_) | Refusal::SeatFault(_) => 12,
+            Refusal::NoSuchPosition => 20,
         }
     }
 
@@ -99,6 +102,7 @@ impl Refusal {
             Refusal::BudgetSpent => (None, b"budget spent"),
             Refusal::PlanFails => (None, b"plan fails"),
             Refusal::PlanTooLarge => (None, b"plan too large"),
+            Refusal::NoSuchPosition => (None, b"no such position"),
             Refusal::NoSeat(Side::White) => (None, b"no seat w"),
             Refusal::NoSeat(Side::Black) => (None, b"no seat b"),
             Refusal::SeatFault(Side::White) => (None, b"seat fault w"),

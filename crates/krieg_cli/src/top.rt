@@ -4,10 +4,12 @@ ghost use Rattle.krieg_cli.specs.World.{stream, world};
 ghost use Rattle.krieg_cli.specs.Outcome.{IsInRange};
 ghost use Rattle.krieg_cli.specs.Seated.{bench_sides};
 ghost use Rattle.krieg_cli.specs.Parts.{ending_of};
-ghost use Rattle.krieg_cli.specs.Play.{Plays};
+ghost use Rattle.krieg_cli.specs.Live.{LivesBy};
 ghost use Rattle.krieg_cli.specs.Top.{Ends, Runs, IsRun, LeavesBench, asked_by, reads};
 ghost use Rattle.krieg_cli.specs.WholeGames.{UmpiresGames, BelievesGames};
 ghost use Rattle.krieg_cli.specs.WholePlans.{ChecksSolutions};
+ghost use Rattle.krieg_cli.specs.LedGames.{LeadsToMate};
+ghost use Rattle.krieg_cli.specs.WholeRecords.{ReturnsGames};
 ghost use Rattle.krieg_cli.specs.Headline.{SolvesSheets};
 ghost use Rattle.krieg_cli.specs.Complete.{Completes};
 
@@ -30,9 +32,9 @@ fn answer<S: Source, O: Sink>(
     bench: &mut Bench,
 ) -> Result<(), Ending>
     requires { IsInRange command.now }
-    ensures ends { let plays = Plays (λ b. account b) (bench_sides bench.old) (bench_sides bench.new) in
+    ensures ends { let live = LivesBy (λ b. account b) (bench_sides bench.old) (bench_sides bench.new) in
         let seen = world S.left S.faults O.got O.faults in
-        Ends plays (ending_of result) command.now (seen input.old out.old) (seen input.new out.new) }
+        Ends live (ending_of result) command.now (seen input.old out.old) (seen input.new out.new) }
     ensures bench { let seen = stream S.left S.faults in
         LeavesBench (λ b. account b) (Some command.now) (ending_of result) (seen input.old) (seen input.new)
         (bench_sides bench.old) (bench_sides bench.new) }
@@ -53,9 +55,9 @@ fn obey<S: Source, O: Sink>(
     out: &mut O,
     bench: &mut Bench,
 ) -> Ending
-    ensures runs { let plays = Plays (λ b. account b) (bench_sides bench.old) (bench_sides bench.new) in
+    ensures runs { let live = LivesBy (λ b. account b) (bench_sides bench.old) (bench_sides bench.new) in
         let seen = world S.left S.faults O.got O.faults in
-        Runs plays result (asked_by words.now) (seen input.old out.old) (seen input.new out.new) }
+        Runs live result (asked_by words.now) (seen input.old out.old) (seen input.new out.new) }
     ensures bench { let seen = stream S.left S.faults in
         LeavesBench (λ b. account b) (asked_by words.now) result (seen input.old) (seen input.new)
         (bench_sides bench.old) (bench_sides bench.new) }
@@ -73,12 +75,16 @@ fn obey<S: Source, O: Sink>(
 /// Does all that the program does, over streams, and gives the status with which it ends.
 ///
 /// The commands are `umpire w`, `umpire b` and `umpire all` on any session, for which `out` gets the
-/// player's sheet or the lines of both, `believe LIMIT` on any sheet, for which it gets a sheet that lists
+/// player's sheet or the lines of both, `san` on any session, for which it gets the record of the moves that
+/// were made, and `unsan` on any record, for which it gets the session of these moves, `believe LIMIT` on any sheet, for which it gets a sheet that lists
 /// every position that is still possible, `solve MOVES BUDGET LIMIT` on any sheet, for which it gets the plan
 /// file of the canonical plan that mates from each of these within the fewest own moves, or the line
 /// `none MOVES` exactly where no plan mates within that number, `check BUDGET` on any plan file, for which
 /// it gets the plan's worst case, `play ASKS ..` from any position, for which the seats of the bench play a
-/// game and it gets their session, and without an input `make session NUMBER` and `make sheet NUMBER`, for which
+/// game and it gets their session, `lead ASKS NUMBER ..` on any plan file, for which the plan leads a game from the
+/// listed position with that number against the first of White's seats, whatever his colour, and it gets their session
+/// in the plan's dialect, `next` on a plan file and the lines that its player heard, for which it gets what he does
+/// next, and without an input `make session NUMBER` and `make sheet NUMBER`, for which
 /// it gets the made text, and `job NUMBER`, for which it gets the numbers that the other commands come to on these.
 ///
 /// The status is 0 with the answer, and no call of `input` or of `out` failed then; 1 exactly where the words
@@ -89,15 +95,17 @@ fn obey<S: Source, O: Sink>(
 /// budget is less than a search may take, and 14 exactly where the best plan is too large for a text and the
 /// budget is not spent; 8 exactly where the check of a plan takes more than the budget, and otherwise 13 exactly
 /// where the plan does not mate all that it lists within the number that it claims; of `job` 8 only where
-/// 50,000,000 units are less than its search or its check may take, and 14 as of `solve`; 9 where a read failed,
+/// 50,000,000 units are less than its search or its check may take, and 14 as of `solve`; of `lead` 20 exactly where
+/// the plan file lists fewer positions than its number; 9 where a read failed,
 /// with no more bytes read than an input may have; 10 where a write to `out` failed, which has got a front part
 /// of the answer then; 11 for want of memory; 12 exactly where a side has no seat, and only where a call of the
-/// last seat of a side failed. At each status but 0 `err` gets one line, and at each but 0 and 10 `out` gets
+/// last seat of a side failed, and of `lead` for the opponent's side. At each status but 0 `err` gets one line, and at each but 0 and 10 `out` gets
 /// nothing.
 ///
-/// The bench is as it was for every command but `play`, and for `play` where no seat was called: so it is at 1 to
-/// 4 and 9, and at 12 for want of a seat. At 11 it is as it was, or the input was read whole and its seats played
-/// from the start that it spells, until memory ran out or the game stopped.
+/// The bench is as it was for every command but `play` and `lead`, and for these where no seat was called: so it is at
+/// 1 to 4, 9 and 20, and at 12 for want of a seat. At 11 it is as it was, or the input was read whole and its seats
+/// played from the start that it spells, or against the plan, until memory ran out or the game stopped. `lead` leaves
+/// every seat but White's first as it was.
 pub fn run<S: Source, O: Sink, E: Sink>(
     alloc: Global,
     words: &[String],
@@ -122,6 +130,10 @@ pub fn run<S: Source, O: Sink, E: Sink>(
     ensures checks { let seen = world S.left S.faults O.got O.faults in
         ChecksSolutions (asked_by words.now) result (seen input.old out.old) (seen input.new out.new) }
 
+    // Given a plan that mates what it lists, `lead` writes a game that is won.
+    ensures wins { let seen = world S.left S.faults O.got O.faults in
+        LeadsToMate (asked_by words.now) result (seen input.old out.old) (seen input.new out.new) }
+
     // Where the input is good and nothing is refused for a cause, there is an answer, or memory ran out.
     ensures completes { let seen = world S.left S.faults O.got O.faults in
         Completes (λ b. account b) (bench_sides bench.old) (bench_sides bench.new) (asked_by words.now) result
@@ -135,6 +147,10 @@ pub fn run<S: Source, O: Sink, E: Sink>(
     // Given what `umpire` wrote, `believe` lists the position in which the game stands.
     ensures believes { let seen = world S.left S.faults O.got O.faults in
         BelievesGames (asked_by words.now) result (seen input.old out.old) (seen input.new out.new) }
+
+    // Given what `san` wrote of a session, `unsan` writes the session of the tries that were done.
+    ensures returns { let seen = world S.left S.faults O.got O.faults in
+        ReturnsGames (asked_by words.now) result (seen input.old out.old) (seen input.new out.new) }
 {
     let ending = obey(alloc, words, input, out, bench);
     report(&ending, err);

@@ -5,7 +5,9 @@ use crate::plans::Plans;
 use crate::scene::Scene;
 use crate::stop::Stop;
 use crate::terms::{bytes_of, first_word};
-use crate::{boards, games, moves, positions, searches, sets, splits, tables, texts, words};
+use crate::{
+    boards, games, moves, positions, refutations, san, searches, sets, splits, tables, texts, words,
+};
 use krieg_table::Table;
 use std::alloc::Global;
 
@@ -23,12 +25,14 @@ enum Layer {
     Moves,
     Words,
     Texts,
+    San,
     Games,
     Sets,
     Tables,
     Splits,
     Plans,
     Searches,
+    Refutations,
 }
 
 fn layer_of(name: &str) -> Result<Layer, Stop> {
@@ -38,12 +42,14 @@ fn layer_of(name: &str) -> Result<Layer, Stop> {
         "moves" => Ok(Layer::Moves),
         "words" => Ok(Layer::Words),
         "texts" => Ok(Layer::Texts),
+        "san" => Ok(Layer::San),
         "games" => Ok(Layer::Games),
         "sets" => Ok(Layer::Sets),
         "tables" => Ok(Layer::Tables),
         "splits" => Ok(Layer::Splits),
         "plans" => Ok(Layer::Plans),
         "searches" => Ok(Layer::Searches),
+        "refutations" => Ok(Layer::Refutations),
         _ => Err(Stop::Unread),
     }
 }
@@ -68,12 +74,14 @@ impl Trial {
             Layer::Moves => moves::ask(scene, mark, given, answer),
             Layer::Words => words::ask(scene, mark, given, answer),
             Layer::Texts => texts::ask(scene, mark, given, answer),
+            Layer::San => san::ask(scene, mark, given, answer),
             Layer::Games => games::ask(scene, mark, given, answer),
             Layer::Sets => sets::ask(scene, mark, given, answer),
             Layer::Tables => tables::ask(scene, &mut self.table, mark, given, answer),
             Layer::Splits => splits::ask(scene, mark, given, answer),
             Layer::Plans => self.plans.ask(mark, given, answer),
             Layer::Searches => searches::ask(scene, mark, given, answer),
+            Layer::Refutations => refutations::ask(scene, mark, given, answer),
         }
     }
 

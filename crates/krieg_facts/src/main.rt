@@ -15,6 +15,8 @@ mod games;
 mod moves;
 mod plans;
 mod positions;
+mod refutations;
+mod san;
 mod scene;
 mod searches;
 mod sets;

@@ -4,35 +4,55 @@ use Rattle.krieg_seats.specs.Accounts.{Account}
 use Rattle.krieg_play.specs.Teams.{team}
 use Rattle.krieg_play.specs.Played.{Sides, sides, seen}
 use Rattle.krieg_args.specs.Command.{command_of}
-use Rattle.krieg_args.specs.Files.{Files, seat_files}
+use Rattle.krieg_args.specs.Files.{Files, seat_files, lead_files}
 use Rattle.krieg_cli.specs.World.{Stream, World}
 use Rattle.krieg_cli.specs.Top.{IsRun}
 use Rattle.krieg_cli.proofs.Tables.{run_seen}
-use Rattle.krieg_shell.specs.Start.{Made, seated, StartsWith}
+use Rattle.krieg_shell.specs.Start.{Made, both_at, one_at, seated, StartsAt, StartsWith}
 
-starts : {X : Type 0} {account : X → Account} {entry now : Sides X} {code : ℕ} {before after : World} {err err' : Stream} (made : Made) (words : List (List ℕ)) (files : Option Files) →
-    seen account entry ≡ seated made files → files ≡ seat_files words → IsRun account entry now (command_of words) code before after err err' → StartsWith made words code before after err err'
-starts {account = account} {entry = entry} {now = now} {code = code} {before = before} {after = after} {err = err} {err' = err'} made words files sit named run =
-    inl (
-      seen account now,
-      subst (λ (o : Option Files). IsRun (λ a. a) (seated made o) (seen account now) (command_of words) code before after err err') named
-          (subst (λ (s : Sides Account). IsRun (λ a. a) s (seen account now) (command_of words) code before after err err') sit (run_seen run)),
-    )
+starts : {X : Type 0} {account : X → Account} {entry now : Sides X} {code : ℕ} {before after : World} {err err' : Stream} (players : Sides Account) (words : List (List ℕ)) →
+    seen account entry ≡ players → IsRun account entry now (command_of words) code before after err err' → StartsAt players words code before after err err'
+starts {account = account} {now = now} {code = code} {before = before} {after = after} {err = err} {err' = err'} players words sit run =
+    inl (seen account now, subst (λ (s : Sides Account). IsRun (λ a. a) s (seen account now) (command_of words) code before after err err') sit (run_seen run))
 
-module _ {X : Type 0} {account : X → Account} {code : ℕ} {before after : World} {err err' : Stream} (made : Made) (words : List (List ℕ)) where
+module _ {X : Type 0} {account : X → Account} {code : ℕ} {before after : World} {err err' : Stream} (words : List (List ℕ)) where
   -- nobody sits
-  pub starts_empty : (w wo b bo : List X) (now : Sides X) → w ≡ [] → wo ≡ [] → b ≡ [] → bo ≡ [] → None ≡ seat_files words →
-      IsRun account (sides (team w wo) (team b bo)) now (command_of words) code before after err err' → StartsWith made words code before after err err'
-  starts_empty w wo b bo now w_is wo_is b_is bo_is named run =
-      let sit : seen account (sides (team w wo) (team b bo)) ≡ seated made None =
-      rw (w_is, wo_is, b_is, bo_is) refl in
-      starts made words None sit named run
+  pub starts_alone : (w wo b bo : List X) (now : Sides X) → w ≡ [] → wo ≡ [] → b ≡ [] → bo ≡ [] →
+      IsRun account (sides (team w wo) (team b bo)) now (command_of words) code before after err err' → StartsAt (sides (team [] []) (team [] [])) words code before after err err'
+  starts_alone w wo b bo now w_is wo_is b_is bo_is run =
+      let sit : seen account (sides (team w wo) (team b bo)) ≡ sides (team [] []) (team [] []) = rw (w_is, wo_is, b_is, bo_is) refl in
+      starts (sides (team [] []) (team [] [])) words sit run
+
+  -- one player, on White's side
+  pub starts_leading : (made : Made) (tries told : List ℕ) (opponent : X) (w wo b bo : List X) (now : Sides X) → w ≡ opponent ∷ [] → wo ≡ [] → b ≡ [] → bo ≡ [] → account opponent ≡ made tries told →
+      IsRun account (sides (team w wo) (team b bo)) now (command_of words) code before after err err' → StartsAt (one_at made (tries, told)) words code before after err err'
+  starts_leading made tries told opponent w wo b bo now w_is wo_is b_is bo_is opponent_is run =
+      let sit : seen account (sides (team w wo) (team b bo)) ≡ one_at made (tries, told) = rw (w_is, wo_is, b_is, bo_is, opponent_is) refl in
+      starts (one_at made (tries, told)) words sit run
 
   -- one player on each side
-  pub starts_seated : (files : Files) (white black : X) (w wo b bo : List X) (now : Sides X) → w ≡ white ∷ [] → wo ≡ [] → b ≡ black ∷ [] → bo ≡ [] →
-      account white ≡ made files.win files.wout → account black ≡ made files.bin files.bout → Some files ≡ seat_files words →
-      IsRun account (sides (team w wo) (team b bo)) now (command_of words) code before after err err' → StartsWith made words code before after err err'
-  starts_seated files white black w wo b bo now w_is wo_is b_is bo_is white_is black_is named run =
-      let sit : seen account (sides (team w wo) (team b bo)) ≡ seated made (Some files) =
-      rw (w_is, wo_is, b_is, bo_is, white_is, black_is) refl in
-      starts made words (Some files) sit named run
+  pub starts_playing : (made : Made) (files : Files) (white black : X) (w wo b bo : List X) (now : Sides X) → w ≡ white ∷ [] → wo ≡ [] → b ≡ black ∷ [] → bo ≡ [] →
+      account white ≡ made files.win files.wout → account black ≡ made files.bin files.bout →
+      IsRun account (sides (team w wo) (team b bo)) now (command_of words) code before after err err' → StartsAt (both_at made files) words code before after err err'
+  starts_playing made files white black w wo b bo now w_is wo_is b_is bo_is white_is black_is run =
+      let sit : seen account (sides (team w wo) (team b bo)) ≡ both_at made files = rw (w_is, wo_is, b_is, bo_is, white_is, black_is) refl in
+      starts (both_at made files) words sit run
+
+-- ---- who sits, by the words
+
+module _ (made : Made) (words : List (List ℕ)) {code : ℕ} {before after : World} {err err' : Stream} where
+  by_words : (players : Sides Account) (play : Option Files) (lead : Option (List ℕ × List ℕ)) → players ≡ seated made play lead → play ≡ seat_files words → lead ≡ lead_files words →
+      StartsAt players words code before after err err' → StartsWith made words code before after err err'
+  by_words players play lead sit play_is lead_is h =
+      subst (λ o. StartsAt (seated made o (lead_files words)) words code before after err err') play_is
+      (subst (λ o. StartsAt (seated made play o) words code before after err err') lead_is
+      (subst (λ s. StartsAt s words code before after err err') sit h))
+
+  pub with_play : (files : Files) → Some files ≡ seat_files words → StartsAt (both_at made files) words code before after err err' → StartsWith made words code before after err err'
+  with_play files is h = by_words (both_at made files) (Some files) (lead_files words) refl is refl h
+
+  pub with_lead : (files : List ℕ × List ℕ) → None ≡ seat_files words → Some files ≡ lead_files words → StartsAt (one_at made files) words code before after err err' → StartsWith made words code before after err err'
+  with_lead files none is h = by_words (one_at made files) None (Some files) refl none is h
+
+  pub with_none : None ≡ seat_files words → None ≡ lead_files words → StartsAt (sides (team [] []) (team [] [])) words code before after err err' → StartsWith made words code before after err err'
+  with_none none nobody h = by_words (sides (team [] []) (team [] [])) None None refl none nobody h

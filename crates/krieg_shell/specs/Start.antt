@@ -4,7 +4,7 @@ use Rattle.krieg_seats.specs.Accounts.{Account, new_account}
 use Rattle.krieg_play.specs.Teams.{team}
 use Rattle.krieg_play.specs.Played.{Sides, sides}
 use Rattle.krieg_args.specs.Command.{command_of}
-use Rattle.krieg_args.specs.Files.{Files, seat_files}
+use Rattle.krieg_args.specs.Files.{Files, seat_files, lead_files}
 use Rattle.krieg_cli.specs.World.{Stream, World}
 use Rattle.krieg_cli.specs.Top.{IsRun, Gets}
 
@@ -12,23 +12,35 @@ use Rattle.krieg_cli.specs.Top.{IsRun, Gets}
 abbrev pub Made : Type 0
 Made = List ℕ → List ℕ → Account
 
--- Who sits when a run begins: with the words of `play` one player on each side, White's made of the first two files that the words
--- name, and Black's of the last two; and nobody otherwise.
-abbrev pub seated : Made → Option Files → Sides Account
-seated made (Some files) = sides (team (made files.win files.wout ∷ []) []) (team (made files.bin files.bout ∷ []) [])
-seated made None = sides (team [] []) (team [] [])
+-- one player on each side: White's made of the first two files, and Black's of the last two
+abbrev pub both_at : Made → Files → Sides Account
+both_at made files = sides (team (made files.win files.wout ∷ []) []) (team (made files.bin files.bout ∷ []) [])
 
--- a run of these words, with these players
-abbrev pub RunsSo : Made → List (List ℕ) → ℕ → World → World → Stream → Stream → Type 0
-RunsSo made words code before after err err' =
-    (now : Sides Account) × IsRun (λ account. account) (seated made (seat_files words)) now (command_of words) code before after err err'
+-- one player, made of the two files, on White's side
+abbrev pub one_at : Made → List ℕ × List ℕ → Sides Account
+one_at made files = sides (team (made files.0 files.1 ∷ []) []) (team [] [])
+
+-- Who sits when a run begins: with the words of `play` one player on each side, with those of `lead` the opponent, and nobody otherwise.
+abbrev pub seated : Made → Option Files → Option (List ℕ × List ℕ) → Sides Account
+seated made (Some files) opponent = both_at made files
+seated made None (Some files) = one_at made files
+seated made None None = sides (team [] []) (team [] [])
+
+-- a run of these words, where these players sit
+abbrev pub RunsSo : Sides Account → List (List ℕ) → ℕ → World → World → Stream → Stream → Type 0
+RunsSo entry words code before after err err' =
+    (now : Sides Account) × IsRun (λ account. account) entry now (command_of words) code before after err err'
 
 -- there was no memory for the words or the players, and nothing was read or written but the line that says so
 abbrev pub HasNoMemory : ℕ → World → World → Stream → Stream → Type 0
 HasNoMemory code before after err err' = (code ≡ 11) × (after ≡ before) × Gets (codes "krieg: want of memory\n") err err'
 
+abbrev pub StartsAt : Sides Account → List (List ℕ) → ℕ → World → World → Stream → Stream → Type 0
+StartsAt entry words code before after err err' = RunsSo entry words code before after err err' ⊎ HasNoMemory code before after err err'
+
+-- a start with these words: the players sit whom they ask for
 abbrev pub StartsWith : Made → List (List ℕ) → ℕ → World → World → Stream → Stream → Type 0
-StartsWith made words code before after err err' = RunsSo made words code before after err err' ⊎ HasNoMemory code before after err err'
+StartsWith made words = StartsAt (seated made (seat_files words) (lead_files words)) words
 
 -- a start with some words, whose players have said and heard nothing yet
 abbrev pub Starts : ℕ → World → World → Stream → Stream → Type 0

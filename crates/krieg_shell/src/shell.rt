@@ -1,11 +1,13 @@
-ghost use Rattle.std.specs.Prelude.{◌≡◌, ℕ, List, map, string_bytes, codes};
+ghost use Rattle.std.specs.Prelude.{◌≡◌, ℕ, List, [], map, string_bytes, codes};
 ghost use Rattle.krieg_cli.specs.Top.{Gets};
 ghost use Rattle.krieg_cli.specs.World.{stream, world};
 ghost use Rattle.krieg_seats.specs.Accounts.{Account, new_account};
 ghost use Rattle.krieg_seats.specs.Streams.{stream_account};
-ghost use Rattle.krieg_shell.specs.Start.{StartsWith, Starts};
+ghost use Rattle.krieg_play.specs.Teams.{team};
+ghost use Rattle.krieg_play.specs.Played.{sides};
+ghost use Rattle.krieg_shell.specs.Start.{both_at, one_at, StartsAt, StartsWith, Starts};
 
-use krieg_cli::{Bench, run, seat_files};
+use krieg_cli::{Bench, SeatFiles, lead_files, run, seat_files};
 use krieg_ports::{Sink, Source, write_all};
 use krieg_seats::{Seat, StreamSeat};
 use std::alloc::Global;
@@ -73,24 +75,22 @@ fn tell_memory<E: Sink>(err: &mut E) -> u8
     11
 }
 
-/// Does all that the program does with these words, over these streams. With the words of `play` White's player is made of
-/// the first two files that they name, and Black's of the last two.
-fn start_with<P: Players, S: Source, O: Sink, E: Sink>(
+/// A run of these words with one player on each side: White's is made of the first two files, and Black's of the last
+/// two.
+fn start_playing<P: Players, S: Source, O: Sink, E: Sink>(
     players: &P,
     alloc: Global,
     words: &[String],
+    files: &SeatFiles<'_>,
     input: &mut S,
     out: &mut O,
     err: &mut E,
 ) -> u8
     ensures { let seen = world S.left S.faults O.got O.faults in let heard = stream E.got E.faults in
-        StartsWith P.made (map string_bytes words.now) result (seen input.old out.old) (seen input.new out.new)
+        StartsAt (both_at P.made (record { win = files.now.win.now; wout = files.now.wout.now; bin = files.now.bin.now; bout = files.now.bout.now })) (map string_bytes words.now) result (seen input.old out.old) (seen input.new out.new)
         (heard err.old) (heard err.new) }
 {
     let mut bench = Bench::new(alloc);
-    let Some(files) = seat_files(words) else {
-        return run(alloc, words, input, out, err, &mut bench);
-    };
     let Ok(white) = Box::new(alloc, players.player(alloc, files.win, files.wout)) else {
         return tell_memory(err);
     };
@@ -109,11 +109,77 @@ fn start_with<P: Players, S: Source, O: Sink, E: Sink>(
     status
 }
 
+/// A run of these words with one player on White's side, who is made of these two files.
+fn start_leading<P: Players, S: Source, O: Sink, E: Sink>(
+    players: &P,
+    alloc: Global,
+    words: &[String],
+    tries: &str,
+    told: &str,
+    input: &mut S,
+    out: &mut O,
+    err: &mut E,
+) -> u8
+    ensures { let seen = world S.left S.faults O.got O.faults in let heard = stream E.got E.faults in
+        StartsAt (one_at P.made (tries.now, told.now)) (map string_bytes words.now) result (seen input.old out.old) (seen input.new out.new)
+        (heard err.old) (heard err.new) }
+{
+    let mut bench = Bench::new(alloc);
+    let Ok(opponent) = Box::new(alloc, players.player(alloc, tries, told)) else {
+        return tell_memory(err);
+    };
+    let opponent: Box<dyn Seat> = opponent;
+    know_player(players, &opponent, tries, told);
+    if bench.white.push(opponent).is_err() {
+        return tell_memory(err);
+    }
+    run(alloc, words, input, out, err, &mut bench)
+}
+
+/// A run of these words with nobody on the bench.
+fn start_alone<S: Source, O: Sink, E: Sink>(
+    alloc: Global,
+    words: &[String],
+    input: &mut S,
+    out: &mut O,
+    err: &mut E,
+) -> u8
+    ensures { let seen = world S.left S.faults O.got O.faults in let heard = stream E.got E.faults in
+        StartsAt (sides (team [] []) (team [] [])) (map string_bytes words.now) result (seen input.old out.old) (seen input.new out.new)
+        (heard err.old) (heard err.new) }
+{
+    run(alloc, words, input, out, err, &mut Bench::new(alloc))
+}
+
+/// Does all that the program does with these words, over these streams, with the players that they ask for.
+fn start_with<P: Players, S: Source, O: Sink, E: Sink>(
+    players: &P,
+    alloc: Global,
+    words: &[String],
+    input: &mut S,
+    out: &mut O,
+    err: &mut E,
+) -> u8
+    ensures { let seen = world S.left S.faults O.got O.faults in let heard = stream E.got E.faults in
+        StartsWith P.made (map string_bytes words.now) result (seen input.old out.old) (seen input.new out.new)
+        (heard err.old) (heard err.new) }
+{
+    if let Some(files) = seat_files(words) {
+        return start_playing(players, alloc, words, &files, input, out, err);
+    }
+    match lead_files(words) {
+        Some((tries, told)) => {
+            start_leading(players, alloc, words, tries, told, input, out, err)
+        }
+        None => start_alone(alloc, words, input, out, err),
+    }
+}
+
 /// Does all that the program does with the words that the system gives, over these streams, and gives the
 /// status with which the program ends.
 ///
-/// It is the status of `krieg_cli::run`, with the players of the four files where the words are those of `play`, and
-/// nobody for other words; where memory is not found for the words or the players, it is 11, with the same line on
+/// It is the status of `krieg_cli::run`, with the players of the four files where the words are those of `play`, the
+/// opponent at the two files where they are those of `lead`, and nobody for other words; where memory is not found for the words or the players, it is 11, with the same line on
 /// `err`, and nothing was read or written to `out`.
 pub fn start<R: Env + AllocGlobal + Files<File = File>, S: Source, O: Sink, E: Sink>(
     rt: &R,

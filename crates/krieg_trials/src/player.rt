@@ -2,7 +2,10 @@
 
 use krieg_board::{Move, NoMemory, Side};
 use krieg_fen::read_move;
+use krieg_planfile::read_plan;
+use krieg_robot::PlanSeat;
 use krieg_seats::{Say, ScriptSeat, Seat, SeatFault, StreamSeat};
+use krieg_text::TextFault;
 use krieg_words::Line;
 use std::alloc::Global;
 use std::io::Cursor;
@@ -14,6 +17,8 @@ pub enum Manner {
     Tries { moves: Vec<Move>, fails: Vec<u64> },
     /// He sends this text, a line each time.
     Sends(Vec<u8>),
+    /// He follows the plan file of this text.
+    Follows(Vec<u8>),
     /// He finds no memory.
     Forgets,
 }
@@ -38,7 +43,7 @@ fn moves_of(alloc: Global, words: &str) -> Result<Option<Vec<Move>>, NoMemory> {
 }
 
 impl Player {
-    /// The player of `tries MOVES`, `sends` or `forgets`, or none for other words.
+    /// The player of `tries MOVES`, `sends`, `follows` or `forgets`, or none for other words.
     pub fn new(alloc: Global, who: Side, words: &str) -> Result<Option<Player>, NoMemory> {
         let manner = match words.split(' ').next() {
             Some("tries") => match moves_of(alloc, words)? {
@@ -49,16 +54,17 @@ impl Player {
                 None => return Ok(None),
             },
             Some("sends") => Manner::Sends(Vec::new(alloc)),
+            Some("follows") => Manner::Follows(Vec::new(alloc)),
             Some("forgets") => Manner::Forgets,
             _ => return Ok(None),
         };
         Ok(Some(Player { who, manner }))
     }
 
-    /// Adds a text, and how it ends, to what he sends. It tells whether he is one who sends.
+    /// Adds a text, and how it ends, to what he sends or to his plan file. It tells whether he is one who has a text.
     pub fn send(&mut self, text: &str, end: &str) -> Result<bool, NoMemory> {
         match &mut self.manner {
-            Manner::Sends(sent) => {
+            Manner::Sends(sent) | Manner::Follows(sent) => {
                 sent.extend_from_slice(text.as_bytes())?;
                 sent.extend_from_slice(end.as_bytes())?;
                 Ok(true)
@@ -97,6 +103,15 @@ pub fn sending(
     let from = Cursor::new(text.clone()?);
     let seat = StreamSeat::new(alloc, Some(from), Some(Vec::new(alloc)));
     Ok(Box::new(alloc, seat)?)
+}
+
+/// A seat that follows the plan file of this text, or none where it spells none.
+pub fn following(alloc: Global, text: &Vec<u8>) -> Result<Option<Box<PlanSeat>>, NoMemory> {
+    match read_plan(alloc, text) {
+        Ok(file) => Ok(Some(Box::new(alloc, PlanSeat::new(alloc, file))?)),
+        Err(TextFault::At { .. }) => Ok(None),
+        Err(TextFault::NoMemory) => Err(NoMemory),
+    }
 }
 
 /// A seat that finds no memory when it is asked.

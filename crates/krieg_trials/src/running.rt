@@ -2,7 +2,7 @@
 
 use crate::came::Came;
 use crate::given::Given;
-use crate::player::{Manner, forgetful, scripted, sending};
+use crate::player::{Manner, following, forgetful, scripted, sending};
 use krieg_board::{NoMemory, Side};
 use krieg_cli::{Bench, run};
 use krieg_fen::write_move;
@@ -75,6 +75,11 @@ pub fn come(alloc: Global, words: &[String], given: Given) -> Result<Came, NoMem
         match &player.manner {
             Manner::Tries { moves, fails } => seats.push(scripted(alloc, moves, fails)?)?,
             Manner::Sends(text) => seats.push(sending(alloc, text)?)?,
+            Manner::Follows(text) => {
+                if let Some(seat) = following(alloc, text)? {
+                    seats.push(seat)?;
+                }
+            }
             Manner::Forgets => seats.push(forgetful(alloc)?)?,
         }
     }

@@ -1,19 +1,17 @@
-ghost use Rattle.std.specs.Prelude.{◌≡◌, map, IfOk, Some};
-ghost use Rattle.krieg_play.specs.Games.{events_of};
-ghost use Rattle.krieg_session.specs.SessionText.{session_text};
+ghost use Rattle.std.specs.Prelude.{◌≡◌};
 ghost use Rattle.krieg_cli.specs.Seated.{bench_sides};
 ghost use Rattle.krieg_cli.specs.Parts.{Decides, LeavesSeats, ending_of};
 ghost use Rattle.krieg_cli.specs.Play as spec;
 ghost use Rattle.krieg_args.specs.declared.command.Command.TheVariants.{Play};
 
+use crate::PlayFault;
+use crate::commands::recorded::recorded;
 use crate::ending::Ending;
 use crate::live::{Bench, play};
 use crate::refusal::Refusal;
-use crate::{PlayFault, Played};
-use krieg_board::{NoMemory, Position};
-use krieg_referee::{Event, Judged};
+use krieg_board::NoMemory;
 use krieg_seats::Seat;
-use krieg_session::{Session, read_start, write_session};
+use krieg_session::read_start;
 use krieg_words::Dialect;
 use std::alloc::Global;
 
@@ -29,33 +27,6 @@ impl From<PlayFault> for Ending {
             PlayFault::NoMemory => Ending::NoMemory,
         }
     }
-}
-
-/// The tries of a log.
-fn events(alloc: Global, log: &[Judged]) -> Result<Vec<Event>, NoMemory>
-    ensures { IfOk result (λ events. events.items ≡ events_of log.now) }
-{
-    let mut events = Vec::new(alloc);
-    for judged in log {
-        events.push(judged.event)?;
-    }
-    Ok(events)
-}
-
-/// The text of the session of a game that was played.
-fn record(alloc: Global, start: &Position, played: &Played) -> Result<Vec<u8>, NoMemory>
-    ensures { IfOk result (λ text. text.items
-        ≡ session_text (spec.session_of start.now played.now.game played.now.stop)) }
-{
-    let session = Session {
-        dialect: Dialect::Wild16,
-        start: *start,
-        events: events(alloc, played.game.log())?,
-        stop: Some(played.stop),
-    };
-    let mut text = Vec::new(alloc);
-    write_session(&session, &mut text)?;
-    Ok(text)
 }
 
 /// What `play` answers to the text of a start, with so many asks.
@@ -81,7 +52,7 @@ pub(crate) fn answer(
         Ok(played) => played,
         Err(fault) => return Err(Ending::from(fault)),
     };
-    match record(alloc, start, &played) {
+    match recorded(alloc, Dialect::Wild16, start, &played.game, played.stop) {
         Ok(answer) => Ok(answer),
         Err(NoMemory) => Err(Ending::NoMemory),
     }

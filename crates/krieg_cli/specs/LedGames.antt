@@ -1,0 +1,40 @@
+-- `lead` on a plan that mates: the game that it writes is won.
+use Rattle.std.specs.Prelude.{◌≡◌, ◌-◌, ◌≤◌, ℕ, true, List, slice_get, Option, Some, Ok}
+use Rattle.std.specs.Io.KnownBytes.{Appends}
+use Rattle.krieg_board.specs.Men.{other}
+use Rattle.krieg_board.specs.Pos.{Pos}
+use Rattle.krieg_text.specs.Lines.{lines}
+use Rattle.krieg_text.specs.Reading.{whole}
+use Rattle.krieg_moves.specs.Moves.{is_mate}
+use Rattle.krieg_referee.specs.Games.{GameState}
+use Rattle.krieg_referee.specs.declared.verdict.Stop.{Stop}
+use Rattle.krieg_referee.specs.declared.verdict.Stop.TheVariants.{Ended, Left}
+use Rattle.krieg_session.specs.SessionText.{session_text}
+use Rattle.krieg_play.specs.Games.{IsGameFrom}
+use Rattle.krieg_planfile.specs.PlanFiles.{PlanState}
+use Rattle.krieg_planfile.specs.PlanReading.{plan_at}
+use Rattle.krieg_robot.specs.Leading.{own_moves}
+use Rattle.krieg_args.specs.declared.command.Command.{Command}
+use Rattle.krieg_args.specs.declared.command.Command.TheVariants.{Lead}
+use Rattle.krieg_cli.specs.Recorded.{session_of}
+use Rattle.krieg_cli.specs.Solve.{mates_all}
+use Rattle.krieg_cli.specs.World.{World}
+
+-- The text is the session of a game from the listed position with that number, of no more tries than were allowed. The side of the file
+-- did not leave it, and made no more moves than the file states; and where it has ended, the opponent is mated.
+pub record IsWonGame (s : PlanState) (asks number : ℕ) (text : List ℕ) : Type 0 where
+  pub start : Pos
+  pub listed : slice_get s.list (number - 1) ≡ Some start
+  pub game : GameState
+  pub stop : Stop
+  pub is_game : IsGameFrom start asks game
+  pub is_session : text ≡ session_text (session_of s.dialect start game stop)
+  pub stays : stop ≡ Left s.side → ⊥
+  pub few : own_moves s.side game.log ≤ s.worst
+  pub mates : stop ≡ Ended → (is_mate game.position ≡ true) × (game.position.side ≡ other s.side)
+
+-- Given a plan that mates each position that it lists within the number that it states, `lead` at status 0 has written such a game.
+abbrev pub LeadsToMate : Option Command → ℕ → World → World → Type 0
+LeadsToMate asked code before after =
+    (asks number : ℕ) (s : PlanState) (text : List ℕ) → asked ≡ Some (Lead asks number) → code ≡ 0 → before.input.bytes ≡ Some text → whole plan_at (lines text) ≡ Ok s →
+    mates_all s.dialect s.side s.list s.plan s.worst ≡ true → (answer : List ℕ) × IsWonGame s asks number answer × Appends before.out.bytes after.out.bytes answer

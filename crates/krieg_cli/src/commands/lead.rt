@@ -1,0 +1,110 @@
+ghost use Rattle.std.specs.Prelude.{◌≡◌, ◌<◌, ◌≤◌, Err, IfOk, IfErr, vec_len};
+ghost use Rattle.krieg_plan.specs.Listed.{IsOneTurn};
+ghost use Rattle.krieg_planfile.specs.PlanFiles.{state_of};
+ghost use Rattle.krieg_play.specs.Calls.{FirstChanges};
+ghost use Rattle.krieg_robot.specs.Laws.{Mates};
+ghost use Rattle.krieg_robot.specs.Leading.{LedFrom, BrokenFrom, IsWon};
+ghost use Rattle.krieg_cli.specs.Seated.{bench_sides};
+ghost use Rattle.krieg_cli.specs.Parts.{Decides, LeavesSeats, ending_of};
+ghost use Rattle.krieg_cli.specs.Parts as parts;
+ghost use Rattle.krieg_cli.specs.Lead as spec;
+ghost use Rattle.krieg_args.specs.declared.command.Command.TheVariants.{Lead};
+
+use crate::commands::recorded::recorded;
+use crate::ending::Ending;
+use crate::live::Bench;
+use crate::refusal::Refusal;
+use krieg_board::{NoMemory, Side};
+use krieg_plan::PlanFile;
+use krieg_planfile::read_plan;
+use krieg_robot::{LeadFault, Led, lead};
+use krieg_seats::Seat;
+use std::alloc::Global;
+
+/// The ending of a run whose game was given up, against the player of that side.
+fn ending_by(who: Side, fault: LeadFault) -> Ending
+    ensures { result ≡ parts.of_lead who fault }
+{
+    match fault {
+        LeadFault::Seat => Ending::Refused(Refusal::SeatFault(who)),
+        LeadFault::NoMemory => Ending::NoMemory,
+    }
+}
+
+/// Lets the plan lead a game against the first of these seats.
+fn lead_first(
+    alloc: Global,
+    file: PlanFile,
+    number: usize,
+    asks: usize,
+    seats: &mut Vec<Box<dyn Seat>>,
+) -> Result<Led, LeadFault>
+    requires turn { IsOneTurn file.list.items }
+    requires some { 1 ≤ number }
+    requires listed { number ≤ vec_len file.list }
+    requires seated { 0 < vec_len seats.old }
+    ensures led { IfOk result (λ led. FirstChanges (λ x y. LedFrom file number asks (account x) (account y) led) seats.old.items seats.new.items) }
+    ensures won { IfOk result (λ led. Mates file → IsWon file led.game led.stop) }
+    ensures broken { IfErr result (λ fault. FirstChanges (λ x y. BrokenFrom file number asks (account x) (account y) fault) seats.old.items seats.new.items) }
+{
+    lead(alloc, file, number, &mut seats[0], asks)
+}
+
+/// What `lead` answers to a plan file: the session of the game that it leads.
+fn answer_to(
+    alloc: Global,
+    asks: u64,
+    number: u64,
+    file: PlanFile,
+    bench: &mut Bench,
+) -> Result<Vec<u8>, Ending>
+    requires turn { IsOneTurn file.list.items }
+    requires some { 1 ≤ number }
+    ensures outcome { Decides (λ answer. answer.items) result (spec.LeadsFrom (λ b. account b) asks number
+        (bench_sides bench.old) (bench_sides bench.new) (state_of file)) }
+    ensures memory { result ≡ Err Ending.NoMemory → spec.HasLed (λ b. account b) asks number
+        (bench_sides bench.old) (bench_sides bench.new) (state_of file) }
+{
+    let number = number as usize;
+    if file.list.len() < number {
+        return Err(Ending::Refused(Refusal::NoSuchPosition));
+    }
+    let opponent = file.side.other();
+    if bench.white.is_empty() {
+        return Err(Ending::Refused(Refusal::NoSeat(opponent)));
+    }
+    let dialect = file.dialect;
+    let start = file.list[number - 1];
+    let led = match lead_first(alloc, file, number, asks as usize, &mut bench.white) {
+        Ok(led) => led,
+        Err(fault) => return Err(ending_by(opponent, fault)),
+    };
+    match recorded(alloc, dialect, &start, &led.game, led.stop) {
+        Ok(answer) => Ok(answer),
+        Err(NoMemory) => Err(Ending::NoMemory),
+    }
+}
+
+/// What `lead` answers to the text of a plan file, with so many tries at most and from the listed position with that
+/// number.
+pub(crate) fn answer(
+    alloc: Global,
+    asks: u64,
+    number: u64,
+    text: Vec<u8>,
+    bench: &mut Bench,
+) -> Result<Vec<u8>, Ending>
+    requires { 1 ≤ number }
+    ensures outcome { Decides (λ answer. answer.items) result (spec.LeadsText (λ b. account b)
+        (bench_sides bench.old) (bench_sides bench.new)
+        asks number text.items) }
+    ensures bench { LeavesSeats (λ b. account b) (Lead asks number) (ending_of result) text.items
+        (bench_sides bench.old) (bench_sides bench.new) }
+{
+    let file = match read_plan(alloc, &text) {
+        Ok(file) => file,
+        Err(fault) => return Err(Ending::from(fault)),
+    };
+    drop(text);
+    answer_to(alloc, asks, number, file, bench)
+}

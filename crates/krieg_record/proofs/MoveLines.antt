@@ -1,0 +1,159 @@
+-- The lines of a record behind its start: a move, or the last line.
+use Rattle.std.proofs.Common.{◌≡◌, ◌⊎◌, inl, inr, ℕ, Bool, true, false, cond, List, [], ◌∷◌, ◌++◌, Option, Some, None, Result, Ok, Err, refl, sym, ap, subst, ◌∙◌}
+use Rattle.std.specs.Prelude.{codes}
+use Rattle.std.specs.Str.{bytes_eq}
+use Rattle.std.proofs.lemmas.Slice.Eq.{bytes_eq-Decides}
+use Rattle.krieg_board.specs.Men.{is_same_side}
+use Rattle.krieg_board.specs.Pos.{Pos}
+use Rattle.krieg_board.specs.declared.men.Side.{Side}
+use Rattle.krieg_board.specs.declared.men.Side.TheVariants.{White, Black}
+use Rattle.krieg_board.specs.declared.men.Move.{Move}
+use Rattle.krieg_board.proofs.MenLemmas.{same_side_eq, same_side_self}
+use Rattle.krieg_moves.specs.After.{after}
+use Rattle.krieg_moves.specs.Legal.{is_legal}
+use Rattle.krieg_text.specs.declared.fault.TextKind.{TextKind}
+use Rattle.krieg_text.specs.Names.{behind}
+use Rattle.krieg_text.specs.Outcomes.{◌>>=◌}
+use Rattle.krieg_text.specs.Reading.{Step}
+use Rattle.krieg_text.proofs.Formats.{IsStep, IsItemForm}
+use Rattle.krieg_text.proofs.NameLemmas.{behind_spells, behind_again}
+use Rattle.krieg_record.specs.declared.san_reading.SanFault.{SanFault}
+use Rattle.krieg_record.specs.declared.san_reading.SanFault.TheVariants as fault
+use Rattle.krieg_record.specs.declared.record_reading.RecordLine.{RecordLine}
+use Rattle.krieg_record.specs.declared.record_reading.RecordLine.TheVariants.{Played, End}
+use Rattle.krieg_record.specs.Matching.{Means}
+use Rattle.krieg_record.specs.Records.{after_all}
+use Rattle.krieg_record.specs.RecordReading.{marked_by, marked, in_turn, move_by, move_form, line_form, led, step_form}
+use Rattle.krieg_record.specs.RecordSpelling.{SpellsMove}
+use Rattle.krieg_fen.specs.Forms.{side_mark}
+use Rattle.krieg_record.specs.SanReading.{meant}
+use Rattle.krieg_record.proofs.Meanings.{meant_means, meant_only}
+
+-- ---- the marks
+
+marks_is : (line : List ℕ) (s : Side × List ℕ) → marked line ≡ Some s → line ≡ side_mark s.0 ++ s.1
+unfolding marked
+marks_is line s e = go (behind (codes "w ") line) (behind (codes "b ") line) refl refl e
+  where
+    go : (w b : Option (List ℕ)) → behind (codes "w ") line ≡ w → behind (codes "b ") line ≡ b → marked_by w b ≡ Some s → line ≡ side_mark s.0 ++ s.1
+    go (Some t) b is js h =
+        let same : ◌≡◌ {A = Side × List ℕ} (White, t) s = cc in
+        behind_spells (codes "w ") line t is ∙ ap (λ (x : Side × List ℕ). side_mark x.0 ++ x.1) same
+    go None (Some t) is js h =
+        let same : ◌≡◌ {A = Side × List ℕ} (Black, t) s = cc in
+        behind_spells (codes "b ") line t js ∙ ap (λ (x : Side × List ℕ). side_mark x.0 ++ x.1) same
+    go None None is js h = absurd cc
+
+not_white : (t : List ℕ) → behind (codes "w ") (codes "b " ++ t) ≡ None
+unfolding behind
+not_white t = refl
+
+pub marks_again : (who : Side) (t : List ℕ) → marked (side_mark who ++ t) ≡ Some (who, t)
+unfolding marked
+marks_again White t = ap (λ o. marked_by o (behind (codes "b ") (codes "w " ++ t))) (behind_again (codes "w ") t)
+marks_again Black t = ap (λ o. marked_by o (behind (codes "b ") (codes "b " ++ t))) (not_white t) ∙ ap (λ o. marked_by None o) (behind_again (codes "b ") t)
+
+not_end : (who : Side) (t : List ℕ) → bytes_eq (side_mark who ++ t) (codes "end") ≡ false
+not_end White t = refl
+not_end Black t = refl
+
+-- ---- a move
+
+turn_is : (t : Bool) (r : Result Move SanFault) (m : Move) → in_turn t r ≡ Ok m → (t ≡ true) × (r ≡ Ok m)
+turn_is true (Ok x) m e = (refl, (let same : x ≡ m = cc in ap (λ (y : Move). Ok y) same))
+turn_is false (Ok x) m e = absurd cc
+turn_is true (Err fault.Syntax) m e = absurd cc
+turn_is true (Err fault.Unknown) m e = absurd cc
+turn_is true (Err fault.Several) m e = absurd cc
+turn_is true (Err fault.NoMemory) m e = absurd cc
+turn_is false (Err fault.Syntax) m e = absurd cc
+turn_is false (Err fault.Unknown) m e = absurd cc
+turn_is false (Err fault.Several) m e = absurd cc
+turn_is false (Err fault.NoMemory) m e = absurd cc
+
+move_is : (p : Pos) (line : List ℕ) (m : Move) → move_form p line ≡ Ok m → SpellsMove p line m
+unfolding move_form
+move_is p line m e = go (marked line) refl e
+  where
+    go : (o : Option (Side × List ℕ)) → marked line ≡ o → move_by p o ≡ Ok m → SpellsMove p line m
+    go None is h = absurd cc
+    go (Some s) is h =
+        let t = turn_is (is_same_side s.0 p.side) (meant p s.1) m h in
+        record {
+          text = s.1;
+          is = marks_is line s is ∙ ap (λ w. side_mark w ++ s.1) (same_side_eq s.0 p.side t.0);
+          only = subst (Means p s.1) t.1 (meant_means p s.1);
+        }
+
+move_again : (p : Pos) (line : List ℕ) (m : Move) → SpellsMove p line m → move_form p line ≡ Ok m
+unfolding move_form
+move_again p line m s =
+    ap (λ l. move_by p (marked l)) s.is ∙ ap (move_by p) (marks_again p.side s.text)
+    ∙ ap (λ t. in_turn t (meant p s.text)) (same_side_self p.side) ∙ ap (in_turn true) (meant_only p s.text m s.only)
+
+-- ---- a line
+
+end_is : (line : List ℕ) → bytes_eq line (codes "end") ≡ true → line ≡ codes "end"
+end_is line e = (bytes_eq-Decides line (codes "end")).0 e
+
+end_again : (p : Pos) (line : List ℕ) → line ≡ codes "end" → line_form p line ≡ Ok End
+unfolding line_form
+end_again p line e = ap (λ (l : List ℕ). cond (bytes_eq l (codes "end")) (Ok End) (move_form p l >>= λ m. Ok (Played m))) e
+
+pub line_again : (p : Pos) (who : Side) (line text : List ℕ) → line ≡ side_mark who ++ text → line_form p line ≡ (move_form p line >>= λ m. Ok (Played m))
+unfolding line_form
+line_again p who line text e = ap (λ b. cond b (Ok End) (move_form p line >>= λ m. Ok (Played m))) (ap (λ (l : List ℕ). bytes_eq l (codes "end")) e ∙ not_end who text)
+
+-- what a line after the start is
+line_is : (p : Pos) (line : List ℕ) (l : RecordLine) → line_form p line ≡ Ok l → ((l ≡ End) × (line ≡ codes "end")) ⊎ ((m : Move) × (l ≡ Played m) × SpellsMove p line m)
+unfolding line_form
+line_is p line l e = go (bytes_eq line (codes "end")) refl (move_form p line) refl e
+  where
+    go : (b : Bool) → bytes_eq line (codes "end") ≡ b → (r : Result Move TextKind) → move_form p line ≡ r → cond b (Ok End) (r >>= λ m. Ok (Played m)) ≡ Ok l →
+        ((l ≡ End) × (line ≡ codes "end")) ⊎ ((m : Move) × (l ≡ Played m) × SpellsMove p line m)
+    go true is r js h = let same : End ≡ l = cc in inl (sym same, end_is line is)
+    go false is (Ok m) js h = let same : Played m ≡ l = cc in inr (m, sym same, move_is p line m js)
+    go false is (Err kind) js h = absurd cc
+
+-- the move of a line is legal
+pub played_legal : (p : Pos) (line : List ℕ) (m : Move) → line_form p line ≡ Ok (Played m) → is_legal p m ≡ true
+played_legal p line m e = go (line_is p line (Played m) e)
+  where
+    go : ((Played m ≡ End) × (line ≡ codes "end")) ⊎ ((o : Move) × (Played m ≡ Played o) × SpellsMove p line o) → is_legal p m ≡ true
+    go (inl h) = let bad = h.0 in absurd cc
+    go (inr h) = let is = h.1 in let same : m ≡ h.0 = cc in ap (is_legal p) same ∙ h.2.only.matches.legal
+
+-- what the lines of the moves spell, and the last line
+abbrev pub Spelled : Pos → List Move → List ℕ → Move → Type 0
+Spelled start before line m = SpellsMove (after_all start before) line m
+
+abbrev pub Ended : List Move → List ℕ → Unit {0} → Type 0
+Ended before line u = line ≡ codes "end"
+
+pub step_is : (start : Pos) (ms : List Move) (line : List ℕ) (step : Step (List Move) (List Move × Unit {0})) → step_form start ms line ≡ Ok step → IsStep (Spelled start) Ended ms line step
+step_is start ms line step e = go (line_form (after_all start ms) line) refl e
+  where
+    by : (l : RecordLine) → led ms l ≡ step → ((l ≡ End) × (line ≡ codes "end")) ⊎ ((m : Move) × (l ≡ Played m) × SpellsMove (after_all start ms) line m) → IsStep (Spelled start) Ended ms line step
+    by l same (inl h) = subst (IsStep (Spelled start) Ended ms line) (ap (led ms) (sym h.0) ∙ same) (refl, h.1)
+    by l same (inr h) = subst (IsStep (Spelled start) Ended ms line) (ap (led ms) (sym h.1) ∙ same) (h.0, refl, h.2)
+
+    go : (r : Result RecordLine TextKind) → line_form (after_all start ms) line ≡ r → (r >>= λ l. Ok (led ms l)) ≡ Ok step → IsStep (Spelled start) Ended ms line step
+    go (Err kind) is h = absurd cc
+    go (Ok l) is h = let same : led ms l ≡ step = cc in by l same (line_is (after_all start ms) line l is)
+
+pub moves_form : (start : Pos) → IsItemForm (step_form start) (Spelled start) Ended
+moves_form start = record {
+  found = step_is start;
+  one = λ ms line m s.
+      ap (λ (r : Result RecordLine TextKind). r >>= λ l. Ok (led ms l))
+      (line_again (after_all start ms) (after_all start ms).side line s.text s.is ∙ ap (λ (r : Result Move TextKind). r >>= λ m. Ok (Played m)) (move_again (after_all start ms) line m s));
+  last = λ ms line u e. ap (λ (r : Result RecordLine TextKind). r >>= λ l. Ok (led ms l)) (end_again (after_all start ms) line e);
+}
+
+-- ---- the position
+
+pub after_more : (p : Pos) (ms : List Move) (m : Move) → after_all p (ms ++ m ∷ []) ≡ after (after_all p ms) m
+after_more p [] m = refl
+after_more p (x ∷ ms) m = after_more (after p x) ms m
+
+pub ruleset reads = (after_more, played_legal)

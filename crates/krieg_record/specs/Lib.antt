@@ -1,0 +1,12 @@
+pub mod NotationText
+pub mod NotationReading
+pub mod MoveTraits
+pub mod Disambiguation
+pub mod San
+pub mod Matching
+pub mod SanReading
+pub mod Records
+pub mod RecordText
+pub mod RecordReading
+pub mod RecordSpelling
+pub mod Laws

@@ -1,0 +1,8 @@
+use Rattle.std.proofs.Common.{◌≡◌, drop}
+use Rattle.std.specs.List.{list_any}
+use Rattle.krieg_theory.specs.Sets.{same}
+use Rattle.krieg_board.specs.Order.{move_lt}
+use Rattle.krieg_refute.proofs.reasons.is_one_of.Given as goal
+
+abbrev pub invariant-loop-m : goal.invariant-loop-m
+invariant-loop-m l = list_any (same move_lt l.mv) (drop l.m-index l.moves) ≡ list_any (same move_lt l.mv) l.moves

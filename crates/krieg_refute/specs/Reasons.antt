@@ -1,0 +1,30 @@
+-- What is found of claims.
+use Rattle.std.specs.Prelude.{ℕ, ◌&&◌, Bool, true, List, [], ◌∷◌, if◌then◌else◌}
+use Rattle.std.specs.List.{list_all, list_any}
+use Rattle.krieg_board.specs.Pos.{Pos}
+use Rattle.krieg_board.specs.declared.men.Move.{Move}
+use Rattle.krieg_words.specs.declared.dialects.Dialect.{Dialect}
+use Rattle.krieg_pack.specs.Order.{position_lt}
+use Rattle.krieg_theory.specs.Sets.{same}
+use Rattle.krieg_costs.specs.Refutation.{Reason, Claim, holds, is_within}
+use Rattle.krieg_game.specs.Keys.{Key, key_lt}
+use Rattle.krieg_game.specs.Chess.{chess}
+use Rattle.krieg_board.specs.Order.{move_lt}
+
+-- the set that stands in a list of classes under a key: nothing where none does
+abbrev pub class_in : List (Key × List Pos) → Key → List Pos
+class_in [] key = []
+class_in (c ∷ cs) key = if same key_lt c.0 key then c.1 else class_in cs key
+
+-- the set is within one of some that go with what is heard
+abbrev pub any_within : {K : Type 0} → List Pos → List (K × List Pos) → Bool
+any_within X cs = list_any (λ c. is_within position_lt X c.1) cs
+
+module _ (d : Dialect) (before : List (Claim (chess d))) (j : ℕ) (B : List Pos) (t : Move) where
+  -- the reason, where it is one for this try, holds at the number j + 1
+  abbrev pub holds_if_own : Move × Reason Key → Bool
+  holds_if_own r = if same move_lt r.0 t then holds (chess d) before j B t r.1 else true
+
+  -- there is a reason for the try, and each one holds
+  abbrev pub try_holds : List (Move × Reason Key) → Bool
+  try_holds rs = list_any (λ r. same move_lt r.0 t) rs && list_all holds_if_own rs

@@ -1,0 +1,269 @@
+ghost use Rattle.std.specs.Prelude.{◌≡◌, ◌<◌, ◌≤◌, ◌^◌, ◌↔◌, ◌++◌, ◌∷◌, [], false, true, IfOk, OnOk, IsTrue, map, length};
+ghost use Rattle.krieg_theory.specs.Sets.{In, is_nil};
+ghost use Rattle.krieg_theory.specs.Split as theory;
+ghost use Rattle.krieg_theory.specs.Split.{legal_in_some};
+ghost use Rattle.krieg_costs.specs.Cost.{made};
+ghost use Rattle.krieg_game.specs.Chess.{chess};
+ghost use Rattle.krieg_game.specs.Classes.{class_pair};
+ghost use Rattle.krieg_pack.specs.Order.{position_lt};
+ghost use Rattle.krieg_accounts.specs.Stored.{stored};
+ghost use Rattle.krieg_table.specs.Interned.{set_at};
+ghost use Rattle.krieg_table.specs.Entries.{entries};
+ghost use Rattle.krieg_claims.specs.Losses.{is_loss};
+ghost use Rattle.krieg_search.specs.Leaving.{IsLeft};
+ghost use Rattle.krieg_search.specs.Built.{IsPaidFor};
+ghost use Rattle.krieg_refute.specs.Claiming.{at_once_reason, IsLost, IsFirstLost, IsClaimed, IsNext, IsPushed, Claims, Reasons, Blocks};
+ghost use Rattle.krieg_refute.specs.Refutations.{why_of, reason_of, most_claims, most_claimed};
+ghost use Rattle.krieg_search.specs.Searched.{AreCounted};
+
+use crate::refutation::{Claim, MOST_CLAIMED, MOST_CLAIMS, Reason, Why};
+use indexmap::IndexSet;
+use krieg_board::{Move, NoMemory, Units};
+use krieg_game::Class;
+use krieg_pack::Belief;
+use krieg_search::{Left, Stop2, left_by, number_of};
+use krieg_split::{SplitStop, tries};
+use krieg_table::{Known, Table};
+use krieg_words::{Dialect, Words};
+use std::alloc::Global;
+
+/// A set by its number, with a number of own moves.
+#[derive(Clone, Copy, Debug, PartialEq, Eq, Hash)]
+pub(crate) struct Asked {
+    pub set: u32,
+    pub moves: u8,
+}
+
+/// The claims that are written so far, each behind those that it cites.
+#[derive(Drop)]
+pub(crate) struct Claimed {
+    pub claims: Vec<Claim>,
+    /// What the claims speak of, in their order.
+    pub places: IndexSet<Asked>,
+    /// How many positions the claims have in all.
+    pub positions: usize,
+    /// How many reasons they have in all.
+    pub reasons: usize,
+}
+
+/// A class that cannot be won.
+#[derive(Drop)]
+pub(crate) struct LostClass {
+    pub own: Words,
+    pub reply: Words,
+    pub set: u32,
+}
+
+/// Whether the set is stored as one that cannot be won within `moves`.
+pub(crate) fn is_lost(table: &Table, set: u32, moves: u8) -> bool
+    requires { set < length table.now }
+    ensures { result ≡ is_loss (stored position_lt (entries table.now) (set_at table.now set, moves)) }
+{
+    match table.result(set, moves) {
+        Some(Known::Loses) => true,
+        Some(Known::Wins(_)) => false,
+        None => false,
+    }
+}
+
+/// What the try leaves to be won, by units that are made for this split alone, since the search has paid for it.
+fn left_again(
+    alloc: Global,
+    d: Dialect,
+    b: &Belief,
+    mv: Move,
+    moves: u8,
+) -> Result<Option<Left>, NoMemory>
+    requires some { 0 < moves }
+    requires paid { made (chess d) b.now mv < 2 ^ 64 }
+    ensures { IfOk result (IsLeft d b.now mv moves) }
+{
+    let mut units = Units::new(u64::MAX);
+    match left_by(alloc, d, b, mv, moves, &mut units) {
+        Ok(left) => Ok(left),
+        Err(SplitStop::Spent) => unreachable!(),
+        Err(SplitStop::NoMemory) => Err(NoMemory),
+    }
+}
+
+/// Why a try fails at once: with one move left it lives in some member, and else it stalemates in some.
+fn at_once(moves: u8) -> Why
+    ensures { why_of result ≡ at_once_reason moves }
+{
+    if moves == 1 {
+        return Why::Lives;
+    }
+    Why::Stale
+}
+
+/// The first of the classes that is stored as one that cannot be won within `moves`.
+///
+/// Each class that is looked at is let go into the table.
+fn first_lost(
+    table: &mut Table,
+    classes: Vec<Class>,
+    moves: u8,
+) -> Result<Option<LostClass>, NoMemory>
+    requires { AreCounted table.old }
+    ensures { IfOk result (IsFirstLost table.old table.new (map class_pair classes.items) moves) }
+{
+    for class in classes {
+        let set = number_of(table, class.belief)?;
+        if is_lost(table, set, moves) {
+            return Ok(Some(LostClass {
+                own: class.own,
+                reply: class.reply,
+                set,
+            }));
+        }
+    }
+    Ok(None)
+}
+
+/// Whether so many claims, with so many positions and reasons, may be written.
+fn are_few(claims: usize, positions: usize, reasons: usize) -> bool
+    ensures { IsTrue result ↔ ((claims ≤ most_claims) × (positions ≤ most_claimed) × (reasons ≤ most_claimed)) }
+{
+    claims <= MOST_CLAIMS && positions <= MOST_CLAIMED && reasons <= MOST_CLAIMED
+}
+
+/// Adds a claim of a copy of the set.
+fn add_claim(
+    claims: &mut Vec<Claim>,
+    set: &Belief,
+    moves: u8,
+    reasons: Vec<Reason>,
+) -> Result<(), NoMemory>
+    ensures { OnOk result (claims.new.items ≡ claims.old.items ++ (record { moves = moves; set = set.now; reasons = reasons }) ∷ []) }
+{
+    let set = set.copy()?;
+    claims.push(Claim {
+        moves,
+        set,
+        reasons,
+    })?;
+    Ok(())
+}
+
+/// Adds what a claim speaks of, which is new.
+fn add_place(places: &mut IndexSet<Asked>, asked: Asked) -> Result<(), NoMemory>
+    requires { In asked places.old.keys → ⊥ }
+    ensures { OnOk result (places.new.keys ≡ places.old.keys ++ asked ∷ []) }
+{
+    places.insert(asked)?;
+    Ok(())
+}
+
+/// Puts the claim of a set behind the others, and gives its place. `Large` comes where the claims are too many with it.
+fn push(
+    d: Dialect,
+    table: &Table,
+    claimed: &mut Claimed,
+    set: u32,
+    moves: u8,
+    reasons: Vec<Reason>,
+) -> Result<u32, Stop2>
+    requires within { set < length table.now }
+    requires claimed { IsClaimed d table.now claimed.old }
+    requires next { IsNext d table.now claimed.old.places.keys (set_at table.now set) moves (map reason_of reasons.items) }
+    ensures { IsPushed d table.now (set_at table.now set) moves claimed.old claimed.new result }
+{
+    let belief = table.belief(set);
+    let positions = claimed.positions.saturating_add(belief.len());
+    let count = claimed.reasons.saturating_add(reasons.len());
+    if !are_few(claimed.claims.len() + 1, positions, count) {
+        return Err(Stop2::Large);
+    }
+    add_claim(&mut claimed.claims, belief, moves, reasons)?;
+    add_place(&mut claimed.places, Asked { set, moves })?;
+    claimed.positions = positions;
+    claimed.reasons = count;
+    Ok(claimed.claims.len() as u32)
+}
+
+/// The place of the claim that the set cannot be won within `moves`, as it is stored. A claim that is not there yet is put
+/// behind all that it cites.
+#[cycle(claim)]
+pub(crate) fn claim(
+    alloc: Global,
+    d: Dialect,
+    table: &mut Table,
+    claimed: &mut Claimed,
+    set: u32,
+    moves: u8,
+) -> Result<u32, Stop2>
+    requires some { 0 < moves }
+    requires within { set < length table.old }
+    requires members { is_nil (set_at table.old set) ≡ false }
+    requires paid { IsPaidFor d table.old }
+    requires lost { IsLost table.old (set_at table.old set) moves }
+    requires claimed { IsClaimed d table.old claimed.old }
+    ensures { Claims d result (set_at table.old set) moves table.old table.new claimed.old claimed.new }
+{
+    table.know_once();
+    if let Some(index) = claimed.places.get_index_of(&Asked { set, moves }) {
+        return Ok(index as u32 + 1);
+    }
+    let tries = tries(alloc, table.belief(set))?;
+    let reasons = reasons_for(alloc, d, table, claimed, set, moves, tries.as_slice())?;
+    push(d, table, claimed, set, moves, reasons)
+}
+
+/// The reasons of all tries of the set, by claims that stand before its own.
+#[cycle(claim)]
+fn reasons_for(
+    alloc: Global,
+    d: Dialect,
+    table: &mut Table,
+    claimed: &mut Claimed,
+    set: u32,
+    moves: u8,
+    tries: &[Move],
+) -> Result<Vec<Reason>, Stop2>
+    requires some { 0 < moves }
+    requires within { set < length table.old }
+    requires paid { IsPaidFor d table.old }
+    requires lost { IsLost table.old (set_at table.old set) moves }
+    requires claimed { IsClaimed d table.old claimed.old }
+    requires all { tries.now ≡ theory.tries (chess d) (set_at table.old set) }
+    ensures { Reasons d result (set_at table.old set) moves tries.now table.old table.new claimed.old claimed.new }
+{
+    let mut reasons = Vec::new(alloc);
+    for mv in tries {
+        let why = why(alloc, d, table, claimed, set, *mv, moves)?;
+        reasons.push(Reason { mv: *mv, why })?;
+    }
+    Ok(reasons)
+}
+
+/// Why the try does not begin to win the set within `moves`.
+#[cycle(claim)]
+fn why(
+    alloc: Global,
+    d: Dialect,
+    table: &mut Table,
+    claimed: &mut Claimed,
+    set: u32,
+    mv: Move,
+    moves: u8,
+) -> Result<Why, Stop2>
+    requires some { 0 < moves }
+    requires within { set < length table.old }
+    requires paid { IsPaidFor d table.old }
+    requires lost { IsLost table.old (set_at table.old set) moves }
+    requires claimed { IsClaimed d table.old claimed.old }
+    requires legal { legal_in_some (chess d) (set_at table.old set) mv ≡ true }
+    ensures { Blocks d result (set_at table.old set) moves mv table.old table.new claimed.old claimed.new }
+{
+    let Some(Left { classes, refused }) = left_again(alloc, d, table.belief(set), mv, moves)? else {
+        return Ok(at_once(moves));
+    };
+    if let Some(lost) = first_lost(table, classes, moves - 1)? {
+        drop(refused);
+        let place = claim(alloc, d, table, claimed, lost.set, moves - 1)?;
+        return Ok(Why::Class(lost.own, lost.reply, place));
+    }
+    let rest = number_of(table, refused)?;
+    let place = claim(alloc, d, table, claimed, rest, moves)?;
+    Ok(Why::Refused(place))
+}

@@ -1,0 +1,122 @@
+ghost use Rattle.std.specs.Prelude.{◌≡◌, ◌<◌, ◌≤◌, false, true, find, is_some, length, IfSome};
+ghost use Rattle.krieg_theory.specs.Sets.{is_nil};
+ghost use Rattle.krieg_table.specs.Interned.{set_at};
+ghost use Rattle.krieg_search.specs.Built.{IsPaidFor};
+ghost use Rattle.krieg_search.specs.Opened.{AreNumbered};
+ghost use Rattle.krieg_refute.specs.Refuted as side;
+ghost use Rattle.krieg_refute.specs.Refuted.{IsOneSide, IsDenied, IsTaken};
+ghost use Rattle.krieg_refute.specs.Claiming.{IsLost, is_lost_opening, AreClaims};
+
+use crate::claiming::{Claimed, claim, is_lost};
+use crate::refutation::Claim;
+use crate::stop::RefuteStop;
+use indexmap::IndexSet;
+use krieg_board::{MOST_MOVES, Side, Units};
+use krieg_pack::Belief;
+use krieg_search::decide::{Decided, Found, decide};
+use krieg_search::{Opening, Stop2};
+use krieg_table::Table;
+use krieg_words::Dialect;
+use std::alloc::Global;
+
+/// What is found of a set of positions and a number of moves.
+#[derive(Drop)]
+pub enum Denied {
+    /// No plan mates all members within the number, and these claims show it.
+    Denial(Vec<Claim>),
+    /// Some plan mates all members within the number.
+    Exists,
+}
+
+/// The side that is to move in the first member, and White where there is none.
+fn side_of(b: &Belief) -> Side
+    ensures { result ≡ side.side_of b.now }
+{
+    if b.is_empty() {
+        return Side::White;
+    }
+    b.get(0).side()
+}
+
+/// The set of the first opening that is stored as one that cannot be won within `moves`.
+fn lost_opening(table: &Table, openings: &[Opening], moves: u8) -> u32
+    requires numbered { AreNumbered table.now openings.now }
+    requires some { is_some (find (is_lost_opening table.now moves) openings.now) ≡ true }
+    ensures { IfSome (find (is_lost_opening table.now moves) openings.now) (λ o. o.set ≡ result) }
+{
+    for o in openings {
+        if is_lost(table, o.set, moves) {
+            return o.set;
+        }
+    }
+    unreachable!()
+}
+
+/// The claims that the set, which is stored as such, cannot be won within `moves`.
+fn claims_for(
+    alloc: Global,
+    d: Dialect,
+    mut table: Table,
+    set: u32,
+    moves: u8,
+) -> Result<Vec<Claim>, Stop2>
+    requires some { 0 < moves }
+    requires within { set < length table }
+    requires members { is_nil (set_at table set) ≡ false }
+    requires paid { IsPaidFor d table }
+    requires lost { IsLost table (set_at table set) moves }
+    ensures { AreClaims d (set_at table set) moves result }
+{
+    let mut claimed = Claimed {
+        claims: Vec::new(alloc),
+        places: IndexSet::new(alloc),
+        positions: 0,
+        reasons: 0,
+    };
+    claim(alloc, d, &mut table, &mut claimed, set, moves)?;
+    Ok(claimed.claims)
+}
+
+/// The claims that no plan of the side to move mates all members within `moves`, as the umpire tells games in the
+/// dialect, or that some plan does.
+///
+/// `Denial` has the claims of krieg_claims for the first opening set that cannot be won, in order, and they refute.
+/// `Exists` comes only where some plan mates within `moves`, and `Large` only where none does and these claims are more than
+/// `MOST_CLAIMS`, or have more than `MOST_CLAIMED` positions or reasons: since these exclude each other, each comes exactly
+/// then, if neither units nor memory are wanting.
+///
+/// The units are those of the search: an answer takes at least the floor of krieg_costs and at most what is fresh. `Spent`
+/// comes only where fewer units are left than are fresh. An error takes none, and `Large` is one.
+///
+/// From 1 to 6 moves may be asked for, and the same side is to move in all members. `NoMemory` comes for want of memory, and
+/// for more different sets than a table keeps.
+pub fn refute(
+    alloc: Global,
+    d: Dialect,
+    b: &Belief,
+    moves: u8,
+    units: &mut Units,
+) -> Result<Denied, RefuteStop>
+    requires turn { IsOneSide b.now }
+    requires some { 0 < moves }
+    requires most { moves ≤ MOST_MOVES }
+    ensures answer { IsDenied d (side.side_of b.now) b.now moves result }
+    ensures units { IsTaken d (side.side_of b.now) b.now moves result units.old units.new }
+{
+    let who = side_of(b);
+    let mut left = Units::new(units.left());
+    match decide(alloc, d, who, b, moves, &mut left)? {
+        Decided::Over => unreachable!(),
+        Decided::Lost(found) => {
+            let Found { table, openings } = found;
+            let set = lost_opening(&table, openings.as_slice(), moves);
+            let claims = claims_for(alloc, d, table, set, moves)?;
+            *units = left;
+            Ok(Denied::Denial(claims))
+        }
+        Decided::Won(_found) => {
+            *units = left;
+            Ok(Denied::Exists)
+        }
+    }
+}

@@ -1,0 +1,117 @@
+-- How a game that a plan leads begins.
+use Rattle.std.proofs.Common.{◌≡◌, ℕ, [], ◌∷◌, ◌++◌, refl, sym, ap, subst, ◌∙◌, arith, Result, Ok, Err}
+use Rattle.std.proofs.lemmas.List.{append-nil}
+use Rattle.krieg_board.specs.Men.{other}
+use Rattle.krieg_board.specs.Pos.{Pos}
+use Rattle.krieg_board.specs.declared.men.Side.{Side}
+use Rattle.krieg_words.specs.WordsOfMoves.{opening}
+use Rattle.krieg_words.specs.Line.{told_line}
+use Rattle.krieg_words.specs.declared.dialects.Dialect.{Dialect}
+use Rattle.krieg_words.specs.declared.line.Line.{Line}
+use Rattle.krieg_words.specs.declared.line.Line.TheVariants.{Opens}
+use Rattle.krieg_referee.specs.Games.{GameState}
+use Rattle.krieg_referee.specs.Hearing.{heard}
+use Rattle.krieg_referee.specs.declared.verdict.Stop.{Stop}
+use Rattle.krieg_seats.specs.Accounts.{Account, new_account}
+use Rattle.krieg_plan.specs.declared.plan.PlanFile.{PlanFile}
+use Rattle.krieg_robot.specs.Followers.{Follower}
+use Rattle.krieg_robot.specs.Leading.{IsLed, IsBroken, broken_counts}
+use Rattle.krieg_robot.specs.Turns.{hearing, fault_counts, BothTold, IsUnderway, LeadsOn, ComesTo}
+use Rattle.krieg_robot.specs.declared.led.LeadFault.{LeadFault}
+use Rattle.krieg_robot.specs.declared.led.LeadFault.TheVariants.{Seat, NoMemory}
+
+abbrev begun_game : Pos → ℕ → GameState
+begun_game start n = record { position = start; log = []; spare = n }
+
+begun_at : (f : PlanFile) (start : Pos) (n : ℕ) (a a' : Account) (s' : Follower) → s'.file ≡ f → s'.account.heard ≡ heard f.dialect start [] f.side → a' ≡ hearing a (heard f.dialect start [] (other f.side)) →
+    IsUnderway f start n a a' s' (begun_game start n)
+begun_at f start n a a' s' file_is follows is = record {
+  is_game = record { log = refl; position = refl; on_turn = tt; places = omega arith };
+  file_is = file_is;
+  follows = follows;
+  tried = tt;
+  said = ap (λ (x : Account). x.said) is ∙ sym (append-nil a.said);
+  heard = ap (λ (x : Account). x.heard) is;
+  asked = ap (λ (x : Account). x.asks) is;
+  stays = (ap (λ (x : Account). x.faults) is, ap (λ (x : Account). x.leaves) is);
+}
+
+game_is : (start : Pos) (game : GameState) → game.position ≡ start → game.log ≡ [] → begun_game start game.spare ≡ game
+game_is start game p l = λ i. record { position = sym p i; log = sym l i; spare = game.spare }
+
+-- both were told the opening words, or not
+pub record IsBegun (r : Result (Unit {0}) LeadFault) (start : Pos) (a a' : Account) (s s' : Follower) (game : GameState) : Type 0 where
+  pub d : Dialect
+  pub side : Side
+  pub own : Line
+  pub theirs : Line
+  pub fresh_is : s.account ≡ new_account
+  pub position : game.position ≡ start
+  pub log : game.log ≡ []
+  pub d_is : d ≡ s.file.dialect
+  pub own_is : own ≡ told_line d (Opens (opening start))
+  pub theirs_is : theirs ≡ told_line d (Opens (opening start))
+  pub tells : BothTold r side s s' (own ∷ []) a a' (theirs ∷ [])
+
+module _ {r : Result (Unit {0}) LeadFault} {start : Pos} {a a' : Account} {s s' : Follower} {game : GameState} (b : IsBegun r start a a' s s' game) where
+  first_line : (l : Line) → l ≡ told_line b.d (Opens (opening start)) → (who : Side) → l ∷ [] ≡ heard s.file.dialect start [] who
+  first_line l e who = ap (λ (x : Line). x ∷ []) (e ∙ ap (λ (d : Dialect). told_line d (Opens (opening start))) b.d_is)
+
+  pub begins : r ≡ Ok tt → IsUnderway s.file start game.spare a a' s' game
+  begins is =
+      let t = subst (λ (x : Result (Unit {0}) LeadFault). BothTold x b.side s s' (b.own ∷ []) a a' (b.theirs ∷ [])) is b.tells in
+      subst (IsUnderway s.file start game.spare a a' s') (game_is start game b.position b.log)
+      (begun_at s.file start game.spare a a' s' t.0.0 (t.0.1 ∙ (ap (λ (x : Account). x.heard ++ b.own ∷ []) b.fresh_is ∙ first_line b.own b.own_is s.file.side))
+      (t.1 ∙ ap (hearing a) (first_line b.theirs b.theirs_is (other s.file.side))))
+
+  begun_counts : (fault : LeadFault) → fault_counts fault a a' → a'.leaves ≡ a.leaves → broken_counts fault a a'
+  begun_counts Seat c l = (c, l)
+  begun_counts NoMemory c l = (c, l)
+
+  pub breaks : (fault : LeadFault) → r ≡ Err fault → IsBroken s.file start game.spare a a' fault
+  breaks fault is =
+      let p = (subst (λ (x : Result (Unit {0}) LeadFault). BothTold x b.side s s' (b.own ∷ []) a a' (b.theirs ∷ [])) is b.tells).0 in
+      record {
+        game = begun_game start game.spare;
+        is_game = record { log = refl; position = refl; on_turn = tt; places = omega arith };
+        tried = tt;
+        said = ap (λ (x : Account). x.said) p.now_is ∙ sym (append-nil a.said);
+        told = p.told;
+        due = p.due;
+        lines = p.split ∙ first_line b.theirs b.theirs_is (other s.file.side);
+        heard = ap (λ (x : Account). x.heard) p.now_is;
+        vain = 0;
+        at_most_one = omega arith;
+        asked = ap (λ (x : Account). x.asks) p.now_is;
+        counts = begun_counts fault p.counts (ap (λ (x : Account). x.leaves) p.now_is);
+      }
+
+pub begun_ok : (r : Result (Unit {0}) LeadFault) (q : Result Stop LeadFault) (start : Pos) (a b c : Account) (s t : Follower) (game game' : GameState) → r ≡ Ok tt → IsBegun r start a b s t game → LeadsOn q b c t game game' →
+    ComesTo q s.file start game.spare a c game'
+begun_ok r q start a b c s t game game' is begun leads = leads s.file start game.spare a (begins begun is)
+
+-- a game for which there was no room
+pub never_begun : (f : PlanFile) (start : Pos) (n : ℕ) (a : Account) → IsBroken f start n a a NoMemory
+never_begun f start n a = record {
+  game = begun_game start n;
+  is_game = record { log = refl; position = refl; on_turn = tt; places = omega arith };
+  tried = tt;
+  said = sym (append-nil a.said);
+  told = [];
+  due = heard f.dialect start [] (other f.side);
+  lines = refl;
+  heard = sym (append-nil a.heard);
+  vain = 0;
+  at_most_one = omega arith;
+  asked = refl;
+  counts = (omega arith, refl);
+}
+
+-- the same game by the names of a caller
+pub led_from : (f g : PlanFile) (start : Pos) (n k : ℕ) (a b : Account) (game : GameState) (stop : Stop) → g ≡ f → n ≡ k → IsLed g start n a b game stop → IsLed f start k a b game stop
+led_from f g start n k a b game stop file_is asks_is h =
+    subst (λ (x : PlanFile). IsLed x start k a b game stop) file_is (subst (λ (x : ℕ). IsLed g start x a b game stop) asks_is h)
+
+pub broken_from : (f g : PlanFile) (start : Pos) (n k : ℕ) (a b : Account) (fault : LeadFault) → g ≡ f → n ≡ k → IsBroken g start n a b fault → IsBroken f start k a b fault
+broken_from f g start n k a b fault file_is asks_is h =
+    subst (λ (x : PlanFile). IsBroken x start k a b fault) file_is (subst (λ (x : ℕ). IsBroken g start x a b fault) asks_is h)

@@ -1,0 +1,131 @@
+-- What judging a try, and telling both what they hear of it, make of a game that a plan leads.
+use Rattle.std.proofs.Common.{◌≡◌, ℕ, ◌+◌, List, [], ◌∷◌, ◌++◌, length, map, refl, sym, ap, subst, ◌∙◌, append_assoc, arith, Result, Ok, Err, Option, Some, None, option_to_list}
+use Rattle.std.specs.Prelude.{option_map}
+use Rattle.krieg_ports.specs.Faults.{Rose, many_more}
+use Rattle.krieg_board.specs.Men.{other}
+use Rattle.krieg_board.specs.Pos.{Pos}
+use Rattle.krieg_board.specs.declared.men.Side.{Side}
+use Rattle.krieg_words.specs.Line.{told_line}
+use Rattle.krieg_words.specs.declared.dialects.Dialect.{Dialect}
+use Rattle.krieg_words.specs.declared.line.Line.{Line}
+use Rattle.krieg_referee.specs.Verdicts.{verdict, next}
+use Rattle.krieg_referee.specs.Games.{GameState, judged}
+use Rattle.krieg_referee.specs.Hearing.{heard, line_for}
+use Rattle.krieg_referee.specs.declared.verdict.Event.{Event}
+use Rattle.krieg_referee.specs.declared.verdict.Verdict.{Verdict}
+use Rattle.krieg_seats.specs.Accounts.{Account}
+use Rattle.krieg_play.specs.Games.{events_of, tries_of, IsGameFrom}
+use Rattle.krieg_play.proofs.Judging.{events_end, game_stepped}
+use Rattle.krieg_plan.specs.declared.plan.PlanFile.{PlanFile}
+use Rattle.krieg_robot.specs.Followers.{Follower}
+use Rattle.krieg_robot.specs.Leading.{AreTried, IsBroken, broken_counts}
+use Rattle.krieg_robot.specs.Turns.{HearsPart, fault_counts, BothTold, IsUnderway, HasTried, Judges}
+use Rattle.krieg_robot.specs.declared.led.LeadFault.{LeadFault}
+use Rattle.krieg_robot.specs.declared.led.LeadFault.TheVariants.{Seat, NoMemory}
+use Rattle.krieg_robot.proofs.HeardMore.{heard_end}
+
+list_in : (d : Dialect) (o : Option Line) → option_to_list (option_map (told_line d) o) ≡ map (told_line d) (option_to_list o)
+list_in d None = refl
+list_in d (Some l) = refl
+
+-- a try was judged, and both were told what they hear of it, or not
+pub record IsJudged (r : Result (Unit {0}) LeadFault) (e : Event) (a a' : Account) (s s' : Follower) (game game' : GameState) : Type 0 where
+  pub d : Dialect
+  pub side : Side
+  pub their_side : Side
+  pub told : Verdict
+  pub own : Option Line
+  pub theirs : Option Line
+  pub log : game'.log ≡ game.log ++ judged game.position e ∷ []
+  pub position : game'.position ≡ next game.position e.who e.mv
+  pub spare : game'.spare + 1 ≡ game.spare
+  pub d_is : d ≡ s.file.dialect
+  pub side_is : side ≡ s.file.side
+  pub their_side_is : their_side ≡ other side
+  pub told_is : told ≡ verdict game.position e.who e.mv
+  pub own_is : own ≡ option_map (told_line d) (line_for side (record { event = e; verdict = told }))
+  pub theirs_is : theirs ≡ option_map (told_line d) (line_for their_side (record { event = e; verdict = told }))
+  pub tells : BothTold r side s s' (option_to_list own) a a' (option_to_list theirs)
+
+module _ {r : Result (Unit {0}) LeadFault} {e : Event} {a a' : Account} {s s' : Follower} {game game' : GameState} (j : IsJudged r e a a' s s' game game') {f : PlanFile} {start : Pos} {asks : ℕ} {entry : Account} (h : HasTried f start asks entry a s game e) where
+  events_is : events_of game'.log ≡ events_of game.log ++ e ∷ []
+  events_is = ap events_of j.log ∙ events_end game.log (judged game.position e)
+
+  -- what one of them is told of it comes to the lines that are heard of the game
+  heard_next : (who : Side) (side : Side) (o : Option Line) → side ≡ who → o ≡ option_map (told_line j.d) (line_for side (record { event = e; verdict = j.told })) →
+      heard f.dialect start (events_of game.log) who ++ option_to_list o ≡ heard f.dialect start (events_of game'.log) who
+  heard_next who side o side_is o_is =
+      let es = events_of game.log in
+      let line : Dialect → Side → Verdict → List Line = λ d w v. map (told_line d) (option_to_list (line_for w (record { event = e; verdict = v }))) in
+      ap (λ (ls : List Line). heard f.dialect start es who ++ ls) (ap option_to_list o_is ∙ list_in j.d (line_for side (record { event = e; verdict = j.told })))
+      ∙ (ap (λ (d : Dialect). heard f.dialect start es who ++ line d side j.told) (j.d_is ∙ ap (λ (x : PlanFile). x.dialect) h.file_is)
+      ∙ (ap (λ (w : Side). heard f.dialect start es who ++ line f.dialect w j.told) side_is
+      ∙ (ap (λ (v : Verdict). heard f.dialect start es who ++ line f.dialect who v) j.told_is
+      ∙ (ap (λ (p : Pos). heard f.dialect start es who ++ line f.dialect who (verdict p e.who e.mv)) h.is_game.position
+      ∙ (sym (heard_end f.dialect start es who e) ∙ ap (λ (xs : List Event). heard f.dialect start xs who) (sym events_is))))))
+
+  side_is : j.side ≡ f.side
+  side_is = j.side_is ∙ ap (λ (x : PlanFile). x.side) h.file_is
+
+  their_side_is : j.their_side ≡ other f.side
+  their_side_is = j.their_side_is ∙ ap other side_is
+
+  stepped : IsGameFrom start asks game'
+  stepped = game_stepped start asks game game' e h.is_game h.on_turn j.log j.position j.spare
+
+  tried : AreTried f start [] (events_of game'.log)
+  tried = subst (AreTried f start []) (sym events_is) h.tried
+
+  said : entry.said ++ tries_of (other f.side) (events_of game.log ++ e ∷ []) ≡ entry.said ++ tries_of (other f.side) (events_of game'.log)
+  said = ap (λ (es : List Event). entry.said ++ tries_of (other f.side) es) (sym events_is)
+
+  asked : many_more (length (tries_of (other f.side) (events_of game.log ++ e ∷ []))) entry.asks ≡ many_more (length (tries_of (other f.side) (events_of game'.log))) entry.asks
+  asked = ap (λ (es : List Event). many_more (length (tries_of (other f.side) es)) entry.asks) (sym events_is)
+
+  asked_in_part : many_more (length (tries_of (other f.side) (events_of game.log ++ e ∷ []))) entry.asks ≡ many_more (0 + length (tries_of (other f.side) (events_of game'.log))) entry.asks
+  asked_in_part = let none : length (tries_of (other f.side) (events_of game'.log)) ≡ 0 + length (tries_of (other f.side) (events_of game'.log)) = omega arith in
+      asked ∙ ap (λ (n : ℕ). many_more n entry.asks) none
+
+  theirs_next : heard f.dialect start (events_of game.log) (other f.side) ++ option_to_list j.theirs ≡ heard f.dialect start (events_of game'.log) (other f.side)
+  theirs_next = heard_next (other f.side) j.their_side j.theirs their_side_is j.theirs_is
+
+  told_ok : BothTold (Ok tt) j.side s s' (option_to_list j.own) a a' (option_to_list j.theirs) → IsUnderway f start asks entry a' s' game'
+  told_ok t = record {
+    is_game = stepped;
+    file_is = t.0.0 ∙ h.file_is;
+    follows = t.0.1 ∙ (ap (λ (ls : List Line). ls ++ option_to_list j.own) h.follows ∙ heard_next f.side j.side j.own side_is j.own_is);
+    tried = tried;
+    said = ap (λ (x : Account). x.said) t.1 ∙ (h.said ∙ said);
+    heard = ap (λ (x : Account). x.heard) t.1 ∙ (ap (λ (ls : List Line). ls ++ option_to_list j.theirs) h.heard
+        ∙ (append_assoc entry.heard (heard f.dialect start (events_of game.log) (other f.side)) (option_to_list j.theirs) ∙ ap (λ (ls : List Line). entry.heard ++ ls) theirs_next));
+    asked = ap (λ (x : Account). x.asks) t.1 ∙ (h.asked ∙ asked);
+    stays = (ap (λ (x : Account). x.faults) t.1 ∙ h.stays.0, ap (λ (x : Account). x.leaves) t.1 ∙ h.stays.1);
+  }
+
+  counts_of : (fault : LeadFault) → fault_counts fault a a' → a'.leaves ≡ a.leaves → broken_counts fault entry a'
+  counts_of Seat c l = (subst (λ (n : ℕ). Rose n a'.faults) h.stays.0 c, l ∙ h.stays.1)
+  counts_of NoMemory c l = (omega (arith, h.stays.0, c), l ∙ h.stays.1)
+
+  told_err : (fault : LeadFault) → HearsPart fault (option_to_list j.theirs) a a' → IsBroken f start asks entry a' fault
+  told_err fault p = record {
+    game = game';
+    is_game = stepped;
+    tried = tried;
+    said = ap (λ (x : Account). x.said) p.now_is ∙ (h.said ∙ said);
+    told = heard f.dialect start (events_of game.log) (other f.side) ++ p.told;
+    due = p.due;
+    lines = append_assoc (heard f.dialect start (events_of game.log) (other f.side)) p.told p.due
+        ∙ (ap (λ (ls : List Line). heard f.dialect start (events_of game.log) (other f.side) ++ ls) p.split ∙ theirs_next);
+    heard = ap (λ (x : Account). x.heard) p.now_is ∙ (ap (λ (ls : List Line). ls ++ p.told) h.heard
+        ∙ append_assoc entry.heard (heard f.dialect start (events_of game.log) (other f.side)) p.told);
+    vain = 0;
+    at_most_one = omega arith;
+    asked = ap (λ (x : Account). x.asks) p.now_is ∙ (h.asked ∙ asked_in_part);
+    counts = counts_of fault p.counts (ap (λ (x : Account). x.leaves) p.now_is);
+  }
+
+pub judges_ok : (r : Result (Unit {0}) LeadFault) (e : Event) (a a' : Account) (s s' : Follower) (game game' : GameState) → r ≡ Ok tt → IsJudged r e a a' s s' game game' → Judges (Ok None) e a a' s s' game game'
+judges_ok r e a a' s s' game game' is j f start asks entry h = told_ok j h (subst (λ (x : Result (Unit {0}) LeadFault). BothTold x j.side s s' (option_to_list j.own) a a' (option_to_list j.theirs)) is j.tells)
+
+pub judges_err : (r : Result (Unit {0}) LeadFault) (fault : LeadFault) (e : Event) (a a' : Account) (s s' : Follower) (game game' : GameState) → r ≡ Err fault → IsJudged r e a a' s s' game game' → Judges (Err fault) e a a' s s' game game'
+judges_err r fault e a a' s s' game game' is j f start asks entry h = told_err j h fault (subst (λ (x : Result (Unit {0}) LeadFault). BothTold x j.side s s' (option_to_list j.own) a a' (option_to_list j.theirs)) is j.tells).0

@@ -1,0 +1,124 @@
+-- A game in which one side follows a plan file, against any opponent.
+use Rattle.std.specs.Prelude.{◌≡◌, ℕ, ◌+◌, ◌-◌, slice_get, ◌<◌, ◌≤◌, ◌&&◌, Bool, true, false, List, [], ◌∷◌, ◌++◌, length, filter, Option, Some, None, if◌then◌else◌}
+use Rattle.krieg_ports.specs.Faults.{many_more}
+use Rattle.krieg_board.specs.Men.{other, is_same_side}
+use Rattle.krieg_board.specs.Pos.{Pos}
+use Rattle.krieg_board.specs.declared.men.Side.{Side}
+use Rattle.krieg_moves.specs.Moves.{is_ended, is_mate}
+use Rattle.krieg_words.specs.declared.line.Line.{Line}
+use Rattle.krieg_referee.specs.Verdicts.{is_done}
+use Rattle.krieg_referee.specs.Hearing.{heard}
+use Rattle.krieg_referee.specs.Games.{GameState}
+use Rattle.krieg_referee.specs.declared.verdict.Event.{Event}
+use Rattle.krieg_referee.specs.declared.verdict.Judged.{Judged}
+use Rattle.krieg_referee.specs.declared.verdict.Stop.{Stop}
+use Rattle.krieg_referee.specs.declared.verdict.Stop.TheVariants.{Ended, Left, AsksUsed}
+use Rattle.krieg_seats.specs.Accounts.{Account}
+use Rattle.krieg_play.specs.Games.{events_of, tries_of, IsGameFrom}
+use Rattle.krieg_play.specs.Played.{leaver, played_counts}
+use Rattle.krieg_play.specs.Teams.{HasFailed, MayBeShort}
+use Rattle.krieg_plan.specs.declared.plan.PlanFile.{PlanFile}
+use Rattle.krieg_robot.specs.Stands.{Stand, next_try}
+use Rattle.krieg_robot.specs.Followers.{follow_file}
+use Rattle.krieg_robot.specs.declared.led.Led.{Led}
+use Rattle.krieg_robot.specs.declared.led.LeadFault.{LeadFault}
+use Rattle.krieg_robot.specs.declared.led.LeadFault.TheVariants.{Seat, NoMemory}
+
+-- ---- the side of the file
+
+-- where it stands once it heard its lines of all tries
+abbrev pub stand_after : PlanFile → Pos → List Event → Stand
+stand_after f start events = follow_file f (heard f.dialect start events f.side)
+
+-- a try of its own is that of the node at which it stands by the lines of the tries before
+abbrev pub IsTried : PlanFile → Pos → List Event → Event → Type 0
+IsTried f start before e = e.who ≡ f.side → next_try (stand_after f start before) ≡ Some e.mv
+
+-- so is each of these tries, where some came before them
+abbrev pub AreTried : PlanFile → Pos → List Event → List Event → Type 0
+AreTried f start before [] = Unit {0}
+AreTried f start before (e ∷ es) = IsTried f start before e × AreTried f start (before ++ e ∷ []) es
+
+-- a try of that side that was done: one of its moves
+abbrev pub is_own_move : Side → Judged → Bool
+is_own_move who j = is_same_side j.event.who who && is_done j.verdict
+
+-- how many moves the side has made
+abbrev pub own_moves : Side → List Judged → ℕ
+own_moves who log = length (filter (is_own_move who) log)
+
+-- ---- the opponent
+
+-- one ask of which no try came, where that side left
+abbrev pub last_ask_of : Side → Option Side → ℕ
+last_ask_of who (Some left) = if is_same_side left who then 1 else 0
+last_ask_of who None = 0
+
+-- how often a side was asked: once for each of its tries, and once more where it left
+abbrev pub asks_of : Side → Option Side → List Event → ℕ
+asks_of who left events = last_ask_of who left + length (tries_of who events)
+
+-- ---- a game that stopped
+
+-- Why the game stopped: it has ended; or as many tries were judged as may be asked for; or the side to move left, and the side of the
+-- file does so only where its plan has no try.
+abbrev pub LeadStops : PlanFile → Pos → ℕ → GameState → Stop → Type 0
+LeadStops f start asks game Ended = is_ended game.position ≡ true
+LeadStops f start asks game AsksUsed = (is_ended game.position ≡ false) × (asks ≤ length game.log)
+LeadStops f start asks game (Left who) = (is_ended game.position ≡ false) × (length game.log < asks) × (who ≡ game.position.side)
+    × (who ≡ f.side → next_try (stand_after f start (events_of game.log)) ≡ None)
+
+-- The file and an opponent played this game from the start until it stopped: the side of the file tried what its plan says, and the
+-- opponent what he said; he heard his lines, and was asked as often as the game tells.
+pub record IsLed (f : PlanFile) (start : Pos) (asks : ℕ) (entry now : Account) (game : GameState) (stop : Stop) : Type 0 where
+  pub is_game : IsGameFrom start asks game
+  pub tried : AreTried f start [] (events_of game.log)
+  pub said : now.said ≡ entry.said ++ tries_of (other f.side) (events_of game.log)
+  pub heard : now.heard ≡ entry.heard ++ heard f.dialect start (events_of game.log) (other f.side)
+  pub asked : now.asks ≡ many_more (asks_of (other f.side) (leaver stop) (events_of game.log)) entry.asks
+  pub counts : played_counts (leaver stop) (other f.side) entry now
+  pub stops : LeadStops f start asks game stop
+
+-- ---- a game that was given up
+
+-- what the opponent's counts came to then
+abbrev pub broken_counts : LeadFault → Account → Account → Type 0
+broken_counts Seat = HasFailed
+broken_counts NoMemory = MayBeShort
+
+-- They played this game from the start until it was given up: the opponent heard a front part of his lines, and was asked once for each
+-- of his tries, and perhaps once more.
+pub record IsBroken (f : PlanFile) (start : Pos) (asks : ℕ) (entry now : Account) (fault : LeadFault) : Type 0 where
+  pub game : GameState
+  pub is_game : IsGameFrom start asks game
+  pub tried : AreTried f start [] (events_of game.log)
+  pub said : now.said ≡ entry.said ++ tries_of (other f.side) (events_of game.log)
+  pub told : List Line
+  pub due : List Line
+  pub lines : told ++ due ≡ heard f.dialect start (events_of game.log) (other f.side)
+  pub heard : now.heard ≡ entry.heard ++ told
+  pub vain : ℕ
+  pub at_most_one : vain ≤ 1
+  pub asked : now.asks ≡ many_more (vain + length (tries_of (other f.side) (events_of game.log))) entry.asks
+  pub counts : broken_counts fault entry now
+
+-- ---- from a listed position
+
+-- what leading from the listed position with that number came to, where the game stopped
+pub record LedFrom (f : PlanFile) (number asks : ℕ) (entry now : Account) (led : Led) : Type 0 where
+  pub start : Pos
+  pub listed : slice_get f.list.items (number - 1) ≡ Some start
+  pub is_led : IsLed f start asks entry now led.game led.stop
+
+-- the same where the game was given up
+pub record BrokenFrom (f : PlanFile) (number asks : ℕ) (entry now : Account) (fault : LeadFault) : Type 0 where
+  pub start : Pos
+  pub listed : slice_get f.list.items (number - 1) ≡ Some start
+  pub is_broken : IsBroken f start asks entry now fault
+
+-- What a plan that mates makes of a game that it led: its side does not leave and makes at most as many moves as the file claims, and
+-- where the game has ended the opponent is mated.
+pub record IsWon (f : PlanFile) (game : GameState) (stop : Stop) : Type 0 where
+  pub stays : stop ≡ Left f.side → ⊥
+  pub few : own_moves f.side game.log ≤ f.worst
+  pub mates : stop ≡ Ended → (is_mate game.position ≡ true) × (game.position.side ≡ other f.side)

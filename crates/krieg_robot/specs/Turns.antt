@@ -1,0 +1,139 @@
+-- What no public clause cites: what each call of a game makes of the seat that follows a file, of its opponent and of their game.
+use Rattle.std.specs.Prelude.{◌≡◌, ℕ, ◌≤◌, ◌⊎◌, Bool, true, false, List, [], ◌∷◌, ◌++◌, length, Option, Some, None, Result, Ok, Err}
+use Rattle.krieg_ports.specs.Faults.{Rose, many_more}
+use Rattle.krieg_board.specs.Men.{other}
+use Rattle.krieg_board.specs.Pos.{Pos}
+use Rattle.krieg_board.specs.declared.men.Side.{Side}
+use Rattle.krieg_board.specs.declared.men.Side.TheVariants.{White, Black}
+use Rattle.krieg_words.specs.declared.line.Line.{Line}
+use Rattle.krieg_referee.specs.Hearing.{heard}
+use Rattle.krieg_referee.specs.Games.{GameState}
+use Rattle.krieg_referee.specs.declared.verdict.Event.{Event}
+use Rattle.krieg_referee.specs.declared.verdict.Stop.{Stop}
+use Rattle.krieg_seats.specs.Accounts.{Account, Asked, Fails, RunsShort, once_asked}
+use Rattle.krieg_seats.specs.declared.seat.Say.{Say}
+use Rattle.krieg_seats.specs.declared.seat.SeatFault.{SeatFault}
+use Rattle.krieg_seats.specs.declared.seat.SeatFault.TheVariants as fault
+use Rattle.krieg_play.specs.Games.{events_of, tries_of, IsGameFrom}
+use Rattle.krieg_play.specs.Played.{played_counts}
+use Rattle.krieg_play.specs.Teams.{Stays}
+use Rattle.krieg_plan.specs.declared.plan.PlanFile.{PlanFile}
+use Rattle.krieg_robot.specs.Stands.{next_try}
+use Rattle.krieg_robot.specs.Followers.{Follower, stand_of, say_of, after_asked}
+use Rattle.krieg_robot.specs.Leading.{stand_after, AreTried, asks_of, IsLed, IsBroken}
+use Rattle.krieg_robot.specs.declared.led.LeadFault.{LeadFault}
+use Rattle.krieg_robot.specs.declared.led.LeadFault.TheVariants.{Seat, NoMemory}
+
+-- the fault of a call that met the fault of the opponent
+abbrev pub lead_fault : SeatFault → LeadFault
+lead_fault fault.Failed = Seat
+lead_fault fault.NoMemory = NoMemory
+
+-- ---- one call
+
+-- what asking the side to move makes of both, where it is the side of the file or not
+abbrev pub TurnAsked : Bool → Result Say LeadFault → Follower → Follower → Account → Account → Type 0
+TurnAsked true (Ok say) s s' a a' = (say ≡ say_of (next_try (stand_of s))) × (s' ≡ after_asked s) × (a' ≡ a)
+TurnAsked true (Err Seat) s s' a a' = ⊥
+TurnAsked true (Err NoMemory) s s' a a' = a' ≡ a
+TurnAsked false (Ok say) s s' a a' = (s' ≡ s) × Asked (Ok say) a a'
+TurnAsked false (Err Seat) s s' a a' = Fails (once_asked a) a'
+TurnAsked false (Err NoMemory) s s' a a' = RunsShort (once_asked a) a'
+
+-- the opponent once he heard these lines
+abbrev pub hearing : Account → List Line → Account
+hearing a lines = record a { heard = a.heard ++ lines }
+
+-- what the opponent's count of faults came to
+abbrev pub fault_counts : LeadFault → Account → Account → Type 0
+fault_counts Seat a a' = Rose a.faults a'.faults
+fault_counts NoMemory a a' = a.faults ≤ a'.faults
+
+-- he heard a front part of these lines, where the call ended with this fault
+pub record HearsPart (fault : LeadFault) (lines : List Line) (a a' : Account) : Type 0 where
+  pub told : List Line
+  pub due : List Line
+  pub split : told ++ due ≡ lines
+  pub now_is : a' ≡ record a { heard = a.heard ++ told; faults = a'.faults }
+  pub counts : fault_counts fault a a'
+
+-- what telling the opponent these lines makes of him
+abbrev pub OtherTold : Result (Unit {0}) LeadFault → List Line → Account → Account → Type 0
+OtherTold (Ok _) lines a a' = a' ≡ hearing a lines
+OtherTold (Err fault) lines a a' = HearsPart fault lines a a'
+
+-- the seat of the file heard these lines
+abbrev pub OwnHears : Follower → Follower → List Line → Type 0
+OwnHears s s' own = (s'.file ≡ s.file) × (s'.account.heard ≡ s.account.heard ++ own)
+
+-- White is told before Black: where a call ends with a fault, Black heard nothing, or White heard all of his lines.
+abbrev pub IsToldFirst : Side → Follower → Follower → List Line → Account → Account → List Line → Type 0
+IsToldFirst White s s' own a a' theirs = (a' ≡ a) ⊎ OwnHears s s' own
+IsToldFirst Black s s' own a a' theirs = (s' ≡ s) ⊎ (a' ≡ hearing a theirs)
+
+-- what telling both makes of them, where the file is for that side
+abbrev pub BothTold : Result (Unit {0}) LeadFault → Side → Follower → Follower → List Line → Account → Account → List Line → Type 0
+BothTold (Ok _) side s s' own a a' theirs = OwnHears s s' own × (a' ≡ hearing a theirs)
+BothTold (Err fault) side s s' own a a' theirs = HearsPart fault theirs a a' × IsToldFirst side s s' own a a' theirs
+
+-- ---- a game
+
+-- a game under way between a file and an opponent
+pub record IsUnderway (f : PlanFile) (start : Pos) (asks : ℕ) (entry now : Account) (seat : Follower) (game : GameState) : Type 0 where
+  pub is_game : IsGameFrom start asks game
+  pub file_is : seat.file ≡ f
+  pub follows : seat.account.heard ≡ heard f.dialect start (events_of game.log) f.side
+  pub tried : AreTried f start [] (events_of game.log)
+  pub said : now.said ≡ entry.said ++ tries_of (other f.side) (events_of game.log)
+  pub heard : now.heard ≡ entry.heard ++ heard f.dialect start (events_of game.log) (other f.side)
+  pub asked : now.asks ≡ many_more (length (tries_of (other f.side) (events_of game.log))) entry.asks
+  pub stays : Stays entry now
+
+-- the same where the side to move has said one more try, which is not judged yet
+pub record HasTried (f : PlanFile) (start : Pos) (asks : ℕ) (entry now : Account) (seat : Follower) (game : GameState) (e : Event) : Type 0 where
+  pub is_game : IsGameFrom start asks game
+  pub on_turn : e.who ≡ game.position.side
+  pub file_is : seat.file ≡ f
+  pub follows : seat.account.heard ≡ heard f.dialect start (events_of game.log) f.side
+  pub tried : AreTried f start [] (events_of game.log ++ e ∷ [])
+  pub said : now.said ≡ entry.said ++ tries_of (other f.side) (events_of game.log ++ e ∷ [])
+  pub heard : now.heard ≡ entry.heard ++ heard f.dialect start (events_of game.log) (other f.side)
+  pub asked : now.asks ≡ many_more (length (tries_of (other f.side) (events_of game.log ++ e ∷ []))) entry.asks
+  pub stays : Stays entry now
+
+-- a game in which the side to move left
+pub record IsLeft (f : PlanFile) (start : Pos) (asks : ℕ) (entry now : Account) (game : GameState) (who : Side) : Type 0 where
+  pub is_game : IsGameFrom start asks game
+  pub on_turn : who ≡ game.position.side
+  pub tried : AreTried f start [] (events_of game.log)
+  pub said : now.said ≡ entry.said ++ tries_of (other f.side) (events_of game.log)
+  pub heard : now.heard ≡ entry.heard ++ heard f.dialect start (events_of game.log) (other f.side)
+  pub asked : now.asks ≡ many_more (asks_of (other f.side) (Some who) (events_of game.log)) entry.asks
+  pub counts : played_counts (Some who) (other f.side) entry now
+  pub no_try : who ≡ f.side → next_try (stand_after f start (events_of game.log)) ≡ None
+
+-- what one pass makes of a game under way
+abbrev pub AfterPass : Result (Option Side) LeadFault → PlanFile → Pos → ℕ → Account → Account → Follower → GameState → Type 0
+AfterPass (Ok None) f start asks entry now seat game = IsUnderway f start asks entry now seat game
+AfterPass (Ok (Some who)) f start asks entry now seat game = IsLeft f start asks entry now game who
+AfterPass (Err fault) f start asks entry now seat game = IsBroken f start asks entry now fault
+
+-- a pass, from any game under way
+abbrev pub Passes : Result (Option Side) LeadFault → Account → Account → Follower → Follower → GameState → GameState → Type 0
+Passes r before now seat seat' game game' =
+    (f : PlanFile) (start : Pos) (asks : ℕ) (entry : Account) → IsUnderway f start asks entry before seat game → AfterPass r f start asks entry now seat' game'
+
+-- judging a try, from any game in which it was said
+abbrev pub Judges : Result (Option Side) LeadFault → Event → Account → Account → Follower → Follower → GameState → GameState → Type 0
+Judges r e before now seat seat' game game' =
+    (f : PlanFile) (start : Pos) (asks : ℕ) (entry : Account) → HasTried f start asks entry before seat game e → AfterPass r f start asks entry now seat' game'
+
+-- what a game came to
+abbrev pub ComesTo : Result Stop LeadFault → PlanFile → Pos → ℕ → Account → Account → GameState → Type 0
+ComesTo (Ok stop) f start asks entry now game = IsLed f start asks entry now game stop
+ComesTo (Err fault) f start asks entry now game = IsBroken f start asks entry now fault
+
+-- playing on, from any game under way
+abbrev pub LeadsOn : Result Stop LeadFault → Account → Account → Follower → GameState → GameState → Type 0
+LeadsOn r before now seat game game' =
+    (f : PlanFile) (start : Pos) (asks : ℕ) (entry : Account) → IsUnderway f start asks entry before seat game → ComesTo r f start asks entry now game'

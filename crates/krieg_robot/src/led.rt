@@ -1,0 +1,35 @@
+// What leading a game came to.
+use krieg_referee::{Game, Stop};
+use krieg_seats::SeatFault;
+
+/// A game that a plan led, and why it stopped.
+#[derive(Drop)]
+pub struct Led {
+    /// The game, with the tries that were judged.
+    pub game: Game,
+    /// It has ended, or the side to move left, or as many tries were judged as were allowed.
+    pub stop: Stop,
+}
+
+/// Why no game was played to a stop.
+#[derive(Clone, Copy, Debug, PartialEq, Eq)]
+pub enum LeadFault {
+    /// A call of the opponent failed.
+    Seat,
+    /// There was no memory.
+    NoMemory,
+}
+
+impl From<SeatFault> for LeadFault {
+    ghost use Rattle.std.specs.Prelude.{◌≡◌};
+    ghost use Rattle.krieg_robot.specs.Turns.{lead_fault};
+
+    ghost from_gives = { λ fault e. e ≡ lead_fault fault };
+
+    fn from(fault: SeatFault) -> LeadFault {
+        match fault {
+            SeatFault::Failed => LeadFault::Seat,
+            SeatFault::NoMemory => LeadFault::NoMemory,
+        }
+    }
+}

@@ -1,0 +1,176 @@
+// A seat that follows a plan file.
+ghost use Rattle.std.specs.Prelude.{◌≡◌, ◌≢◌, Err, IfOk, OnOk, OnErr, None};
+ghost use Rattle.krieg_seats.specs.Accounts.{new_account, Asked, Told};
+ghost use Rattle.krieg_robot.specs.Stands as stand;
+ghost use Rattle.krieg_robot.specs.Followers as spec;
+ghost use Rattle.krieg_robot.specs.Followers.{stand_of, say_of, when_asked, after_asked, after_told};
+
+use crate::next::Next;
+use crate::place::{Change, Place, Step, change_by, next_of, next_try, node_on};
+use krieg_board::Move;
+use krieg_plan::PlanFile;
+use krieg_seats::{Say, Seat, SeatFault};
+use krieg_words::Line;
+use std::alloc::Global;
+use std::marker::Model;
+
+/// A seat that follows a plan file: at its turn it tries what its plan says, by the lines that it was told. In
+/// contracts it is a `Follower`.
+#[derive(Drop)]
+pub struct PlanSeat {
+    file: PlanFile,
+    place: Place,
+    /// The way from a root to the node of the place.
+    way: Vec<Step>,
+    said: Vec<Move>,
+    heard: Vec<Line>,
+    asks: u64,
+    leaves: u64,
+}
+
+impl Model for PlanSeat {
+    ghost use Rattle.std.specs.Prelude.{◌≡◌};
+    ghost use Rattle.std.specs.Coded.{codes};
+    ghost use Rattle.krieg_plan.specs.contracts.node.Node as node;
+    ghost use Rattle.krieg_theory.specs.Tree.{Nothing};
+    ghost use Rattle.krieg_plan.specs.Plans.{plan_of};
+    ghost use Rattle.krieg_robot.specs.Followers.{Follower, follow_file};
+    ghost use Rattle.krieg_robot.specs.Places.{stand_at, node_on};
+
+    ghost Value = { Follower };
+
+    ghost coded = { Prim.hlevel (codes, node.the_row.coded) };
+
+    ghost view = { λ s. record {
+      file = s.file;
+      account = record {
+        said = s.said.items;
+        heard = s.heard.items;
+        asks = s.asks;
+        faults = 0;
+        leaves = s.leaves;
+      };
+    } };
+
+    ghost invariant = { λ s. stand_at s.place (node_on (plan_of s.file.plan) Nothing s.way.items) ≡ follow_file s.file s.heard.items };
+}
+
+/// Whether the side of the file is to move in the first listed position.
+fn is_first(file: &PlanFile) -> bool
+    ensures { result ≡ spec.is_first file.now.side file.now.list.items }
+{
+    match file.list.first() {
+        None => true,
+        Some(p) => p.side() == file.side,
+    }
+}
+
+impl PlanSeat {
+    /// A seat that has heard nothing. It takes no memory.
+    pub fn new(alloc: Global, file: PlanFile) -> PlanSeat
+        ensures { result ≡ record { file = file; account = new_account } }
+    {
+        PlanSeat {
+            file,
+            place: Place::Unopened,
+            way: Vec::new(alloc),
+            said: Vec::new(alloc),
+            heard: Vec::new(alloc),
+            asks: 0,
+            leaves: 0,
+        }
+    }
+
+    /// The file that it follows.
+    pub fn file(&self) -> &PlanFile
+        ensures { result.now ≡ self.now.file }
+    {
+        &self.file
+    }
+
+    /// What it does next, by the lines that it was told: it tries a move at its turn; it waits before its first turn
+    /// and after a try that was done; its last try has mated; or it was told what the plan does not know. It takes
+    /// no memory.
+    pub fn next(&self) -> Next
+        ensures { result ≡ spec.next_of (stand_of self.now) }
+    {
+        next_of(&self.place, node_on(&self.file.plan, &self.way))
+    }
+}
+
+impl Seat for PlanSeat {
+    ghost account = { λ s. s.account };
+
+    /// Tries what its plan says, and leaves where it says nothing.
+    fn ask(&mut self) -> Result<Say, SeatFault>
+        ensures asked { Asked result self.old.account self.new.account }
+
+        // What it says, and what becomes of it.
+        ensures says { IfOk result (λ say. say ≡ say_of (stand.next_try (stand_of self.old))) }
+        ensures ok { OnOk result (self.new ≡ after_asked self.old) }
+
+        // It never fails, and takes memory for a try alone. Without it nothing was said.
+        ensures err { OnErr result (self.new ≡ when_asked self.old) }
+        ensures memory { result ≢ Err SeatFault.Failed }
+        ensures short { result ≡ Err SeatFault.NoMemory → stand.next_try (stand_of self.old) ≢ None }
+    {
+        self.asks = self.asks.saturating_add(1);
+        match &next_try(&self.place, node_on(&self.file.plan, &self.way)) {
+            Some(mv) => match self.said.push(*mv) {
+                Ok(()) => Ok(Say::Try(*mv)),
+                Err(_) => Err(SeatFault::NoMemory),
+            },
+            None => {
+                self.leaves = self.leaves.saturating_add(1);
+                Ok(Say::Leave)
+            }
+        }
+    }
+
+    /// Keeps the line, and goes where it leads. Where there is no memory the seat stays as it is.
+    fn tell(&mut self, line: Line) -> Result<(), SeatFault>
+        ensures told { Told line result self.old.account self.new.account }
+
+        // What becomes of it. It never fails.
+        ensures ok { OnOk result (self.new ≡ after_told self.old line) }
+        ensures err { OnErr result (self.new ≡ self.old) }
+        ensures memory { result ≢ Err SeatFault.Failed }
+    {
+        let line = &line;
+        match self.way.reserve(1) {
+            Ok(()) => {}
+            Err(_) => return Err(SeatFault::NoMemory),
+        }
+        let change = change_by(
+            is_first(&self.file),
+            &self.place,
+            node_on(&self.file.plan, &self.way),
+            line,
+        );
+        match self.heard.push(*line) {
+            Ok(()) => {}
+            Err(_) => return Err(SeatFault::NoMemory),
+        }
+        match change {
+            Change::Stays => {}
+            Change::Goes(place) => self.place = place,
+            Change::Steps(step) => {
+                self.way.push_reserved(step);
+                self.place = Place::At;
+            }
+        }
+        Ok(())
+    }
+
+    fn said(&self) -> &[Move]
+        ensures { result.now ≡ self.now.account.said }
+    {
+        &self.said
+    }
+
+    fn heard(&self) -> &[Line]
+        ensures { result.now ≡ self.now.account.heard }
+    {
+        &self.heard
+    }
+}

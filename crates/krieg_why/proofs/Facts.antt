@@ -1,0 +1,60 @@
+-- The orders of positions, moves and games are total, and the legal moves ascend.
+use Rattle.std.proofs.Common.{◌≡◌, Bool, true, false, List, [], ◌∷◌, cond, filter, refl, ap, subst}
+use Rattle.std.specs.Cmp.{IsTotalOrder}
+use Rattle.std.specs.Ordering.{is_eq, ordering_reverse}
+use Rattle.std.specs.declared.cmp.Ordering.{Ordering}
+use Rattle.std.specs.declared.cmp.Ordering.TheVariants.{Less, Equal, Greater}
+use Rattle.std.proofs.lemmas.Cmp.{on_total, then_total, lists_total}
+use Rattle.krieg_board.specs.Order.{move_cmp, move_lt}
+use Rattle.krieg_board.proofs.MoveOrder.{move_total, move_equal}
+use Rattle.krieg_board.specs.Pos.{Pos}
+use Rattle.krieg_board.specs.declared.men.Move.{Move}
+use Rattle.krieg_moves.specs.Legal.{is_legal}
+use Rattle.std.proofs.lemmas.Bool.{both_ways, false_from_ne_true}
+use Rattle.krieg_theory.proofs.Lists.{in_filter, filter_in, nil_none}
+use Rattle.krieg_moves.proofs.Ascending.{moves_ascend}
+use Rattle.krieg_moves.proofs.Listed.{legal_in_all}
+use Rattle.krieg_pack.proofs.Membership.{contains_in}
+use Rattle.krieg_pack.proofs.Sorting.{ascending_from}
+use Rattle.krieg_moves.specs.Moves.{moves, all_moves, is_ended}
+use Rattle.krieg_theory.specs.Sets.{In, Ascending}
+use Rattle.krieg_pack.specs.Order.{position_cmp, position_eq}
+use Rattle.krieg_pack.specs.OrderLaws.{position_total}
+use Rattle.krieg_why.specs.Tales.{Tale, tale_cmp}
+
+itself_equal : (o : Ordering) → o ≡ ordering_reverse o → o ≡ Equal
+itself_equal Less h = absurd cc
+itself_equal Equal h = refl
+itself_equal Greater h = absurd cc
+
+pub move_itself : (m : Move) → move_cmp m m ≡ Equal
+move_itself m = itself_equal (move_cmp m m) (move_total.antisymm m m)
+
+pub position_itself : (p : Pos) → position_cmp p p ≡ Equal
+position_itself p = itself_equal (position_cmp p p) (position_total.antisymm p p)
+
+pub place_same : (p q : Pos) → p ≡ q → position_eq p q ≡ true
+place_same p q e = subst (λ (x : Pos). position_eq p x ≡ true) e (ap is_eq (position_itself p))
+
+pub tale_total : IsTotalOrder tale_cmp
+tale_total = then_total (on_total (λ (x : Tale). x.start) position_total) (on_total (λ (x : Tale). x.replies) (lists_total move_total))
+
+pub kept_up : (f : Move → Bool) (ms : List Move) → Ascending move_lt ms → Ascending move_lt (filter f ms)
+kept_up f [] up = up
+kept_up f (m ∷ ms) up = go (f m) (kept_up f ms up.1)
+  where
+    go : (b : Bool) → Ascending move_lt (filter f ms) → Ascending move_lt (cond b (m ∷ filter f ms) (filter f ms))
+    go true rest = ((λ y i. up.0 y (filter_in f ms y i).0), rest)
+    go false rest = rest
+
+pub legal_up : (p : Pos) → Ascending move_lt (moves p)
+legal_up p = ascending_from move_cmp move_total move_equal (moves p) (moves_ascend p)
+
+-- where a move is legal the game goes on
+pub legal_goes : (p : Pos) (m : Move) → is_legal p m ≡ true → is_ended p ≡ false
+unfolding is_ended moves
+legal_goes p m h = false_from_ne_true _ (λ e. nil_none (filter (is_legal p) all_moves) (nil_is _ e) m (in_filter (is_legal p) all_moves m (contains_in m all_moves (legal_in_all p m h)) h))
+  where
+    nil_is : (ms : List Move) → Rattle.krieg_moves.specs.Moves.is_nil ms ≡ true → Rattle.krieg_theory.specs.Sets.is_nil ms ≡ true
+    nil_is [] e = refl
+    nil_is (x ∷ xs) e = absurd (both_ways false refl e)

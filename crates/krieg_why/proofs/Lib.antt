@@ -1,0 +1,14 @@
+pub mod Facts
+pub mod Orders
+pub mod Layers
+pub mod Told
+pub mod TriedGames
+pub mod Least
+pub mod Kept
+pub mod Adding
+pub mod Firsts
+pub mod Lines
+pub mod Numbers
+pub mod ListedStarts
+pub mod Found
+pub mod WrittenGames

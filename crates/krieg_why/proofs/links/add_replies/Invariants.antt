@@ -1,0 +1,10 @@
+use Rattle.std.proofs.Common.{map, take, filter}
+use Rattle.krieg_words.specs.ToldMoves.{are_told}
+use Rattle.krieg_why.specs.Links.{Adds, tale_of, kept}
+use Rattle.krieg_why.specs.Tales.{after_reply, begun}
+use Rattle.krieg_why.proofs.links.add_replies.Given as goal
+
+abbrev pub invariant-loop-mv : goal.invariant-loop-mv
+invariant-loop-mv l =
+    Adds l.starts l.fn.links.items l.links.items l.fn.tales.entries l.tales.entries
+    (map (after_reply (tale_of (kept (map begun l.starts) l.fn.links.items) (l.p, l.number))) (filter (are_told l.d l.w l.p) (take l.mv-index l.moves)))

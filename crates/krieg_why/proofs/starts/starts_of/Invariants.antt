@@ -1,0 +1,6 @@
+use Rattle.std.proofs.Common.{◌≡◌, filter, take}
+use Rattle.krieg_why.specs.Starts.{may_begin}
+use Rattle.krieg_why.proofs.starts.starts_of.Given as goal
+
+abbrev pub invariant-loop-p : goal.invariant-loop-p
+invariant-loop-p l = l.packed.items ≡ filter (may_begin l.d l.opens) (take l.p-index l.p-items)

@@ -1,0 +1,10 @@
+use Rattle.std.proofs.Common.{◌≡◌, map, take}
+use Rattle.krieg_why.specs.Links.{AreKept, tales_of}
+use Rattle.krieg_why.specs.Tales.{begun, tell_all}
+use Rattle.krieg_why.proofs.why_possible.tell_lines.Given as goal
+
+abbrev pub invariant-loop-line : goal.invariant-loop-line
+invariant-loop-line l = record {
+  kept : AreKept l.starts l.links.items l.tales.entries;
+  tales : tales_of l.starts l.links.items l.tales.entries ≡ tell_all l.d l.who (take l.line-index l.entries) (map begun l.starts);
+}

@@ -1,0 +1,8 @@
+use Rattle.std.proofs.Common.{map, take, flat_map}
+use Rattle.krieg_text.specs.Writing.{HasLines}
+use Rattle.krieg_why.specs.Explained.{state_of}
+use Rattle.krieg_why.specs.GamesText.{game_lines}
+use Rattle.krieg_why.proofs.writing.put_each.Given as goal
+
+abbrev pub invariant-loop-game : goal.invariant-loop-game
+invariant-loop-game l = HasLines l.initial.text l.text (flat_map game_lines (map state_of (take l.game-index l.games)))

@@ -1,0 +1,7 @@
+use Rattle.std.proofs.Common.{map, take}
+use Rattle.krieg_text.specs.Writing.{HasLines}
+use Rattle.krieg_session.specs.SessionText.{event_line}
+use Rattle.krieg_why.proofs.writing.put_game.Given as goal
+
+abbrev pub invariant-loop-event : goal.invariant-loop-event
+invariant-loop-event l = HasLines l.initial.text l.text (map event_line (take l.event-index l.game.events.items))

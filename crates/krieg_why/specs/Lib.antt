@@ -1,0 +1,6 @@
+pub mod Explained
+pub mod GamesText
+pub mod Tales
+pub mod Links
+pub mod Starts
+pub mod Retold

@@ -1,0 +1,110 @@
+-- Of the parts of the work: games that are kept by numbers, each with its last reply and the number of the game before it.
+use Rattle.std.specs.Prelude.{◌≡◌, ℕ, suc, ◌+◌, ◌<◌, Bool, true, false, not, ◌&&◌, List, [], ◌∷◌, ◌++◌, None, is_some, unwrap_or, get_or, length, map, if◌then◌else◌}
+use Rattle.std.specs.List.{All}
+use Rattle.std.specs.Map.{lookup}
+use Rattle.krieg_board.specs.Men.{is_same_side}
+use Rattle.krieg_board.specs.Pos.{Pos}
+use Rattle.krieg_board.specs.declared.men.Side.{Side}
+use Rattle.krieg_board.specs.declared.men.Move.{Move}
+use Rattle.krieg_board.specs.declared.men.Side.TheVariants.{White}
+use Rattle.krieg_moves.specs.Legal.{is_legal}
+use Rattle.krieg_moves.specs.Moves.{is_ended}
+use Rattle.krieg_words.specs.declared.dialects.Dialect.{Dialect}
+use Rattle.krieg_words.specs.declared.line.Line.{Line}
+use Rattle.krieg_words.specs.declared.line.Line.TheVariants.{Opens, Illegal, Done, Heard, Early, Over}
+use Rattle.krieg_pack.specs.Order.{position_eq}
+use Rattle.krieg_belief.specs.Steps.{has_opening}
+use Rattle.krieg_why.specs.Tales.{Tale, begun, standing}
+use Rattle.krieg_why.specs.declared.links.Link.{Link}
+
+-- whether the game goes on from this position as it stands by a line that is no move
+abbrev pub stays : Dialect → Side → Line → Pos → Bool
+stays d who (Opens w) p = has_opening d w p
+stays d who (Illegal m) p = not (is_ended p) && (is_same_side p.side who && not (is_legal p m))
+stays d who (Done m w) p = false
+stays d who (Heard w) p = false
+stays d who (Early m) p = not (is_ended p) && not (is_same_side p.side who)
+stays d who (Over m) p = is_ended p
+
+-- for each position the number of a game
+abbrev pub Entries : Type 0
+Entries = List (Pos × ℕ)
+
+-- what a number stands for that no game has
+abbrev pub nowhere : Tale
+nowhere = begun (record { board = []; side = White; rights = record { white_short = false; white_long = false; black_short = false; black_long = false }; mark = None })
+
+-- a game with one more move of the opponent, for which it is not told where it stands
+abbrev pub longer : Tale → Move → Tale
+longer x r = record { stands = x.start; start = x.start; replies = x.replies ++ r ∷ [] }
+
+-- the game of a link, behind these games
+abbrev pub game_of : List Tale → Link → Tale
+game_of gs l = longer (get_or gs l.before nowhere) l.reply
+
+-- the games by their numbers: these, then those of the links
+abbrev pub kept : List Tale → List Link → List Tale
+kept gs [] = gs
+kept gs (l ∷ ls) = kept (gs ++ game_of gs l ∷ []) ls
+
+-- the game with that number
+abbrev pub numbered_tale : List Pos → List Link → ℕ → Tale
+numbered_tale ps ls n = get_or (kept (map begun ps) ls) n nowhere
+
+-- the game with that number, where it stands in that position
+abbrev pub tale_of : List Tale → Pos × ℕ → Tale
+tale_of gs e = standing (get_or gs e.1 nowhere) e.0
+
+-- the games of the positions, in the order in which these are kept
+abbrev pub tales_of : List Pos → List Link → Entries → List Tale
+tales_of ps ls es = map (tale_of (kept (map begun ps) ls)) es
+
+-- the number of the game that stands in a position
+abbrev pub number_of : Entries → Pos → ℕ
+number_of es p = unwrap_or (lookup (position_eq p) es) 0
+
+-- the game that stands in a position
+abbrev pub tale_at : List Pos → List Link → Entries → Pos → Tale
+tale_at ps ls es p = tale_of (kept (map begun ps) ls) (p, number_of es p)
+
+-- a game stands in the position
+abbrev pub IsFound : Entries → Pos → Type 0
+IsFound es p = is_some (lookup (position_eq p) es) ≡ true
+
+-- each link's game is before it
+abbrev pub Grounded : ℕ → List Link → Type 0
+Grounded n [] = Unit {0}
+Grounded n (l ∷ ls) = (l.before < n) × Grounded (suc n) ls
+
+-- each number is below this one
+abbrev pub Numbered : ℕ → Entries → Type 0
+Numbered n es = All (λ e. e.1 < n) es
+
+-- the numbers are numbers of games
+pub record AreKept (ps : List Pos) (ls : List Link) (es : Entries) : Type 0 where
+  pub grounded : Grounded (length ps) ls
+  pub numbered : Numbered (length ps + length ls) es
+
+-- a position that is there keeps its number
+abbrev pub with_entry : Entries → Pos → ℕ → Entries
+with_entry es p n = if is_some (lookup (position_eq p) es) then es else es ++ (p, n) ∷ []
+
+-- some game stands in the position
+abbrev pub stands_in : Pos → List Tale → Bool
+stands_in p [] = false
+stands_in p (x ∷ xs) = if position_eq p x.stands then true else stands_in p xs
+
+-- a game is added where none stands in its position
+abbrev pub added : List Tale → Tale → List Tale
+added xs y = if stands_in y.stands xs then xs else xs ++ y ∷ []
+
+-- these are added one after another
+abbrev pub add_all : List Tale → List Tale → List Tale
+add_all xs [] = xs
+add_all xs (y ∷ ys) = add_all (added xs y) ys
+
+-- the links become more, and these games are added
+pub record Adds (ps : List Pos) (ls ls' : List Link) (es es' : Entries) (ys : List Tale) : Type 0 where
+  pub more : (ms : List Link) × (ls' ≡ ls ++ ms)
+  pub are_kept : AreKept ps ls' es'
+  pub tales : tales_of ps ls' es' ≡ add_all (tales_of ps ls es) ys

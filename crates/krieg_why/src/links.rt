@@ -1,0 +1,173 @@
+ghost use Rattle.std.specs.Prelude.{◌≡◌, ◌+◌, ◌<◌, [], ◌∷◌, true, IfOk, OnOk, is_some, not, length, map};
+ghost use Rattle.std.specs.List.{All, filter};
+ghost use Rattle.std.specs.Map.{lookup};
+ghost use Rattle.krieg_moves.specs.Legal as rule;
+ghost use Rattle.krieg_words.specs.ToldMoves as spoken;
+ghost use Rattle.krieg_pack.specs.Order.{position_eq};
+ghost use Rattle.krieg_why.specs.Links as spec;
+ghost use Rattle.krieg_why.specs.Links.{AreKept, Adds, tales_of, tale_of, kept, with_entry};
+ghost use Rattle.krieg_why.specs.Tales as tales_spec;
+ghost use Rattle.krieg_why.specs.Tales.{after_reply, begun, tales_after};
+
+use crate::starts::has_opening;
+use indexmap::IndexMap;
+use krieg_board::{Move, NoMemory, Position, Side};
+use krieg_moves::{has_move, is_legal, legal_moves};
+use krieg_pack::{Belief, Packed, pack, unpack};
+use krieg_words::{Dialect, Line, Words, after_told, after_told_if_legal};
+use std::alloc::Global;
+
+/// The last of the opponent's moves in a game, and the game before it: the number of a start, or behind them that of
+/// another link.
+#[derive(Drop)]
+pub(crate) struct Link {
+    pub(crate) before: usize,
+    pub(crate) reply: Move,
+}
+
+/// The games after some lines: for each position the least one that leads to it, in the order of these games.
+pub(crate) type Tales = IndexMap<Packed, usize>;
+
+/// The games that begin in these positions, which are numbered from 0.
+pub(crate) fn begin(alloc: Global, starts: &Belief) -> Result<Tales, NoMemory>
+    ensures kept { IfOk result (λ t. AreKept starts.now [] t.entries) }
+    ensures tales { IfOk result (λ t. tales_of starts.now [] t.entries ≡ map begun starts.now) }
+{
+    let mut tales = IndexMap::new(alloc);
+    for (i, k) in starts.members().iter().enumerate() {
+        let _ = tales.insert(*k, i)?;
+    }
+    Ok(tales)
+}
+
+/// Whether the game goes on from this position as it stands by a line that is no move.
+fn stays(d: Dialect, who: Side, line: &Line, p: &Position) -> bool
+    ensures { result ≡ spec.stays d who line.now p.now }
+{
+    match line {
+        Line::Opens(w) => has_opening(d, w, p),
+        Line::Illegal(mv) => has_move(p) && (p.side() == who && !is_legal(p, *mv)),
+        Line::Early(_) => has_move(p) && p.side() != who,
+        Line::Over(_) => !has_move(p),
+        Line::Done(_, _) | Line::Heard(_) => false,
+    }
+}
+
+/// Adds a game where none stands in its position.
+fn add(tales: &mut Tales, p: &Position, number: usize) -> Result<bool, NoMemory>
+    ensures entries { OnOk result (tales.new.entries ≡ with_entry tales.old.entries p.now number) }
+    ensures added { IfOk result (λ b. b ≡ not (is_some (lookup (position_eq p.now) tales.old.entries))) }
+{
+    let k = pack(p);
+    if tales.contains_key(&k) {
+        return Ok(false);
+    }
+    let _ = tales.insert(k, number)?;
+    Ok(true)
+}
+
+/// Adds the games after those of the legal moves that have the words, in the order of these moves.
+fn add_replies(
+    d: Dialect,
+    w: &Words,
+    p: &Position,
+    moves: &[Move],
+    number: usize,
+    starts: &Belief,
+    links: &mut Vec<Link>,
+    tales: &mut Tales,
+) -> Result<(), NoMemory>
+    requires legal { All (λ m. rule.is_legal p.now m ≡ true) moves.now }
+    requires kept { AreKept starts.now links.old.items tales.old.entries }
+    requires number { number < length starts.now + length links.old.items }
+    ensures { OnOk result (Adds starts.now links.old.items links.new.items tales.old.entries tales.new.entries (map (after_reply (tale_of (kept (map begun starts.now) links.old.items) (p.now, number))) (filter (spoken.are_told d w.now p.now) moves.now))) }
+{
+    for mv in moves {
+        if let Some(next) = after_told(d, w, p, *mv) {
+            let link = starts.members().len() + links.len();
+            if add(tales, &next, link)? {
+                links.push(Link {
+                    before: number,
+                    reply: *mv,
+                })?;
+            }
+        }
+    }
+    Ok(())
+}
+
+/// Adds the games after one line more of a game that stands in `p`.
+#[tactic(auto, using(crate::proofs::Adding::listed))]
+fn add_next(
+    alloc: Global,
+    d: Dialect,
+    who: Side,
+    line: &Line,
+    p: &Position,
+    number: usize,
+    starts: &Belief,
+    links: &mut Vec<Link>,
+    tales: &mut Tales,
+) -> Result<(), NoMemory>
+    requires kept { AreKept starts.now links.old.items tales.old.entries }
+    requires number { number < length starts.now + length links.old.items }
+    ensures { OnOk result (Adds starts.now links.old.items links.new.items tales.old.entries tales.new.entries (tales_after d who line.now (tale_of (kept (map begun starts.now) links.old.items) (p.now, number)))) }
+{
+    match line {
+        Line::Done(mv, w) => {
+            if p.side() != who {
+                return Ok(());
+            }
+            if let Some(next) = after_told_if_legal(d, w, p, *mv) {
+                let _ = add(tales, &next, number)?;
+            }
+            Ok(())
+        }
+        Line::Heard(w) => {
+            if p.side() == who {
+                return Ok(());
+            }
+            let moves = legal_moves(alloc, p)?;
+            add_replies(d, w, p, moves.as_slice(), number, starts, links, tales)
+        }
+        _ => {
+            if stays(d, who, line, p) {
+                let _ = add(tales, p, number)?;
+            }
+            Ok(())
+        }
+    }
+}
+
+/// The games after one line more.
+pub(crate) fn tell(
+    alloc: Global,
+    d: Dialect,
+    who: Side,
+    line: &Line,
+    tales: &Tales,
+    starts: &Belief,
+    links: &mut Vec<Link>,
+) -> Result<Tales, NoMemory>
+    requires { AreKept starts.now links.old.items tales.now.entries }
+    ensures kept { IfOk result (λ t. AreKept starts.now links.new.items t.entries) }
+    ensures tales { IfOk result (λ t. tales_of starts.now links.new.items t.entries ≡ tales_spec.tell d who line.now (tales_of starts.now links.old.items tales.now.entries)) }
+{
+    let mut after = IndexMap::new(alloc);
+    for i in 0..tales.len() {
+        if let Some((k, number)) = tales.get_index(i) {
+            add_next(
+                alloc,
+                d,
+                who,
+                line,
+                &unpack(k),
+                *number,
+                starts,
+                links,
+                &mut after,
+            )?;
+        }
+    }
+    Ok(after)
+}
