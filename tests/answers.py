@@ -32,12 +32,14 @@ LINES = {
     12: rb"krieg: (?:no seat|seat fault) [wb]\n",
     13: rb"krieg: plan fails\n",
     14: rb"krieg: plan too large\n",
+    19: rb"krieg: answer too long\n",
 }
 
 # The statuses with which a command may end where its words are good, its input is short and there is memory.
 STATUSES = {
     "umpire": {0, 3, 4},
     "believe": {0, 3, 4, 7},
+    "why": {0, 3, 4, 5, 7, 19},
     "solve": {0, 3, 4, 5, 6, 7, 8, 14},
     "check": {0, 3, 4, 8, 13},
     "play": {0, 3, 4, 12},
@@ -49,6 +51,7 @@ STATUSES = {
 ANSWERS = {
     "umpire": rb"krieg sheet [12]\n|[wb] opens ",
     "believe": rb"krieg sheet [12]\n",
+    "why": rb"krieg games 1\n",
     "solve": rb"krieg plan [12]\n|none [1-6]\n$",
     "check": rb"mates [1-9][0-9]*\n$",
     "play": rb"krieg session 1\n",

@@ -9,7 +9,7 @@ use Rattle.krieg_text.specs.Decimals.{number_between}
 use Rattle.krieg_fen.specs.declared.forms.TheConstants.{MOST_LISTED}
 use Rattle.krieg_args.specs.declared.command.TheConstants.{MOST_ASKS, MOST_SEED}
 use Rattle.krieg_args.specs.declared.command.Command.{Command}
-use Rattle.krieg_args.specs.declared.command.Command.TheVariants.{Solve, Check, Believe, Umpire, San, Unsan, Play, Lead, Next, Make, Job}
+use Rattle.krieg_args.specs.declared.command.Command.TheVariants.{Solve, Check, Believe, Why, Umpire, San, Unsan, Play, Lead, Next, Make, Job}
 use Rattle.krieg_args.specs.declared.command.Made.{Made}
 use Rattle.krieg_args.specs.declared.command.Made.TheVariants.{Session, Sheet}
 
@@ -102,8 +102,9 @@ abbrev pub command_of_one : List ℕ → List ℕ → Option Command
 command_of_one name word =
     if bytes_eq name (codes "check") then option_map Check (budget_of word)
     else (if bytes_eq name (codes "believe") then option_map Believe (limit_of word)
+    else (if bytes_eq name (codes "why") then option_map Why (limit_of word)
     else (if bytes_eq name (codes "umpire") then option_map Umpire (whose word)
-    else (if bytes_eq name (codes "job") then option_map Job (seed_of word) else None)))
+    else (if bytes_eq name (codes "job") then option_map Job (seed_of word) else None))))
 
 -- the command of these words, where they are the form of one: a name, and after it as many words as the name asks for
 abbrev pub command_of : List (List ℕ) → Option Command

@@ -43,6 +43,11 @@ pub enum Command {
         /// From 1 to [`MOST_LISTED`].
         limit: u64,
     },
+    /// `why LIMIT`: a hidden game for each position that a sheet leaves possible, of which there may be so many.
+    Why {
+        /// From 1 to [`MOST_LISTED`].
+        limit: u64,
+    },
     /// `umpire w`, `umpire b`, `umpire all`: what one player hears of a session, as a sheet, or what both
     /// hear.
     Umpire {
@@ -238,6 +243,10 @@ fn command_of_one(name: &str, word: &str) -> Option<Command>
         })
     } else if is_name(b"believe", name) {
         Some(Command::Believe {
+            limit: limit_of(word)?,
+        })
+    } else if is_name(b"why", name) {
+        Some(Command::Why {
             limit: limit_of(word)?,
         })
     } else if is_name(b"umpire", name) {

@@ -19,7 +19,7 @@ use Rattle.krieg_play.specs.Teams.{Team, Turns, Service, BrokenCourse, HasFailed
 use Rattle.krieg_play.specs.Played.{Sides}
 use Rattle.krieg_args.specs.Command.{takes_input}
 use Rattle.krieg_args.specs.declared.command.Command.{Command}
-use Rattle.krieg_args.specs.declared.command.Command.TheVariants.{Solve, Check, Believe, Umpire, San, Unsan, Play, Lead, Next, Make, Job}
+use Rattle.krieg_args.specs.declared.command.Command.TheVariants.{Solve, Check, Believe, Why, Umpire, San, Unsan, Play, Lead, Next, Make, Job}
 use Rattle.krieg_args.specs.declared.command.Made.{Made}
 use Rattle.krieg_cli.specs.World.{World, FaultsRose}
 use Rattle.krieg_cli.specs.Input.{WasRead}
@@ -29,6 +29,7 @@ use Rattle.krieg_cli.specs.Solve.{fresh_units, IsBestFile, Asks, Searched, Solve
 use Rattle.krieg_cli.specs.Check.{Checked}
 use Rattle.krieg_cli.specs.Umpire.{told_text}
 use Rattle.krieg_cli.specs.Believe.{Believed}
+use Rattle.krieg_cli.specs.Why.{Shows}
 use Rattle.krieg_planfile.specs.HeardReading.{HeardState}
 use Rattle.krieg_cli.specs.Play.{PlaysFrom, PlaysWhole}
 use Rattle.krieg_cli.specs.Lead.{LeadsFrom, LeadsWhole}
@@ -38,7 +39,7 @@ use Rattle.krieg_cli.specs.Make.{Makes}
 use Rattle.krieg_cli.specs.Job.{Plans, Summarizes}
 use Rattle.krieg_cli.specs.Outcome.{LiveOutcome, HasOutcome}
 use Rattle.krieg_cli.specs.Top.{ComesTo, Ends, Runs}
-use Rattle.krieg_cli.specs.Complete.{CanBeChecked, CanBeSummed, HoldsText, MustAnswer, NoneFailed, seats_since, CanPlay, BenchHolds, Completes}
+use Rattle.krieg_cli.specs.Complete.{CanBeChecked, CanBeShown, CanBeSummed, HoldsText, MustAnswer, NoneFailed, seats_since, CanPlay, BenchHolds, Completes}
 use Rattle.krieg_cli.specs.declared.refusal.Refusal.{Refusal}
 use Rattle.krieg_cli.specs.declared.refusal.Refusal.TheVariants as refusal
 use Rattle.krieg_cli.specs.declared.ending.Ending.{Ending}
@@ -64,6 +65,7 @@ module _ (n budget limit : ℕ) (s : SheetState) (S : List Pos) (asks : Asks lim
   searching refusal.GameOver T same h = h
   searching refusal.PlanFails T same h = h
   searching refusal.NoSuchPosition T same h = h
+  searching refusal.AnswerTooLong T same h = h
   searching (refusal.NoSeat who) T same h = h
   searching (refusal.SeatFault who) T same h = h
 
@@ -76,10 +78,11 @@ module _ (n budget limit : ℕ) (s : SheetState) (S : List Pos) (asks : Asks lim
   solving refusal.PlanTooLarge (T, other, h) = searching refusal.PlanTooLarge T (one_list s T S other.possible asks.possible) h
   solving refusal.PlanFails (T, other, h) = searching refusal.PlanFails T (one_list s T S other.possible asks.possible) h
   solving refusal.NoSuchPosition (T, other, h) = searching refusal.NoSuchPosition T (one_list s T S other.possible asks.possible) h
+  solving refusal.AnswerTooLong (T, other, h) = searching refusal.AnswerTooLong T (one_list s T S other.possible asks.possible) h
   solving (refusal.NoSeat who) (T, other, h) = searching (refusal.NoSeat who) T (one_list s T S other.possible asks.possible) h
   solving (refusal.SeatFault who) (T, other, h) = searching (refusal.SeatFault who) T (one_list s T S other.possible asks.possible) h
 
--- ---- umpire, san, unsan, check, and believe
+-- ---- umpire, san, unsan, check, believe, and why
 
 answering : (text : List ℕ) (r : Refusal) → ◌≡◌ {A = Result (List ℕ) Refusal} (Err r) (Ok text) → ⊥
 answering text r e = cc
@@ -92,6 +95,12 @@ checking budget text can _ h = h
 believing : (limit : ℕ) (s : SheetState) (r : Refusal) → Believed limit s (Err r) → Rattle.krieg_belief.specs.Limits.AllWithin limit s → ⊥
 believing limit s (refusal.TooMany line) h within = excess_not_within s limit line h within
 believing limit s _ h within = h
+
+showing : (limit : ℕ) (text : List ℕ) (can : CanBeShown limit text) (r : Refusal) → Shows limit can.sheet (Err r) → ⊥
+showing limit text can (refusal.TooMany line) h = excess_not_within can.sheet limit line h can.within
+showing limit text can refusal.NonePossible h = can.some h.0
+showing limit text can refusal.AnswerTooLong (games, has, long) = let fits = can.fits games has.shown in omega (arith, long, fits)
+showing limit text can _ h = h
 
 -- ---- make
 
@@ -175,6 +184,7 @@ refused account entry now (Solve n budget limit) text r h can bench =
     solving n budget limit can.sheet can.positions can.asks can.enough can.fits r (subst (λ x. OfText x (Solved n budget limit) (Err r)) can.spelled h)
 refused account entry now (Check budget) text r h can bench = checking budget text can r (subst (λ x. OfText x (Checked budget) (Err r)) can.spelled h)
 refused account entry now (Believe limit) text r h can bench = believing limit can.sheet r (subst (λ x. OfText x (Believed limit) (Err r)) can.spelled h) can.within
+refused account entry now (Why limit) text r h can bench = showing limit text can r (subst (λ x. OfText x (Shows limit) (Err r)) can.spelled h)
 refused account entry now (Umpire who) text r h (s, spelled) bench = answering (told_text s who) r (subst (λ x. OfText x (λ session told. told ≡ Ok (told_text session who)) (Err r)) spelled h)
 refused account entry now San text r h (s, spelled) bench = answering (san_of s) r (subst (λ x. OfText x (λ session written. written ≡ Ok (san_of session)) (Err r)) spelled h)
 refused account entry now Unsan text r h (g, spelled) bench = answering (unsan_of g) r (subst (λ x. OfText x (λ game written. written ≡ Ok (unsan_of game)) (Err r)) spelled h)

@@ -11,6 +11,7 @@ mod Playing
 mod Ranges
 mod Reports
 mod Searching
+mod Showing
 mod ToldPlans
 mod WholeGames
 mod WholePlans

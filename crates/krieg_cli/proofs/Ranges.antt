@@ -10,7 +10,7 @@ use Rattle.krieg_text.proofs.Numbers.{between_spells}
 use Rattle.krieg_args.specs.Command as words
 use Rattle.krieg_args.specs.Command.{◌>>=◌, command_of, command_of_name, command_of_one, solve, make, play, lead, lead_from, number, moves_of, budget_of, limit_of, asks_of, place_of, made_input, seed_of}
 use Rattle.krieg_args.specs.declared.command.Command.{Command}
-use Rattle.krieg_args.specs.declared.command.Command.TheVariants.{Solve, Check, Believe, Umpire, San, Unsan, Play, Lead, Next, Make, Job}
+use Rattle.krieg_args.specs.declared.command.Command.TheVariants.{Solve, Check, Believe, Why, Umpire, San, Unsan, Play, Lead, Next, Make, Job}
 use Rattle.krieg_args.specs.declared.command.Made.{Made}
 use Rattle.krieg_args.specs.declared.command.TheConstants.{MOST_SEED}
 use Rattle.krieg_cli.specs.Outcome.{IsInRange}
@@ -94,8 +94,9 @@ of_one : (name word : List ℕ) → Ranged (command_of_one name word)
 of_one name word =
     either (bytes_eq name (codes "check")) _ _ (mapped Check (budget_of word) (λ n. tt))
     (either (bytes_eq name (codes "believe")) _ _ (mapped Believe (limit_of word) (λ n. tt))
+    (either (bytes_eq name (codes "why")) _ _ (mapped Why (limit_of word) (λ n. tt))
     (either (bytes_eq name (codes "umpire")) _ _ (mapped Umpire (words.whose word) (λ who. tt))
-    (either (bytes_eq name (codes "job")) _ _ (of_job word) none)))
+    (either (bytes_eq name (codes "job")) _ _ (of_job word) none))))
 
 pub in_range : (ws : List (List ℕ)) (c : Command) → command_of ws ≡ Some c → IsInRange c
 in_range [] = none

@@ -49,6 +49,7 @@ module _ (n budget limit : ℕ) (s : SheetState) (S : List Pos) (asks : Asks lim
   refused refusal.GameOver h = absurd h
   refused refusal.PlanFails h = absurd h
   refused refusal.NoSuchPosition h = absurd h
+  refused refusal.AnswerTooLong h = absurd h
   refused (refusal.NoSeat who) h = absurd h
   refused (refusal.SeatFault who) h = absurd h
 

@@ -12,6 +12,8 @@ use Rattle.krieg_sheet.specs.Sheets.{SheetState}
 use Rattle.krieg_sheet.specs.SheetReading.{sheet_at}
 use Rattle.krieg_belief.specs.Possible.{IsPossible}
 use Rattle.krieg_belief.specs.Limits.{AllWithin}
+use Rattle.krieg_why.specs.Explained.{ShownState, AreShown}
+use Rattle.krieg_why.specs.GamesText.{games_text}
 use Rattle.krieg_session.specs.Sessions.{SessionState}
 use Rattle.krieg_session.specs.SessionReading.{session_at, start_at}
 use Rattle.krieg_record.specs.Records.{RecordState}
@@ -24,7 +26,7 @@ use Rattle.krieg_play.specs.Teams.{Team}
 use Rattle.krieg_play.specs.Played.{Sides}
 use Rattle.krieg_args.specs.Command.{takes_input}
 use Rattle.krieg_args.specs.declared.command.Command.{Command}
-use Rattle.krieg_args.specs.declared.command.Command.TheVariants.{Solve, Check, Believe, Umpire, San, Unsan, Play, Lead, Next, Make, Job}
+use Rattle.krieg_args.specs.declared.command.Command.TheVariants.{Solve, Check, Believe, Why, Umpire, San, Unsan, Play, Lead, Next, Make, Job}
 use Rattle.krieg_cli.specs.World.{Stream, World, FaultsRose}
 use Rattle.krieg_cli.specs.Solve.{mates_all, fresh_units, IsBestFile, IsTooLarge, Asks}
 use Rattle.krieg_cli.specs.Check.{check_cost}
@@ -60,6 +62,15 @@ pub record CanBeBelieved (limit : ℕ) (text : List ℕ) : Type 0 where
   pub spelled : whole sheet_at (lines text) ≡ Ok sheet
   pub within : AllWithin limit sheet
 
+-- A sheet that leaves some position possible, of which no part leaves more than the limit possible, and the text of its games is
+-- not too long.
+pub record CanBeShown (limit : ℕ) (text : List ℕ) : Type 0 where
+  pub sheet : SheetState
+  pub spelled : whole sheet_at (lines text) ≡ Ok sheet
+  pub within : AllWithin limit sheet
+  pub some : IsPossible sheet [] → ⊥
+  pub fits : (games : List ShownState) → AreShown sheet games → length (games_text sheet.dialect games) ≤ MOST_INPUT
+
 -- The budget of a job is as much as a search may take and as much as the check of the best plan takes, and that plan is not too large.
 pub record CanBeSummed (number : ℕ) : Type 0 where
   pub positions : List Pos
@@ -73,6 +84,7 @@ abbrev pub MustAnswer : Command → List ℕ → Type 0
 MustAnswer (Solve n budget limit) text = CanBeSolved n budget limit text
 MustAnswer (Check budget) text = CanBeChecked budget text
 MustAnswer (Believe limit) text = CanBeBelieved limit text
+MustAnswer (Why limit) text = CanBeShown limit text
 MustAnswer (Umpire who) text = (s : SessionState) × (whole session_at (lines text) ≡ Ok s)
 MustAnswer San text = (s : SessionState) × (whole session_at (lines text) ≡ Ok s)
 MustAnswer Unsan text = (r : RecordState) × (whole record_at (lines text) ≡ Ok r)

@@ -5,6 +5,7 @@ pub mod Input
 pub mod Solve
 pub mod Check
 pub mod Believe
+pub mod Why
 pub mod Umpire
 pub mod San
 pub mod Unsan

@@ -2,11 +2,12 @@
 use Rattle.std.specs.Prelude.{ℕ, ◌≤◌, List, Result}
 use Rattle.krieg_fen.specs.declared.forms.TheConstants.{MOST_LISTED}
 use Rattle.krieg_args.specs.declared.command.Command.{Command}
-use Rattle.krieg_args.specs.declared.command.Command.TheVariants.{Solve, Check, Believe, Umpire, San, Unsan, Play, Lead, Next, Make, Job}
+use Rattle.krieg_args.specs.declared.command.Command.TheVariants.{Solve, Check, Believe, Why, Umpire, San, Unsan, Play, Lead, Next, Make, Job}
 use Rattle.krieg_args.specs.declared.command.TheConstants.{MOST_SEED}
 use Rattle.krieg_cli.specs.Solve.{Solves}
 use Rattle.krieg_cli.specs.Check.{Checks}
 use Rattle.krieg_cli.specs.Believe.{Believes}
+use Rattle.krieg_cli.specs.Why.{ShowsWhy}
 use Rattle.krieg_cli.specs.Umpire.{Umpires}
 use Rattle.krieg_cli.specs.Next.{SaysNext}
 use Rattle.krieg_cli.specs.San.{WritesRecord}
@@ -34,6 +35,7 @@ abbrev pub HasOutcome : LiveOutcome → Command → List ℕ → Result (List �
 HasOutcome live (Solve moves budget limit) text outcome = Solves moves budget limit text outcome
 HasOutcome live (Check budget) text outcome = Checks budget text outcome
 HasOutcome live (Believe limit) text outcome = Believes limit text outcome
+HasOutcome live (Why limit) text outcome = ShowsWhy limit text outcome
 HasOutcome live (Umpire who) text outcome = Umpires who text outcome
 HasOutcome live San text outcome = WritesRecord text outcome
 HasOutcome live Unsan text outcome = WritesSession text outcome

@@ -8,7 +8,7 @@ use Rattle.krieg_text.specs.declared.fault.TextKind.{TextKind}
 use Rattle.krieg_text.specs.declared.fault.TextKind.TheVariants as kind
 use Rattle.krieg_cli.specs.declared.refusal.Refusal.{Refusal}
 use Rattle.krieg_board.specs.declared.men.Side.TheVariants.{White, Black}
-use Rattle.krieg_cli.specs.declared.refusal.Refusal.TheVariants.{BadText, TooMany, NonePossible, GameOver, BudgetSpent, NoSuchPosition, NoSeat, SeatFault, PlanFails, PlanTooLarge}
+use Rattle.krieg_cli.specs.declared.refusal.Refusal.TheVariants.{BadText, TooMany, NonePossible, GameOver, BudgetSpent, AnswerTooLong, NoSuchPosition, NoSeat, SeatFault, PlanFails, PlanTooLarge}
 
 -- a position that is not valid, or not of the first one's hand, is told from every other bad line
 abbrev pub text_status : TextKind → ℕ
@@ -31,6 +31,7 @@ refusal_status PlanFails = 13
 refusal_status (NoSeat who) = 12
 refusal_status (SeatFault who) = 12
 refusal_status PlanTooLarge = 14
+refusal_status AnswerTooLong = 19
 refusal_status NoSuchPosition = 20
 
 abbrev pub position_reason : BadPosition → List ℕ
@@ -64,6 +65,7 @@ refusal_reason (NoSeat Black) = (None, codes "no seat b")
 refusal_reason (SeatFault White) = (None, codes "seat fault w")
 refusal_reason (SeatFault Black) = (None, codes "seat fault b")
 refusal_reason PlanTooLarge = (None, codes "plan too large")
+refusal_reason AnswerTooLong = (None, codes "answer too long")
 refusal_reason NoSuchPosition = (None, codes "no such position")
 
 -- What comes of a text: an outcome of the value that it spells, or the refusal of its first bad line.

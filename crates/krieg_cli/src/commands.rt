@@ -12,3 +12,4 @@ pub(crate) mod san;
 pub(crate) mod solve;
 pub(crate) mod umpire;
 pub(crate) mod unsan;
+pub(crate) mod why;

@@ -1,9 +1,9 @@
 //! The whole program as one call over streams: `run`.
 //!
-//! The commands are `umpire` and `san` on any session, `unsan` on any record, `believe` and `solve` on any sheet, `check` on any plan file, `play` from
+//! The commands are `umpire` and `san` on any session, `unsan` on any record, `believe`, `why` and `solve` on any sheet, `check` on any plan file, `play` from
 //! any position, and `make` and `job` on no input. The definitions of `specs/` say what is seen of a run before it and
 //! after it (`World`), what comes of its input (`Input`), how it ends (`Ending`, `Refusal`), what each command makes of its
-//! input (`Solve`, `Check`, `Believe`, `Umpire`, `San`, `Unsan`, `Play`, `Make`, `Job` with `Tally`, and `Outcome` for all), and by what causes a run
+//! input (`Solve`, `Check`, `Believe`, `Why`, `Umpire`, `San`, `Unsan`, `Play`, `Make`, `Job` with `Tally`, and `Outcome` for all), and by what causes a run
 //! ends so (`Top`).
 //!
 //! `Headline` is the promise of `solve` on one page. `WholePlans` says that `check` finds what `solve` states, and

@@ -3,7 +3,9 @@ ghost use Rattle.krieg_cli.specs.Parts.{Decides, LeavesSeats, ending_of};
 ghost use Rattle.krieg_cli.specs.Live.{LivesBy};
 ghost use Rattle.krieg_cli.specs.Outcome as spec;
 
-use crate::commands::{believe, check, job, lead, make, next, play, san, solve, umpire, unsan};
+use crate::commands::{
+    believe, check, job, lead, make, next, play, san, solve, umpire, unsan, why,
+};
 use crate::ending::Ending;
 use crate::live::Bench;
 use krieg_args::Command;
@@ -32,6 +34,7 @@ pub(crate) fn outcome(
         } => { solve::answer(alloc, *moves, *budget, *limit, text) }
         Command::Check { budget } => check::answer(alloc, *budget, text),
         Command::Believe { limit } => believe::answer(alloc, *limit, text),
+        Command::Why { limit } => why::answer(alloc, *limit, text),
         Command::Umpire { who } => umpire::answer(alloc, *who, text),
         Command::San => san::answer(alloc, text),
         Command::Unsan => unsan::answer(alloc, text),

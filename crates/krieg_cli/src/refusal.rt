@@ -21,6 +21,8 @@ pub(crate) enum Refusal {
     PlanFails,
     /// The best plan has more nodes than a plan file may have.
     PlanTooLarge,
+    /// The answer has more bytes than an input may have.
+    AnswerTooLong,
     /// The plan file lists fewer positions than the number that was asked for.
     NoSuchPosition,
     /// No seat plays for the side.
@@ -85,6 +87,7 @@ impl Refusal {
             Refusal::PlanFails => 13,
             Refusal::PlanTooLarge => 14,
             Refusal::NoSeat(_) | Refusal::SeatFault(_) => 12,
+            Refusal::AnswerTooLong => 19,
             Refusal::NoSuchPosition => 20,
         }
     }
@@ -102,6 +105,7 @@ impl Refusal {
             Refusal::BudgetSpent => (None, b"budget spent"),
             Refusal::PlanFails => (None, b"plan fails"),
             Refusal::PlanTooLarge => (None, b"plan too large"),
+            Refusal::AnswerTooLong => (None, b"answer too long"),
             Refusal::NoSuchPosition => (None, b"no such position"),
             Refusal::NoSeat(Side::White) => (None, b"no seat w"),
             Refusal::NoSeat(Side::Black) => (None, b"no seat b"),

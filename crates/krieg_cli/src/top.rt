@@ -77,7 +77,8 @@ fn obey<S: Source, O: Sink>(
 /// The commands are `umpire w`, `umpire b` and `umpire all` on any session, for which `out` gets the
 /// player's sheet or the lines of both, `san` on any session, for which it gets the record of the moves that
 /// were made, and `unsan` on any record, for which it gets the session of these moves, `believe LIMIT` on any sheet, for which it gets a sheet that lists
-/// every position that is still possible, `solve MOVES BUDGET LIMIT` on any sheet, for which it gets the plan
+/// every position that is still possible, `why LIMIT` on any sheet, for which it gets the text of the least hidden
+/// game that explains each of these, `solve MOVES BUDGET LIMIT` on any sheet, for which it gets the plan
 /// file of the canonical plan that mates from each of these within the fewest own moves, or the line
 /// `none MOVES` exactly where no plan mates within that number, `check BUDGET` on any plan file, for which
 /// it gets the plan's worst case, `play ASKS ..` from any position, for which the seats of the bench play a
@@ -91,7 +92,8 @@ fn obey<S: Source, O: Sink>(
 /// are no command (nothing is read then); 2 exactly where one byte more came than the
 /// [`MOST_INPUT`](crate::MOST_INPUT) that an input may have, before an end or a fault; 3 or 4 exactly where it has
 /// a first bad line; 7 exactly where more positions are possible after some part of the sheet than the limit
-/// allows; then of `solve` 5 exactly where none is possible, 6 exactly where the game is over, 8 only where the
+/// allows; then of `why` 5 exactly where none is possible, and 19 exactly where the text of the games has more bytes
+/// than an input may have; then of `solve` 5 exactly where none is possible, 6 exactly where the game is over, 8 only where the
 /// budget is less than a search may take, and 14 exactly where the best plan is too large for a text and the
 /// budget is not spent; 8 exactly where the check of a plan takes more than the budget, and otherwise 13 exactly
 /// where the plan does not mate all that it lists within the number that it claims; of `job` 8 only where
