@@ -33,15 +33,20 @@ LINES = {
     13: rb"krieg: plan fails\n",
     14: rb"krieg: plan too large\n",
     19: rb"krieg: answer too long\n",
+    20: rb"krieg: no such position\n",
 }
 
 # The statuses with which a command may end where its words are good, its input is short and there is memory.
 STATUSES = {
     "umpire": {0, 3, 4},
+    "san": {0, 3, 4},
+    "unsan": {0, 3, 4},
     "believe": {0, 3, 4, 7},
     "why": {0, 3, 4, 5, 7, 19},
     "solve": {0, 3, 4, 5, 6, 7, 8, 14},
     "check": {0, 3, 4, 8, 13},
+    "next": {0, 3, 4},
+    "lead": {0, 3, 4, 12, 20},
     "play": {0, 3, 4, 12},
     "make": {0},
     "job": {0},
@@ -50,10 +55,14 @@ STATUSES = {
 # What an answer begins with.
 ANSWERS = {
     "umpire": rb"krieg sheet [12]\n|[wb] opens ",
+    "san": rb"krieg record 1\n",
+    "unsan": rb"krieg session 1\n",
     "believe": rb"krieg sheet [12]\n",
     "why": rb"krieg games 1\n",
     "solve": rb"krieg plan [12]\n|none [1-6]\n$",
     "check": rb"mates [1-9][0-9]*\n$",
+    "next": rb"(?:try [a-h][1-8][a-h][1-8][qrbn]?|wait|mated|lost)\n$",
+    "lead": rb"krieg session [12]\n",
     "play": rb"krieg session 1\n",
     "make": rb"krieg (?:sheet|session) 1\n",
     "job": rb"listed [1-9][0-9]*\n",
@@ -125,11 +134,33 @@ def flaw(answer, words, text, statuses=None):
     return None
 
 
+def heard(plan):
+    """The lines that a player hears along the first path of a plan, up to the reply before its last try."""
+    lines, trying = [], None
+    for line in re.sub(r"(?s).*\nroots \d+\n", "", plan.decode()).splitlines():
+        word, *rest = line.split()
+        if word == "on":
+            own, *reply = line.removeprefix("on ").split(" / ")
+            lines.append(f"try {trying} ok {own}" if trying else f"opens {own}")
+            lines += [f"heard {words}" for words in reply]
+        elif trying and is_refused:
+            lines.append(f"try {trying} illegal")
+        if word == "play":
+            trying, is_refused = rest[0], "no" in rest
+            if rest[1:] == ["0"]:
+                break
+    return "".join(line + "\n" for line in lines).encode()
+
+
 def examples():
-    """The name, the kind and the text of each sheet, session and plan directly in examples/, by their first lines."""
+    """The name, the kind and the text of each sheet, session, record and plan directly in examples/, by their first lines; and each plan
+    with lines that its player heard behind it, which are of the kind `followed`."""
     for path in sorted((TOP / "examples").glob("*")):
         if path.is_file():
             text = path.read_bytes()
-            kind = re.match(rb"krieg (sheet|session|plan) [12]\n", text)
+            kind = re.match(rb"krieg (sheet|session|record|plan) [12]\n", text)
+            name = str(path.relative_to(TOP))
             if kind:
-                yield str(path.relative_to(TOP)), kind.group(1).decode(), text
+                yield name, kind.group(1).decode(), text
+            if kind and kind.group(1) == b"plan":
+                yield f"{name} and lines", "followed", text + heard(text)

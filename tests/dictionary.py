@@ -8,6 +8,12 @@ NUMBERS = """
 
 MOVES = "e2e4 e7e5 g1f3 f2f3 d8h4 e1g1 e8c8 e7e8q a2a1n e7e8k e7e8Q a1a1 h8h8 i1a1 a0a1 a9a1 h1h8 e2e e2e44 e2-e4".split()
 
+# Moves in algebraic notation, and what is almost one.
+ALGEBRAIC = """
+e4 e5 Nf3 Nc6 Bb5 a6 exd6 exf6 O-O O-O-O O-O+ 0-0 o-o e8=Q e8Q gxh8=N+ bxa1=Q# Rxh8+ Qh4# Nbd2 N1d2 Nb1d2 Rae1 R1xe1 Kg1 Kd7 Bd8# Pe4 e2e4
+e4=Q e8 e8=K xd5 Nx N ♘f3 e4+ e4# exd6e.p. exd6+ e4!? Nf3++ Z0
+""".split()
+
 POSITIONS = """
 rnbqkbnr/pppppppp/8/8/8/8/PPPPPPPP/RNBQKBNR w KQkq -
 rnbqkbnr/pppppppp/8/8/4P3/8/PPPP1PPP/RNBQKBNR b KQkq e3
@@ -41,7 +47,7 @@ piece h8, check file+knight, tries 2|tries 2, mate|mate, tries 2|silent, mate|pa
 """.strip().replace("\n", "|").split("|")
 
 LINES = """
-krieg sheet 1|krieg sheet 2|krieg sheet 3|krieg sheet 01|krieg session 1|krieg session 2|krieg plan 1|krieg plan 2|krieg
+krieg sheet 1|krieg sheet 2|krieg sheet 3|krieg sheet 01|krieg session 1|krieg session 2|krieg record 1|krieg record 2|krieg plan 1|krieg plan 2|krieg
 dialect wild16|dialect anytry|dialect plain|dialect|side w|side b|side|list 1|list 2|list 200000|list 200001|list 0|start
 end|end over|end left w|end left b|end asks|worst 1|worst 2500|worst 2501|roots 1|roots 100000|roots 100001|roots 0
 on silent|on silent / silent|on mate|on silent / silent / silent|play h1h8 0|play h1h8 1|play h1h8 no 0|play g1g8 no 1
@@ -117,6 +123,22 @@ on silent
 play h1a8 no 0
 play h1h8 0
 end
+
+krieg record 1
+start r3k2r/6P1/8/3pP3/8/8/8/R3K2R w KQkq d6
+w exd6
+b O-O-O
+w gxh8=Q
+b Rxh8
+w Rxh8+
+end
+
+krieg record 1
+start 4k3/8/8/8/8/8/4P3/4K3 b - - 7 12
+b Ke8d7
+w e4
+b K7d6
+end
 """.split("\n\n")
 ]
 
@@ -129,7 +151,8 @@ def pieces():
     lines = LINES + ["start " + p for p in POSITIONS] + POSITIONS
     lines += [form + words for form in ("heard ", "opens ", "on ", "on silent / ", "try h1h8 ok ") for words in WORDS]
     lines += [form % mv for form in ("w %s", "b %s", "try %s illegal", "play %s 0", "play %s no 0") for mv in MOVES]
-    lines += [form % n for form in ("list %s", "worst %s", "roots %s", "play h1h8 %s", "krieg plan %s") for n in NUMBERS]
+    lines += [side + mv for side in ("w ", "b ") for mv in ALGEBRAIC]
+    lines += [form % n for form in ("list %s", "worst %s", "roots %s", "play h1h8 %s", "krieg plan %s", "krieg record %s") for n in NUMBERS]
     return [line.encode() for line in lines]
 
 

@@ -2,7 +2,7 @@
 
 import re
 
-from dictionary import BYTES, MOVES, NUMBERS, PIECES, POSITIONS, WORDS
+from dictionary import ALGEBRAIC, BYTES, MOVES, NUMBERS, PIECES, POSITIONS, WORDS
 
 
 def span(rng, length):
@@ -95,6 +95,13 @@ def replace_move(rng, text):
     return replace_by(rng, MOVE, text, lambda _: any_move(rng))
 
 
+def replace_algebraic(rng, text):
+    """Puts any move of a record in the place of one, or says more of it."""
+    places = [lambda move: rng.choice(ALGEBRAIC).encode(), lambda move: move.rstrip(b"+#"), lambda move: move + rng.choice([b"+", b"#"]),
+              lambda move: move[:1] + rng.choice(b"abcdefgh12345678").to_bytes(1, "big") + move[1:]]
+    return replace_by(rng, ALGEBRAIC_PLACE, text, rng.choice(places)) if text.startswith(b"krieg record") else text
+
+
 def with_man_moved(rng, board):
     squares = re.sub(rb"[1-8]", lambda digit: b"." * int(digit.group()), board.replace(b"/", b""))
     if len(squares) != 64:
@@ -122,16 +129,20 @@ def list_more(rng, text):
 
 
 def add_entry(rng, text):
-    """Puts a try or an entry before the last line."""
-    mv, words = any_move(rng), rng.choice(WORDS).encode()
+    """Puts a try, a move or an entry before the last line, or an entry behind a plan."""
+    mv, words, algebraic = any_move(rng), rng.choice(WORDS).encode(), rng.choice(ALGEBRAIC).encode()
     session = [b"w " + mv, b"b " + mv]
+    record = [b"w " + algebraic, b"b " + algebraic]
     sheet = [b"heard " + words, b"try %s ok %s" % (mv, words), b"try %s illegal" % mv, b"try %s early" % mv]
-    entry = rng.choice(session if text.startswith(b"krieg session") else sheet)
+    entry = rng.choice({b"session": session, b"record": record}.get(text[6:14].split(b" ")[0], sheet))
+    if text.startswith(b"krieg plan"):
+        return text + entry + b"\n"
     return re.sub(rb"\nend(?=[^\n]*\n?$)", lambda _: b"\n" + entry + b"\nend", text)
 
 
 MOVE = re.compile(rb"[a-h][1-8][a-h][1-8][qrbn]?")
 NUMBER = re.compile(rb"(?<= )[0-9]{1,18}(?=\n|$)")
+ALGEBRAIC_PLACE = re.compile(rb"(?<=\n[wb] )[^\n]+")
 BOARD = re.compile(rb"(?:[1-8pnbrqkPNBRQK]+/){7}[1-8pnbrqkPNBRQK]+")
 
 # Changes after which the text is mostly refused.
@@ -155,6 +166,7 @@ ROUGH = [
 # Changes after which it mostly has its form.
 GENTLE = [
     replace_move,
+    replace_algebraic,
     move_man,
     move_man,
     nudge_number,
