@@ -67,110 +67,55 @@ silent_words p q m next took goes none_of none =
     let then_tries : tries (after p m) ≡ 0 = ap tries next ∙ none in
     λ i. record { end = then_end i; took = took i; checks = then_kinds i; tries = then_tries i }
 
-legal_0 : is_legal p0 (plain_move g1 f3) ≡ true
-unfolding p0 start_position after is_legal is_candidate is_king_attacked attacks is_attacked is_between is_clear every_square some_square squares
-legal_0 = refl
+-- what computing shows of a move and of the position in which it is made
+record Computed (p q : Pos) (f t : ℕ) (who : Side) : Type 0 where
+  turn : p.side ≡ who
+  squares_in : (f < 64) × (t < 64)
+  legal : is_legal p (plain_move f t) ≡ true
+  took : took_by p (man_at p.board f) (plain_move f t) ≡ Nothing
+  no_check : kinds p ≡ no_kinds
+  no_try : tries p ≡ 0
+  next : after p (plain_move f t) ≡ q
 
-legal_1 : is_legal p1 (plain_move g8 f6) ≡ true
-unfolding p0 p1 start_position after is_legal is_candidate is_king_attacked attacks is_attacked is_between is_clear every_square some_square squares
-legal_1 = refl
+first : Computed p0 p1 g1 f3 White
+unfolding p0 p1 start_position kinds is_checked is_checked_at checks_from tries tries_from is_try can_go after is_legal is_candidate is_king_attacked attacks is_attacked is_between is_clear every_square some_square squares
+first = record { turn = refl; squares_in = (omega arith, omega arith); legal = refl; took = refl; no_check = refl; no_try = refl; next = refl }
 
-legal_2 : is_legal p2 (plain_move f3 g1) ≡ true
-unfolding p0 p1 p2 start_position after is_legal is_candidate is_king_attacked attacks is_attacked is_between is_clear every_square some_square squares
-legal_2 = refl
+second : Computed p1 p2 g8 f6 Black
+unfolding p0 p1 p2 start_position kinds is_checked is_checked_at checks_from tries tries_from is_try can_go after is_legal is_candidate is_king_attacked attacks is_attacked is_between is_clear every_square some_square squares
+second = record { turn = refl; squares_in = (omega arith, omega arith); legal = refl; took = refl; no_check = refl; no_try = refl; next = refl }
 
-legal_3 : is_legal p3 (plain_move f6 g8) ≡ true
-unfolding p0 p1 p2 p3 start_position after is_legal is_candidate is_king_attacked attacks is_attacked is_between is_clear every_square some_square squares
-legal_3 = refl
-
-goes_0 : is_ended p0 ≡ false
-goes_0 = some_legal p0 g1 f3 (omega arith) (omega arith) legal_0
-
-goes_1 : is_ended p1 ≡ false
-goes_1 = some_legal p1 g8 f6 (omega arith) (omega arith) legal_1
-
-goes_2 : is_ended p2 ≡ false
-goes_2 = some_legal p2 f3 g1 (omega arith) (omega arith) legal_2
-
-goes_3 : is_ended p3 ≡ false
-goes_3 = some_legal p3 f6 g8 (omega arith) (omega arith) legal_3
+third : Computed p2 p3 f3 g1 White
+unfolding p0 p1 p2 p3 start_position kinds is_checked is_checked_at checks_from tries tries_from is_try can_go after is_legal is_candidate is_king_attacked attacks is_attacked is_between is_clear every_square some_square squares
+third = record { turn = refl; squares_in = (omega arith, omega arith); legal = refl; took = refl; no_check = refl; no_try = refl; next = refl }
 
 -- both knights are back
-back : after p3 (plain_move f6 g8) ≡ p0
-unfolding p0 p1 p2 p3 start_position after
-back = refl
-
-abbrev nothing_told : Pos → Type 0
-nothing_told p = (kinds p ≡ no_kinds) × (tries p ≡ 0)
-
-told_0 : nothing_told p0
-unfolding p0 start_position kinds is_checked is_checked_at checks_from tries tries_from is_try can_go after is_legal is_candidate is_king_attacked attacks is_attacked is_between is_clear every_square some_square squares
-told_0 = (refl, refl)
-
-told_1 : nothing_told p1
-unfolding p0 p1 start_position kinds is_checked is_checked_at checks_from tries tries_from is_try can_go after is_legal is_candidate is_king_attacked attacks is_attacked is_between is_clear every_square some_square squares
-told_1 = (refl, refl)
-
-told_2 : nothing_told p2
-unfolding p0 p1 p2 start_position kinds is_checked is_checked_at checks_from tries tries_from is_try can_go after is_legal is_candidate is_king_attacked attacks is_attacked is_between is_clear every_square some_square squares
-told_2 = (refl, refl)
-
-told_3 : nothing_told p3
+fourth : Computed p3 p0 f6 g8 Black
 unfolding p0 p1 p2 p3 start_position kinds is_checked is_checked_at checks_from tries tries_from is_try can_go after is_legal is_candidate is_king_attacked attacks is_attacked is_between is_clear every_square some_square squares
-told_3 = (refl, refl)
+fourth = record { turn = refl; squares_in = (omega arith, omega arith); legal = refl; took = refl; no_check = refl; no_try = refl; next = refl }
 
-took_0 : took_by p0 (man_at p0.board g1) (plain_move g1 f3) ≡ Nothing
-unfolding p0 start_position
-took_0 = refl
+goes_on_from : (p q : Pos) (f t : ℕ) (who : Side) → Computed p q f t who → is_ended p ≡ false
+goes_on_from p q f t who c = some_legal p f t c.squares_in.0 c.squares_in.1 c.legal
 
-took_1 : took_by p1 (man_at p1.board g8) (plain_move g8 f6) ≡ Nothing
-unfolding p0 p1 start_position after
-took_1 = refl
-
-took_2 : took_by p2 (man_at p2.board f3) (plain_move f3 g1) ≡ Nothing
-unfolding p0 p1 p2 start_position after
-took_2 = refl
-
-took_3 : took_by p3 (man_at p3.board f6) (plain_move f6 g8) ≡ Nothing
-unfolding p0 p1 p2 p3 start_position after
-took_3 = refl
-
-turn_0 : p0.side ≡ White
-unfolding p0 start_position
-turn_0 = refl
-
-turn_1 : p1.side ≡ Black
-unfolding p0 p1 start_position after
-turn_1 = refl
-
-turn_2 : p2.side ≡ White
-unfolding p0 p1 p2 start_position after
-turn_2 = refl
-
-turn_3 : p3.side ≡ Black
-unfolding p0 p1 p2 p3 start_position after
-turn_3 = refl
-
-next_0 : after p0 (plain_move g1 f3) ≡ p1
-unfolding p1
-next_0 = refl
-
-next_1 : after p1 (plain_move g8 f6) ≡ p2
-unfolding p2
-next_1 = refl
-
-next_2 : after p2 (plain_move f3 g1) ≡ p3
-unfolding p3
-next_2 = refl
+-- what is computed of two moves that follow one another shows that the first leads to where the second is made
+leads : {p q r : Pos} {f t g u : ℕ} {who next_who : Side} → Computed p q f t who → Computed q r g u next_who → Leads p q (plain_move f t) who
+leads {p = p} {q = q} {r = r} {f = f} {t = t} {g = g} {u = u} {who = who} {next_who = next_who} c n =
+    record {
+      turn = c.turn;
+      goes = goes_on_from p q f t who c;
+      legal = c.legal;
+      said = silent_words p q (plain_move f t) c.next c.took (goes_on_from q r g u next_who n) n.no_check n.no_try;
+      next = c.next;
+    }
 
 pub leads_0 : Leads p0 p1 (plain_move g1 f3) White
-leads_0 = record { turn = turn_0; goes = goes_0; legal = legal_0; said = silent_words p0 p1 (plain_move g1 f3) next_0 took_0 goes_1 told_1.0 told_1.1; next = next_0 }
+leads_0 = leads first second
 
 pub leads_1 : Leads p1 p2 (plain_move g8 f6) Black
-leads_1 = record { turn = turn_1; goes = goes_1; legal = legal_1; said = silent_words p1 p2 (plain_move g8 f6) next_1 took_1 goes_2 told_2.0 told_2.1; next = next_1 }
+leads_1 = leads second third
 
 pub leads_2 : Leads p2 p3 (plain_move f3 g1) White
-leads_2 = record { turn = turn_2; goes = goes_2; legal = legal_2; said = silent_words p2 p3 (plain_move f3 g1) next_2 took_2 goes_3 told_3.0 told_3.1; next = next_2 }
+leads_2 = leads third fourth
 
 pub leads_3 : Leads p3 p0 (plain_move f6 g8) Black
-leads_3 = record { turn = turn_3; goes = goes_3; legal = legal_3; said = silent_words p3 p0 (plain_move f6 g8) back took_3 goes_0 told_0.0 told_0.1; next = back }
+leads_3 = leads fourth first

@@ -56,8 +56,8 @@ module _ (d : Dialect) where
   none_checked T Cs j u r = record { k = 0; at = refl; won = λ C i. absurd i; searched = searched_nothing d (CoversSets (chess d) Cs j) T u r }
 
   -- none is ahead
-  pub all_checked : (T0 T : Interned) (Cs : List (List Pos)) (j u0 u : ℕ) → IsChecking T0 T Cs [] j u0 u → TellsSets d T Cs j true × IsSearched d (CoversSets (chess d) Cs j) 0 T0 T u0 u
-  all_checked T0 T Cs j u0 u a =
+  pub all_checked : {T0 T : Interned} {Cs : List (List Pos)} {j u0 u : ℕ} → IsChecking T0 T Cs [] j u0 u → TellsSets d T Cs j true × IsSearched d (CoversSets (chess d) Cs j) 0 T0 T u0 u
+  all_checked {T = T} {Cs = Cs} {j = j} a =
       let l = drop_none Cs a.k a.at in (
         record {
           right = sym (all_can (chess d) (entries T) Cs j a.k l a.won);
@@ -67,7 +67,7 @@ module _ (d : Dialect) where
       )
 
   -- the next set is looked at, which may have got its number just now
-  module _ (T0 T1 T2 : Interned) (Cs : List (List Pos)) (C : List Pos) (rest : List (List Pos)) (X : List Pos) (j u0 u1 : ℕ) (a : IsChecking T0 T1 Cs (C ∷ rest) j u0 u1) (same : X ≡ C) (noted : entries T2 ≡ entries T1) (before : IsSearched d (CoversSets (chess d) Cs j) 0 T0 T2 u0 u1) where
+  module _ {T0 T1 T2 : Interned} {Cs : List (List Pos)} {C : List Pos} {rest : List (List Pos)} {X : List Pos} {j u0 u1 : ℕ} (a : IsChecking T0 T1 Cs (C ∷ rest) j u0 u1) (same : X ≡ C) (noted : entries T2 ≡ entries T1) (before : IsSearched d (CoversSets (chess d) Cs j) 0 T0 T2 u0 u1) where
     place : (a.k < length Cs) × (get_or Cs a.k [] ≡ C) × (drop (suc a.k) Cs ≡ rest)
     place = at_drop Cs a.k [] C rest a.at
 
@@ -77,7 +77,7 @@ module _ (d : Dialect) where
     pub next_covers : (R : List (List Pos × ℕ)) → CoversSets (chess d) Cs j R → CoversSet (chess d) X j R
     next_covers = covers_set (chess d) Cs X j inside
 
-    module _ (T3 : Interned) (u3 : ℕ) (s : IsSearched d (CoversSet (chess d) X j) 0 T2 T3 u1 u3) where
+    module _ {T3 : Interned} {u3 : ℕ} (s : IsSearched d (CoversSet (chess d) X j) 0 T2 T3 u1 u3) where
       after : IsSearched d (CoversSets (chess d) Cs j) 0 T0 T3 u0 u3
       after = searched_then d (CoversSets (chess d) Cs j) (CoversSet (chess d) X j) 0 0 0 T0 T2 T3 u0 u1 u3 next_covers before refl s
 

@@ -1,5 +1,5 @@
 -- What is decided over the opening sets, and what it takes.
-use Rattle.std.proofs.Common.{◌≡◌, ℕ, ◌+◌, ◌<◌, ◌≤◌, Bool, true, false, not, ◌&&◌, ◌⊎◌, inl, inr, List, [], ◌∷◌, map, find, Option, Some, None, Result, Ok, Err, refl, sym, ap, subst, ◌∙◌, arith, Vec}
+use Rattle.std.proofs.Common.{◌≡◌, ℕ, ◌+◌, ◌<◌, ◌≤◌, Bool, true, false, not, ◌&&◌, ◌⊎◌, inl, inr, List, [], map, find, Option, Some, None, Result, Ok, Err, refl, sym, ap, subst, ◌∙◌, arith, Vec}
 use Rattle.std.specs.Prelude.{IfSome}
 use Rattle.std.specs.declared.alloc.Global.{Global}
 use Rattle.std.specs.List.{list_all, list_any}
@@ -161,7 +161,7 @@ module _ (d : Dialect) (who : Side) (S : List Pos) (n : ℕ) where
       account = record { results = entries T2; sound = stretch.sound; answer = plan; once = o; reached = reached; exact = (let x = stretch.exact in omega arith) }
 
       ready : IsReady d T2
-      ready = ready_from d (CoversSets (chess d) (sets_in T1 os) n) 0 T1 T2 u1 u2 s
+      ready = ready_from d s
 
       -- what the search leaves, whatever its answer
       is_found : (w : Found) → w.table ≡ T2 → w.openings.items ≡ os → IsFound d who S n w u0

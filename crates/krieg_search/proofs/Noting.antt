@@ -48,16 +48,16 @@ module _ (d : Dialect) where
     stored = record { won = λ y. absurd (both_ways false refl y); lost = λ y p. h };
   }
 
-  pub found_tells : (T : Interned) (B : List Pos) (j u : ℕ) (found : Option Known) (k : Known) → IsReady d T → found ≡ Some k → option_map try_of found ≡ stored position_lt (entries T) (B, j)
+  pub found_tells : {T : Interned} {B : List Pos} {j : ℕ} (u : ℕ) {found : Option Known} {k : Known} → IsReady d T → found ≡ Some k → option_map try_of found ≡ stored position_lt (entries T) (B, j)
       → TellsSet d T B j (is_some (try_of k)) × IsSearched d (CoversPair (chess d) B j) 0 T T u u
-  found_tells T B j u found k r e h = (
+  found_tells {T = T} {B = B} {j = j} u {k = k} r e h = (
     stored_tells T B j (try_of k) r (sym h ∙ ap (option_map try_of) e),
     searched_nothing d (CoversPair (chess d) B j) T u r,
   )
 
   -- nothing is stored where nothing is found
-  pub none_found : (T : Interned) (q : List Pos × ℕ) (found : Option Known) → found ≡ None → option_map try_of found ≡ stored position_lt (entries T) q → known (chess d) (entries T) q ≡ None
-  none_found T q found e h = sym h ∙ ap (option_map try_of) e
+  pub none_found : (T : Interned) (q : List Pos × ℕ) {found : Option Known} → found ≡ None → option_map try_of found ≡ stored position_lt (entries T) q → known (chess d) (entries T) q ≡ None
+  none_found T q e h = sym h ∙ ap (option_map try_of) e
 
   -- a search of the pair was stopped at one of its tries
   pub pair_stopped : {A : Type 0} (P : Stop2 → Type 0) (r : Result A Stop2) (wanted : A → Type 0) (B : List Pos) (j : ℕ) (T0 T : Interned) (u0 u : ℕ) → IsErrAnd r P → known (chess d) (entries T0) (B, j) ≡ None

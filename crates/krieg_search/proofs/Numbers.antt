@@ -30,7 +30,7 @@ module _ (d : Dialect) where
   pub next_covers : (B : List Pos) (j last : ℕ) → last < j → (R : List (List Pos × ℕ)) → CoversSet (chess d) B j R → CoversPair (chess d) B (last + 1) R
   next_covers B j last l = covers_pair (chess d) B (last + 1) j (omega arith) (omega arith)
 
-  module _ (T0 T1 T2 : Interned) (B : List Pos) (j last u0 u1 u2 : ℕ) (a : IsCounting T0 T1 B j last u0 u1) (l : last < j) (s : IsSearched d (CoversPair (chess d) B (last + 1)) 0 T1 T2 u1 u2) where
+  module _ {T0 T1 T2 : Interned} {B : List Pos} {j last u0 u1 u2 : ℕ} (a : IsCounting T0 T1 B j last u0 u1) (l : last < j) (s : IsSearched d (CoversPair (chess d) B (last + 1)) 0 T1 T2 u1 u2) where
     after : IsSearched d (CoversSet (chess d) B j) 0 T0 T2 u0 u2
     after = searched_then d (CoversSet (chess d) B j) (CoversPair (chess d) B (last + 1)) 0 0 0 T0 T1 T2 u0 u1 u2 (next_covers B j last l) a.searched refl s
 
@@ -56,8 +56,8 @@ module _ (d : Dialect) where
         go i p (inr h) = s.stretch.kept (B, i) None (a.lost i p h)
 
   -- no number is left
-  pub all_fail : (T0 T : Interned) (B : List Pos) (j last u0 u : ℕ) → IsCounting T0 T B j last u0 u → j ≤ last → TellsSet d T B j false × IsSearched d (CoversSet (chess d) B j) 0 T0 T u0 u
-  all_fail T0 T B j last u0 u a h =
+  pub all_fail : {T0 T : Interned} {B : List Pos} {j last u0 u : ℕ} → IsCounting T0 T B j last u0 u → j ≤ last → TellsSet d T B j false × IsSearched d (CoversSet (chess d) B j) 0 T0 T u0 u
+  all_fail {T = T} {B = B} {j = j} {last = last} a h =
       let e : last ≡ j = (let w = a.within in omega arith) in (
         record {
           right = sym (subst (λ (n : ℕ). can (chess d) n B ≡ false) e a.fails);

@@ -26,8 +26,8 @@ pub more_then : (T0 T1 T2 : Interned) → IsMore T0 T1 → IsMore T1 T2 → IsMo
 more_then T0 T1 T2 a b = record { longer = (let x = a.longer in let y = b.longer in omega arith); same = λ k h. (let x = a.longer in b.same k (omega arith) ∙ a.same k h) }
 
 module _ (d : Dialect) where
-  pub ready_from : (Q : List (List Pos × ℕ) → Type 0) (a : ℕ) (T T' : Interned) (u0 u1 : ℕ) → IsSearched d Q a T T' u0 u1 → IsReady d T'
-  ready_from Q a T T' u0 u1 s = record { counted = s.counted; sound = s.stretch.sound }
+  pub ready_from : {Q : List (List Pos × ℕ) → Type 0} {a : ℕ} {T T' : Interned} {u0 u1 : ℕ} → IsSearched d Q a T T' u0 u1 → IsReady d T'
+  ready_from s = record { counted = s.counted; sound = s.stretch.sound }
 
   pub searched_nothing : (Q : List (List Pos × ℕ) → Type 0) (T : Interned) (u : ℕ) → IsReady d T → IsSearched d Q 0 T T u u
   searched_nothing Q T u r = record { counted = r.counted; more = more_itself T; stretch = stretch_of_nothing (chess d) Q (entries T) u r.sound }
@@ -43,8 +43,8 @@ module _ (d : Dialect) where
   }
 
   -- a set is given its number
-  pub searched_number : (Q : List (List Pos × ℕ) → Type 0) (a : ℕ) (T0 T1 T2 : Interned) (B : List Pos) (set u0 u1 : ℕ) → IsSearched d Q a T0 T1 u0 u1 → IsNumbered T1 T2 B set → IsSearched d Q a T0 T2 u0 u1
-  searched_number Q a T0 T1 T2 B set u0 u1 s n = record {
+  pub searched_number : {Q : List (List Pos × ℕ) → Type 0} {a : ℕ} {T0 T1 T2 : Interned} {B : List Pos} {set u0 u1 : ℕ} → IsSearched d Q a T0 T1 u0 u1 → IsNumbered T1 T2 B set → IsSearched d Q a T0 T2 u0 u1
+  searched_number {Q = Q} {a = a} {T0 = T0} {T1 = T1} {T2 = T2} {u0 = u0} {u1 = u1} s n = record {
     counted = n.counted;
     more = more_then T0 T1 T2 s.more n.interned.more;
     stretch = subst (λ (E : Entries Pos Move). IsStretch (chess d) Q a (entries T0) E u0 u1) (sym n.interned.noted) s.stretch;
@@ -54,10 +54,10 @@ module _ (d : Dialect) where
   short_behind Q Q' a b all T0 T1 u0 u1 f s h v = short_cost (chess d) Q (a + b) all (entries T0) u0 h (short_then (chess d) Q Q' a b (entries T0) (entries T1) u0 u1 f s.stretch v)
 
   -- a step was stopped, behind others
-  pub stopped : {A B : Type 0} (P : Stop2 → Type 0) (r : Result B Stop2) (e : Stop2) (holds : A → Type 0) (wanted : B → Type 0) (Q Q' : List (List Pos × ℕ) → Type 0) (a b all : ℕ) (T0 T1 T2 T3 : Interned) (u0 u1 u2 u3 : ℕ)
+  pub stopped : {A B : Type 0} {P : Stop2 → Type 0} (r : Result B Stop2) (e : Stop2) (holds : A → Type 0) (wanted : B → Type 0) {Q Q' : List (List Pos × ℕ) → Type 0} {a : ℕ} (b : ℕ) {all : ℕ} {T0 T1 : Interned} (T2 T3 : Interned) {u0 u1 : ℕ} (u2 u3 : ℕ)
       → ((x : Stop2) → P x → e ≡ x) → IsErrAnd r P → ((R : List (List Pos × ℕ)) → Q R → Q' R) → IsSearched d Q a T0 T1 u0 u1 → a + b ≤ all → Searches d (Err e) holds Q' b T1 T2 u1 u2 → Searches d r wanted Q all T0 T3 u0 u3
-  stopped P (Ok x) e holds wanted Q Q' a b all T0 T1 T2 T3 u0 u1 u2 u3 same fails f s h k = absurd fails
-  stopped {A = A} {B = B} P (Err x) e holds wanted Q Q' a b all T0 T1 T2 T3 u0 u1 u2 u3 same fails f s h k =
+  stopped (Ok x) e holds wanted b T2 T3 u2 u3 same fails f s h k = absurd fails
+  stopped {A = A} {B = B} (Err x) e holds wanted {Q = Q} {Q' = Q'} {a = a} b {all = all} {T0 = T0} {T1 = T1} T2 T3 {u0 = u0} {u1 = u1} u2 u3 same fails f s h k =
       go x (subst (λ (y : Stop2). Searches d {A = A} (Err y) holds Q' b T1 T2 u1 u2) (same x fails) k)
     where
       go : (y : Stop2) → Searches d {A = A} (Err y) holds Q' b T1 T2 u1 u2 → Searches d {A = B} (Err y) wanted Q all T0 T3 u0 u3

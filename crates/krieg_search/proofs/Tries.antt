@@ -29,7 +29,7 @@ module _ (d : Dialect) where
   pub none_tried : (T : Interned) (B : List Pos) (j : ℕ) (ts : List Move) (u : ℕ) → IsReady d T → IsTrying T T B j ts 0 u u
   none_tried T B j ts u r = record { failed = λ t i. absurd i; searched = searched_nothing d (CoversTries (chess d) B j) T u r }
 
-  module _ (B : List Pos) (j : ℕ) (ts : List Move) (are : ts ≡ tries (chess d) B) (T0 T1 : Interned) (k : ℕ) (t : Move) (u0 u1 : ℕ) (l : k < length ts) (e : t ≡ get_or ts k t) (a : IsTrying T0 T1 B j ts k u0 u1) where
+  module _ {B : List Pos} {j : ℕ} {ts : List Move} (are : ts ≡ tries (chess d) B) {T0 T1 : Interned} {k : ℕ} {t : Move} {u0 u1 : ℕ} (l : k < length ts) (e : t ≡ get_or ts k t) (a : IsTrying T0 T1 B j ts k u0 u1) where
     pub next_legal : legal_in_some (chess d) B t ≡ true
     next_legal = legal_at (chess d) (chess_is_game d) B j ts are k t l e
 
@@ -40,7 +40,7 @@ module _ (d : Dialect) where
     pub next_within : total (made (chess d) B) (take k ts) + made (chess d) B t ≤ price (chess d) B
     next_within = price_within (chess d) (chess_is_game d) B j ts are k t l e
 
-    module _ (T2 : Interned) (u2 : ℕ) (s : IsSearched d (CoversTry (chess d) B j t) (made (chess d) B t) T1 T2 u1 u2) where
+    module _ {T2 : Interned} {u2 : ℕ} (s : IsSearched d (CoversTry (chess d) B j t) (made (chess d) B t) T1 T2 u1 u2) where
       after : (all : ℕ) → total (made (chess d) B) (take k ts) + made (chess d) B t ≡ all → IsSearched d (CoversTries (chess d) B j) all T0 T2 u0 u2
       after all p = searched_then d (CoversTries (chess d) B j) (CoversTry (chess d) B j t) (total (made (chess d) B) (take k ts)) (made (chess d) B t) all T0 T1 T2 u0 u1 u2 next_covers a.searched p s
 
@@ -63,7 +63,7 @@ module _ (d : Dialect) where
         win_backed some below = backed_here (chess d) (chess_is_game d) B j ts are (entries T1) (entries T2) k t some l e s.stretch.kept (λ i p q. win_searched.stretch.kept (B, i) None (below i p q)) a.failed w.stored
 
   -- no try is left: the set cannot be won
-  module _ (B : List Pos) (j : ℕ) (ts : List Move) (are : ts ≡ tries (chess d) B) (T0 T : Interned) (k u0 u : ℕ) (l : length ts ≤ k) (a : IsTrying T0 T B j ts k u0 u) where
+  module _ {B : List Pos} {j : ℕ} {ts : List Move} (are : ts ≡ tries (chess d) B) {T0 T : Interned} {k u0 u : ℕ} (l : length ts ≤ k) (a : IsTrying T0 T B j ts k u0 u) where
     pub loss_first : ◌≡◌ {A = Option Move} None (first_try (chess d) j B)
     loss_first = first_none (chess d) (chess_is_game d) B j ts are (entries T) k l a.failed
 

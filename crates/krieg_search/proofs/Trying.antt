@@ -58,8 +58,8 @@ module _ (d : Dialect) where
     pub leaves : Leaves d B t j l
     pub taken : u1 + made (chess d) B t ≡ u0
 
-  pub tried_at : (T : Interned) (B0 B : List Pos) (t : Move) (j : ℕ) (found : Option Left) (l : Left) (u0 u1 : ℕ) → B0 ≡ B → found ≡ Some l → 0 < j → IsReady d T → legal_in_some (chess d) B t ≡ true → IsLeft d B0 t j found → u1 + made (chess d) B0 t ≡ u0 → IsTried T B t j l u0 u1
-  tried_at T B0 B t j found l u0 u1 same is some ready legal left taken = record {
+  pub tried_at : {T : Interned} {B0 B : List Pos} {found : Option Left} {l : Left} (t : Move) (j u0 u1 : ℕ) → B0 ≡ B → found ≡ Some l → 0 < j → IsReady d T → legal_in_some (chess d) B t ≡ true → IsLeft d B0 t j found → u1 + made (chess d) B0 t ≡ u0 → IsTried T B t j l u0 u1
+  tried_at {B0 = B0} {l = l} t j u0 u1 same is some ready legal left taken = record {
     some = some;
     ready = ready;
     legal = legal;
@@ -67,7 +67,7 @@ module _ (d : Dialect) where
     taken = subst (λ (X : List Pos). u1 + made (chess d) X t ≡ u0) same taken;
   }
 
-  module _ (T0 : Interned) (B : List Pos) (t : Move) (j : ℕ) (l : Left) (u0 u1 : ℕ) (a : IsTried T0 B t j l u0 u1) where
+  module _ {T0 : Interned} {B : List Pos} {t : Move} {j : ℕ} {l : Left} {u0 u1 : ℕ} (a : IsTried T0 B t j l u0 u1) where
     one_less : suc (j - 1) ≡ j
     one_less = let p = a.some in omega arith
 
@@ -83,15 +83,15 @@ module _ (d : Dialect) where
     pub after_split : IsSearched d (CoversTry (chess d) B j t) (made (chess d) B t) T0 T0 u0 u1
     after_split = searched_split d (CoversTry (chess d) B j t) T0 (made (chess d) B t) u0 u1 a.ready a.taken
 
-    pub after_classes : (T1 : Interned) (u2 : ℕ) → IsSearched d (CoversSets (chess d) (sets_of l.classes.items) (j - 1)) 0 T0 T1 u1 u2 → IsSearched d (CoversTry (chess d) B j t) (made (chess d) B t) T0 T1 u0 u2
-    after_classes T1 u2 w = searched_then d (CoversTry (chess d) B j t) (CoversSets (chess d) (sets_of l.classes.items) (j - 1)) (made (chess d) B t) 0 (made (chess d) B t) T0 T0 T1 u0 u1 u2 covers_classes after_split (omega arith) w
+    pub after_classes : {T1 : Interned} {u2 : ℕ} → IsSearched d (CoversSets (chess d) (sets_of l.classes.items) (j - 1)) 0 T0 T1 u1 u2 → IsSearched d (CoversTry (chess d) B j t) (made (chess d) B t) T0 T1 u0 u2
+    after_classes {T1 = T1} {u2 = u2} w = searched_then d (CoversTry (chess d) B j t) (CoversSets (chess d) (sets_of l.classes.items) (j - 1)) (made (chess d) B t) 0 (made (chess d) B t) T0 T0 T1 u0 u1 u2 covers_classes after_split (omega arith) w
 
     in_game : (T : Interned) (won : Bool) → TellsSets d T (sets_of l.classes.items) (j - 1) won → TellsSets d T (classes (chess d) B t) (j - 1) won
     in_game T won w = subst (λ (Cs : List (List Pos)). TellsSets d T Cs (j - 1) won) at_sets w
 
     -- some class cannot be won
-    pub class_lost : (T1 : Interned) → TellsSets d T1 (sets_of l.classes.items) (j - 1) false → TellsTry d T1 B j t false
-    class_lost T1 w =
+    pub class_lost : {T1 : Interned} → TellsSets d T1 (sets_of l.classes.items) (j - 1) false → TellsTry d T1 B j t false
+    class_lost {T1 = T1} w =
         let v = in_game T1 false w in
         subst (λ (n : ℕ). TellsTry d T1 B n t false) one_less (record {
           right = sym (begins_class (chess d) (chess_is_game d) (j - 1) B t (sym v.right));
@@ -99,7 +99,7 @@ module _ (d : Dialect) where
         })
 
     -- all classes can be won
-    module _ (T1 : Interned) (w : TellsSets d T1 (sets_of l.classes.items) (j - 1) true) where
+    module _ {T1 : Interned} (w : TellsSets d T1 (sets_of l.classes.items) (j - 1) true) where
       all_won : list_all (can (chess d) (j - 1)) (classes (chess d) B t) ≡ true
       all_won = sym (in_game T1 true w).right
 
@@ -119,8 +119,8 @@ module _ (d : Dialect) where
           })
 
       -- or those that do are searched last
-      module _ (T2 : Interned) (rest u2 : ℕ) (s : IsSearched d (CoversSets (chess d) (sets_of l.classes.items) (j - 1)) 0 T0 T1 u1 u2) (n : is_nil l.refused ≡ false) (i : IsNumbered T1 T2 l.refused rest) where
-        abbrev pub X : List Pos
+      module _ {T2 : Interned} {rest u2 : ℕ} (s : IsSearched d (CoversSets (chess d) (sets_of l.classes.items) (j - 1)) 0 T0 T1 u1 u2) (n : is_nil l.refused ≡ false) (i : IsNumbered T1 T2 l.refused rest) where
+        abbrev X : List Pos
         X = set_at T2 rest
 
         is_rest : X ≡ refused (chess d) B t
@@ -133,7 +133,7 @@ module _ (d : Dialect) where
         rest_smaller = subst (λ (Y : List Pos). length Y < length B) (sym is_rest) (refused_lt (chess d) (chess_is_game d) B t a.legal)
 
         pub before_rest : IsSearched d (CoversTry (chess d) B j t) (made (chess d) B t) T0 T2 u0 u2
-        before_rest = searched_number d (CoversTry (chess d) B j t) (made (chess d) B t) T0 T1 T2 l.refused rest u0 u2 (after_classes T1 u2 s) i
+        before_rest = searched_number d (after_classes s) i
 
         covers_rest : (R : List (List Pos × ℕ)) → CoversTry (chess d) B j t R → CoversSet (chess d) X j R
         covers_rest R h = subst (λ (Y : List Pos). CoversSet (chess d) Y j R) (sym is_rest) (covering.covers_refused (chess d) B j t some_rest R h)
