@@ -35,6 +35,15 @@ fn say_move(d: Dialect, p: &Position, mv: &Move, answer: &mut Answer) -> Result<
     say_told(d, made.words, answer)
 }
 
+/// One position, where it was found in two ways alike.
+fn say_same(next: &Position, again: &Position, answer: &mut Answer) -> Result<(), Stop> {
+    if order(next, again) == Ordering::Equal {
+        answer.position(next)
+    } else {
+        Err(Stop::Unread)
+    }
+}
+
 /// The position after the move, where those words are told of it.
 fn say_after_told(scene: &Scene, text: &str, answer: &mut Answer) -> Result<(), Stop> {
     let (mv, words) = halves(text, " ")?;
@@ -47,10 +56,8 @@ fn say_after_told(scene: &Scene, text: &str, answer: &mut Answer) -> Result<(), 
             Some(_) => Err(Stop::Unread),
         };
     }
-    match (after_told(scene.dialect, words, p, *mv), tried) {
-        (Some(next), Some(again)) if order(&next, &again) == Ordering::Equal => answer.position(
-            &next,
-        ),
+    match (&after_told(scene.dialect, words, p, *mv), &tried) {
+        (Some(next), Some(again)) => say_same(next, again, answer),
         (None, None) => Ok(()),
         _ => Err(Stop::Unread),
     }
