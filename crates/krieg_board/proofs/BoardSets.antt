@@ -8,7 +8,7 @@ use Rattle.krieg_board.specs.declared.men.Kind.TheVariants.{Pawn, Knight, Bishop
 use Rattle.krieg_board.specs.declared.men.Man.{Man}
 use Rattle.krieg_board.specs.Men.{is_same_side}
 use Rattle.krieg_board.specs.Board.{Board, man_at, is_of}
-use Rattle.krieg_board.specs.Sets.{has, set_below, set_of}
+use Rattle.krieg_board.specs.Sets.{has, set_below, squares_where}
 use Rattle.krieg_board.specs.Boards.{is_kind, board_of, sets_of, AreExact, Show}
 use Rattle.krieg_board.specs.declared.bits.Sets.{Sets}
 use Rattle.krieg_board.proofs.SetLemmas.{has_or, has_zero, same_sets}
@@ -72,54 +72,54 @@ has_set_below test (suc n) k =
         (λ i. cond (le-ltb k n (omega arith) i) (nat_lt k n && test k) (ne_eqb k n (λ e. omega arith) i && test n))
         ∙ sym (ap (λ x. x && test k) (le-ltb k (suc n) (omega arith)))
 
-pub has_set_of : (test : ℕ → Bool) (k : ℕ) → k < 64 → has (set_of test) k ≡ test k
-unfolding set_of
-has_set_of test k h = has_set_below test 64 k ∙ ap (λ x. x && test k) (lt-ltb k 64 h)
+pub has_squares_where : (test : ℕ → Bool) (k : ℕ) → k < 64 → has (squares_where test) k ≡ test k
+unfolding squares_where
+has_squares_where test k h = has_set_below test 64 k ∙ ap (λ x. x && test k) (lt-ltb k 64 h)
 
-pub set_of_small : (test : ℕ → Bool) → set_of test < 2 ^ 64
-unfolding set_of
-set_of_small test = set_below_small test 64
+pub squares_where_small : (test : ℕ → Bool) → squares_where test < 2 ^ 64
+unfolding squares_where
+squares_where_small test = set_below_small test 64
 
 -- a set is the set of the squares that pass, where it has just those
-pub set_of_is : (n : ℕ) (test : ℕ → Bool) → n < 2 ^ 64 → ((k : ℕ) → k < 64 → has n k ≡ test k) → n ≡ set_of test
-set_of_is n test h e = same_sets n (set_of test) h (set_of_small test) (λ k l. e k l ∙ sym (has_set_of test k l))
+pub squares_where_is : (n : ℕ) (test : ℕ → Bool) → n < 2 ^ 64 → ((k : ℕ) → k < 64 → has n k ≡ test k) → n ≡ squares_where test
+squares_where_is n test h e = same_sets n (squares_where test) h (squares_where_small test) (λ k l. e k l ∙ sym (has_squares_where test k l))
 
 -- what each of the eight sets has
 pub white_has : (b : Sets) → AreExact b → (k : ℕ) → k < 64 → has b.white k ≡ is_of White (man_at (board_of b) k)
 unfolding sets_of
-white_has b v k h = sym (ap (λ s. has s.white k) v.exact) ∙ has_set_of (λ k. is_of White (man_at (board_of b) k)) k h
+white_has b v k h = sym (ap (λ s. has s.white k) v.exact) ∙ has_squares_where (λ k. is_of White (man_at (board_of b) k)) k h
 
 pub black_has : (b : Sets) → AreExact b → (k : ℕ) → k < 64 → has b.black k ≡ is_of Black (man_at (board_of b) k)
 unfolding sets_of
-black_has b v k h = sym (ap (λ s. has s.black k) v.exact) ∙ has_set_of (λ k. is_of Black (man_at (board_of b) k)) k h
+black_has b v k h = sym (ap (λ s. has s.black k) v.exact) ∙ has_squares_where (λ k. is_of Black (man_at (board_of b) k)) k h
 
 pub pawns_has : (b : Sets) → AreExact b → (k : ℕ) → k < 64 → has b.pawns k ≡ is_kind Pawn (man_at (board_of b) k)
 unfolding sets_of
-pawns_has b v k h = sym (ap (λ s. has s.pawns k) v.exact) ∙ has_set_of (λ k. is_kind Pawn (man_at (board_of b) k)) k h
+pawns_has b v k h = sym (ap (λ s. has s.pawns k) v.exact) ∙ has_squares_where (λ k. is_kind Pawn (man_at (board_of b) k)) k h
 
 pub knights_has : (b : Sets) → AreExact b → (k : ℕ) → k < 64 → has b.knights k ≡ is_kind Knight (man_at (board_of b) k)
 unfolding sets_of
-knights_has b v k h = sym (ap (λ s. has s.knights k) v.exact) ∙ has_set_of (λ k. is_kind Knight (man_at (board_of b) k)) k h
+knights_has b v k h = sym (ap (λ s. has s.knights k) v.exact) ∙ has_squares_where (λ k. is_kind Knight (man_at (board_of b) k)) k h
 
 pub bishops_has : (b : Sets) → AreExact b → (k : ℕ) → k < 64 → has b.bishops k ≡ is_kind Bishop (man_at (board_of b) k)
 unfolding sets_of
-bishops_has b v k h = sym (ap (λ s. has s.bishops k) v.exact) ∙ has_set_of (λ k. is_kind Bishop (man_at (board_of b) k)) k h
+bishops_has b v k h = sym (ap (λ s. has s.bishops k) v.exact) ∙ has_squares_where (λ k. is_kind Bishop (man_at (board_of b) k)) k h
 
 pub rooks_has : (b : Sets) → AreExact b → (k : ℕ) → k < 64 → has b.rooks k ≡ is_kind Rook (man_at (board_of b) k)
 unfolding sets_of
-rooks_has b v k h = sym (ap (λ s. has s.rooks k) v.exact) ∙ has_set_of (λ k. is_kind Rook (man_at (board_of b) k)) k h
+rooks_has b v k h = sym (ap (λ s. has s.rooks k) v.exact) ∙ has_squares_where (λ k. is_kind Rook (man_at (board_of b) k)) k h
 
 pub queens_has : (b : Sets) → AreExact b → (k : ℕ) → k < 64 → has b.queens k ≡ is_kind Queen (man_at (board_of b) k)
 unfolding sets_of
-queens_has b v k h = sym (ap (λ s. has s.queens k) v.exact) ∙ has_set_of (λ k. is_kind Queen (man_at (board_of b) k)) k h
+queens_has b v k h = sym (ap (λ s. has s.queens k) v.exact) ∙ has_squares_where (λ k. is_kind Queen (man_at (board_of b) k)) k h
 
 pub kings_has : (b : Sets) → AreExact b → (k : ℕ) → k < 64 → has b.kings k ≡ is_kind King (man_at (board_of b) k)
 unfolding sets_of
-kings_has b v k h = sym (ap (λ s. has s.kings k) v.exact) ∙ has_set_of (λ k. is_kind King (man_at (board_of b) k)) k h
+kings_has b v k h = sym (ap (λ s. has s.kings k) v.exact) ∙ has_squares_where (λ k. is_kind King (man_at (board_of b) k)) k h
 
 pub kings_small : (b : Sets) → AreExact b → b.kings < 2 ^ 64
 unfolding sets_of
-kings_small b v = subst (λ (s : Sets). s.kings < 2 ^ 64) v.exact (set_of_small (λ k. is_kind King (man_at (board_of b) k)))
+kings_small b v = subst (λ (s : Sets). s.kings < 2 ^ 64) v.exact (squares_where_small (λ k. is_kind King (man_at (board_of b) k)))
 
 pub shows : (i : Sets) (b : Board) → AreExact i → board_of i ≡ b → Show i b
 shows i b v e = subst (Show i) e (record {

@@ -6,7 +6,7 @@ use Rattle.std.proofs.Math.ListN.{length-set}
 use Rattle.krieg_board.specs.declared.men.Man.{Man}
 use Rattle.krieg_board.specs.Squares.{squares}
 use Rattle.krieg_board.specs.Board.{Board, man_at}
-use Rattle.krieg_board.specs.Sets.{has, set_of, set_below}
+use Rattle.krieg_board.specs.Sets.{has, squares_where, set_below}
 use Rattle.krieg_board.specs.Boards.{board_of, sets_of, empty_board, AreExact}
 
 pub nothing_board : board_of (record { white = 0; black = 0; pawns = 0; knights = 0; bishops = 0; rooks = 0; queens = 0; kings = 0 }) ≡ empty_board
@@ -14,7 +14,7 @@ unfolding board_of empty_board squares has
 nothing_board = refl
 
 pub nothing_exact : AreExact (record { white = 0; black = 0; pawns = 0; knights = 0; bishops = 0; rooks = 0; queens = 0; kings = 0 })
-unfolding board_of sets_of set_of set_below squares has
+unfolding board_of sets_of squares_where set_below squares has
 nothing_exact = record { exact = refl }
 
 -- the squares below n are those of the board, and the others are empty

@@ -15,7 +15,7 @@ use Rattle.krieg_board.specs.Sets.{has}
 use Rattle.krieg_board.specs.Boards.{is_kind, man_on, board_of, sets_of, AreExact, Show}
 use Rattle.krieg_board.specs.declared.bits.Sets.{Sets}
 use Rattle.krieg_board.proofs.SetLemmas.{has_bit, has_no_bit, has_same}
-use Rattle.krieg_board.proofs.BoardSets.{set_of_is}
+use Rattle.krieg_board.proofs.BoardSets.{squares_where_is}
 use Rattle.krieg_board.proofs.SquareTests.{length_squares, get_or_squares}
 
 -- the sets are numbers of 64 bits
@@ -70,14 +70,14 @@ shown_board i b s e =
 pub shown_exact : (i : Sets) (b : Board) → Show i b → Small i → sets_of b ≡ i
 unfolding sets_of
 shown_exact i b s m = λ j. record {
-  white = sym (set_of_is i.white (λ k. is_of White (man_at b k)) m.white s.white) j;
-  black = sym (set_of_is i.black (λ k. is_of Black (man_at b k)) m.black s.black) j;
-  pawns = sym (set_of_is i.pawns (λ k. is_kind Pawn (man_at b k)) m.pawns s.pawns) j;
-  knights = sym (set_of_is i.knights (λ k. is_kind Knight (man_at b k)) m.knights s.knights) j;
-  bishops = sym (set_of_is i.bishops (λ k. is_kind Bishop (man_at b k)) m.bishops s.bishops) j;
-  rooks = sym (set_of_is i.rooks (λ k. is_kind Rook (man_at b k)) m.rooks s.rooks) j;
-  queens = sym (set_of_is i.queens (λ k. is_kind Queen (man_at b k)) m.queens s.queens) j;
-  kings = sym (set_of_is i.kings (λ k. is_kind King (man_at b k)) m.kings s.kings) j;
+  white = sym (squares_where_is i.white (λ k. is_of White (man_at b k)) m.white s.white) j;
+  black = sym (squares_where_is i.black (λ k. is_of Black (man_at b k)) m.black s.black) j;
+  pawns = sym (squares_where_is i.pawns (λ k. is_kind Pawn (man_at b k)) m.pawns s.pawns) j;
+  knights = sym (squares_where_is i.knights (λ k. is_kind Knight (man_at b k)) m.knights s.knights) j;
+  bishops = sym (squares_where_is i.bishops (λ k. is_kind Bishop (man_at b k)) m.bishops s.bishops) j;
+  rooks = sym (squares_where_is i.rooks (λ k. is_kind Rook (man_at b k)) m.rooks s.rooks) j;
+  queens = sym (squares_where_is i.queens (λ k. is_kind Queen (man_at b k)) m.queens s.queens) j;
+  kings = sym (squares_where_is i.kings (λ k. is_kind King (man_at b k)) m.kings s.kings) j;
 }
 
 pub shown : (i : Sets) (b : Board) → Show i b → Small i → length b ≡ 64 → AreExact i

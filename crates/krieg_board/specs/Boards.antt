@@ -7,7 +7,7 @@ use Rattle.krieg_board.specs.declared.men.Side.TheVariants.{White, Black}
 use Rattle.krieg_board.specs.declared.men.Kind.{Kind}
 use Rattle.krieg_board.specs.declared.men.Kind.TheVariants.{Pawn, Knight, Bishop, Rook, Queen, King}
 use Rattle.krieg_board.specs.declared.men.Man.{Man}
-use Rattle.krieg_board.specs.Sets.{has, set_of}
+use Rattle.krieg_board.specs.Sets.{has, squares_where}
 use Rattle.krieg_board.specs.declared.bits.Sets.{Sets}
 
 -- a man of that kind, of either side
@@ -39,14 +39,14 @@ board_of b = map (man_on b) squares
 -- the sets of a board
 unfoldable pub sets_of : Board → Sets
 sets_of b = record {
-  white = set_of (λ k. is_of White (man_at b k));
-  black = set_of (λ k. is_of Black (man_at b k));
-  pawns = set_of (λ k. is_kind Pawn (man_at b k));
-  knights = set_of (λ k. is_kind Knight (man_at b k));
-  bishops = set_of (λ k. is_kind Bishop (man_at b k));
-  rooks = set_of (λ k. is_kind Rook (man_at b k));
-  queens = set_of (λ k. is_kind Queen (man_at b k));
-  kings = set_of (λ k. is_kind King (man_at b k));
+  white = squares_where (λ k. is_of White (man_at b k));
+  black = squares_where (λ k. is_of Black (man_at b k));
+  pawns = squares_where (λ k. is_kind Pawn (man_at b k));
+  knights = squares_where (λ k. is_kind Knight (man_at b k));
+  bishops = squares_where (λ k. is_kind Bishop (man_at b k));
+  rooks = squares_where (λ k. is_kind Rook (man_at b k));
+  queens = squares_where (λ k. is_kind Queen (man_at b k));
+  kings = squares_where (λ k. is_kind King (man_at b k));
 }
 
 -- the sets are those of their board: at most one man stands on a square

@@ -17,5 +17,5 @@ set_below test zero = 0
 set_below test (suc n) = set_below test n + (if test n then 2 ^ n else 0)
 
 -- the set of the squares that pass the test
-unfoldable pub set_of : (ℕ → Bool) → ℕ
-set_of test = set_below test 64
+unfoldable pub squares_where : (ℕ → Bool) → ℕ
+squares_where test = set_below test 64

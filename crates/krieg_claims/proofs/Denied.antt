@@ -3,7 +3,7 @@ use Rattle.std.proofs.Common.{◌≡◌, ℕ, zero, suc, ◌≤◌, ◌<◌, Boo
 use Rattle.std.specs.Prelude.{◌==◌, IfSome}
 use Rattle.std.specs.List.{list_any}
 use Rattle.std.proofs.lemmas.List.{map-append}
-use Rattle.std.proofs.lemmas.Bool.{both_ways, and_from, and_parts, not_from_false, not-true, eq-eqb, le-ltb, cond-true, cond-false, cases_Bool, false_from_ne_true, true_from_ne_false}
+use Rattle.std.proofs.lemmas.Bool.{both_ways, and_from, not_from_false, not-true, eq-eqb, le-ltb, false_from_ne_true, true_from_ne_false}
 use Rattle.krieg_theory.specs.Sets.{In, same, is_nil}
 use Rattle.krieg_theory.specs.Game.{Game, IsGame}
 use Rattle.krieg_theory.specs.Split.{refused, legal_in_some, tries, class}

@@ -25,10 +25,10 @@ use Rattle.std.proofs.lemmas.Nat.{and_le_l}
 use Rattle.krieg_board.specs.Pos.{Pos}
 use Rattle.krieg_board.specs.Attacks.{attacks}
 use Rattle.krieg_board.specs.Squares.{gathered, last_rank}
-use Rattle.krieg_board.specs.Sets.{set_of}
+use Rattle.krieg_board.specs.Sets.{squares_where}
 use Rattle.krieg_board.specs.Validity.{IsValid}
 use Rattle.krieg_board.proofs.SetLemmas.{has_and}
-use Rattle.krieg_board.proofs.BoardSets.{has_set_of, set_of_small}
+use Rattle.krieg_board.proofs.BoardSets.{has_squares_where, squares_where_small}
 use Rattle.krieg_rays.proofs.Attacking.{pawn_from}
 use Rattle.krieg_moves.specs.After.{is_marked}
 use Rattle.krieg_moves.specs.Guarding.{IsGuard, is_answered}
@@ -243,15 +243,15 @@ counted_free : (p : Pos) (g : Guard) (k empty steps captures last : ℕ) → IsV
     ((t : ℕ) → t < 64 → has last t ≡ (rank_of t == last_rank p.side)) →
     length (filter (is_legal p) (moves_from k)) ≡ ways_from p.side empty steps captures k + 3 * ways_from p.side empty (bit_and steps last) (bit_and captures last) k
 counted_free p g k empty steps captures last valid guard hk free small fewer emptied stepped captured ranked =
-    sym (counted_from p k (set_of (can_go p k)) (set_of promoting) valid hk (set_of_small (can_go p k)) (set_of_small promoting) (has_set_of (can_go p k))
-    (λ t h. has_set_of promoting t h ∙ ap (λ x. x && promotes p k t) (sym (has_set_of (can_go p k) t h))))
-    ∙ (λ i. (size_total (set_of (can_go p k)) (set_of_small (can_go p k))
-    ∙ ways_counted p.side p.board empty steps captures k (has (set_of (can_go p k))) (has g.answers) hk small fewer
-    (λ t h. has_set_of (can_go p k) t h ∙ free_goes p g k t valid guard hk h free) emptied stepped captured) i
-    + 3 * (size_total (set_of promoting) (set_of_small promoting)
-    ∙ ways_counted p.side p.board empty (bit_and steps last) (bit_and captures last) k (has (set_of promoting)) (λ t. has g.answers t && has last t) hk
+    sym (counted_from p k (squares_where (can_go p k)) (squares_where promoting) valid hk (squares_where_small (can_go p k)) (squares_where_small promoting) (has_squares_where (can_go p k))
+    (λ t h. has_squares_where promoting t h ∙ ap (λ x. x && promotes p k t) (sym (has_squares_where (can_go p k) t h))))
+    ∙ (λ i. (size_total (squares_where (can_go p k)) (squares_where_small (can_go p k))
+    ∙ ways_counted p.side p.board empty steps captures k (has (squares_where (can_go p k))) (has g.answers) hk small fewer
+    (λ t h. has_squares_where (can_go p k) t h ∙ free_goes p g k t valid guard hk h free) emptied stepped captured) i
+    + 3 * (size_total (squares_where promoting) (squares_where_small promoting)
+    ∙ ways_counted p.side p.board empty (bit_and steps last) (bit_and captures last) k (has (squares_where promoting)) (λ t. has g.answers t && has last t) hk
     (omega (arith, and_le_l steps last)) (omega (arith, and_le_l captures last))
-    (λ t h. has_set_of promoting t h
+    (λ t h. has_squares_where promoting t h
     ∙ (λ i. free_goes p g k t valid guard hk h free i && (ap (λ x. x && rank_of t == last_rank p.side) free.pawn ∙ sym (ranked t h)) i)
     ∙ on_last (is_step p.board p.side (plain_move k t) || is_double_step p.board p.side (plain_move k t)) (goes Pawn p.side k t && is_of (other p.side) (man_at p.board t)) (has g.answers t) (has last t))
     emptied

@@ -14,6 +14,7 @@ pub mod Hands
 pub mod MoveLists
 pub mod Listed
 pub mod Ascending
+pub mod Turns
 pub mod Kings
 pub mod Putting
 pub mod Answering

@@ -8,7 +8,7 @@ use Rattle.krieg_board.specs.Board.{Board, man_at}
 use Rattle.krieg_board.specs.Sets.{has}
 use Rattle.krieg_board.specs.Squares.{squares}
 use Rattle.krieg_board.specs.Validity.{IsValid}
-use Rattle.krieg_board.proofs.BoardSets.{has_set_of, set_of_is, set_of_small}
+use Rattle.krieg_board.proofs.BoardSets.{has_squares_where, squares_where_is, squares_where_small}
 use Rattle.krieg_board.proofs.SquareTests.{length_squares, get_or_squares}
 use Rattle.krieg_pack.specs.Codes.{man_code, mark_code, side_code}
 use Rattle.krieg_pack.specs.Decoding.{man_of, mark_of, side_of, rights_of}
@@ -20,7 +20,7 @@ use Rattle.krieg_pack.proofs.CodeBits.{code_from_bits}
 -- a set that has the squares whose code has bit i
 pub plane_is : (n i : ℕ) (b : Board) → n < 2 ^ 64 → ((k : ℕ) → k < 64 → has n k ≡ has (man_code (man_at b k)) i) → n ≡ plane i b
 unfolding plane
-plane_is n i b small has_it = set_of_is n (λ k. has (man_code (man_at b k)) i) small has_it
+plane_is n i b small has_it = squares_where_is n (λ k. has (man_code (man_at b k)) i) small has_it
 
 -- fields whose sets have the bits of the codes of a board
 pub record Coded (k : Inside) (b : Board) : Type 0 where
@@ -32,10 +32,10 @@ pub record Coded (k : Inside) (b : Board) : Type 0 where
 pub packed_coded : (p : Pos) → Coded (packed p) p.board
 unfolding packed plane
 packed_coded p = record {
-  ones = has_set_of (λ s. has (man_code (man_at p.board s)) 0);
-  twos = has_set_of (λ s. has (man_code (man_at p.board s)) 1);
-  fours = has_set_of (λ s. has (man_code (man_at p.board s)) 2);
-  eights = has_set_of (λ s. has (man_code (man_at p.board s)) 3);
+  ones = has_squares_where (λ s. has (man_code (man_at p.board s)) 0);
+  twos = has_squares_where (λ s. has (man_code (man_at p.board s)) 1);
+  fours = has_squares_where (λ s. has (man_code (man_at p.board s)) 2);
+  eights = has_squares_where (λ s. has (man_code (man_at p.board s)) 3);
 }
 
 -- the four sets are numbers of 64 bits
@@ -48,10 +48,10 @@ pub record Narrow (k : Inside) : Type 0 where
 packed_narrow : (p : Pos) → Narrow (packed p)
 unfolding packed plane
 packed_narrow p = record {
-  ones = set_of_small (λ s. has (man_code (man_at p.board s)) 0);
-  twos = set_of_small (λ s. has (man_code (man_at p.board s)) 1);
-  fours = set_of_small (λ s. has (man_code (man_at p.board s)) 2);
-  eights = set_of_small (λ s. has (man_code (man_at p.board s)) 3);
+  ones = squares_where_small (λ s. has (man_code (man_at p.board s)) 0);
+  twos = squares_where_small (λ s. has (man_code (man_at p.board s)) 1);
+  fours = squares_where_small (λ s. has (man_code (man_at p.board s)) 2);
+  eights = squares_where_small (λ s. has (man_code (man_at p.board s)) 3);
 }
 
 -- the code of a square from its four bits

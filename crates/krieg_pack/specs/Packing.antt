@@ -3,7 +3,7 @@ use Rattle.std.specs.Prelude.{ℕ, ◌≡◌, ◌≤◌, ◌+◌, ◌*◌, List,
 use Rattle.krieg_board.specs.Men.{bits_of}
 use Rattle.krieg_board.specs.Squares.{squares}
 use Rattle.krieg_board.specs.Board.{Board, man_at}
-use Rattle.krieg_board.specs.Sets.{has, set_of}
+use Rattle.krieg_board.specs.Sets.{has, squares_where}
 use Rattle.krieg_board.specs.Pos.{Pos}
 use Rattle.krieg_board.specs.Validity.{IsValid}
 use Rattle.krieg_pack.specs.Codes.{man_code, mark_code, side_code}
@@ -12,7 +12,7 @@ use Rattle.krieg_pack.specs.declared.packed.Packed.TheInside.{Inside}
 
 -- the squares whose code has bit i
 unfoldable pub plane : ℕ → Board → ℕ
-plane i b = set_of (λ s. has (man_code (man_at b s)) i)
+plane i b = squares_where (λ s. has (man_code (man_at b s)) i)
 
 -- the fields that stand for a position
 unfoldable pub packed : Pos → Inside

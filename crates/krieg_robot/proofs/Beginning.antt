@@ -16,7 +16,7 @@ use Rattle.krieg_seats.specs.Accounts.{Account, new_account}
 use Rattle.krieg_plan.specs.declared.plan.PlanFile.{PlanFile}
 use Rattle.krieg_robot.specs.Followers.{Follower}
 use Rattle.krieg_robot.specs.Leading.{IsLed, IsBroken, broken_counts}
-use Rattle.krieg_robot.specs.Turns.{hearing, fault_counts, BothTold, IsUnderway, LeadsOn, ComesTo}
+use Rattle.krieg_robot.specs.Turns.{hearing, fault_counts, BothTold, IsUnderway}
 use Rattle.krieg_robot.specs.declared.led.LeadFault.{LeadFault}
 use Rattle.krieg_robot.specs.declared.led.LeadFault.TheVariants.{Seat, NoMemory}
 
@@ -85,10 +85,6 @@ module _ {r : Result (Unit {0}) LeadFault} {start : Pos} {a a' : Account} {s s' 
         asked = ap (λ (x : Account). x.asks) p.now_is;
         counts = begun_counts fault p.counts (ap (λ (x : Account). x.leaves) p.now_is);
       }
-
-pub begun_ok : (r : Result (Unit {0}) LeadFault) (q : Result Stop LeadFault) (start : Pos) (a b c : Account) (s t : Follower) (game game' : GameState) → r ≡ Ok tt → IsBegun r start a b s t game → LeadsOn q b c t game game' →
-    ComesTo q s.file start game.spare a c game'
-begun_ok r q start a b c s t game game' is begun leads = leads s.file start game.spare a (begins begun is)
 
 -- a game for which there was no room
 pub never_begun : (f : PlanFile) (start : Pos) (n : ℕ) (a : Account) → IsBroken f start n a a NoMemory

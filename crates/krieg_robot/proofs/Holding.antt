@@ -5,7 +5,7 @@ use Rattle.std.proofs.lemmas.Bool.{and_parts, both_ways, not-true}
 use Rattle.std.proofs.lemmas.Slice.Eq.{bytes_eq-Decides}
 use Rattle.std.proofs.lemmas.Map.Text.{is_eq-slice_cmp}
 use Rattle.krieg_board.specs.Men.{is_same_side}
-use Rattle.krieg_board.specs.Order.{move_cmp, move_numbers}
+use Rattle.krieg_board.specs.Order.{move_numbers}
 use Rattle.krieg_board.specs.Pos.{Pos}
 use Rattle.krieg_board.specs.declared.men.Side.{Side}
 use Rattle.krieg_board.specs.declared.men.Move.{Move}
@@ -33,7 +33,8 @@ use Rattle.krieg_game.specs.Laws.{is_answered}
 use Rattle.krieg_game.proofs.Winning.{illegal_try_goes_on, legal_try_wins}
 use Rattle.krieg_plan.specs.Trees.{NodeTree, PlanTrees, first_root_in, first_edge_in}
 use Rattle.krieg_robot.specs.Stands.{Stand, Unopened, Opened, At, Sent, Won, Lost, at, node_try, is_try, after_try, follow_on, next_try}
-use Rattle.krieg_robot.proofs.Moving.{turn_passes, legal_in, legal_goes, mate_ends, mated_words}
+use Rattle.krieg_robot.proofs.Moving.{turn_passes, legal_in, mate_ends, mated_words}
+use Rattle.krieg_moves.proofs.Turns.{legal_goes}
 
 own_try : (n : NodeTree) → is_try n (node_try n) ≡ true
 own_try n = let ms = move_numbers (node_try n) in is_eq-slice_cmp ms ms ∙ (bytes_eq-Decides ms ms).1 refl

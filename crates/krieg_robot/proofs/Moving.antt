@@ -1,23 +1,22 @@
 -- What a legal move makes of the turn, and what its words tell of the end.
-use Rattle.std.proofs.Common.{◌≡◌, Bool, true, false, not, cond, List, [], ◌∷◌, refl, ap, ◌∙◌, Option, Some, None}
-use Rattle.std.proofs.lemmas.Bool.{and_parts, both_ways, false_from_ne_true}
+use Rattle.std.proofs.Common.{◌≡◌, Bool, true, false, not, cond, ◌∷◌, refl, ap, ◌∙◌}
+use Rattle.std.proofs.lemmas.Bool.{and_parts}
 use Rattle.krieg_board.specs.Men.{other, is_same_side}
 use Rattle.krieg_board.specs.Pos.{Pos}
-use Rattle.krieg_board.specs.Board.{man_at, is_of}
 use Rattle.krieg_board.specs.declared.men.Side.{Side}
 use Rattle.krieg_board.specs.declared.men.Side.TheVariants.{White, Black}
 use Rattle.krieg_board.specs.declared.men.Man.{Man}
 use Rattle.krieg_board.specs.declared.men.Move.{Move}
 use Rattle.krieg_moves.specs.Legal.{is_legal}
-use Rattle.krieg_moves.specs.After.{after, after_by}
+use Rattle.krieg_moves.specs.After.{after}
 use Rattle.krieg_moves.specs.Moves.{moves, all_moves, in_check, is_ended, is_mate, is_stalemate}
-use Rattle.krieg_moves.proofs.LegalMoves.{legal_own}
+use Rattle.krieg_moves.proofs.Turns.{side_after}
 use Rattle.krieg_words.specs.WordsOfMoves.{words}
 use Rattle.krieg_words.specs.ToldWords.{told}
 use Rattle.krieg_words.specs.declared.words.End.TheVariants.{Goes, Mate, Stalemate}
 use Rattle.krieg_words.specs.declared.dialects.Dialect.{Dialect}
 use Rattle.krieg_theory.specs.Sets.{In}
-use Rattle.krieg_theory.proofs.Lists.{in_filter, nil_none}
+use Rattle.krieg_theory.proofs.Lists.{in_filter}
 use Rattle.krieg_game.proofs.MoveOrder.{legal_listed}
 use Rattle.krieg_robot.specs.Stands.{is_mated}
 
@@ -29,15 +28,6 @@ is_other White White h = absurd cc
 is_other White Black h = refl
 is_other Black White h = refl
 is_other Black Black h = absurd cc
-
--- a legal move passes the turn to the other side
-side_after : (p : Pos) (m : Move) → is_legal p m ≡ true → (after p m).side ≡ other p.side
-unfolding after
-side_after p m h = by_man (man_at p.board m.from) (legal_own p m h)
-  where
-    by_man : (x : Option Man) → is_of p.side x ≡ true → (after_by p x m).side ≡ other p.side
-    by_man None h = absurd cc
-    by_man (Some man) h = refl
 
 turned : (a b : Side) → is_same_side (other a) b ≡ not (is_same_side a b)
 turned White White = refl
@@ -55,15 +45,6 @@ turn_passes who p m own h turn = ap (λ (s : Side). is_same_side s who) (side_af
 pub legal_in : (p : Pos) (m : Move) → is_legal p m ≡ true → In m (moves p)
 unfolding moves
 legal_in p m h = in_filter (is_legal p) all_moves m (legal_listed p m h) h
-
--- where a move is legal the game goes on
-pub legal_goes : (p : Pos) (m : Move) → is_legal p m ≡ true → is_ended p ≡ false
-unfolding is_ended
-legal_goes p m h = false_from_ne_true _ (λ e. nil_none (moves p) (nil_is (moves p) e) m (legal_in p m h))
-  where
-    nil_is : (ms : List Move) → Rattle.krieg_moves.specs.Moves.is_nil ms ≡ true → Rattle.krieg_theory.specs.Sets.is_nil ms ≡ true
-    nil_is [] e = refl
-    nil_is (x ∷ xs) e = absurd (both_ways false refl e)
 
 -- mate ends the game
 pub mate_ends : (p : Pos) → is_mate p ≡ true → is_ended p ≡ true

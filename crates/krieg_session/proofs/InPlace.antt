@@ -3,15 +3,14 @@ use Rattle.std.proofs.Common.{◌≡◌, Bool, true, false, not, cond, List, [],
 use Rattle.std.specs.List.{cons_option}
 use Rattle.krieg_board.specs.Men.{other, is_same_side}
 use Rattle.krieg_board.specs.Pos.{Pos}
-use Rattle.krieg_board.specs.Board.{man_at, is_of}
 use Rattle.krieg_board.specs.declared.men.Side.{Side}
 use Rattle.krieg_board.specs.declared.men.Side.TheVariants.{White, Black}
 use Rattle.krieg_board.specs.declared.men.Man.{Man}
 use Rattle.krieg_board.specs.declared.men.Move.{Move}
 use Rattle.krieg_moves.specs.Legal.{is_legal}
-use Rattle.krieg_moves.specs.After.{after, after_by}
+use Rattle.krieg_moves.specs.After.{after}
 use Rattle.krieg_moves.specs.Moves.{in_check, is_ended, is_mate, is_stalemate}
-use Rattle.krieg_moves.proofs.LegalMoves.{legal_own}
+use Rattle.krieg_moves.proofs.Turns.{side_after}
 use Rattle.krieg_words.specs.Words.{Said}
 use Rattle.krieg_words.specs.WordsOfMoves.{words, opening, end_of}
 use Rattle.krieg_words.specs.WordsText.{has_ended}
@@ -29,15 +28,6 @@ use Rattle.krieg_referee.specs.Games.{judge, judged}
 use Rattle.krieg_referee.specs.Hearing.{line_for, lines_for, own_line, others_line}
 use Rattle.krieg_referee.proofs.Ends.{ended_so}
 use Rattle.krieg_sheet.specs.Turns.{ends, are_in_place}
-
--- a legal move passes the turn to the other side
-side_after : (p : Pos) (m : Move) → is_legal p m ≡ true → (after p m).side ≡ other p.side
-unfolding after
-side_after p m h = by_man (man_at p.board m.from) (legal_own p m h)
-  where
-    by_man : (x : Option Man) → is_of p.side x ≡ true → (after_by p x m).side ≡ other p.side
-    by_man None h = absurd cc
-    by_man (Some man) h = refl
 
 -- words end the game exactly where the position has no legal move
 end_is : (p : Pos) → has_ended (end_of p) ≡ is_ended p
