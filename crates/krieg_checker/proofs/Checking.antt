@@ -1,5 +1,5 @@
 -- From the roots to the verdict.
-use Rattle.std.proofs.Common.{◌≡◌, ℕ, ◌+◌, ◌≤◌, Bool, true, false, not, ◌&&◌, cond, List, [], ◌∷◌, map, Option, None, refl, sym, ap, ◌∙◌, arith}
+use Rattle.std.proofs.Common.{◌≡◌, ℕ, ◌+◌, ◌≤◌, Bool, true, false, not, ◌&&◌, cond, List, ◌∷◌, map, Option, None, refl, sym, ap, ◌∙◌, arith}
 use Rattle.std.specs.List.{list_all, list_any}
 use Rattle.std.proofs.Math.Bool.{and_assoc}
 use Rattle.krieg_board.specs.Pos.{Pos}
@@ -8,12 +8,12 @@ use Rattle.krieg_words.specs.declared.dialects.Dialect.{Dialect}
 use Rattle.krieg_pack.specs.Members.{set_of}
 use Rattle.krieg_pack.specs.Order.{position_lt}
 use Rattle.krieg_pack.proofs.PositionSets.{position_order, set_of_set}
-use Rattle.krieg_theory.specs.Sets.{as_set, same}
-use Rattle.krieg_theory.specs.Tree.{Nothing, Just}
+use Rattle.krieg_theory.specs.Sets.{as_set}
+use Rattle.krieg_theory.specs.Tree.{Nothing}
 use Rattle.krieg_theory.specs.Plans.{is_over, openings, opening_set, wins_root, mates}
 use Rattle.krieg_costs.specs.Sums.{total}
 use Rattle.krieg_costs.proofs.Totals.{total_agree}
-use Rattle.krieg_game.specs.Keys.{RootKey, root_lt}
+use Rattle.krieg_game.specs.Keys.{RootKey}
 use Rattle.krieg_game.specs.Chess.{chess}
 use Rattle.krieg_game.specs.Outset.{outset}
 use Rattle.krieg_game.specs.Classes.{class_pair}

@@ -55,7 +55,7 @@ fn part(
 ) -> Result<Parted, CheckStop>
     ensures { Charged result (IsParted d b mv) (made (chess d) b mv) units.old units.new }
 {
-    let parts = gather(alloc, d, b.members(), &mv, units)?;
+    let parts = gather(alloc, d, b.members(), &mv, true, units)?;
     drop(b);
     Ok(parts_of(alloc, parts)?)
 }

@@ -1,7 +1,8 @@
 -- One member more is gathered.
-use Rattle.std.proofs.Common.{◌≡◌, Bool, true, false, cond, not, ◌&&◌, ◌||◌, List, [], ◌∷◌, ◌++◌, ap, sym, ◌∙◌, append_assoc}
+use Rattle.std.proofs.Common.{◌≡◌, ℕ, suc, ◌+◌, Bool, true, false, cond, not, ◌&&◌, ◌||◌, List, [], ◌∷◌, ◌++◌, length, Result, refl, ap, sym, ◌∙◌, append_assoc, arith}
 use Rattle.std.proofs.Math.Bool.{or_assoc, or-false}
 use Rattle.std.proofs.lemmas.List.{append-nil}
+use Rattle.std.proofs.lemmas.Bool.{both_ways}
 use Rattle.krieg_board.specs.Pos.{Pos}
 use Rattle.krieg_board.specs.declared.men.Move.{Move}
 use Rattle.krieg_moves.specs.Legal.{is_legal}
@@ -10,21 +11,28 @@ use Rattle.krieg_theory.specs.Split.{refused, stale_in_some, given, all_outcomes
 use Rattle.krieg_game.specs.Chess.{chess, stalemates}
 use Rattle.krieg_game.specs.Classes.{outcome_set}
 use Rattle.krieg_parting.specs.Pools.{Holds}
+use Rattle.krieg_parting.specs.Charged.{Charged}
+use Rattle.krieg_parting.specs.Mating.{replies}
+use Rattle.krieg_parting.specs.declared.stop.PartStop.{PartStop}
+use Rattle.krieg_parting.specs.Wanted.{is_wanted}
 use Rattle.krieg_parting.specs.Gathering.{IsAdded, IsGathered}
 use Rattle.krieg_parting.specs.declared.parts.Gathered.{Gathered}
 use Rattle.krieg_parting.proofs.Pools.{holds_grown, holds_all}
+use Rattle.krieg_parting.proofs.Charges.{said}
+use Rattle.krieg_parting.proofs.LastMoves.{given_length}
+use Rattle.krieg_parting.proofs.Wanted.{wanted_before}
 
 -- what was gathered, and what the rest adds, is all
-pub record IsLeft (d : Dialect) (parts : Gathered) (rest B : List Pos) (t : Move) : Type 0 where
-  pub refused_part : parts.refused.items ++ refused (chess d) rest t ≡ refused (chess d) B t
+pub record IsLeft (d : Dialect) (always : Bool) (parts : Gathered) (rest B : List Pos) (t : Move) : Type 0 where
   pub stale_part : (parts.stale || stale_in_some (chess d) rest t) ≡ stale_in_some (chess d) B t
-  pub pool_part : Holds (parts.pool ++ all_outcomes (chess d) rest t) (all_outcomes (chess d) B t)
+  pub refused_part : is_wanted always parts.stale ≡ true → parts.refused.items ++ refused (chess d) rest t ≡ refused (chess d) B t
+  pub pool_part : is_wanted always parts.stale ≡ true → Holds (parts.pool ++ all_outcomes (chess d) rest t) (all_outcomes (chess d) B t)
 
-pub left_all : (d : Dialect) (parts : Gathered) (B : List Pos) (t : Move) → parts.refused.items ≡ [] → parts.stale ≡ false → parts.pool ≡ [] → IsLeft d parts B B t
-left_all d parts B t r s o = record {
-  refused_part = ap (λ (xs : List Pos). xs ++ refused (chess d) B t) r;
+pub left_all : (d : Dialect) (always : Bool) (parts : Gathered) (B : List Pos) (t : Move) → parts.refused.items ≡ [] → parts.stale ≡ false → parts.pool ≡ [] → IsLeft d always parts B B t
+left_all d always parts B t r s o = record {
   stale_part = ap (λ (b : Bool). b || stale_in_some (chess d) B t) s;
-  pool_part = ap (λ xs. outcome_set (xs ++ all_outcomes (chess d) B t)) o;
+  refused_part = λ e. ap (λ (xs : List Pos). xs ++ refused (chess d) B t) r;
+  pool_part = λ e. ap (λ xs. outcome_set (xs ++ all_outcomes (chess d) B t)) o;
 }
 
 -- a list with what a test lets through of one position, in front of more
@@ -32,17 +40,38 @@ pub filtered_more : (b : Bool) (p : Pos) (xs rest : List Pos) → (xs ++ cond b 
 filtered_more true p xs rest = append_assoc xs (p ∷ []) rest
 filtered_more false p xs rest = append_assoc xs [] rest
 
-pub left_more : (d : Dialect) (old new : Gathered) (p : Pos) (rest B : List Pos) (t : Move) → IsAdded d old new p t → IsLeft d old (p ∷ rest) B t → IsLeft d new rest B t
-left_more d old new p rest B t a l = record {
-  refused_part = ap (λ (xs : List Pos). xs ++ refused (chess d) rest t) a.refused_part ∙ filtered_more (not (is_legal p t)) p old.refused.items (refused (chess d) rest t) ∙ l.refused_part;
+pub left_more : (d : Dialect) (always : Bool) (old new : Gathered) (p : Pos) (rest B : List Pos) (t : Move) → IsAdded d always old new p t → IsLeft d always old (p ∷ rest) B t → IsLeft d always new rest B t
+left_more d always old new p rest B t a l = record {
   stale_part = ap (λ (b : Bool). b || stale_in_some (chess d) rest t) a.stale_part ∙ or_assoc old.stale (is_legal p t && stalemates p t) (stale_in_some (chess d) rest t) ∙ l.stale_part;
-  pool_part = holds_grown new.pool old.pool (given (chess d) t p) (all_outcomes (chess d) rest t) (all_outcomes (chess d) B t) a.pool_part l.pool_part;
+  refused_part = λ e. ap (λ (xs : List Pos). xs ++ refused (chess d) rest t) (a.refused_part e) ∙ filtered_more (not (is_legal p t)) p old.refused.items (refused (chess d) rest t) ∙ l.refused_part (before e);
+  pool_part = λ e. holds_grown new.pool old.pool (given (chess d) t p) (all_outcomes (chess d) rest t) (all_outcomes (chess d) B t) (a.pool_part e) (l.pool_part (before e));
 }
+  where
+    before : is_wanted always new.stale ≡ true → is_wanted always old.stale ≡ true
+    before e = wanted_before always old.stale new.stale (is_legal p t && stalemates p t) a.stale_part e
 
-pub left_none : (d : Dialect) (parts : Gathered) (rest B : List Pos) (t : Move) → rest ≡ [] → IsLeft d parts rest B t → IsGathered d B t parts
-left_none d parts [] B t is l = record {
-  refused_part = sym (append-nil parts.refused.items) ∙ l.refused_part;
+pub left_none : (d : Dialect) (always : Bool) (parts : Gathered) (rest B : List Pos) (t : Move) → rest ≡ [] → IsLeft d always parts rest B t → IsGathered d always B t parts
+left_none d always parts [] B t is l = record {
   stale_part = sym (or-false parts.stale) ∙ l.stale_part;
-  pool_part = holds_all parts.pool (all_outcomes (chess d) B t) l.pool_part;
+  refused_part = λ e. sym (append-nil parts.refused.items) ∙ l.refused_part e;
+  pool_part = λ e. holds_all parts.pool (all_outcomes (chess d) B t) (l.pool_part e);
 }
-left_none d parts (p ∷ rest) B t is l = absurd cc
+left_none d always parts (p ∷ rest) B t is l = absurd cc
+
+-- where the try stalemates in no member, all was wanted
+pub always_gathered : (d : Dialect) (B : List Pos) (t : Move) (parts : Gathered) → parts.stale ≡ false → IsGathered d false B t parts → IsGathered d true B t parts
+always_gathered d B t parts s g = record { stale_part = g.stale_part; refused_part = λ e. g.refused_part (ap not s); pool_part = λ e. g.pool_part (ap not s) }
+
+-- a member whose replies are only counted adds nothing that is wanted
+pub counted : (d : Dialect) (always : Bool) (parts : Gathered) (p : Pos) (t : Move) (r : Result (Unit {0}) PartStop) (n old new : ℕ) → parts.stale ≡ true → always ≡ false → n ≡ replies t p
+    → Charged r (λ u. Unit {0}) (1 + n) old new → Charged r (λ u. IsAdded d always parts parts p t) (suc (length (given (chess d) t p))) old new
+counted d always parts p t r n old new s a e h =
+    let same : suc (length (given (chess d) t p)) ≡ 1 + n = omega (arith, given_length d t p, e) in
+    said r (λ u. Unit {0}) (λ u. IsAdded d always parts parts p t) (1 + n) (suc (length (given (chess d) t p))) old new (λ u k. record {
+      stale_part = s ∙ ap (λ (b : Bool). b || (is_legal p t && stalemates p t)) (sym s);
+      refused_part = λ w. absurd (unwanted w);
+      pool_part = λ w. absurd (unwanted w);
+    }) same h
+  where
+    unwanted : is_wanted always parts.stale ≡ true → ⊥
+    unwanted w = both_ways false refl (ap (λ (b : Bool). b || not true) (sym a) ∙ (ap (λ (b : Bool). always || not b) (sym s) ∙ w))

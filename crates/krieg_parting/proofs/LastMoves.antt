@@ -22,7 +22,7 @@ use Rattle.krieg_parting.specs.declared.last_move.Mating.{Mating}
 
 module _ (d : Dialect) where
   -- what is looked at is made
-  given_length : (t : Move) (p : Pos) → length (given (chess d) t p) ≡ replies t p
+  pub given_length : (t : Move) (p : Pos) → length (given (chess d) t p) ≡ replies t p
   given_length t p = go (is_legal p t)
     where
       go : (b : Bool) → length (cond b (outcomes d p t) []) ≡ cond b (length (moves (after p t))) 0

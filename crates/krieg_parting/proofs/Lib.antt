@@ -1,7 +1,8 @@
+mod Wanted
 mod Items
 pub mod Charges
 mod Pools
-mod Gathering
-mod Trying
 pub mod LastMoves
+pub mod Gathering
+mod Trying
 pub mod Advancing

@@ -1,31 +1,26 @@
 -- One member more was tried.
-use Rattle.std.proofs.Common.{◌≡◌, Bool, true, false, not, ◌||◌, List, [], ◌∷◌, ◌++◌, filter, refl, ap, sym, ◌∙◌}
+use Rattle.std.proofs.Common.{◌≡◌, Bool, true, false, ◌||◌, List, [], ◌∷◌, ◌++◌, filter, ap, sym, ◌∙◌}
 use Rattle.std.proofs.Math.Bool.{or_assoc, or-false}
 use Rattle.std.proofs.lemmas.List.{append-nil}
-use Rattle.std.proofs.lemmas.Bool.{both_ways}
 use Rattle.std.specs.List.{list_any}
 use Rattle.krieg_board.specs.Pos.{Pos}
 use Rattle.krieg_board.specs.declared.men.Move.{Move}
-use Rattle.krieg_parting.specs.Mating.{lives, refuses, wanted, IsTried, AreTried}
+use Rattle.krieg_parting.specs.Mating.{lives, refuses, IsTried, AreTried}
+use Rattle.krieg_parting.specs.Wanted.{is_wanted}
 use Rattle.krieg_parting.specs.declared.last_move.Mating.{Mating}
 use Rattle.krieg_parting.proofs.Gathering.{filtered_more}
+use Rattle.krieg_parting.proofs.Wanted.{wanted_before}
 
 -- what was found, and what the rest adds, is all
 pub record IsLeft (always : Bool) (found : Mating) (rest B : List Pos) (t : Move) : Type 0 where
   pub lives_part : (found.lives || list_any (lives t) rest) ≡ list_any (lives t) B
-  pub refused_part : wanted always found ≡ true → found.refused.items ++ filter (refuses t) rest ≡ filter (refuses t) B
+  pub refused_part : is_wanted always found.lives ≡ true → found.refused.items ++ filter (refuses t) rest ≡ filter (refuses t) B
 
 pub left_all : (always : Bool) (found : Mating) (B : List Pos) (t : Move) → found.lives ≡ false → found.refused.items ≡ [] → IsLeft always found B B t
 left_all always found B t l r = record {
   lives_part = ap (λ (b : Bool). b || list_any (lives t) B) l;
   refused_part = λ e. ap (λ (xs : List Pos). xs ++ filter (refuses t) B) r;
 }
-
--- what is wanted after one member more was wanted before it
-wanted_before : (always old new more : Bool) → new ≡ (old || more) → (always || not new) ≡ true → (always || not old) ≡ true
-wanted_before true old new more is e = refl
-wanted_before false false new more is e = refl
-wanted_before false true new more is e = absurd (both_ways false refl (ap not (sym is) ∙ e))
 
 pub left_more : (always : Bool) (old new : Mating) (p : Pos) (rest B : List Pos) (t : Move) → IsTried always old new p t → IsLeft always old (p ∷ rest) B t → IsLeft always new rest B t
 left_more always old new p rest B t a l = record {

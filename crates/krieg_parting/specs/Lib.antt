@@ -1,4 +1,5 @@
 pub mod Parted
+pub mod Wanted
 pub mod Gathering
 pub mod Pools
 pub mod Mating

@@ -11,6 +11,7 @@ use Rattle.krieg_theory.specs.Split.{refused}
 use Rattle.krieg_costs.specs.Sums.{total}
 use Rattle.krieg_costs.specs.Block.{lives_in_some}
 use Rattle.krieg_game.specs.Chess.{chess}
+use Rattle.krieg_parting.specs.Wanted.{is_wanted}
 use Rattle.krieg_parting.specs.declared.last_move.Mating.{Mating}
 
 -- the try is legal and does not mate
@@ -29,21 +30,17 @@ replies t p = if is_legal p t then length (moves (after p t)) else 0
 abbrev pub looked_at : List Pos → Move → ℕ
 looked_at B t = length B + total (replies t) B
 
--- the members that refuse it are wanted: always, or where none lives
-abbrev pub wanted : Bool → Mating → Bool
-wanted always found = always || not found.lives
-
 -- what one member adds
 pub record IsTried (always : Bool) (old new : Mating) (p : Pos) (t : Move) : Type 0 where
   pub lives_part : new.lives ≡ (old.lives || lives t p)
-  pub refused_part : wanted always new ≡ true → new.refused.items ≡ old.refused.items ++ filter (refuses t) (p ∷ [])
+  pub refused_part : is_wanted always new.lives ≡ true → new.refused.items ≡ old.refused.items ++ filter (refuses t) (p ∷ [])
 
 -- the try was made in all members
 pub record AreTried (always : Bool) (B : List Pos) (t : Move) (found : Mating) : Type 0 where
   pub lives_part : found.lives ≡ list_any (lives t) B
-  pub refused_part : wanted always found ≡ true → found.refused.items ≡ filter (refuses t) B
+  pub refused_part : is_wanted always found.lives ≡ true → found.refused.items ≡ filter (refuses t) B
 
 -- the same in the words of the theory: whether it is legal in some member and does not mate, and who refuses it
 pub record IsMating (d : Dialect) (always : Bool) (B : List Pos) (t : Move) (found : Mating) : Type 0 where
   pub lives_part : found.lives ≡ lives_in_some (chess d) B t
-  pub refused_part : wanted always found ≡ true → found.refused.items ≡ refused (chess d) B t
+  pub refused_part : is_wanted always found.lives ≡ true → found.refused.items ≡ refused (chess d) B t

@@ -1,5 +1,5 @@
 -- What a try makes of a set.
-use Rattle.std.specs.Prelude.{◌≡◌, List, map}
+use Rattle.std.specs.Prelude.{◌≡◌, true, List, map}
 use Rattle.krieg_board.specs.Pos.{Pos}
 use Rattle.krieg_board.specs.declared.men.Move.{Move}
 use Rattle.krieg_words.specs.declared.dialects.Dialect.{Dialect}
@@ -19,4 +19,4 @@ pub record IsParted (d : Dialect) (B : List Pos) (t : Move) (r : Parted) : Type 
 
 -- the parts of each set of which this was gathered
 abbrev pub IsPartedOf : Gathered → Parted → Type 0
-IsPartedOf parts r = (d : Dialect) (B : List Pos) (t : Move) → IsAscending B → IsGathered d B t parts → IsParted d B t r
+IsPartedOf parts r = (d : Dialect) (B : List Pos) (t : Move) → IsAscending B → IsGathered d true B t parts → IsParted d B t r

@@ -1,4 +1,4 @@
-ghost use Rattle.std.specs.Prelude.{◌≡◌, true, suc, length, IfOk};
+ghost use Rattle.std.specs.Prelude.{◌≡◌, ◌≤◌, true, suc, length, IfOk};
 ghost use Rattle.krieg_moves.specs.After.{after};
 ghost use Rattle.krieg_moves.specs.Legal as rule;
 ghost use Rattle.krieg_words.specs.WordsOfMoves.{words};
@@ -7,13 +7,14 @@ ghost use Rattle.krieg_costs.specs.Cost.{made};
 ghost use Rattle.krieg_game.specs.Chess.{chess};
 ghost use Rattle.krieg_parting.specs.Charged.{Charged};
 ghost use Rattle.krieg_parting.specs.Gathering.{IsAdded, IsGathered};
+ghost use Rattle.krieg_parting.specs.Mating.{replies};
 ghost use Rattle.krieg_parting.specs.Parted.{IsPartedOf};
 
 use crate::pool::Pool;
 use crate::stop::{PartStop, take};
 use krieg_board::{Move, NoMemory, Position, Units};
 use krieg_game::Class;
-use krieg_moves::{is_stalemate_by, legal_moves};
+use krieg_moves::{MOST_LEGAL_MOVES, after_if_legal, count_moves, is_stalemate_by, legal_moves};
 use krieg_pack::{Belief, Packed, unpack};
 use krieg_words::{Dialect, Made, make_if_legal};
 use std::alloc::Global;
@@ -45,37 +46,56 @@ fn add_legal(
     p: &Position,
     mv: &Move,
     made: &Made,
+    always: bool,
     parts: &mut Gathered,
     units: &mut Units,
 ) -> Result<(), PartStop>
     requires legal { rule.is_legal p.now mv.now ≡ true }
     requires words { made.now.words ≡ words p.now mv.now }
     requires position { made.now.position ≡ after p.now mv.now }
-    ensures { Charged result (λ _. IsAdded d parts.old parts.new p.now mv.now) (suc (length (given (chess d) mv.now p.now))) units.old units.new }
+    ensures { Charged result (λ _. IsAdded d always parts.old parts.new p.now mv.now) (suc (length (given (chess d) mv.now p.now))) units.old units.new }
 {
     let replies = legal_moves(alloc, &made.position)?;
     take(units, 1 + replies.len() as u64)?;
     parts.stale = parts.stale || is_stalemate_by(&made.position, replies.len());
-    parts
-        .pool
-        .add(d, &made.words, &made.position, replies.as_slice())?;
+    if always || !parts.stale {
+        parts
+            .pool
+            .add(d, &made.words, &made.position, replies.as_slice())?;
+    }
     Ok(())
 }
 
-/// Adds what the try makes of one member, for one unit and one for each reply.
+/// How many replies there are to the try.
+fn count_replies(p: &Position, mv: &Move) -> usize
+    ensures value { result ≡ replies mv.now p.now }
+    ensures few { result ≤ MOST_LEGAL_MOVES }
+{
+    match after_if_legal(p, *mv) {
+        None => 0,
+        Some(q) => count_moves(&q),
+    }
+}
+
+/// Adds what the try makes of one member, for one unit and one for each reply. Where that is not wanted any more, replies
+/// are only counted.
 fn add_member(
     alloc: Global,
     d: Dialect,
     member: &Packed,
     mv: &Move,
+    always: bool,
     parts: &mut Gathered,
     units: &mut Units,
 ) -> Result<(), PartStop>
-    ensures { Charged result (λ _. IsAdded d parts.old parts.new member.now mv.now) (suc (length (given (chess d) mv.now member.now))) units.old units.new }
+    ensures { Charged result (λ _. IsAdded d always parts.old parts.new member.now mv.now) (suc (length (given (chess d) mv.now member.now))) units.old units.new }
 {
     let p = unpack(member);
+    if parts.stale && !always {
+        return take(units, 1 + count_replies(&p, mv) as u64);
+    }
     if let Some(made) = make_if_legal(&p, *mv) {
-        return add_legal(alloc, d, &p, mv, &made, parts, units);
+        return add_legal(alloc, d, &p, mv, &made, always, parts, units);
     }
     take(units, 1)?;
     parts.refused.push(*member)?;
@@ -83,15 +103,16 @@ fn add_member(
 }
 
 /// Gathers what the try makes of all members, for one unit for each member and one for each reply: no more is made than
-/// there are units for.
+/// there are units for. Without `always` nothing more is kept once the try stalemates in some member: it fails then.
 pub fn gather(
     alloc: Global,
     d: Dialect,
     members: &[Packed],
     mv: &Move,
+    always: bool,
     units: &mut Units,
 ) -> Result<Gathered, PartStop>
-    ensures { Charged result (IsGathered d members.now mv.now) (made (chess d) members.now mv.now) units.old units.new }
+    ensures { Charged result (IsGathered d always members.now mv.now) (made (chess d) members.now mv.now) units.old units.new }
 {
     let mut parts = Gathered {
         refused: Vec::new(alloc),
@@ -99,7 +120,7 @@ pub fn gather(
         pool: Pool::new(alloc),
     };
     for member in members {
-        add_member(alloc, d, member, mv, &mut parts, units)?;
+        add_member(alloc, d, member, mv, always, &mut parts, units)?;
     }
     Ok(parts)
 }

@@ -27,12 +27,10 @@ pub mod laws;
 mod opening_sets;
 mod parts;
 mod try_list;
-mod unless_stale;
 
 pub use firsts::{First, Firsts, first_replies};
 pub use krieg_parting::{PartStop as SplitStop, Parted};
 pub use last_move::split_to_mate;
 pub use opening_sets::{Opened, openings};
-pub use parts::split;
+pub use parts::{split, split_unless_stale};
 pub use try_list::tries;
-pub use unless_stale::split_unless_stale;

@@ -1,7 +1,7 @@
 ghost use Rattle.std.specs.Prelude.{IfOk};
 ghost use Rattle.krieg_costs.specs.Cost.{made};
 ghost use Rattle.krieg_game.specs.Chess.{chess};
-ghost use Rattle.krieg_parting.specs.Parted.{IsParted};
+ghost use Rattle.krieg_split.specs.Parted.{IsParted, IsUnlessStale};
 ghost use Rattle.krieg_split.specs.Units.{IsPaid};
 
 use krieg_board::{Move, Units};
@@ -26,8 +26,34 @@ pub fn split(
     ensures units { IsPaid result (made (chess d) b.now mv) units.old units.new }
 {
     let mut left = Units::new(units.left());
-    let parts = gather(alloc, d, b.members(), &mv, &mut left)?;
+    let parts = gather(alloc, d, b.members(), &mv, true, &mut left)?;
     let parted = parts_of(alloc, parts)?;
     *units = left;
     Ok(parted)
+}
+
+/// Parts the set by the try, as `split` does, where it stalemates in no member. `None`, where it does in some.
+///
+/// It takes as many units as `split` does, in both cases. `Spent` comes only where fewer are left. An error takes
+/// none. Once a member is stalemated nothing more is kept, and replies are only counted.
+#[inline(never)]
+pub fn split_unless_stale(
+    alloc: Global,
+    d: Dialect,
+    b: &Belief,
+    mv: Move,
+    units: &mut Units,
+) -> Result<Option<Parted>, SplitStop>
+    ensures parts { IfOk result (IsUnlessStale d b.now mv) }
+    ensures units { IsPaid result (made (chess d) b.now mv) units.old units.new }
+{
+    let mut left = Units::new(units.left());
+    let parts = gather(alloc, d, b.members(), &mv, false, &mut left)?;
+    if parts.stale {
+        *units = left;
+        return Ok(None);
+    }
+    let parted = parts_of(alloc, parts)?;
+    *units = left;
+    Ok(Some(parted))
 }

@@ -8,7 +8,7 @@ use Rattle.krieg_parting.proofs.Gathering.{IsLeft, left_all, left_more, left_non
 use Rattle.krieg_parting.proofs.parts.gather.Goals as goal
 
 pub loop-member-init : goal.loop-member-init
-loop-member-init c = record { left = left_all c.args.d _ c.args.members.now c.args.mv.now (search rules) (search rules) (search rules); taken = search rules }
+loop-member-init c = record { left = left_all c.args.d c.args.always _ c.args.members.now c.args.mv.now (search rules) (search rules) (search rules); taken = search rules }
 
 pub returns-in_err-add_member : goal.returns-in_err-add_member
 returns-in_err-add_member c =
@@ -23,13 +23,13 @@ loop-member-preserved c =
     let more = ap (λ (xs : List Pos). made (chess c.args.d) xs c.args.mv.now) here in
     let a = c.in_ok-add_member.ensures in
     record {
-      left = left_more c.args.d c.loop-member.parts _ c.member-item.result rest c.args.members.now c.args.mv.now a.0 (subst (λ (xs : List Pos). IsLeft c.args.d c.loop-member.parts xs c.args.members.now c.args.mv.now) here c.loop-member.invariant.left);
+      left = left_more c.args.d c.args.always c.loop-member.parts _ c.member-item.result rest c.args.members.now c.args.mv.now a.0 (subst (λ (xs : List Pos). IsLeft c.args.d c.args.always c.loop-member.parts xs c.args.members.now c.args.mv.now) here c.loop-member.invariant.left);
       taken = omega (arith, a.1, more, c.loop-member.invariant.taken);
     }
 
 pub returns : goal.returns
 returns c =
     let none = drop_end c.args.members.now c.loop-member.member-index (omega arith) in (
-      left_none c.args.d c.loop-member.parts _ c.args.members.now c.args.mv.now none c.loop-member.invariant.left,
+      left_none c.args.d c.args.always c.loop-member.parts _ c.args.members.now c.args.mv.now none c.loop-member.invariant.left,
       omega (arith, c.loop-member.invariant.taken, ap (λ (xs : List Pos). made (chess c.args.d) xs c.args.mv.now) none),
     )
