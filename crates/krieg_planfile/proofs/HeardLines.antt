@@ -10,9 +10,6 @@ use Rattle.krieg_text.proofs.Locality.{ok_is}
 use Rattle.krieg_words.specs.declared.dialects.Dialect.{Dialect}
 use Rattle.krieg_words.specs.declared.line.Line.{Line}
 use Rattle.krieg_planfile.specs.HeardReading.{heard_form, all_by}
-use Rattle.krieg_planfile.specs.PlanFiles.{PlanState, IsPlanFile}
-use Rattle.krieg_planfile.specs.PlanReading.{plan_at}
-use Rattle.krieg_planfile.proofs.PlanSpellings.{plan_taken}
 
 -- what is read, behind what was read before
 abbrev pub behind_all : List Line → Result (List Line) TextFault → Result (List Line) TextFault
@@ -63,9 +60,3 @@ heard_more d heard from new l line all h is so =
     sym (one_before heard line (rest_at d new)) ∙ (ap (by_line d heard from.number new) is ∙ sym (heard_line d heard from new l h) ∙ so)
 
 pub ruleset heard_lines = (none_before, heard_end, heard_bad, heard_more)
-
--- what is read first is a plan file
-pub first_file : (p q : Place) (f : PlanState) → plan_at p ≡ Ok (f, q) → IsPlanFile f
-first_file p q f e = plan_taken p q f e
-
-pub ruleset heard_plans = (first_file)

@@ -1,6 +1,6 @@
 mod Branches
 mod PlayForms
-mod KeyForms
+pub mod KeyForms
 mod Edges
 mod BranchForms
 mod NodeGrammars
@@ -13,3 +13,4 @@ mod PlanSpellings
 mod NodeWriting
 mod PlansAgain
 mod HeardLines
+mod HeardSpellings

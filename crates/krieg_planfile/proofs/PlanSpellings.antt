@@ -210,11 +210,7 @@ plan_read p q s e =
       };
     }
 
--- what is taken is a plan file, whatever stands behind it
-pub plan_taken : (p q : Place) (s : PlanState) → plan_at p ≡ Ok (s, q) → IsPlanFile s
-plan_taken p q s e = (plan_read p q s e).file
-
-whole_plan : (ls : List (List ℕ)) (s : PlanState) → whole plan_at ls ≡ Ok s → SpellsPlan s ls × IsPlanFile s
+pub whole_plan : (ls : List (List ℕ)) (s : PlanState) → whole plan_at ls ≡ Ok s → SpellsPlan s ls × IsPlanFile s
 whole_plan ls s e =
     let w = whole_read plan_at ls s e in
     let r = plan_read (place 1 ls) (place w.number []) s w.is in
@@ -251,7 +247,7 @@ claim_again version s n own file =
           ∙ ap (λ (r : Result (Unit {0} × Place) TextFault). r >>= λ end. Ok (record { dialect = d; side = s.side; list = s.list; worst = s.worst; plan = rs }, end.1)) (taken_again end_form b.number (codes "end") [] tt end_again);
     }
 
-all_again : (ls : List (List ℕ)) (s : PlanState) → IsPlanFile s → SpellsPlan s ls → Read (plan_at (place 1 ls)) s []
+pub all_again : (ls : List (List ℕ)) (s : PlanState) → IsPlanFile s → SpellsPlan s ls → Read (plan_at (place 1 ls)) s []
 unfolding plan_at
 all_again ls s file spelled =
     let v = spelled.0 in

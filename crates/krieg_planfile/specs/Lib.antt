@@ -6,4 +6,5 @@ pub mod PlanReading
 pub mod PlanText
 pub mod PlanSpelling
 pub mod HeardReading
+pub mod HeardSpelling
 pub mod HeardStates

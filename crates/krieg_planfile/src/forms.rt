@@ -122,8 +122,9 @@ fn key_across(d: Dialect, front: &[u8], back: Option<&[u8]>) -> Option<(Words, W
     }
 }
 
-/// The words on the two sides of ` / `.
-pub(crate) fn key_in(d: Dialect, text: &[u8]) -> Option<(Words, Words)>
+/// The words on the two sides of ` / `: those of an own move, and those of the reply, in the dialect. Another text gives
+/// none. It takes no memory.
+pub fn key_in(d: Dialect, text: &[u8]) -> Option<(Words, Words)>
     ensures { result ≡ spec.key_in d text.now }
 {
     let (front, back) = cut(b'/', text);

@@ -1,9 +1,9 @@
-ghost use Rattle.std.specs.Prelude.{◌≡◌, IfOk};
+ghost use Rattle.std.specs.Prelude.{◌≡◌};
 ghost use Rattle.krieg_text.specs.Lines.{lines};
 ghost use Rattle.krieg_text.specs.Reading.{Gives};
 ghost use Rattle.krieg_planfile.specs.HeardReading as spec;
 ghost use Rattle.krieg_planfile.specs.HeardStates.{heard_state_of};
-ghost use Rattle.krieg_planfile.specs.PlanFiles.{state_of, IsPlanFile};
+ghost use Rattle.krieg_planfile.specs.HeardSpelling.{IsHeardReading};
 
 use crate::reading::read_plan_lines;
 use krieg_plan::PlanFile;
@@ -48,19 +48,24 @@ fn read_heard(alloc: Global, from: &mut Cursor<'_>, d: Dialect) -> Result<Vec<Li
     }
 }
 
-/// The plan file that the text spells up to its line `end`, and behind it the lines that its player heard.
-///
-/// The fault is the first line that is not accepted: of the plan file as [`read_plan`](crate::read_plan) tells it, and
-/// behind it each line that is none of the file's dialect, with `Syntax`. Where no line is refused and the plan file is
-/// not complete it is the number of lines plus 1 with `Syntax`.
-#[tactic(auto, using(crate::proofs::HeardLines::heard_plans), unfolding(crate::specs::HeardReading::heard_plan))]
-pub fn read_heard_plan(alloc: Global, text: &[u8]) -> Result<HeardPlan, TextFault>
-    ensures exact { Gives (λ h. heard_state_of h) result (spec.heard_plan (lines text.now)) }
-    // What is read first is a plan file.
-    ensures plan { IfOk result (λ h. IsPlanFile (state_of h.file)) }
+#[tactic(auto, unfolding(crate::specs::HeardReading::heard_plan))]
+fn read_lines(alloc: Global, text: &[u8]) -> Result<HeardPlan, TextFault>
+    ensures { Gives (λ h. heard_state_of h) result (spec.heard_plan (lines text.now)) }
 {
     let mut from = Cursor::new(text);
     let file = read_plan_lines(alloc, &mut from)?;
     let heard = read_heard(alloc, &mut from, file.dialect)?;
     Ok(HeardPlan { file, heard })
+}
+
+/// The plan file that the text spells up to its line `end`, and behind it the lines that its player heard.
+///
+/// The fault is the first line that is not accepted: of the plan file as [`read_plan`](crate::read_plan) tells it, and
+/// behind it each line that is none of the file's dialect, with `Syntax`. Where no line is refused and the plan file is
+/// not complete it is the number of lines plus 1 with `Syntax`.
+pub fn read_heard_plan(alloc: Global, text: &[u8]) -> Result<HeardPlan, TextFault>
+    ensures exact { Gives (λ h. heard_state_of h) result (spec.heard_plan (lines text.now)) }
+    ensures reading { IsHeardReading (λ h. heard_state_of h) (lines text.now) result }
+{
+    read_lines(alloc, text)
 }

@@ -1,0 +1,7 @@
+use Rattle.krieg_text.specs.Lines.{lines}
+use Rattle.krieg_planfile.specs.HeardStates.{heard_state_of}
+use Rattle.krieg_planfile.proofs.HeardSpellings.{heard_reading}
+use Rattle.krieg_planfile.proofs.heard.read_heard_plan.Goals as goal
+
+pub returns-clause-reading : goal.returns-clause-reading
+returns-clause-reading c = heard_reading (λ h. heard_state_of h) c.read_lines.result (lines c.args.text.now) c.read_lines.ensures
