@@ -9,15 +9,11 @@ use Rattle.krieg_board.specs.Order.{move_cmp, move_lt}
 use Rattle.krieg_board.proofs.MoveOrder.{move_total, move_equal}
 use Rattle.krieg_board.specs.Pos.{Pos}
 use Rattle.krieg_board.specs.declared.men.Move.{Move}
-use Rattle.krieg_moves.specs.Legal.{is_legal}
-use Rattle.std.proofs.lemmas.Bool.{both_ways, false_from_ne_true}
-use Rattle.krieg_theory.proofs.Lists.{in_filter, filter_in, nil_none}
+use Rattle.krieg_theory.proofs.Lists.{filter_in}
 use Rattle.krieg_moves.proofs.Ascending.{moves_ascend}
-use Rattle.krieg_moves.proofs.Listed.{legal_in_all}
-use Rattle.krieg_pack.proofs.Membership.{contains_in}
 use Rattle.krieg_pack.proofs.Sorting.{ascending_from}
-use Rattle.krieg_moves.specs.Moves.{moves, all_moves, is_ended}
-use Rattle.krieg_theory.specs.Sets.{In, Ascending}
+use Rattle.krieg_moves.specs.Moves.{moves}
+use Rattle.krieg_theory.specs.Sets.{Ascending}
 use Rattle.krieg_pack.specs.Order.{position_cmp, position_eq}
 use Rattle.krieg_pack.specs.OrderLaws.{position_total}
 use Rattle.krieg_why.specs.Tales.{Tale, tale_cmp}
@@ -49,12 +45,3 @@ kept_up f (m ∷ ms) up = go (f m) (kept_up f ms up.1)
 
 pub legal_up : (p : Pos) → Ascending move_lt (moves p)
 legal_up p = ascending_from move_cmp move_total move_equal (moves p) (moves_ascend p)
-
--- where a move is legal the game goes on
-pub legal_goes : (p : Pos) (m : Move) → is_legal p m ≡ true → is_ended p ≡ false
-unfolding is_ended moves
-legal_goes p m h = false_from_ne_true _ (λ e. nil_none (filter (is_legal p) all_moves) (nil_is _ e) m (in_filter (is_legal p) all_moves m (contains_in m all_moves (legal_in_all p m h)) h))
-  where
-    nil_is : (ms : List Move) → Rattle.krieg_moves.specs.Moves.is_nil ms ≡ true → Rattle.krieg_theory.specs.Sets.is_nil ms ≡ true
-    nil_is [] e = refl
-    nil_is (x ∷ xs) e = absurd (both_ways false refl e)

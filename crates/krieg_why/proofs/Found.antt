@@ -1,6 +1,6 @@
 -- The games that are found for the possible positions are the answer.
-use Rattle.std.proofs.Common.{◌≡◌, ℕ, zero, suc, ◌+◌, ◌<◌, Bool, true, false, cond, List, [], ◌∷◌, ◌++◌, length, get_or, take, map, Option, Some, None, inl, inr, refl, sym, ap, subst, ◌∙◌}
-use Rattle.std.specs.Prelude.{is_some, unwrap_or, slice_get}
+use Rattle.std.proofs.Common.{◌≡◌, ℕ, ◌+◌, ◌<◌, Bool, true, false, cond, List, [], ◌∷◌, ◌++◌, length, get_or, take, map, Option, Some, None, inl, inr, refl, sym, ap, subst, ◌∙◌}
+use Rattle.std.specs.Prelude.{is_some, unwrap_or}
 use Rattle.std.specs.List.{All}
 use Rattle.std.specs.Map.{lookup}
 use Rattle.std.proofs.lemmas.Bool.{cond-true, both_ways}
@@ -18,13 +18,12 @@ use Rattle.krieg_pack.specs.Order.{position_eq}
 use Rattle.krieg_belief.specs.Possible.{IsPossible}
 use Rattle.krieg_belief.proofs.HiddenGames.{AreEntries}
 use Rattle.krieg_belief.proofs.Prefixes.{in_place}
-use Rattle.krieg_why.specs.Explained.{ShownState, AreShown, state_of}
+use Rattle.krieg_why.specs.Explained.{AreShown}
 use Rattle.krieg_why.specs.Starts.{AreStarts}
-use Rattle.krieg_why.specs.Tales.{Tale, stands_of, begun, standing, tell_all}
-use Rattle.krieg_why.specs.Links.{Entries, kept, tale_of, tales_of, number_of, numbered_tale, tale_at, IsFound, Numbered}
-use Rattle.krieg_why.specs.Retold.{shown_of, shown_at}
+use Rattle.krieg_why.specs.Tales.{Tale, stands_of, begun, tell_all}
+use Rattle.krieg_why.specs.Links.{Entries, kept, tale_of, tales_of, number_of, entry_at, IsFound, Numbered}
+use Rattle.krieg_why.specs.Retold.{shown_of}
 use Rattle.krieg_why.specs.declared.links.Link.{Link}
-use Rattle.krieg_why.specs.declared.shown.Shown.{Shown}
 use Rattle.krieg_pack.specs.SameNumbers.{equal_position}
 use Rattle.krieg_why.proofs.Facts.{place_same}
 use Rattle.krieg_why.proofs.Least.{possible_stands, are_shown}
@@ -55,6 +54,12 @@ in_all P [] h x i = absurd i
 in_all P (y ∷ xs) h x (inl e) = subst P e (All-head P y xs h)
 in_all P (y ∷ xs) h x (inr i) = in_all P xs (All-tail P y xs h) x i
 
+-- an entry for a position is one of the entries
+found_among : (es : Entries) (qs : List Pos) → All (IsFound es) qs → (e : Pos × ℕ) → In e (map (entry_at es) qs) → In e es
+found_among es qs found e i =
+    let q = map_in (entry_at es) qs e i in
+    subst (λ (x : Pos × ℕ). In x es) q.2 (found_entry es q.0 (in_all (IsFound es) qs found q.0 q.1))
+
 pub entries_of : (s : SheetState) → IsSheet s → AreEntries s.entries
 entries_of s sheet = in_place _ _ _ s.entries sheet.in_place
 
@@ -69,64 +74,38 @@ module _ (s : SheetState) (sheet : IsSheet s) (ps : List Pos) (starts : AreStart
           let e = map_in (tale_of (kept (map begun ps) ls)) es y.0 (subst (In y.0) (sym tales) y.1) in
           subst (IsFound es) (ap (λ (x : Tale). x.stands) e.2 ∙ y.2) (entry_found es e.0 e.1)
 
-  stand : (rs : List Pos) → map stands_of (map (tale_at ps ls es) rs) ≡ rs
+  stand : (rs : List Pos) → map stands_of (tales_of ps ls (map (entry_at es) rs)) ≡ rs
   stand [] = refl
   stand (r ∷ rs) = ap (λ (x : List Pos). r ∷ x) (stand rs)
 
-  there : (y : Tale) → In y (map (tale_at ps ls es) qs) → In y (tell_all s.dialect s.side s.entries (map begun ps))
+  there : (y : Tale) → In y (tales_of ps ls (map (entry_at es) qs)) → In y (tell_all s.dialect s.side s.entries (map begun ps))
   there y i =
-      let q = map_in (tale_at ps ls es) qs y i in
-      subst (In y) tales
-      (subst (λ (x : Tale). In x (tales_of ps ls es)) q.2
-      (in_map (tale_of (kept (map begun ps) ls)) es (q.0, number_of es q.0) (found_entry es q.0 (in_all (IsFound es) qs all_found q.0 q.1))))
-
-  fused : (rs : List Pos) → map (shown_of s) (map (tale_at ps ls es) rs) ≡ map (shown_at s ps ls es) rs
-  fused [] = refl
-  fused (r ∷ rs) = ap (λ (x : List ShownState). shown_at s ps ls es r ∷ x) (fused rs)
+      let e = map_in (tale_of (kept (map begun ps) ls)) (map (entry_at es) qs) y i in
+      subst (In y) tales (subst (λ (x : Tale). In x (tales_of ps ls es)) e.2 (in_map (tale_of (kept (map begun ps) ls)) es e.0 (found_among es qs all_found e.0 e.1)))
 
   -- and these games are the answer
-  pub answer : (xs : List ShownState) → xs ≡ map (shown_at s ps ls es) qs → AreShown s xs
-  answer xs is = subst (AreShown s) (fused qs ∙ sym is) (are_shown s ps starts (entries_of s sheet) qs (map (tale_at ps ls es) qs) possible (stand qs) there)
+  pub answer : (lasts : Entries) → lasts ≡ map (entry_at es) qs → AreShown s (map (shown_of s) (tales_of ps ls lasts))
+  answer lasts is =
+      subst (λ (x : Entries). AreShown s (map (shown_of s) (tales_of ps ls x))) (sym is)
+      (are_shown s ps starts (entries_of s sheet) qs (tales_of ps ls (map (entry_at es) qs)) possible (stand qs) there)
 
 -- the layer by what the sheet is
 pub as_told : (s : SheetState) (d : Dialect) (who : Side) (ls : List Line) (xs ys : List Tale) → d ≡ s.dialect → who ≡ s.side → ls ≡ s.entries → ys ≡ tell_all d who ls xs → ys ≡ tell_all s.dialect s.side s.entries xs
 as_told s d who ls xs ys by_dialect by_side by_entries h = h ∙ (λ i. tell_all (by_dialect i) (by_side i) (by_entries i) xs)
 
 -- the numbers are numbers of games
-pub numbers_below : (b : ℕ) (es : Entries) (qs : List Pos) (ns : List ℕ) → Numbered b es → All (IsFound es) qs → ns ≡ map (number_of es) qs → All (λ n. n < b) ns
-numbers_below b es qs ns numbered found is = subst (All (λ n. n < b)) (sym is) (all_in (λ n. n < b) (map (number_of es) qs) (λ n i. below n i))
-  where
-    below : (n : ℕ) → In n (map (number_of es) qs) → n < b
-    below n i =
-        let q = map_in (number_of es) qs n i in
-        subst (λ (m : ℕ). m < b) q.2 (in_all (λ (e : Pos × ℕ). e.1 < b) es numbered (q.0, number_of es q.0) (found_entry es q.0 (in_all (IsFound es) qs found q.0 q.1)))
+pub numbers_below : (b : ℕ) (es : Entries) (qs : List Pos) (lasts : Entries) → Numbered b es → All (IsFound es) qs → lasts ≡ map (entry_at es) qs → Numbered b lasts
+numbers_below b es qs lasts numbers found is =
+    subst (Numbered b) (sym is) (all_in (λ (e : Pos × ℕ). e.1 < b) (map (entry_at es) qs) (λ e i. in_all (λ (x : Pos × ℕ). x.1 < b) es numbers e (found_among es qs found e i)))
 
--- a game by its number is the one that is kept for its position
-pub shown_is : (s : SheetState) (ps : List Pos) (ls : List Link) (es : Entries) (q : Pos) (n : ℕ) → n ≡ number_of es q → shown_of s (standing (numbered_tale ps ls n) q) ≡ shown_at s ps ls es q
-shown_is s ps ls es q n is = ap (λ (m : ℕ). shown_of s (standing (numbered_tale ps ls m) q)) is
-
-pub number_is : (es : Entries) (q : Pos) (n : ℕ) → lookup (position_eq q) es ≡ Some n → n ≡ number_of es q
-number_is es q n is = sym (ap (λ (o : Option ℕ). unwrap_or o 0) is)
+pub entry_is : (es : Entries) (q : Pos) (n : ℕ) → lookup (position_eq q) es ≡ Some n → (q, n) ≡ entry_at es q
+entry_is es q n is = ap (λ (o : Option ℕ). (q, unwrap_or o 0)) (sym is)
 
 pub none_found : (es : Entries) (q : Pos) → lookup (position_eq q) es ≡ None → IsFound es q → ⊥
 none_found es q none h = both_ways (is_some (lookup (position_eq q) es)) (ap is_some none) h
-
--- a position by its place
-pub at_place : (qs : List Pos) (i : ℕ) (q : Pos) → slice_get qs i ≡ Some q → q ≡ get_or qs i q
-at_place [] i q h = absurd cc
-at_place (p ∷ qs) zero q h = let e : p ≡ q = cc in sym e
-at_place (p ∷ qs) (suc i) q h = at_place qs i q h
-
-pub at_number : (f : Pos → ℕ) (qs : List Pos) (i : ℕ) (q : Pos) (d : ℕ) → slice_get qs i ≡ Some q → get_or (map f qs) i d ≡ f q
-at_number f [] i q d h = absurd cc
-at_number f (p ∷ qs) zero q d h = let e : p ≡ q = cc in ap f e
-at_number f (p ∷ qs) (suc i) q d h = at_number f qs i q d h
 
 -- what is made of each position, one more
 pub each_more : {X : Type 0} (f : Pos → X) (qs : List Pos) (i : ℕ) (q : Pos) (xs xs' : List X) (x : X) → i < length qs → q ≡ get_or qs i q → xs' ≡ xs ++ x ∷ [] → x ≡ f q → xs ≡ map f (take i qs) → xs' ≡ map f (take (i + 1) qs)
 each_more {X = X} f qs i q xs xs' x lt at pushed is h =
     pushed ∙ (ap (λ (t : List X). t ++ x ∷ []) h ∙ (ap (λ (y : X). map f (take i qs) ++ y ∷ []) is
     ∙ sym (ap (map f) (take_more qs i q lt ∙ ap (λ (y : Pos). take i qs ++ y ∷ []) (sym at)) ∙ map-append f (take i qs) (q ∷ []))))
-
-pub shown_more : (f : Pos → ShownState) (qs : List Pos) (i : ℕ) (q : Pos) (xs xs' : List Shown) (x : Shown) → i < length qs → q ≡ get_or qs i q → xs' ≡ xs ++ x ∷ [] → state_of x ≡ f q → map state_of xs ≡ map f (take i qs) → map state_of xs' ≡ map f (take (i + 1) qs)
-shown_more f qs i q xs xs' x lt at pushed is h = each_more f qs i q (map state_of xs) (map state_of xs') (state_of x) lt at (ap (map state_of) pushed ∙ map-append state_of xs (x ∷ [])) is h

@@ -1,7 +1,6 @@
 -- Games that are kept by numbers: links that come leave the games before as they are.
-use Rattle.std.proofs.Common.{◌≡◌, ℕ, zero, suc, ◌+◌, ◌<◌, ◌≤◌, Bool, true, false, cond, List, [], ◌∷◌, ◌++◌, map, length, get_or, Some, refl, sym, ap, subst, ◌∙◌, arith, reverse}
+use Rattle.std.proofs.Common.{◌≡◌, ℕ, zero, suc, ◌+◌, ◌<◌, ◌≤◌, List, [], ◌∷◌, ◌++◌, map, length, get_or, Some, refl, sym, ap, subst, ◌∙◌, arith, reverse}
 use Rattle.std.specs.Prelude.{slice_get}
-use Rattle.std.specs.Map.{lookup}
 use Rattle.std.proofs.lemmas.List.{append_assoc, length-map, get_or_append_left, length_push, get_or_push, reverse-append}
 use Rattle.std.proofs.lemmas.List.Elements.{All-head, All-tail, All-cons, All-nil}
 use Rattle.krieg_board.specs.Pos.{Pos}
@@ -52,15 +51,6 @@ pub grounded_at : (n : ℕ) (ls : List Link) (j : ℕ) (l : Link) → Grounded n
 grounded_at n [] j l g h is = absurd (let k : j < 0 = h in omega (arith, k))
 grounded_at n (k ∷ ls) zero l g h is = let a : k.before < n = g.0 in let e = ap (λ (x : Link). x.before) is in omega (arith, a, e)
 grounded_at n (k ∷ ls) (suc j) l g h is = let a = grounded_at (suc n) ls j l g.1 (omega (arith, h)) is in omega (arith, a)
-
--- the number that a position has
-pub lookup_numbered : (f : Pos → Bool) (n k : ℕ) (es : Entries) → Numbered n es → lookup f es ≡ Some k → k < n
-lookup_numbered f n k [] h e = absurd cc
-lookup_numbered f n k (y ∷ es) h e = go (f y.0) e (lookup_numbered f n k es (All-tail (λ (z : Pos × ℕ). z.1 < n) y es h))
-  where
-    go : (b : Bool) → cond b (Some y.1) (lookup f es) ≡ Some k → (lookup f es ≡ Some k → k < n) → k < n
-    go true q r = let s : y.1 ≡ k = cc in subst (λ (z : ℕ). z < n) s (All-head (λ (z : Pos × ℕ). z.1 < n) y es h)
-    go false q r = r q
 
 module _ (ps : List Pos) where
   abbrev games : List Link → List Tale

@@ -1,5 +1,5 @@
 -- The games of the last layer are the least that explain where they stand.
-use Rattle.std.proofs.Common.{◌≡◌, ℕ, Bool, true, false, List, [], ◌∷◌, ◌++◌, map, ◌⊎◌, inl, inr, refl, sym, ap, subst, ◌∙◌}
+use Rattle.std.proofs.Common.{◌≡◌, true, List, [], ◌∷◌, ◌++◌, map, ◌⊎◌, inl, inr, refl, sym, ap, subst, ◌∙◌}
 use Rattle.std.specs.List.{Contains, All}
 use Rattle.std.proofs.lemmas.List.Elements.{All-cons, All-nil}
 use Rattle.std.specs.Ordering.{is_lt, is_le, ordering_then}
@@ -33,7 +33,7 @@ use Rattle.krieg_why.specs.Starts.{AreStarts}
 use Rattle.krieg_why.specs.Retold.{events_by, shown_of}
 use Rattle.krieg_why.proofs.Layers.{IsLayer, firsts_once}
 use Rattle.krieg_why.proofs.Told.{Comes, tell_has, has_tell}
-use Rattle.krieg_why.proofs.Facts.{legal_goes}
+use Rattle.krieg_moves.proofs.Turns.{legal_goes}
 use Rattle.krieg_why.proofs.TriedGames.{IsGame, game_gives, gives_game}
 
 -- of each position there is one game
@@ -63,6 +63,13 @@ not_greater Less h = refl
 not_greater Equal h = refl
 not_greater Greater (inl h) = absurd cc
 not_greater Greater (inr h) = absurd cc
+
+-- what the player hears of a game that explains a position is what the sheet says
+pub entries_heard : (s : SheetState) (z : ShownState) → Explains s z → map (told_line s.dialect) (lines_for s.side (judge z.start z.events)) ≡ s.entries
+entries_heard s z e = rest (Opens (told s.dialect (opening z.start))) _ _ e.hears
+  where
+    rest : (l : Line) (ls ms : List Line) → l ∷ ls ≡ l ∷ ms → ls ≡ ms
+    rest l ls ms h = cc
 
 module _ (s : SheetState) (ps : List Pos) (starts : AreStarts s ps) (entries : AreEntries s.entries) where
   abbrev layer : List Tale
@@ -100,16 +107,12 @@ module _ (s : SheetState) (ps : List Pos) (starts : AreStarts s ps) (entries : A
         ends = sym game.ends;
       }
 
-      rest : (l : Line) (ls ms : List Line) → l ∷ ls ≡ l ∷ ms → ls ≡ ms
-      rest l ls ms h = cc
-
       least : (z : ShownState) → Explains s z → z.last ≡ y.stands → is_le (shown_cmp s.side (shown_of s y) z) ≡ true
       least z e same =
           let zs : List Move = their_moves s.side z in
-          let heard_is : map (told_line s.dialect) (lines_for s.side (judge z.start z.events)) ≡ s.entries = rest (Opens (told s.dialect (opening z.start))) _ _ e.hears in
           let given : Gives s.dialect z.start s.entries s.side zs y.stands =
           subst (λ (q : Pos). Gives s.dialect z.start s.entries s.side zs q) (sym e.ends ∙ same)
-          (subst (λ (ls : List Line). Gives s.dialect z.start ls s.side zs (last z.start z.events)) heard_is (game_gives s.dialect s.side z.start z.events e.all_done)) in
+          (subst (λ (ls : List Line). Gives s.dialect z.start ls s.side zs (last z.start z.events)) (entries_heard s z e) (game_gives s.dialect s.side z.start z.events e.all_done)) in
           let t = tell_has s.dialect s.side s.entries 0 (map begun ps) (begun_layer ps starts.ascending) (begun z.start)
           (in_map begun ps z.start (starts.all z.start e.is_listed e.opens)) zs y.stands given in
           let one : t.tale ≡ y = once s.dialect s.side s.entries (map begun ps) (begun_once ps) t.tale y t.there i t.stands in

@@ -11,4 +11,5 @@ pub mod Lines
 pub mod Numbers
 pub mod ListedStarts
 pub mod Found
-pub mod WrittenGames
+pub mod GivenGames
+pub mod OneAnswer

@@ -8,7 +8,7 @@ use Rattle.krieg_board.specs.Pos.{Pos}
 use Rattle.krieg_board.specs.declared.men.Side.{Side}
 use Rattle.krieg_board.specs.declared.men.Side.TheVariants.{White, Black}
 use Rattle.krieg_board.specs.declared.men.Move.{Move}
-use Rattle.krieg_board.proofs.MenLemmas.{same_side_self, same_side_other}
+use Rattle.krieg_board.proofs.MenLemmas.{same_side_eq, same_side_self, same_side_other}
 use Rattle.krieg_moves.specs.Legal.{is_legal}
 use Rattle.krieg_moves.specs.After.{after}
 use Rattle.krieg_moves.specs.Moves.{is_ended}
@@ -29,33 +29,34 @@ use Rattle.krieg_sheet.specs.Games.{Gives}
 use Rattle.krieg_why.specs.Explained.{is_shown}
 use Rattle.krieg_why.specs.Retold.{events_by}
 
+turned_round : (a b : Side) (own : Bool) → is_same_side a b ≡ own → is_same_side b a ≡ own
+turned_round White White own h = h
+turned_round White Black own h = h
+turned_round Black White own h = h
+turned_round Black Black own h = h
+
+-- the other of two sides
+pub others : (a b : Side) → is_same_side a b ≡ false → other b ≡ a
+others White White h = absurd cc
+others White Black h = refl
+others Black White h = refl
+others Black Black h = absurd cc
+
+others_turn : (a b : Side) → is_same_side a b ≡ false → is_same_side (other b) a ≡ true
+others_turn a b h = subst (λ (s : Side). is_same_side s a ≡ true) (sym (others a b h)) (same_side_self a)
+
 -- whose try it is, by whose turn it was
 mine : (mover who turn : Side) → is_same_side mover turn ≡ true → is_same_side mover who ≡ true → is_same_side turn who ≡ true
-mine White White White h k = refl
-mine White White Black h k = absurd cc
-mine White Black turn h k = absurd cc
-mine Black White turn h k = absurd cc
-mine Black Black White h k = absurd cc
-mine Black Black Black h k = refl
+mine mover who turn h k = subst (λ (s : Side). is_same_side s who ≡ true) (same_side_eq mover turn h) k
 
 not_mine : (mover who turn : Side) → is_same_side mover turn ≡ false → is_same_side mover who ≡ true → is_same_side turn who ≡ false
-not_mine White White White h k = absurd cc
-not_mine White White Black h k = refl
-not_mine White Black turn h k = absurd cc
-not_mine Black White turn h k = absurd cc
-not_mine Black Black White h k = refl
-not_mine Black Black Black h k = absurd cc
+not_mine mover who turn h k = turned_round who turn false (subst (λ (s : Side). is_same_side s turn ≡ false) (same_side_eq mover who k) h)
 
 theirs : (mover who turn : Side) → is_same_side mover turn ≡ true → is_same_side mover who ≡ false → is_same_side turn who ≡ false
-theirs White White turn h k = absurd cc
-theirs White Black White h k = refl
-theirs White Black Black h k = absurd cc
-theirs Black White White h k = absurd cc
-theirs Black White Black h k = refl
-theirs Black Black turn h k = absurd cc
+theirs mover who turn h k = subst (λ (s : Side). is_same_side s who ≡ false) (same_side_eq mover turn h) k
 
 -- the opponent's tries are those that are not the player's
-try_is : (who : Side) (e : Event) (own : Bool) → is_same_side e.who who ≡ own → try_of (other who) e ≡ cond own None (Some e.mv)
+pub try_is : (who : Side) (e : Event) (own : Bool) → is_same_side e.who who ≡ own → try_of (other who) e ≡ cond own None (Some e.mv)
 try_is who e own h = ap (λ (b : Bool). cond b (Some e.mv) None) (turned e.who who ∙ ap not h) ∙ flipped own
   where
     turned : (a b : Side) → is_same_side a (other b) ≡ not (is_same_side a b)
@@ -107,18 +108,6 @@ at_turn : (p : Pos) (who : Side) (m : Move) (ended turn legal : Bool) → is_end
     verdict p who m ≡ cond ended Over (cond (not turn) Early (cond (not legal) Illegal (Done (words p m))))
 unfolding verdict
 at_turn p who m ended turn legal he ht hl = λ i. cond (he i) Over (cond (not (ht i)) Early (cond (not (hl i)) Illegal (Done (words p m))))
-
-turned_round : (a b : Side) (own : Bool) → is_same_side a b ≡ own → is_same_side b a ≡ own
-turned_round White White own h = h
-turned_round White Black own h = h
-turned_round Black White own h = h
-turned_round Black Black own h = h
-
-others_turn : (a b : Side) → is_same_side a b ≡ false → is_same_side (other b) a ≡ true
-others_turn White White h = absurd cc
-others_turn White Black h = refl
-others_turn Black White h = refl
-others_turn Black Black h = absurd cc
 
 -- what the tries give, where each of the opponent's is done, and where they lead to
 pub record IsGame (d : Dialect) (who : Side) (p : Pos) (ls : List Line) (rs : List Move) (q : Pos) (events : List Event) : Type 0 where

@@ -25,7 +25,6 @@ use Rattle.krieg_belief.specs.Possible.{IsPossible}
 use Rattle.krieg_belief.specs.Limits.{IsFirstExcess}
 use Rattle.krieg_why.specs.declared.shown.Shown.{Shown}
 use Rattle.krieg_why.specs.declared.why_possible.WhyStop.{WhyStop}
-use Rattle.krieg_why.specs.declared.shown.Shown.{Shown}
 use Rattle.krieg_why.specs.declared.why_possible.WhyStop.TheVariants.{TooMany, NoMemory}
 
 -- a hidden game: the position in which it stands, where it began, and the tries of both players

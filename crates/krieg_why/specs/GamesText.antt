@@ -14,12 +14,12 @@ abbrev pub game_lines : ShownState → List Pieces
 game_lines x = (codes "game " ∷ position_text x.last ∷ []) ∷ (codes "start " ∷ position_text x.start ∷ []) ∷ map event_line x.events
 
 -- version, dialect and how many games, before these
-abbrev pub head_lines : Dialect → List ShownState → List Pieces
-head_lines d xs = alone (codes "krieg games 1") ∷ (codes "dialect " ∷ dialect_text d ∷ []) ∷ (codes "games " ∷ number_text (length xs) ∷ []) ∷ []
+abbrev pub head_lines : Dialect → ℕ → List Pieces
+head_lines d n = alone (codes "krieg games 1") ∷ (codes "dialect " ∷ dialect_text d ∷ []) ∷ (codes "games " ∷ number_text n ∷ []) ∷ []
 
 -- these lines, each game, the last line
 abbrev pub games_lines : Dialect → List ShownState → List Pieces
-games_lines d xs = head_lines d xs ++ (flat_map game_lines xs ++ (alone (codes "end") ∷ []))
+games_lines d xs = head_lines d (length xs) ++ (flat_map game_lines xs ++ (alone (codes "end") ∷ []))
 
 -- a line feed stands after every line
 unfoldable pub games_text : Dialect → List ShownState → List ℕ

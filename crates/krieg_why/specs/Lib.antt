@@ -4,3 +4,4 @@ pub mod Tales
 pub mod Links
 pub mod Starts
 pub mod Retold
+pub mod Laws

@@ -63,9 +63,9 @@ tales_of ps ls es = map (tale_of (kept (map begun ps) ls)) es
 abbrev pub number_of : Entries → Pos → ℕ
 number_of es p = unwrap_or (lookup (position_eq p) es) 0
 
--- the game that stands in a position
-abbrev pub tale_at : List Pos → List Link → Entries → Pos → Tale
-tale_at ps ls es p = tale_of (kept (map begun ps) ls) (p, number_of es p)
+-- a position with that number
+abbrev pub entry_at : Entries → Pos → Pos × ℕ
+entry_at es p = (p, number_of es p)
 
 -- a game stands in the position
 abbrev pub IsFound : Entries → Pos → Type 0

@@ -1,7 +1,6 @@
 -- Of the parts of the work: a hidden game try by try, from the sheet's entries and the opponent's moves.
 use Rattle.std.specs.Prelude.{List, [], ◌∷◌}
 use Rattle.krieg_board.specs.Men.{other}
-use Rattle.krieg_board.specs.Pos.{Pos}
 use Rattle.krieg_board.specs.declared.men.Side.{Side}
 use Rattle.krieg_board.specs.declared.men.Move.{Move}
 use Rattle.krieg_words.specs.declared.line.Line.{Line}
@@ -10,8 +9,6 @@ use Rattle.krieg_referee.specs.declared.verdict.Event.{Event}
 use Rattle.krieg_sheet.specs.Sheets.{SheetState}
 use Rattle.krieg_why.specs.Explained.{ShownState}
 use Rattle.krieg_why.specs.Tales.{Tale}
-use Rattle.krieg_why.specs.Links.{Entries, tale_at}
-use Rattle.krieg_why.specs.declared.links.Link.{Link}
 
 -- the tries of a game that gives these entries: the player's stand in them, and each line that he heard of the opponent is the next of the opponent's moves
 abbrev pub events_by : Side → List Line → List Move → List Event
@@ -27,7 +24,3 @@ events_by who (Over m ∷ ls) rs = record { who = who; mv = m } ∷ events_by wh
 -- the game with the opponent's moves of a tale
 abbrev pub shown_of : SheetState → Tale → ShownState
 shown_of s y = record { last = y.stands; start = y.start; events = events_by s.side s.entries y.replies }
-
--- the game that is kept for a position
-abbrev pub shown_at : SheetState → List Pos → List Link → Entries → Pos → ShownState
-shown_at s ps ls es p = shown_of s (tale_at ps ls es p)

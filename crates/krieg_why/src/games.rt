@@ -1,19 +1,20 @@
-ghost use Rattle.std.specs.Prelude.{◌≡◌, ◌+◌, ◌<◌, IfOk, length, map, reverse};
+ghost use Rattle.std.specs.Prelude.{◌≡◌, ◌+◌, ◌<◌, IfOk, Some, length, map, reverse, slice_get, take};
 ghost use Rattle.std.specs.List.{All};
+ghost use Rattle.krieg_theory.specs.Sets.{is_nil};
 ghost use Rattle.krieg_why.specs.Explained.{state_of};
-ghost use Rattle.krieg_why.specs.Links.{Entries, Grounded, IsFound, numbered_tale, number_of};
+ghost use Rattle.krieg_why.specs.Links.{AreKept, Grounded, IsFound, entry_at, numbered_tale, tales_of};
 ghost use Rattle.krieg_why.specs.Retold as spec;
-ghost use Rattle.krieg_why.specs.Retold.{shown_of, shown_at};
-ghost use Rattle.krieg_why.specs.Tales.{standing};
+ghost use Rattle.krieg_why.specs.Retold.{shown_of};
 
 use crate::links::{Link, Tales};
 use crate::shown::Shown;
 use krieg_board::{Move, NoMemory, Position, Side};
-use krieg_pack::Belief;
+use krieg_pack::{Belief, Packed, unpack};
 use krieg_referee::Event;
 use krieg_sheet::Sheet;
 use krieg_words::Line;
 use std::alloc::Global;
+use std::marker::Model;
 
 /// Where a game began, and the opponent's moves in it, of which the last stands first.
 #[derive(Drop)]
@@ -76,62 +77,109 @@ fn events_by(
     Ok(events)
 }
 
-/// The game with that number, which stands in that position.
-fn shown_game(
-    alloc: Global,
-    s: &Sheet,
-    starts: &Belief,
-    links: &[Link],
-    number: usize,
-    last: Position,
-) -> Result<Shown, NoMemory>
-    requires grounded { Grounded (length starts.now) links.now }
-    requires number { number < length starts.now + length links.now }
-    ensures { IfOk result (λ g. state_of g ≡ shown_of s.now (standing (numbered_tale starts.now links.now number) last)) }
-{
-    let traced = trace(alloc, starts, links, number)?;
-    Ok(Shown {
-        last,
-        start: traced.start,
-        events: events_by(alloc, s.side(), s.entries(), traced.replies)?,
-    })
-}
-
-/// The numbers of the games that stand in these positions, in their order.
-pub(crate) fn numbers_of(
+/// The positions in their order, each with the number of the game that stands in it.
+pub(crate) fn numbered(
     alloc: Global,
     tales: &Tales,
     possible: &Belief,
-) -> Result<Vec<usize>, NoMemory>
+) -> Result<Vec<(Packed, usize)>, NoMemory>
     requires { All (IsFound tales.now.entries) possible.now }
-    ensures { IfOk result (λ v. v.items ≡ map (number_of tales.now.entries) possible.now) }
+    ensures { IfOk result (λ v. v.items ≡ map (entry_at tales.now.entries) possible.now) }
 {
-    let mut numbers = Vec::with_capacity(alloc, possible.len())?;
+    let mut lasts = Vec::with_capacity(alloc, possible.len())?;
     for k in possible.members() {
         if let Some(number) = tales.get(k) {
-            numbers.push(*number)?;
+            lasts.push((*k, *number))?;
         }
     }
-    Ok(numbers)
+    Ok(lasts)
 }
 
-/// The games with these numbers, of which each stands in the position at its place.
-pub(crate) fn shown_games(
-    alloc: Global,
-    s: &Sheet,
-    starts: &Belief,
-    links: &[Link],
-    numbers: &[usize],
-    possible: &Belief,
-) -> Result<Vec<Shown>, NoMemory>
-    requires grounded { Grounded (length starts.now) links.now }
-    requires numbered { All (λ n. n < length starts.now + length links.now) numbers.now }
-    requires each { length numbers.now ≡ length possible.now }
-    ensures { IfOk result (λ v. (es : Entries) → numbers.now ≡ map (number_of es) possible.now → map state_of v.items ≡ map (shown_at s.now starts.now links.now es) possible.now) }
-{
-    let mut games = Vec::with_capacity(alloc, possible.len())?;
-    for i in 0..possible.len() {
-        games.push(shown_game(alloc, s, starts, links, numbers[i], possible.get(i))?)?;
+/// The least hidden games of a sheet, one for each possible position, in the order of these. They are kept as links,
+/// and each is made where it is asked for.
+///
+/// In contracts they are the list of these games.
+#[derive(Drop)]
+pub struct Games<'a> {
+    sheet: &'a Sheet,
+    starts: Belief,
+    links: Vec<Link>,
+    lasts: Vec<(Packed, usize)>,
+}
+
+impl<'a> Model for Games<'a> {
+    ghost use Rattle.std.specs.Prelude.{List, map};
+    ghost use Rattle.krieg_why.specs.Explained.{ShownState};
+    ghost use Rattle.krieg_why.specs.Links.{AreKept, tales_of};
+    ghost use Rattle.krieg_why.specs.Retold.{shown_of};
+
+    ghost Value = { List ShownState };
+
+    ghost view = { λ g. map (shown_of g.sheet.now) (tales_of g.starts g.links.items g.lasts.items) };
+
+    ghost invariant = { λ g. AreKept g.starts g.links.items g.lasts.items };
+}
+
+impl<'a> Games<'a> {
+    /// The games with these numbers, each of which stands in the position beside its number.
+    pub(crate) fn kept(
+        sheet: &'a Sheet,
+        starts: Belief,
+        links: Vec<Link>,
+        lasts: Vec<(Packed, usize)>,
+    ) -> Games<'a>
+        requires { AreKept starts links.items lasts.items }
+        ensures { result ≡ map (shown_of sheet.now) (tales_of starts links.items lasts.items) }
+    {
+        Games {
+            sheet,
+            starts,
+            links,
+            lasts,
+        }
     }
-    Ok(games)
+
+    /// How many games there are.
+    pub fn len(&self) -> usize
+        ensures { result ≡ length self.now }
+    {
+        self.lasts.len()
+    }
+
+    /// Whether there is no game: no position is possible.
+    pub fn is_empty(&self) -> bool
+        ensures { result ≡ is_nil self.now }
+    {
+        self.lasts.is_empty()
+    }
+
+    /// The game at place `i`, from 0 on.
+    pub fn get(&self, alloc: Global, i: usize) -> Result<Shown, NoMemory>
+        requires { i < length self.now }
+        ensures { IfOk result (λ x. slice_get self.now i ≡ Some (state_of x)) }
+    {
+        let (last, number) = self.lasts[i];
+        let traced = trace(alloc, &self.starts, &self.links, number)?;
+        Ok(Shown {
+            last: unpack(&last),
+            start: traced.start,
+            events: events_by(
+                alloc,
+                self.sheet.side(),
+                self.sheet.entries(),
+                traced.replies,
+            )?,
+        })
+    }
+
+    /// All games at once.
+    pub(crate) fn all(&self, alloc: Global) -> Result<Vec<Shown>, NoMemory>
+        ensures { IfOk result (λ v. map state_of v.items ≡ self.now) }
+    {
+        let mut games = Vec::with_capacity(alloc, self.len())?;
+        for i in 0..self.len() {
+            games.push(self.get(alloc, i)?)?;
+        }
+        Ok(games)
+    }
 }

@@ -1,8 +1,9 @@
 //! One hidden game for each position that a sheet leaves open: why it is possible.
 //!
 //! `shown` is a hidden game as the player may be shown it. `why_possible` answers for each possible position the
-//! least game that explains it, and `writing` writes these games. The parts of the work: `starts` has the positions
-//! in which a game may begin, `links` finds the least games line by line, and `games` tells them try by try.
+//! least game that explains it, `games` holds these games and makes each where it is asked for, and `writing` writes
+//! them. `laws` says that there is no other answer. The parts of the work: `starts` has the positions in which a game
+//! may begin, and `links` finds the least games line by line.
 //!
 //! The rules are the definitions of `specs/`: which games explain a position, which of them is the least
 //! (`Explained`), and the written form (`GamesText`).
@@ -10,21 +11,26 @@
 //! ```
 //! // `text` is White's sheet: a black king on a8 or c8, `try h1d1 ok silent`, `heard silent`.
 //! let sheet = read_sheet(alloc, text)?;
-//! let games = why(alloc, &sheet, 10)?; // one: the king came from c8, since a8 comes later in the order
+//! let games = least_games(alloc, &sheet, 10)?; // one: the king came from c8, since a8 comes later in the order
 //! let mut answer = Vec::new(alloc);
-//! write_games(sheet.dialect(), &games, &mut answer)?;
+//! write_games_of(alloc, sheet.dialect(), &games, &mut answer)?;
 //! // "krieg games 1", "dialect wild16", "games 1", "game 1k6/8/1K6/8/8/8/8/3R4 w - -",
 //! // "start 2k5/8/1K6/8/8/8/8/7R w - -", "w h1d1", "b c8b8", "end", a line each
 //! ```
+//!
+//! `why` and `write_games` are the same for all games at once.
 #![tactic(auto)]
 
 mod games;
+mod laws;
 mod links;
 mod shown;
 mod starts;
 mod why_possible;
 mod writing;
 
+pub use games::Games;
+pub use laws::shown_law;
 pub use shown::Shown;
-pub use why_possible::{WhyStop, why};
-pub use writing::write_games;
+pub use why_possible::{WhyStop, least_games, why};
+pub use writing::{write_games, write_games_of};

@@ -5,7 +5,7 @@ ghost use Rattle.krieg_why.specs.Explained.{AreShown, IsWhyStop, state_of};
 ghost use Rattle.krieg_why.specs.Links.{AreKept, tales_of};
 ghost use Rattle.krieg_why.specs.Tales.{begun, tell_all};
 
-use crate::games::{numbers_of, shown_games};
+use crate::games::{Games, numbered};
 use crate::links::{Link, Tales, begin, tell};
 use crate::shown::Shown;
 use crate::starts::starts_of;
@@ -46,15 +46,15 @@ fn tell_lines(
     Ok(tales)
 }
 
-/// For each of the possible positions the least hidden game that explains it. The last layer is let go before the first
-/// game is made.
-fn least_games(alloc: Global, s: &Sheet, possible: &Belief) -> Result<Vec<Shown>, NoMemory>
-    requires { IsPossible s.now possible.now }
-    ensures { IfOk result (λ v. AreShown s.now (map state_of v.items)) }
+/// For each of the possible positions the least hidden game that explains it. The last layer is let go before the answer
+/// is read.
+fn games_of<'a>(alloc: Global, s: &'a Sheet, possible: Belief) -> Result<Games<'a>, NoMemory>
+    requires { IsPossible s.now possible }
+    ensures { IfOk result (λ g. AreShown s.now g) }
 {
     let starts = starts_of(alloc, s)?;
     let mut links = Vec::new(alloc);
-    let tales = tell_lines(
+    let mut tales = tell_lines(
         alloc,
         s.dialect(),
         s.side(),
@@ -62,17 +62,21 @@ fn least_games(alloc: Global, s: &Sheet, possible: &Belief) -> Result<Vec<Shown>
         &starts,
         &mut links,
     )?;
-    let numbers = numbers_of(alloc, &tales, possible)?;
+    let lasts = numbered(alloc, &tales, &possible)?;
+    // What is let go in smaller parts goes back to the system, and the text of the games takes its place.
+    tales.shrink_to_fit();
     drop(tales);
-    shown_games(alloc, s, &starts, &links, &numbers, possible)
+    drop(possible);
+    Ok(Games::kept(s, starts, links, lasts))
 }
 
 /// For each position that is consistent with the sheet, in order, the least hidden game that explains it: the one
-/// with the least start, and of these the one whose first move of the opponent that differs comes first.
+/// with the least start, and of these the one whose first move of the opponent that differs comes first. They are made
+/// one by one, as they are read.
 ///
 /// `TooMany` exactly where `believe` answers it, with the same line. `NoMemory` where memory was not found.
-pub fn why(alloc: Global, s: &Sheet, limit: usize) -> Result<Vec<Shown>, WhyStop>
-    ensures value { IfOk result (λ v. AreShown s.now (map state_of v.items)) }
+pub fn least_games<'a>(alloc: Global, s: &'a Sheet, limit: usize) -> Result<Games<'a>, WhyStop>
+    ensures value { IfOk result (λ g. AreShown s.now g) }
     ensures within { OnOk result (AllWithin limit s.now) }
     ensures stop { IfErr result (IsWhyStop s.now limit) }
 {
@@ -81,7 +85,22 @@ pub fn why(alloc: Global, s: &Sheet, limit: usize) -> Result<Vec<Shown>, WhyStop
         Err(BeliefStop::TooMany { line }) => return Err(WhyStop::TooMany { line }),
         Err(BeliefStop::NoMemory) => return Err(WhyStop::NoMemory),
     };
-    match least_games(alloc, s, &possible) {
+    match games_of(alloc, s, possible) {
+        Ok(games) => Ok(games),
+        Err(NoMemory) => Err(WhyStop::NoMemory),
+    }
+}
+
+/// The games of `least_games`, all at once.
+///
+/// `TooMany` exactly where `believe` answers it, with the same line. `NoMemory` where memory was not found.
+pub fn why(alloc: Global, s: &Sheet, limit: usize) -> Result<Vec<Shown>, WhyStop>
+    ensures value { IfOk result (λ v. AreShown s.now (map state_of v.items)) }
+    ensures within { OnOk result (AllWithin limit s.now) }
+    ensures stop { IfErr result (IsWhyStop s.now limit) }
+{
+    let games = least_games(alloc, s, limit)?;
+    match games.all(alloc) {
         Ok(games) => Ok(games),
         Err(NoMemory) => Err(WhyStop::NoMemory),
     }

@@ -4,12 +4,17 @@ ghost use Rattle.krieg_text.specs.Writing.{PutsLines, Appends};
 ghost use Rattle.krieg_why.specs.Explained.{state_of};
 ghost use Rattle.krieg_why.specs.GamesText as spec;
 
+use crate::games::Games;
 use crate::shown::Shown;
 use krieg_board::NoMemory;
 use krieg_fen::put_position;
 use krieg_session::put_event;
 use krieg_text::{Text, put_number};
 use krieg_words::{Dialect, dialect_name};
+use std::alloc::Global;
+
+/// Room for so many bytes of each game is found before the first is written. A game of three moves has as many.
+const GAME_ROOM: usize = 128;
 
 /// Adds the lines of a game.
 #[tactic(auto, using(krieg_text::proofs::Writings::writings))]
@@ -30,15 +35,15 @@ fn put_game(game: &Shown, text: &mut Text) -> Result<(), NoMemory>
 }
 
 /// Adds the first lines of the text of so many games.
-fn put_head(d: Dialect, games: &[Shown], text: &mut Text) -> Result<(), NoMemory>
-    ensures { PutsLines result text.old text.new (spec.head_lines d (map state_of games.now)) }
+fn put_head(d: Dialect, count: usize, text: &mut Text) -> Result<(), NoMemory>
+    ensures { PutsLines result text.old text.new (spec.head_lines d count) }
 {
     text.line(b"krieg games 1")?;
     text.put(b"dialect ")?;
     text.put(dialect_name(d))?;
     text.end_line()?;
     text.put(b"games ")?;
-    put_number(games.len() as u64, text)?;
+    put_number(count as u64, text)?;
     text.end_line()
 }
 
@@ -54,11 +59,11 @@ fn put_each(games: &[Shown], text: &mut Text) -> Result<(), NoMemory>
 }
 
 /// Adds the lines of the games.
-#[tactic(auto, using(krieg_text::proofs::Writings::writings))]
+#[tactic(auto, using(krieg_text::proofs::Writings::writings, crate::proofs::GivenGames::counts))]
 fn put_games(d: Dialect, games: &[Shown], text: &mut Text) -> Result<(), NoMemory>
     ensures { PutsLines result text.old text.new (spec.games_lines d (map state_of games.now)) }
 {
-    put_head(d, games, text)?;
+    put_head(d, games.len(), text)?;
     put_each(games, text)?;
     text.line(b"end")
 }
@@ -70,5 +75,43 @@ pub fn write_games(d: Dialect, games: &[Shown], text: &mut Vec<u8>) -> Result<()
 {
     let mut all = Text::after(text);
     let done = put_games(d, games, &mut all);
+    all.end(done, text)
+}
+
+/// Adds the lines of each game, of which one is made at a time.
+#[tactic(auto, using(krieg_text::proofs::Writings::writings))]
+fn put_each_of(alloc: Global, games: &Games, text: &mut Text) -> Result<(), NoMemory>
+    ensures { PutsLines result text.old text.new (flat_map spec.game_lines games.now) }
+{
+    for i in 0..games.len() {
+        put_game(&games.get(alloc, i)?, text)?;
+    }
+    Ok(())
+}
+
+/// Adds the lines of the games, of which one is made at a time.
+#[tactic(auto, using(krieg_text::proofs::Writings::writings))]
+fn put_games_of(alloc: Global, d: Dialect, games: &Games, text: &mut Text) -> Result<(), NoMemory>
+    ensures { PutsLines result text.old text.new (spec.games_lines d games.now) }
+{
+    put_head(d, games.len(), text)?;
+    put_each_of(alloc, games, text)?;
+    text.line(b"end")
+}
+
+/// Appends the text of the games, as `write_games` does. One game is made at a time. Where memory runs out, nothing is
+/// appended.
+#[tactic(auto, unfolding(crate::specs::GamesText::games_text))]
+pub fn write_games_of(
+    alloc: Global,
+    d: Dialect,
+    games: &Games,
+    text: &mut Vec<u8>,
+) -> Result<(), NoMemory>
+    ensures { Appends result text.old.items text.new.items (spec.games_text d games.now) }
+{
+    text.reserve(games.len().saturating_mul(GAME_ROOM))?;
+    let mut all = Text::after(text);
+    let done = put_games_of(alloc, d, games, &mut all);
     all.end(done, text)
 }

@@ -5,4 +5,4 @@ use Rattle.krieg_why.specs.GamesText.{game_lines}
 use Rattle.krieg_why.proofs.writing.put_each.Given as goal
 
 abbrev pub invariant-loop-game : goal.invariant-loop-game
-invariant-loop-game l = HasLines l.initial.text l.text (flat_map game_lines (map state_of (take l.game-index l.games)))
+invariant-loop-game l = HasLines l.initial.text l.text (flat_map game_lines (take l.game-index (map state_of l.games)))

@@ -1,10 +1,10 @@
 use Rattle.std.proofs.Common.{rules, ◌≡◌, ◌++◌, ◌∷◌, [], ℕ, Some}
 use Rattle.std.specs.Map.{lookup}
 use Rattle.krieg_pack.specs.Order.{position_eq}
-use Rattle.krieg_why.specs.Links.{number_of}
-use Rattle.krieg_why.proofs.Found.{number_is, none_found, each_more}
-use Rattle.krieg_why.proofs.games.numbers_of.Goals as goal
-use Rattle.krieg_why.proofs.games.numbers_of.Goals.{in-Some+in_ok-push, in_default}
+use Rattle.krieg_why.specs.Links.{entry_at}
+use Rattle.krieg_why.proofs.Found.{entry_is, none_found, each_more}
+use Rattle.krieg_why.proofs.games.numbered.Goals as goal
+use Rattle.krieg_why.proofs.games.numbered.Goals.{in-Some+in_ok-push, in_default}
 
 pub loop-k-preserved : goal.loop-k-preserved
 loop-k-preserved c =
@@ -15,7 +15,7 @@ loop-k-preserved c =
       | in-Some+in_ok-push v ↦
           let n : ℕ = v.in-Some.number.now in
           let is : lookup (position_eq q) es ≡ Some n = search rules in
-          let pushed : c.match-get.numbers.items ≡ c.loop-k.numbers.items ++ n ∷ [] = search rules in
-          each_more (number_of es) qs c.loop-k.k-index q c.loop-k.numbers.items c.match-get.numbers.items n c.loop-k-test.true c.k-item.is pushed (number_is es q n is) c.loop-k.invariant
+          let pushed : c.match-get.lasts.items ≡ c.loop-k.lasts.items ++ (q, n) ∷ [] = search rules in
+          each_more (entry_at es) qs c.loop-k.k-index q c.loop-k.lasts.items c.match-get.lasts.items (q, n) c.loop-k-test.true c.k-item.is pushed (entry_is es q n is) c.loop-k.invariant
       | in_default v ↦ absurd (none_found es q (search rules) (search rules))
     ]

@@ -1,0 +1,7 @@
+use Rattle.std.proofs.Common.{take, flat_map}
+use Rattle.krieg_text.specs.Writing.{HasLines}
+use Rattle.krieg_why.specs.GamesText.{game_lines}
+use Rattle.krieg_why.proofs.writing.put_each_of.Given as goal
+
+abbrev pub invariant-loop-i : goal.invariant-loop-i
+invariant-loop-i l = HasLines l.initial.text l.text (flat_map game_lines (take l.i l.games))
