@@ -9,7 +9,7 @@ use Rattle.krieg_text.specs.Decimals.{number_between}
 use Rattle.krieg_fen.specs.declared.forms.TheConstants.{MOST_LISTED}
 use Rattle.krieg_args.specs.declared.command.TheConstants.{MOST_ASKS, MOST_SEED}
 use Rattle.krieg_args.specs.declared.command.Command.{Command}
-use Rattle.krieg_args.specs.declared.command.Command.TheVariants.{Solve, Check, Believe, Why, Umpire, San, Unsan, Play, Lead, Next, Make, Job}
+use Rattle.krieg_args.specs.declared.command.Command.TheVariants.{Solve, Check, Refute, Deny, Believe, Why, Umpire, San, Unsan, Play, Lead, Next, Make, Job}
 use Rattle.krieg_args.specs.declared.command.Made.{Made}
 use Rattle.krieg_args.specs.declared.command.Made.TheVariants.{Session, Sheet}
 
@@ -65,12 +65,21 @@ infixl 10 ◌>>=◌
 abbrev pub ◌>>=◌ : {A B : Type 0} → Option A → (A → Option B) → Option B
 x >>= f = option_and_then f x
 
-abbrev pub solve : List ℕ → List ℕ → List ℕ → Option Command
-solve moves budget limit = do
+-- the numbers of a search: moves, budget and limit
+abbrev pub search_numbers : List ℕ → List ℕ → List ℕ → Option (ℕ × ℕ × ℕ)
+search_numbers moves budget limit = do
   m ← moves_of moves
   b ← budget_of budget
   l ← limit_of limit
-  Some (Solve m b l)
+  Some (m, b, l)
+
+-- for a plan
+abbrev pub solve : ℕ × ℕ × ℕ → Command
+solve n = Solve n.0 n.1 n.2
+
+-- for a refutation
+abbrev pub refute : ℕ × ℕ × ℕ → Command
+refute n = Refute n.0 n.1 n.2
 
 abbrev pub make : List ℕ → List ℕ → Option Command
 make what seed = do
@@ -101,17 +110,24 @@ command_of_name name =
 abbrev pub command_of_one : List ℕ → List ℕ → Option Command
 command_of_one name word =
     if bytes_eq name (codes "check") then option_map Check (budget_of word)
+    else (if bytes_eq name (codes "deny") then option_map Deny (budget_of word)
     else (if bytes_eq name (codes "believe") then option_map Believe (limit_of word)
     else (if bytes_eq name (codes "why") then option_map Why (limit_of word)
     else (if bytes_eq name (codes "umpire") then option_map Umpire (whose word)
-    else (if bytes_eq name (codes "job") then option_map Job (seed_of word) else None))))
+    else (if bytes_eq name (codes "job") then option_map Job (seed_of word) else None)))))
+
+-- the command of a name with three words
+abbrev pub command_of_three : List ℕ → List ℕ → List ℕ → List ℕ → Option Command
+command_of_three name moves budget limit =
+    if bytes_eq name (codes "solve") then option_map solve (search_numbers moves budget limit)
+    else (if bytes_eq name (codes "refute") then option_map refute (search_numbers moves budget limit) else None)
 
 -- the command of these words, where they are the form of one: a name, and after it as many words as the name asks for
 abbrev pub command_of : List (List ℕ) → Option Command
 command_of (name ∷ []) = command_of_name name
 command_of (name ∷ word ∷ []) = command_of_one name word
 command_of (name ∷ what ∷ seed ∷ []) = if bytes_eq name (codes "make") then make what seed else None
-command_of (name ∷ moves ∷ budget ∷ limit ∷ []) = if bytes_eq name (codes "solve") then solve moves budget limit else None
+command_of (name ∷ moves ∷ budget ∷ limit ∷ []) = command_of_three name moves budget limit
 command_of (name ∷ asks ∷ number ∷ tries ∷ told ∷ []) = if bytes_eq name (codes "lead") then lead asks number tries told else None
 command_of (name ∷ asks ∷ win ∷ wout ∷ bin ∷ bout ∷ []) = if bytes_eq name (codes "play") then play asks win wout bin bout else None
 command_of _ = None

@@ -38,6 +38,21 @@ pub enum Command {
         /// From 1 to [`MOST_UNITS`].
         budget: u64,
     },
+    /// `refute MOVES BUDGET LIMIT`: a refutation for a sheet, that no plan mates within so many moves, with so many units of
+    /// work and sets of so many positions at most.
+    Refute {
+        /// From 1 to [`MOST_MOVES`].
+        moves: u64,
+        /// From 1 to [`MOST_UNITS`].
+        budget: u64,
+        /// From 1 to [`MOST_LISTED`].
+        limit: u64,
+    },
+    /// `deny BUDGET`: the check of a refutation, with so many units.
+    Deny {
+        /// From 1 to [`MOST_UNITS`].
+        budget: u64,
+    },
     /// `believe LIMIT`: the positions that a sheet leaves possible, of which there may be so many.
     Believe {
         /// From 1 to [`MOST_LISTED`].
@@ -174,14 +189,33 @@ fn is_file(word: &str) -> bool
     !word.is_empty()
 }
 
-fn solve(moves: &str, budget: &str, limit: &str) -> Option<Command>
-    ensures { result ≡ spec.solve moves.now budget.now limit.now }
+/// The numbers of a search, for a plan or for a refutation: moves, budget and limit.
+fn search_numbers(moves: &str, budget: &str, limit: &str) -> Option<(u64, u64, u64)>
+    ensures { result ≡ spec.search_numbers moves.now budget.now limit.now }
 {
-    Some(Command::Solve {
-        moves: moves_of(moves)?,
-        budget: budget_of(budget)?,
-        limit: limit_of(limit)?,
-    })
+    Some((moves_of(moves)?, budget_of(budget)?, limit_of(limit)?))
+}
+
+fn solve(numbers: (u64, u64, u64)) -> Command
+    ensures { result ≡ spec.solve numbers }
+{
+    let (moves, budget, limit) = numbers;
+    Command::Solve {
+        moves,
+        budget,
+        limit,
+    }
+}
+
+fn refute(numbers: (u64, u64, u64)) -> Command
+    ensures { result ≡ spec.refute numbers }
+{
+    let (moves, budget, limit) = numbers;
+    Command::Refute {
+        moves,
+        budget,
+        limit,
+    }
 }
 
 fn make(what: &str, seed: &str) -> Option<Command>
@@ -241,6 +275,10 @@ fn command_of_one(name: &str, word: &str) -> Option<Command>
         Some(Command::Check {
             budget: budget_of(word)?,
         })
+    } else if is_name(b"deny", name) {
+        Some(Command::Deny {
+            budget: budget_of(word)?,
+        })
     } else if is_name(b"believe", name) {
         Some(Command::Believe {
             limit: limit_of(word)?,
@@ -260,6 +298,19 @@ fn command_of_one(name: &str, word: &str) -> Option<Command>
     }
 }
 
+fn command_of_three(name: &str, moves: &str, budget: &str, limit: &str) -> Option<Command>
+    ensures { result ≡ spec.command_of_three name.now moves.now budget.now limit.now }
+{
+    let name = name.as_bytes();
+    if is_name(b"solve", name) {
+        Some(solve(search_numbers(moves, budget, limit)?))
+    } else if is_name(b"refute", name) {
+        Some(refute(search_numbers(moves, budget, limit)?))
+    } else {
+        None
+    }
+}
+
 /// The command of these words, where they are the form of one and their numbers are in their ranges.
 #[tactic(auto, using(crate::proofs::OtherWords::other_words))]
 pub fn command_of(words: &[String]) -> Option<Command>
@@ -269,9 +320,7 @@ pub fn command_of(words: &[String]) -> Option<Command>
         [name] => command_of_name(name),
         [name, word] => command_of_one(name, word),
         [name, what, seed] if is_name(b"make", name.as_bytes()) => make(what, seed),
-        [name, moves, budget, limit] if is_name(b"solve", name.as_bytes()) => {
-            solve(moves, budget, limit)
-        }
+        [name, moves, budget, limit] => command_of_three(name, moves, budget, limit),
         [name, asks, number, tries, told] if is_name(b"lead", name.as_bytes()) => {
             lead(asks, number, tries, told)
         }

@@ -48,7 +48,7 @@ all_more P [] x all here = All-cons P x [] here (All-nil P)
 all_more P (y ∷ xs) x all here = All-cons P y (xs ++ x ∷ []) (All-head P y xs all) (all_more P xs x (All-tail P y xs all) here)
 
 -- each of a list, by its members
-all_of : {X : Type 0} (P : X → Type 0) (xs : List X) → ((x : X) → In x xs → P x) → All P xs
+pub all_of : {X : Type 0} (P : X → Type 0) (xs : List X) → ((x : X) → In x xs → P x) → All P xs
 all_of P [] each = All-nil P
 all_of P (x ∷ xs) each = All-cons P x xs (each x (inl refl)) (all_of P xs (λ y at. each y (inr at)))
 
@@ -57,7 +57,7 @@ valid_of [] all p at = absurd at
 valid_of (q ∷ S) all p (inl same) = subst IsValid same (All-head IsValid q S all)
 valid_of (q ∷ S) all p (inr at) = valid_of S (All-tail IsValid q S all) p at
 
-some_length : {X : Type 0} (xs : List X) → is_nil xs ≡ false → 1 ≤ length xs
+pub some_length : {X : Type 0} (xs : List X) → is_nil xs ≡ false → 1 ≤ length xs
 some_length [] h = absurd (both_ways true h refl)
 some_length (x ∷ xs) h = omega arith
 
@@ -65,7 +65,7 @@ some_of_map : {X Y : Type 0} (f : X → Y) (xs : List X) (y : Y) → In y (map f
 some_of_map f [] y at = absurd at
 some_of_map f (x ∷ xs) y at = omega arith
 
-alike : (who : Side) (S : List Pos) → HaveOneHand who S → AreAlike who S
+pub alike : (who : Side) (S : List Pos) → HaveOneHand who S → AreAlike who S
 alike who [] hand = tt
 alike who (p ∷ ps) hand = all_of (λ q. same_hand p q who ≡ true) ps (λ q at. hand p q (inl refl) (inr at))
 
@@ -77,15 +77,15 @@ turn_is : (who : Side) (S : List Pos) → HaveOneHand who S → (q : Pos) → In
 turn_is who [] hand q at = absurd at
 turn_is who (p ∷ ps) hand q at = ap (λ (side : Side). not (is_same_side side who)) (same_turn who (p ∷ ps) hand q p at (inl refl))
 
--- what a search asks for
-pub one_turn_of : (who : Side) (S : List Pos) → HaveOneHand who S → is_nil S ≡ false → IsOwnTurn who S ⊎ IsOthersTurn who S
-one_turn_of who [] hand some = absurd (both_ways true some refl)
-one_turn_of who (p ∷ ps) hand some = go (cases_Bool (is_same_side p.side who))
+-- what a search asks for: it is one side's turn in all of them, or in none
+pub one_turn_of : (who side : Side) (S : List Pos) → HaveOneHand who S → IsOwnTurn side S ⊎ IsOthersTurn side S
+one_turn_of who side [] hand = inl (λ q at. absurd at)
+one_turn_of who side (p ∷ ps) hand = go (cases_Bool (is_same_side p.side side))
   where
-    same : (q : Pos) → In q (p ∷ ps) → is_same_side q.side who ≡ is_same_side p.side who
-    same q at = ap (λ (side : Side). is_same_side side who) (same_turn who (p ∷ ps) hand q p at (inl refl))
+    same : (q : Pos) → In q (p ∷ ps) → is_same_side q.side side ≡ is_same_side p.side side
+    same q at = ap (λ (turn : Side). is_same_side turn side) (same_turn who (p ∷ ps) hand q p at (inl refl))
 
-    go : (is_same_side p.side who ≡ true) ⊎ (is_same_side p.side who ≡ false) → IsOwnTurn who (p ∷ ps) ⊎ IsOthersTurn who (p ∷ ps)
+    go : (is_same_side p.side side ≡ true) ⊎ (is_same_side p.side side ≡ false) → IsOwnTurn side (p ∷ ps) ⊎ IsOthersTurn side (p ∷ ps)
     go (inl own) = inl (λ q at. same q at ∙ own)
     go (inr other) = inr (λ q at. same q at ∙ other)
 

@@ -7,6 +7,7 @@ use Rattle.krieg_board.specs.Pos.{Pos}
 use Rattle.krieg_board.specs.declared.men.Side.TheVariants.{White, Black}
 use Rattle.krieg_pack.proofs.PositionSets.{same_members}
 use Rattle.krieg_sheet.specs.Sheets.{SheetState}
+use Rattle.krieg_sheet.specs.Turns.{is_over}
 use Rattle.krieg_score.specs.Scores.{san_of, unsan_of}
 use Rattle.krieg_belief.specs.Possible.{IsPossible}
 use Rattle.krieg_belief.proofs.Prefixes.{excess_not_within}
@@ -19,13 +20,16 @@ use Rattle.krieg_play.specs.Teams.{Team, Turns, Service, BrokenCourse, HasFailed
 use Rattle.krieg_play.specs.Played.{Sides}
 use Rattle.krieg_args.specs.Command.{takes_input}
 use Rattle.krieg_args.specs.declared.command.Command.{Command}
-use Rattle.krieg_args.specs.declared.command.Command.TheVariants.{Solve, Check, Believe, Why, Umpire, San, Unsan, Play, Lead, Next, Make, Job}
+use Rattle.krieg_args.specs.declared.command.Command.TheVariants.{Solve, Check, Refute, Deny, Believe, Why, Umpire, San, Unsan, Play, Lead, Next, Make, Job}
 use Rattle.krieg_args.specs.declared.command.Made.{Made}
 use Rattle.krieg_cli.specs.World.{World, FaultsRose}
 use Rattle.krieg_cli.specs.Input.{WasRead}
 use Rattle.krieg_cli.specs.Refusal.{OfText}
 use Rattle.krieg_cli.specs.Ending.{status}
-use Rattle.krieg_cli.specs.Solve.{fresh_units, IsBestFile, Asks, Searched, Solved}
+use Rattle.krieg_cli.specs.Asked.{Leaves, has_no_turn, OfPossible}
+use Rattle.krieg_cli.specs.Solve.{Searched, Solved}
+use Rattle.krieg_cli.specs.Refute.{Claimed, Refuted}
+use Rattle.krieg_cli.specs.Deny.{Judged}
 use Rattle.krieg_cli.specs.Check.{Checked}
 use Rattle.krieg_cli.specs.Umpire.{told_text}
 use Rattle.krieg_cli.specs.Believe.{Believed}
@@ -39,7 +43,7 @@ use Rattle.krieg_cli.specs.Make.{Makes}
 use Rattle.krieg_cli.specs.Job.{Plans, Summarizes}
 use Rattle.krieg_cli.specs.Outcome.{LiveOutcome, HasOutcome}
 use Rattle.krieg_cli.specs.Top.{ComesTo, Ends, Runs}
-use Rattle.krieg_cli.specs.Complete.{CanBeChecked, CanBeShown, CanBeSummed, HoldsText, MustAnswer, NoneFailed, seats_since, CanPlay, BenchHolds, Completes}
+use Rattle.krieg_cli.specs.Complete.{CanBeSolved, CanBeRefuted, CanBeDenied, CanBeChecked, CanBeShown, CanBeSummed, HoldsText, MustAnswer, NoneFailed, seats_since, CanPlay, BenchHolds, Completes}
 use Rattle.krieg_cli.specs.declared.refusal.Refusal.{Refusal}
 use Rattle.krieg_cli.specs.declared.refusal.Refusal.TheVariants as refusal
 use Rattle.krieg_cli.specs.declared.ending.Ending.{Ending}
@@ -47,42 +51,39 @@ use Rattle.krieg_cli.specs.declared.ending.Ending.TheVariants as ending
 use Rattle.krieg_cli.proofs.WholeGames.{text_read, given_le}
 use Rattle.krieg_cli.specs.declared.input.TheConstants.{MOST_INPUT}
 
--- ---- solve
+-- ---- solve and refute
 
 -- a sheet has one list of possible positions
 one_list : (s : SheetState) (S T : List Pos) → IsPossible s S → IsPossible s T → S ≡ T
 one_list s S T a b =
     same_members S T a.ascending b.ascending (λ p i. (b.exact p).1 ((a.exact p).0 i)) (λ p i. (a.exact p).1 ((b.exact p).0 i))
 
-module _ (n budget limit : ℕ) (s : SheetState) (S : List Pos) (asks : Asks limit s S) (enough : fresh_units s.dialect s.side S n ≤ budget)
-    (fits : (f : PlanState) → IsBestFile s.dialect s.side S n f → Rattle.krieg_cli.specs.Solve.IsTooLarge f → ⊥) where
-  searching : (r : Refusal) (T : List Pos) → T ≡ S → Searched s.dialect s.side T n budget (Err r) → ⊥
-  searching refusal.BudgetSpent T same h = let less = subst (λ T. budget < fresh_units s.dialect s.side T n) same h in omega (arith, less, enough)
-  searching refusal.PlanTooLarge T same (least, f, best, large) = fits f (subst (λ T. IsBestFile s.dialect s.side T n f) same best) large
-  searching (refusal.BadText line kind) T same h = h
-  searching (refusal.TooMany line) T same h = h
-  searching refusal.NonePossible T same h = h
-  searching refusal.GameOver T same h = h
-  searching refusal.PlanFails T same h = h
-  searching refusal.NoSuchPosition T same h = h
-  searching refusal.AnswerTooLong T same h = h
-  searching (refusal.NoSeat who) T same h = h
-  searching (refusal.SeatFault who) T same h = h
+-- a sheet of which something is asked is refused nothing, where a search of what it leaves possible is not
+module _ (limit : ℕ) (s : SheetState) (rests : Bool) (By : List Pos → Result (List ℕ) Refusal → Type 0) (S : List Pos) (leaves : Leaves limit s S) (goes : rests ≡ false) (answers : (r : Refusal) → By S (Err r) → ⊥) where
+  asking : (r : Refusal) → OfPossible limit s rests By (Err r) → ⊥
+  asking (refusal.TooMany line) h = excess_not_within s limit line h leaves.within
+  asking refusal.NonePossible h = both_ways (is_nil S) leaves.some (ap (λ T. is_nil T) (one_list s S [] leaves.possible h.0))
+  asking refusal.NotThePlayersTurn h = both_ways rests goes h.2
+  asking r (T, other, go, h) = answers r (subst (λ T. By T (Err r)) (one_list s T S other.possible leaves.possible) h)
 
-  solving : (r : Refusal) → Solved n budget limit s (Err r) → ⊥
-  solving (refusal.TooMany line) h = excess_not_within s limit line h asks.within
-  solving refusal.NonePossible (none, within) = both_ways (is_nil S) asks.some (ap (λ T. is_nil T) (one_list s S [] asks.possible none))
-  solving refusal.GameOver (T, possible, within, some, over) = both_ways _ asks.goes_on over
-  solving (refusal.BadText line kind) (T, other, h) = searching (refusal.BadText line kind) T (one_list s T S other.possible asks.possible) h
-  solving refusal.BudgetSpent (T, other, h) = searching refusal.BudgetSpent T (one_list s T S other.possible asks.possible) h
-  solving refusal.PlanTooLarge (T, other, h) = searching refusal.PlanTooLarge T (one_list s T S other.possible asks.possible) h
-  solving refusal.PlanFails (T, other, h) = searching refusal.PlanFails T (one_list s T S other.possible asks.possible) h
-  solving refusal.NoSuchPosition (T, other, h) = searching refusal.NoSuchPosition T (one_list s T S other.possible asks.possible) h
-  solving refusal.AnswerTooLong (T, other, h) = searching refusal.AnswerTooLong T (one_list s T S other.possible asks.possible) h
-  solving (refusal.NoSeat who) (T, other, h) = searching (refusal.NoSeat who) T (one_list s T S other.possible asks.possible) h
-  solving (refusal.SeatFault who) (T, other, h) = searching (refusal.SeatFault who) T (one_list s T S other.possible asks.possible) h
+solving : (n budget limit : ℕ) (text : List ℕ) (can : CanBeSolved n budget limit text) (r : Refusal) → Solved n budget limit can.sheet (Err r) → ⊥
+solving n budget limit text can r h = asking limit can.sheet (is_over can.sheet) (λ S. Searched can.sheet.dialect can.sheet.side S n budget) can.positions can.leaves can.goes_on go r h
+  where
+    go : (r : Refusal) → Searched can.sheet.dialect can.sheet.side can.positions n budget (Err r) → ⊥
+    go refusal.BudgetSpent h = let enough = can.enough in omega (arith, h, enough)
+    go refusal.PlanTooLarge (least, f, best, large) = can.fits f best large
+    go _ h = h
 
--- ---- umpire, san, unsan, check, believe, and why
+refuting : (n budget limit : ℕ) (text : List ℕ) (can : CanBeRefuted n budget limit text) (r : Refusal) → Refuted n budget limit can.sheet (Err r) → ⊥
+refuting n budget limit text can r h = asking limit can.sheet (has_no_turn can.sheet) (λ S. Claimed can.sheet.dialect can.sheet.side S n budget) can.positions can.leaves can.turn go r h
+  where
+    go : (r : Refusal) → Claimed can.sheet.dialect can.sheet.side can.positions n budget (Err r) → ⊥
+    go refusal.BudgetSpent h = let enough = can.enough in omega (arith, h, enough)
+    go refusal.PlanTooLarge h = can.fits h.1
+    go refusal.PlanExists (least, (plan, mates)) = both_ways _ (can.none_mates plan) mates
+    go _ h = h
+
+-- ---- umpire, san, unsan, check, deny, believe, and why
 
 answering : (text : List ℕ) (r : Refusal) → ◌≡◌ {A = Result (List ℕ) Refusal} (Err r) (Ok text) → ⊥
 answering text r e = cc
@@ -91,6 +92,11 @@ checking : (budget : ℕ) (text : List ℕ) (can : CanBeChecked budget text) (r 
 checking budget text can refusal.BudgetSpent h = let enough = can.enough in omega (arith, h, enough)
 checking budget text can refusal.PlanFails h = both_ways _ h.1 can.mates
 checking budget text can _ h = h
+
+denying : (budget : ℕ) (text : List ℕ) (can : CanBeDenied budget text) (r : Refusal) → Judged budget can.file (Err r) → ⊥
+denying budget text can refusal.BudgetSpent h = let enough = can.enough in omega (arith, h, enough)
+denying budget text can refusal.RefutationFails h = both_ways _ h.1 can.holds
+denying budget text can _ h = h
 
 believing : (limit : ℕ) (s : SheetState) (r : Refusal) → Believed limit s (Err r) → Rattle.krieg_belief.specs.Limits.AllWithin limit s → ⊥
 believing limit s (refusal.TooMany line) h within = excess_not_within s limit line h within
@@ -181,8 +187,11 @@ saying h r e = cc
 refused : {X : Type 0} (account : X → Account) (entry now : Sides X) (c : Command) (text : List ℕ) (r : Refusal) → HasOutcome (LivesBy account entry now) c text (Err r) → MustAnswer c text →
     BenchHolds account c entry now → ⊥
 refused account entry now (Solve n budget limit) text r h can bench =
-    solving n budget limit can.sheet can.positions can.asks can.enough can.fits r (subst (λ x. OfText x (Solved n budget limit) (Err r)) can.spelled h)
+    solving n budget limit text can r (subst (λ x. OfText x (Solved n budget limit) (Err r)) can.spelled h)
 refused account entry now (Check budget) text r h can bench = checking budget text can r (subst (λ x. OfText x (Checked budget) (Err r)) can.spelled h)
+refused account entry now (Refute n budget limit) text r h can bench =
+    refuting n budget limit text can r (subst (λ x. OfText x (Refuted n budget limit) (Err r)) can.spelled h)
+refused account entry now (Deny budget) text r h can bench = denying budget text can r (subst (λ x. OfText x (Judged budget) (Err r)) can.spelled h)
 refused account entry now (Believe limit) text r h can bench = believing limit can.sheet r (subst (λ x. OfText x (Believed limit) (Err r)) can.spelled h) can.within
 refused account entry now (Why limit) text r h can bench = showing limit text can r (subst (λ x. OfText x (Shows limit) (Err r)) can.spelled h)
 refused account entry now (Umpire who) text r h (s, spelled) bench = answering (told_text s who) r (subst (λ x. OfText x (λ session told. told ≡ Ok (told_text session who)) (Err r)) spelled h)

@@ -44,8 +44,8 @@ Keeps n before after err err' =
 
 of_text : (n budget limit : ℕ) (before after : World) (err err' : Stream) (text answer : List ℕ) (r : Result SheetState TextFault) → whole sheet_at (lines text) ≡ r → WasRead before.input after.input text →
     Appends before.out.bytes after.out.bytes answer → err' ≡ err → OfText r (Solved n budget limit) (Ok answer) → Keeps n before after err err'
-of_text n budget limit before after err err' text answer (Ok s) is read written quiet (S, asks, searched) =
-    (s, S, record { text = text; was_read = read; spelled = is; possible = asks.possible; some = asks.some }, told n s S before after answer written searched.1, quiet)
+of_text n budget limit before after err err' text answer (Ok s) is read written quiet (S, leaves, goes, searched) =
+    (s, S, record { text = text; was_read = read; spelled = is; possible = leaves.possible; some = leaves.some }, told n s S before after answer written searched.1, quiet)
 of_text n budget limit before after err err' text answer (Err (fault.At line kind)) is read written quiet e = absurd cc
 of_text n budget limit before after err err' text answer (Err fault.NoMemory) is read written quiet e = absurd e
 

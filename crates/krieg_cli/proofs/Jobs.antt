@@ -1,5 +1,5 @@
 -- What a search and a check find, as the lines of a summary.
-use Rattle.std.proofs.Common.{◌≡◌, ◌⊎◌, inl, inr, ℕ, zero, suc, ◌+◌, ◌≤◌, List, [], ◌∷◌, length, None, Ok, Err, refl, ap, subst, ◌∙◌, arith}
+use Rattle.std.proofs.Common.{◌≡◌, inl, inr, ℕ, zero, suc, ◌+◌, ◌≤◌, List, [], ◌∷◌, length, None, Ok, Err, ap, subst, ◌∙◌, arith}
 use Rattle.std.specs.Prelude.{false, ◌<◌}
 use Rattle.std.proofs.lemmas.Bool.{both_ways}
 use Rattle.krieg_board.specs.Pos.{Pos}
@@ -39,7 +39,6 @@ use Rattle.krieg_search.specs.Solved.{IsBest}
 use Rattle.krieg_search.specs.Planned.{IsFit}
 use Rattle.krieg_search.specs.declared.stop.Stop2.{Stop2}
 use Rattle.krieg_search.specs.declared.stop.Stop2.TheVariants as search
-use Rattle.krieg_split.specs.Turns.{IsOwnTurn, IsOthersTurn}
 use Rattle.krieg_cli.specs.Parts.{of_search, of_check, Decides}
 use Rattle.krieg_cli.specs.Solve.{file_of, least_units, IsTooLarge, Searched}
 use Rattle.krieg_cli.specs.Check.{check_cost}
@@ -48,7 +47,7 @@ use Rattle.krieg_cli.specs.Job.{IsFound, mates_line, checked_line, found_lines, 
 use Rattle.krieg_cli.specs.declared.commands.job.Finding.{Finding}
 use Rattle.krieg_cli.specs.declared.commands.job.Finding.TheVariants.{Plan}
 use Rattle.krieg_cli.specs.declared.commands.job.tally.Tally.{Tally}
-use Rattle.krieg_cli.proofs.BestFiles.{one_turn_of, same_turn}
+use Rattle.krieg_cli.proofs.BestFiles.{same_turn}
 use Rattle.krieg_cli.proofs.Searching.{best_file}
 use Rattle.krieg_cli.specs.declared.commands.job.TheConstants.{JOB_MOVES}
 
@@ -68,11 +67,6 @@ few d who list line sheet excess = excess_not_within (new_sheet d who list None)
 
 pub few_listed : (s : SheetState) (line : ℕ) → (list : List Pos) × (s ≡ new_sheet Wild16 White list None) → IsSheet s → IsFirstExcess s MOST_LISTED line → ⊥
 few_listed s line (list, is) sheet excess = few Wild16 White list line (subst IsSheet is sheet) (subst (λ s. IsFirstExcess s MOST_LISTED line) is excess)
-
--- the same side is to move in all of them, also where there are none
-pub turns : (who : Side) (S : List Pos) → HaveOneHand who S → IsOwnTurn who S ⊎ IsOthersTurn who S
-turns who [] hand = inl (λ p at. absurd at)
-turns who (p ∷ ps) hand = one_turn_of who (p ∷ ps) hand refl
 
 pub one_turn_among : (who : Side) (S : List Pos) → HaveOneHand who S → IsOneTurn S
 one_turn_among who S hand = record { same_side = same_turn who S hand }

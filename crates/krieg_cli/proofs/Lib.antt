@@ -1,7 +1,10 @@
+mod Asking
 mod Benches
 mod BestFiles
 mod Checking
+mod ClaimedSets
 mod Complete
+mod Denying
 mod Headline
 mod Jobs
 mod Leading
@@ -9,11 +12,15 @@ mod LedGames
 mod Pieces
 mod Playing
 mod Ranges
+mod Refuting
 mod Reports
 mod Searching
+mod SheetTurns
 mod Showing
+mod ToldClaims
 mod ToldPlans
 mod WholeGames
 mod WholePlans
 mod WholeRecords
+mod WholeRefutations
 pub mod Tables

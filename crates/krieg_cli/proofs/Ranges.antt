@@ -8,9 +8,9 @@ use Rattle.krieg_fen.specs.declared.forms.TheConstants.{MOST_LISTED}
 use Rattle.krieg_text.specs.declared.number.NumberFault.{NumberFault}
 use Rattle.krieg_text.proofs.Numbers.{between_spells}
 use Rattle.krieg_args.specs.Command as words
-use Rattle.krieg_args.specs.Command.{◌>>=◌, command_of, command_of_name, command_of_one, solve, make, play, lead, lead_from, number, moves_of, budget_of, limit_of, asks_of, place_of, made_input, seed_of}
+use Rattle.krieg_args.specs.Command.{◌>>=◌, command_of, command_of_name, command_of_one, command_of_three, search_numbers, solve, refute, make, play, lead, lead_from, number, moves_of, budget_of, limit_of, asks_of, place_of, made_input, seed_of}
 use Rattle.krieg_args.specs.declared.command.Command.{Command}
-use Rattle.krieg_args.specs.declared.command.Command.TheVariants.{Solve, Check, Believe, Why, Umpire, San, Unsan, Play, Lead, Next, Make, Job}
+use Rattle.krieg_args.specs.declared.command.Command.TheVariants.{Check, Deny, Believe, Why, Umpire, San, Unsan, Play, Lead, Next, Make, Job}
 use Rattle.krieg_args.specs.declared.command.Made.{Made}
 use Rattle.krieg_args.specs.declared.command.TheConstants.{MOST_SEED}
 use Rattle.krieg_cli.specs.Outcome.{IsInRange}
@@ -48,16 +48,17 @@ at_least least most n word small e = go (number_between word least most) refl e
     go (Ok m) is e = let same : m ≡ n = cc in let b = between_spells word least most m small is in omega (arith, b.0, same)
     go (Err f) is e = absurd cc
 
-solving : (moves budget limit : List ℕ) → Ranged (solve moves budget limit)
-solving moves budget limit = go (moves_of moves) refl (budget_of budget) (limit_of limit) refl
+-- the numbers of a search are in their ranges
+searching : (moves budget limit : List ℕ) (name : ℕ × ℕ × ℕ → Command) → ((n : ℕ × ℕ × ℕ) → (1 ≤ n.0) × (n.0 ≤ MOST_MOVES) × (n.2 ≤ MOST_LISTED) → IsInRange (name n)) →
+    Ranged (option_map name (search_numbers moves budget limit))
+searching moves budget limit name each = go (moves_of moves) refl (budget_of budget) (limit_of limit) refl
   where
-    go : (m : Option ℕ) → moves_of moves ≡ m → (b : Option ℕ) → (l : Option ℕ) → limit_of limit ≡ l → Ranged (m >>= λ m. b >>= λ b. l >>= λ l. Some (Solve m b l))
+    go : (m : Option ℕ) → moves_of moves ≡ m → (b : Option ℕ) → (l : Option ℕ) → limit_of limit ≡ l → Ranged (option_map name (m >>= λ m. b >>= λ b. l >>= λ l. Some (m, b, l)))
     go None em b l el = none
     go (Some m) em None l el = none
     go (Some m) em (Some b) None el = none
-    go (Some m) em (Some b) (Some l) el = λ c e.
-        let same : Solve m b l ≡ c = cc in
-        subst IsInRange same (at_most 1 MOST_MOVES m moves (omega arith) em, at_most 1 MOST_LISTED l limit (omega arith) el)
+    go (Some m) em (Some b) (Some l) el =
+        alone (name (m, b, l)) (each (m, b, l) (at_least 1 MOST_MOVES m moves (omega arith) em, at_most 1 MOST_MOVES m moves (omega arith) em, at_most 1 MOST_LISTED l limit (omega arith) el))
 
 making : (what seed : List ℕ) → Ranged (make what seed)
 making what seed = go (made_input what) (seed_of seed) refl
@@ -93,17 +94,23 @@ of_name name =
 of_one : (name word : List ℕ) → Ranged (command_of_one name word)
 of_one name word =
     either (bytes_eq name (codes "check")) _ _ (mapped Check (budget_of word) (λ n. tt))
+    (either (bytes_eq name (codes "deny")) _ _ (mapped Deny (budget_of word) (λ n. tt))
     (either (bytes_eq name (codes "believe")) _ _ (mapped Believe (limit_of word) (λ n. tt))
     (either (bytes_eq name (codes "why")) _ _ (mapped Why (limit_of word) (λ n. tt))
     (either (bytes_eq name (codes "umpire")) _ _ (mapped Umpire (words.whose word) (λ who. tt))
-    (either (bytes_eq name (codes "job")) _ _ (of_job word) none))))
+    (either (bytes_eq name (codes "job")) _ _ (of_job word) none)))))
+
+of_three : (name moves budget limit : List ℕ) → Ranged (command_of_three name moves budget limit)
+of_three name moves budget limit =
+    either (bytes_eq name (codes "solve")) _ _ (searching moves budget limit solve (λ n h. (h.1, h.2)))
+    (either (bytes_eq name (codes "refute")) _ _ (searching moves budget limit refute (λ n h. h)) none)
 
 pub in_range : (ws : List (List ℕ)) (c : Command) → command_of ws ≡ Some c → IsInRange c
 in_range [] = none
 in_range (name ∷ []) = of_name name
 in_range (name ∷ word ∷ []) = of_one name word
 in_range (name ∷ what ∷ seed ∷ []) = either (bytes_eq name (codes "make")) (make what seed) None (making what seed) none
-in_range (name ∷ moves ∷ budget ∷ limit ∷ []) = either (bytes_eq name (codes "solve")) (solve moves budget limit) None (solving moves budget limit) none
+in_range (name ∷ moves ∷ budget ∷ limit ∷ []) = of_three name moves budget limit
 in_range (name ∷ asks ∷ number ∷ tries ∷ told ∷ []) = either (bytes_eq name (codes "lead")) (lead asks number tries told) None (leading asks number tries told) none
 in_range (name ∷ asks ∷ win ∷ wout ∷ bin ∷ bout ∷ []) = either (bytes_eq name (codes "play")) (play asks win wout bin bout) None (playing asks win wout bin bout) none
 in_range (a ∷ b ∷ c ∷ d ∷ e ∷ f ∷ g ∷ more) = none

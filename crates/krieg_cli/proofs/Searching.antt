@@ -1,5 +1,5 @@
 -- What a search finds, as the answer to a sheet.
-use Rattle.std.proofs.Common.{◌≡◌, ℕ, suc, ◌≤◌, List, length, Result, Ok, Err, refl, ap, subst, arith}
+use Rattle.std.proofs.Common.{◌≡◌, ℕ, suc, ◌≤◌, List, length, Err, refl, ap, subst, arith}
 use Rattle.std.proofs.lemmas.List.{take_all}
 use Rattle.krieg_board.specs.Pos.{Pos}
 use Rattle.krieg_board.specs.declared.men.Side.{Side}
@@ -15,11 +15,8 @@ use Rattle.krieg_search.specs.Solved.{IsBest, IsAnswer, IsCharged}
 use Rattle.krieg_search.specs.declared.stop.Stop2.{Stop2}
 use Rattle.krieg_search.specs.declared.stop.Stop2.TheVariants as search
 use Rattle.krieg_cli.specs.Parts.{of_search, Decides}
-use Rattle.krieg_cli.specs.Solve.{file_of, IsBestFile, Searched, Asks, Solved}
-use Rattle.krieg_cli.specs.declared.refusal.Refusal.{Refusal}
-use Rattle.krieg_cli.specs.declared.refusal.Refusal.TheVariants as refusal
-use Rattle.krieg_cli.specs.declared.ending.Ending.{Ending}
-use Rattle.krieg_cli.specs.declared.ending.Ending.TheVariants as ending
+use Rattle.krieg_cli.proofs.Asking.{IsLater}
+use Rattle.krieg_cli.specs.Solve.{file_of, IsBestFile, Searched}
 
 -- where a search may stop at all, no more is possible than the limit
 pub few_possible : (s : SheetState) (limit : ℕ) (S : List Pos) → AllWithin limit s → IsPossible s S → length S ≤ limit
@@ -39,27 +36,6 @@ module _ (d : Dialect) (who : Side) (S : List Pos) (n budget start left : ℕ) (
   stop_told view search.Large answer units = (omega (arith, same, units.at_least), file_of d who S answer.worst answer.plan, best_file d who S n answer.worst answer.plan answer.best, answer.large)
   stop_told view search.NoMemory answer units = tt
 
-module _ (n budget limit : ℕ) (s : SheetState) (S : List Pos) (asks : Asks limit s S) where
-  refused : (r : Refusal) → Searched s.dialect s.side S n budget (Err r) → Solved n budget limit s (Err r)
-  refused refusal.BudgetSpent h = (S, asks, h)
-  refused refusal.PlanTooLarge h = (S, asks, h)
-  refused (refusal.BadText line kind) h = absurd h
-  refused (refusal.TooMany line) h = absurd h
-  refused refusal.NonePossible h = absurd h
-  refused refusal.GameOver h = absurd h
-  refused refusal.PlanFails h = absurd h
-  refused refusal.NoSuchPosition h = absurd h
-  refused refusal.AnswerTooLong h = absurd h
-  refused (refusal.NoSeat who) h = absurd h
-  refused (refusal.SeatFault who) h = absurd h
-
-  answered : {X : Type 0} (view : X → List ℕ) (r : Result X Ending) → Decides view r (Searched s.dialect s.side S n budget) → Decides view r (Solved n budget limit s)
-  answered view (Ok x) h = (S, asks, h)
-  answered view (Err (ending.Refused r)) h = refused r h
-  answered view (Err ending.NoMemory) h = tt
-  answered view (Err _) h = absurd h
-
-  -- what a search answers is the answer to the sheet
-  pub asked : {X : Type 0} (view : X → List ℕ) (r : Result X Ending) (d : Dialect) (who : Side) → d ≡ s.dialect → who ≡ s.side → Decides view r (Searched d who S n budget) → Decides view r (Solved n budget limit s)
-  asked view r d who same own h =
-      answered view r (subst (λ (w : Side). Decides view r (Searched s.dialect w S n budget)) own (subst (λ (e : Dialect). Decides view r (Searched e who S n budget)) same h))
+-- a search for a plan refuses nothing that is refused before it
+pub later : (n budget : ℕ) → IsLater (λ d who S. Searched d who S n budget)
+later n budget = record { many = λ d who S line h. h; none = λ d who S h. h; turn = λ d who S h. h }

@@ -54,29 +54,33 @@ module _ (d : Dialect) where
   told_opening : (p : Pos) → IsValid p → IsToldIn d (told d (opening p))
   told_opening p valid = (told_said d (opening p) (opening_said p valid), told_fits d (opening p))
 
-  -- what may be heard after a try can be told
-  told_key : (B : List Pos) (t : Move) (key : Key) → AreValid B → In key (keys (chess d) B t) → IsToldKey d key
-  told_key B t (own, reply) valid at =
-      let is = classes_come_about d B t own reply in
-      let (q, in_class) = some_member (class (chess d) B t (own, reply)) (is.occurs.0 at) in
-      let c : ComesAbout d B t own reply q = (is.exact q).0 in_class in
+  -- what is heard where something is possible then can be told
+  pub told_of_class : (B : List Pos) (t : Move) (key : Key) (q : Pos) → AreValid B → In q (class (chess d) B t key) → IsToldKey d key
+  told_of_class B t (own, reply) q valid in_class =
+      let c : ComesAbout d B t own reply q = ((classes_come_about d B t own reply).exact q).0 in_class in
       let here = valid c.from c.member in
       let next = valid_after c.from t here c.legal in (
         subst (IsToldIn d) (sym c.own_told) (told_words c.from t here c.legal),
         subst (IsToldIn d) (sym c.reply_told) (told_words (after c.from t) c.replied next (listed_legal (after c.from t) c.replied c.listed)),
       )
 
+  -- what may be heard after a try can be told
+  told_key : (B : List Pos) (t : Move) (key : Key) → AreValid B → In key (keys (chess d) B t) → IsToldKey d key
+  told_key B t (own, reply) valid at =
+      let (q, in_class) = some_member (class (chess d) B t (own, reply)) ((classes_come_about d B t own reply).occurs.0 at) in
+      told_of_class B t (own, reply) q valid in_class
+
   -- and what is possible then is valid
-  class_valid : (B : List Pos) (t : Move) (key : Key) → AreValid B → AreValid (class (chess d) B t key)
+  pub class_valid : (B : List Pos) (t : Move) (key : Key) → AreValid B → AreValid (class (chess d) B t key)
   class_valid B t (own, reply) valid q at =
       let c : ComesAbout d B t own reply q = ((classes_come_about d B t own reply).exact q).0 at in
       let next = valid_after c.from t (valid c.from c.member) c.legal in
       subst IsValid (sym c.to) (valid_after (after c.from t) c.replied next (listed_legal (after c.from t) c.replied c.listed))
 
-  refused_valid : (B : List Pos) (t : Move) → AreValid B → AreValid (refused (chess d) B t)
+  pub refused_valid : (B : List Pos) (t : Move) → AreValid B → AreValid (refused (chess d) B t)
   refused_valid B t valid p at = valid p (filter_in (λ p. not (is_legal p t)) B p at).0
 
-  tried_on_board : (B : List Pos) (t : Move) → legal_in_some (chess d) B t ≡ true → IsOnBoard t
+  pub tried_on_board : (B : List Pos) (t : Move) → legal_in_some (chess d) B t ≡ true → IsOnBoard t
   tried_on_board B t h = let (p, at, is) = any_at (λ p. is_legal p t) B h in legal_squares p t is
 
   mutual
@@ -101,7 +105,7 @@ module _ (d : Dialect) where
     )
 
   module _ (who : Side) (S : List Pos) (valid : AreValid S) where
-    abbrev set_of : RootKey → List Pos
+    abbrev pub set_of : RootKey → List Pos
     set_of key = opening_set (chess d) (outset d who) S key
 
     -- an opening that can be told, with words of the opponent's move where he waits for none, and of valid positions
@@ -119,6 +123,9 @@ module _ (d : Dialect) where
           form = ap is_some m.2;
           inside = λ p at. valid p ((openings_are_members d who S own opens heard p).0 at).0;
         }
+
+    pub opening_valid : ((p : Pos) → In p S → is_same_side p.side who ≡ true) → (key : RootKey) → In key (openings (chess d) (outset d who) S) → AreValid (set_of key)
+    opening_valid own key at = (own_opening own key at).inside
 
     others_opening : ((p : Pos) → In p S → is_same_side p.side who ≡ false) → (key : RootKey) → In key (openings (chess d) (outset d who) S) → IsOpening true key
     others_opening other (opens, heard) at =

@@ -1,5 +1,5 @@
 -- When a command must answer: where its input is good and nothing is refused for a cause, the status is 0, or memory ran out.
-use Rattle.std.specs.Prelude.{◌≡◌, ◌≤◌, ◌<◌, ◌⊎◌, ◌++◌, ℕ, true, List, [], ◌∷◌, length, drop, map, Option, Some, Ok, MatchBool}
+use Rattle.std.specs.Prelude.{◌≡◌, ◌≤◌, ◌<◌, ◌⊎◌, ◌++◌, ℕ, true, false, List, [], ◌∷◌, length, drop, map, Option, Some, Ok, MatchBool}
 use Rattle.krieg_board.specs.Pos.{Pos}
 use Rattle.krieg_board.specs.declared.men.Side.TheVariants.{White}
 use Rattle.krieg_board.specs.declared.limits.TheConstants.{MOST_UNITS}
@@ -10,6 +10,7 @@ use Rattle.krieg_words.specs.declared.dialects.Dialect.TheVariants.{Wild16}
 use Rattle.krieg_make.specs.MadeSheets.{made_sheet}
 use Rattle.krieg_sheet.specs.Sheets.{SheetState}
 use Rattle.krieg_sheet.specs.SheetReading.{sheet_at}
+use Rattle.krieg_sheet.specs.Turns.{is_over}
 use Rattle.krieg_belief.specs.Possible.{IsPossible}
 use Rattle.krieg_belief.specs.Limits.{AllWithin}
 use Rattle.krieg_why.specs.Explained.{ShownState, AreShown}
@@ -20,15 +21,19 @@ use Rattle.krieg_record.specs.Records.{RecordState}
 use Rattle.krieg_record.specs.RecordReading.{record_at}
 use Rattle.krieg_planfile.specs.PlanFiles.{PlanState}
 use Rattle.krieg_planfile.specs.PlanReading.{plan_at}
+use Rattle.krieg_refutefile.specs.Refutations.{RefutationState, is_refutation, refutation_price}
+use Rattle.krieg_refutefile.specs.RefutationFormat.{refutation_at}
 use Rattle.krieg_planfile.specs.HeardReading.{HeardState, heard_plan}
 use Rattle.krieg_seats.specs.Accounts.{Account}
 use Rattle.krieg_play.specs.Teams.{Team}
 use Rattle.krieg_play.specs.Played.{Sides}
 use Rattle.krieg_args.specs.Command.{takes_input}
 use Rattle.krieg_args.specs.declared.command.Command.{Command}
-use Rattle.krieg_args.specs.declared.command.Command.TheVariants.{Solve, Check, Believe, Why, Umpire, San, Unsan, Play, Lead, Next, Make, Job}
+use Rattle.krieg_args.specs.declared.command.Command.TheVariants.{Solve, Check, Refute, Deny, Believe, Why, Umpire, San, Unsan, Play, Lead, Next, Make, Job}
 use Rattle.krieg_cli.specs.World.{Stream, World, FaultsRose}
-use Rattle.krieg_cli.specs.Solve.{mates_all, fresh_units, IsBestFile, IsTooLarge, Asks}
+use Rattle.krieg_cli.specs.Asked.{Leaves, has_no_turn}
+use Rattle.krieg_cli.specs.Solve.{mates_all, fresh_units, NoneMates, IsBestFile, IsTooLarge}
+use Rattle.krieg_cli.specs.Refute.{AreTooMany}
 use Rattle.krieg_cli.specs.Check.{check_cost}
 use Rattle.krieg_cli.specs.Job.{IsBest}
 use Rattle.krieg_cli.specs.declared.input.TheConstants.{MOST_INPUT}
@@ -45,7 +50,8 @@ pub record CanBeSolved (n budget limit : ℕ) (text : List ℕ) : Type 0 where
   pub sheet : SheetState
   pub positions : List Pos
   pub spelled : whole sheet_at (lines text) ≡ Ok sheet
-  pub asks : Asks limit sheet positions
+  pub leaves : Leaves limit sheet positions
+  pub goes_on : is_over sheet ≡ false
   pub enough : fresh_units sheet.dialect sheet.side positions n ≤ budget
   pub fits : (f : PlanState) → IsBestFile sheet.dialect sheet.side positions n f → IsTooLarge f → ⊥
 
@@ -55,6 +61,24 @@ pub record CanBeChecked (budget : ℕ) (text : List ℕ) : Type 0 where
   pub spelled : whole plan_at (lines text) ≡ Ok file
   pub enough : check_cost file ≤ budget
   pub mates : mates_all file.dialect file.side file.list file.plan file.worst ≡ true
+
+-- The sheet asks for a refutation: no plan mates, the claims are not too many, and the budget is as much as a search may take.
+pub record CanBeRefuted (n budget limit : ℕ) (text : List ℕ) : Type 0 where
+  pub sheet : SheetState
+  pub positions : List Pos
+  pub spelled : whole sheet_at (lines text) ≡ Ok sheet
+  pub leaves : Leaves limit sheet positions
+  pub turn : has_no_turn sheet ≡ false
+  pub enough : fresh_units sheet.dialect sheet.side positions n ≤ budget
+  pub none_mates : NoneMates sheet.dialect sheet.side positions n
+  pub fits : AreTooMany sheet.dialect sheet.side positions n → ⊥
+
+-- The refutation holds, and the budget is as much as the look at all of its claims takes.
+pub record CanBeDenied (budget : ℕ) (text : List ℕ) : Type 0 where
+  pub file : RefutationState
+  pub spelled : whole refutation_at (lines text) ≡ Ok file
+  pub enough : refutation_price file ≤ budget
+  pub holds : is_refutation file ≡ true
 
 -- a sheet of which no part leaves more than the limit possible
 pub record CanBeBelieved (limit : ℕ) (text : List ℕ) : Type 0 where
@@ -83,6 +107,8 @@ pub record CanBeSummed (number : ℕ) : Type 0 where
 abbrev pub MustAnswer : Command → List ℕ → Type 0
 MustAnswer (Solve n budget limit) text = CanBeSolved n budget limit text
 MustAnswer (Check budget) text = CanBeChecked budget text
+MustAnswer (Refute n budget limit) text = CanBeRefuted n budget limit text
+MustAnswer (Deny budget) text = CanBeDenied budget text
 MustAnswer (Believe limit) text = CanBeBelieved limit text
 MustAnswer (Why limit) text = CanBeShown limit text
 MustAnswer (Umpire who) text = (s : SessionState) × (whole session_at (lines text) ≡ Ok s)

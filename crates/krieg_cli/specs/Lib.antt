@@ -2,8 +2,11 @@ pub mod World
 pub mod Refusal
 pub mod Ending
 pub mod Input
+pub mod Asked
 pub mod Solve
 pub mod Check
+pub mod Refute
+pub mod Deny
 pub mod Believe
 pub mod Why
 pub mod Umpire
@@ -23,6 +26,7 @@ pub mod Top
 pub mod WholeGames
 pub mod WholeRecords
 pub mod WholePlans
+pub mod WholeRefutations
 pub mod LedGames
 pub mod Headline
 pub mod Complete

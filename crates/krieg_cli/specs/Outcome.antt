@@ -2,10 +2,12 @@
 use Rattle.std.specs.Prelude.{ℕ, ◌≤◌, List, Result}
 use Rattle.krieg_fen.specs.declared.forms.TheConstants.{MOST_LISTED}
 use Rattle.krieg_args.specs.declared.command.Command.{Command}
-use Rattle.krieg_args.specs.declared.command.Command.TheVariants.{Solve, Check, Believe, Why, Umpire, San, Unsan, Play, Lead, Next, Make, Job}
+use Rattle.krieg_args.specs.declared.command.Command.TheVariants.{Solve, Check, Refute, Deny, Believe, Why, Umpire, San, Unsan, Play, Lead, Next, Make, Job}
 use Rattle.krieg_args.specs.declared.command.TheConstants.{MOST_SEED}
 use Rattle.krieg_cli.specs.Solve.{Solves}
 use Rattle.krieg_cli.specs.Check.{Checks}
+use Rattle.krieg_cli.specs.Refute.{Refutes}
+use Rattle.krieg_cli.specs.Deny.{Denies}
 use Rattle.krieg_cli.specs.Believe.{Believes}
 use Rattle.krieg_cli.specs.Why.{ShowsWhy}
 use Rattle.krieg_cli.specs.Umpire.{Umpires}
@@ -21,10 +23,11 @@ use Rattle.krieg_board.specs.declared.limits.TheConstants.{MOST_MOVES}
 abbrev pub LiveOutcome : Type 1
 LiveOutcome = Command → List ℕ → Result (List ℕ) Refusal → Type 0
 
--- The numbers of a search are within the most own moves and the most positions that may be asked for, listed positions are numbered from
--- 1, and the number of a made input is within the greatest.
+-- The numbers of a search are within the most own moves and the most positions that may be asked for, a refutation is for one own
+-- move at least, listed positions are numbered from 1, and the number of a made input is within the greatest.
 abbrev pub IsInRange : Command → Type 0
 IsInRange (Solve moves budget limit) = (moves ≤ MOST_MOVES) × (limit ≤ MOST_LISTED)
+IsInRange (Refute moves budget limit) = (1 ≤ moves) × (moves ≤ MOST_MOVES) × (limit ≤ MOST_LISTED)
 IsInRange (Lead asks number) = 1 ≤ number
 IsInRange (Make what number) = number ≤ MOST_SEED
 IsInRange (Job number) = number ≤ MOST_SEED
@@ -34,6 +37,8 @@ IsInRange _ = Unit {0}
 abbrev pub HasOutcome : LiveOutcome → Command → List ℕ → Result (List ℕ) Refusal → Type 0
 HasOutcome live (Solve moves budget limit) text outcome = Solves moves budget limit text outcome
 HasOutcome live (Check budget) text outcome = Checks budget text outcome
+HasOutcome live (Refute moves budget limit) text outcome = Refutes moves budget limit text outcome
+HasOutcome live (Deny budget) text outcome = Denies budget text outcome
 HasOutcome live (Believe limit) text outcome = Believes limit text outcome
 HasOutcome live (Why limit) text outcome = ShowsWhy limit text outcome
 HasOutcome live (Umpire who) text outcome = Umpires who text outcome

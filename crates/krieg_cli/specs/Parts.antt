@@ -12,6 +12,10 @@ use Rattle.krieg_parting.specs.declared.stop.PartStop.{PartStop as CheckStop}
 use Rattle.krieg_parting.specs.declared.stop.PartStop.TheVariants as check
 use Rattle.krieg_search.specs.declared.stop.Stop2.{Stop2}
 use Rattle.krieg_search.specs.declared.stop.Stop2.TheVariants as search
+use Rattle.krieg_refute.specs.declared.stop.RefuteStop.{RefuteStop}
+use Rattle.krieg_refute.specs.declared.stop.RefuteStop.TheVariants as claims
+use Rattle.krieg_refute.specs.declared.stop.DenyStop.{DenyStop}
+use Rattle.krieg_refute.specs.declared.stop.DenyStop.TheVariants as deny
 use Rattle.krieg_seats.specs.Accounts.{Account}
 use Rattle.krieg_play.specs.Played.{Sides}
 use Rattle.krieg_args.specs.declared.command.Command.{Command}
@@ -60,6 +64,17 @@ abbrev pub of_search : Stop2 → Ending
 of_search search.Spent = Refused BudgetSpent
 of_search search.Large = Refused PlanTooLarge
 of_search search.NoMemory = NoMemory
+
+-- claims that are not written
+abbrev pub of_refute : RefuteStop → Ending
+of_refute claims.Spent = Refused BudgetSpent
+of_refute claims.Large = Refused PlanTooLarge
+of_refute claims.NoMemory = NoMemory
+
+-- a refutation that is not looked at to its end
+abbrev pub of_deny : DenyStop → Ending
+of_deny deny.Spent = Refused BudgetSpent
+of_deny deny.NoMemory = NoMemory
 
 -- a game that was not played to its stop
 abbrev pub of_play : PlayFault → Ending

@@ -8,7 +8,7 @@ use Rattle.krieg_text.specs.declared.fault.TextKind.{TextKind}
 use Rattle.krieg_text.specs.declared.fault.TextKind.TheVariants as kind
 use Rattle.krieg_cli.specs.declared.refusal.Refusal.{Refusal}
 use Rattle.krieg_board.specs.declared.men.Side.TheVariants.{White, Black}
-use Rattle.krieg_cli.specs.declared.refusal.Refusal.TheVariants.{BadText, TooMany, NonePossible, GameOver, BudgetSpent, AnswerTooLong, NoSuchPosition, NoSeat, SeatFault, PlanFails, PlanTooLarge}
+use Rattle.krieg_cli.specs.declared.refusal.Refusal.TheVariants.{BadText, TooMany, NonePossible, NotThePlayersTurn, BudgetSpent, AnswerTooLong, NoSuchPosition, NoSeat, SeatFault, PlanFails, PlanTooLarge, PlanExists, RefutationFails}
 
 -- a position that is not valid, or not of the first one's hand, is told from every other bad line
 abbrev pub text_status : TextKind → ℕ
@@ -25,12 +25,14 @@ abbrev pub refusal_status : Refusal → ℕ
 refusal_status (BadText line kind) = text_status kind
 refusal_status (TooMany line) = 7
 refusal_status NonePossible = 5
-refusal_status GameOver = 6
+refusal_status NotThePlayersTurn = 6
 refusal_status BudgetSpent = 8
 refusal_status PlanFails = 13
 refusal_status (NoSeat who) = 12
 refusal_status (SeatFault who) = 12
 refusal_status PlanTooLarge = 14
+refusal_status PlanExists = 17
+refusal_status RefutationFails = 18
 refusal_status AnswerTooLong = 19
 refusal_status NoSuchPosition = 20
 
@@ -57,7 +59,7 @@ abbrev pub refusal_reason : Refusal → Option ℕ × List ℕ
 refusal_reason (BadText line kind) = (Some line, text_reason kind)
 refusal_reason (TooMany line) = (Some line, codes "too many positions")
 refusal_reason NonePossible = (None, codes "no consistent position")
-refusal_reason GameOver = (None, codes "not the player's turn")
+refusal_reason NotThePlayersTurn = (None, codes "not the player's turn")
 refusal_reason BudgetSpent = (None, codes "budget spent")
 refusal_reason PlanFails = (None, codes "plan fails")
 refusal_reason (NoSeat White) = (None, codes "no seat w")
@@ -65,6 +67,8 @@ refusal_reason (NoSeat Black) = (None, codes "no seat b")
 refusal_reason (SeatFault White) = (None, codes "seat fault w")
 refusal_reason (SeatFault Black) = (None, codes "seat fault b")
 refusal_reason PlanTooLarge = (None, codes "plan too large")
+refusal_reason PlanExists = (None, codes "a plan exists")
+refusal_reason RefutationFails = (None, codes "refutation fails")
 refusal_reason AnswerTooLong = (None, codes "answer too long")
 refusal_reason NoSuchPosition = (None, codes "no such position")
 

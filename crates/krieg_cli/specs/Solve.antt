@@ -10,9 +10,6 @@ use Rattle.krieg_words.specs.declared.dialects.Dialect.{Dialect}
 use Rattle.krieg_sheet.specs.Sheets.{SheetState}
 use Rattle.krieg_sheet.specs.SheetReading.{sheet_at}
 use Rattle.krieg_sheet.specs.Turns.{is_over}
-use Rattle.krieg_belief.specs.Possible.{IsPossible}
-use Rattle.krieg_belief.specs.Limits.{AllWithin, IsFirstExcess}
-use Rattle.krieg_theory.specs.Sets.{is_nil}
 use Rattle.krieg_theory.specs.Plans.{mates, IsCanonPlan}
 use Rattle.krieg_costs.specs.Reach.{fresh}
 use Rattle.krieg_costs.specs.Backing.{floor}
@@ -23,9 +20,10 @@ use Rattle.krieg_plan.specs.declared.limits.TheConstants.{MOST_NODES, MOST_ON_PA
 use Rattle.krieg_planfile.specs.PlanFiles.{PlanState}
 use Rattle.krieg_planfile.specs.PlanReading.{plan_at}
 use Rattle.krieg_planfile.specs.PlanText.{plan_text}
+use Rattle.krieg_cli.specs.Asked.{OfPossible}
 use Rattle.krieg_cli.specs.Refusal.{OfText}
 use Rattle.krieg_cli.specs.declared.refusal.Refusal.{Refusal}
-use Rattle.krieg_cli.specs.declared.refusal.Refusal.TheVariants.{TooMany, NonePossible, GameOver, BudgetSpent, PlanTooLarge}
+use Rattle.krieg_cli.specs.declared.refusal.Refusal.TheVariants.{BudgetSpent, PlanTooLarge}
 
 -- the line that no plan mates within n moves
 abbrev pub none_line : ℕ → Pieces
@@ -90,20 +88,9 @@ module _ (d : Dialect) (who : Side) (S : List Pos) where
   Searched n budget (Err BudgetSpent) = budget < fresh_units n
   Searched n budget (Err _) = ⊥
 
--- The sheet asks for a plan for these positions: they are all that is possible, no part of the sheet leaves more than the
--- limit possible, there is one, and the game is not over.
-pub record Asks (limit : ℕ) (s : SheetState) (S : List Pos) : Type 0 where
-  pub possible : IsPossible s S
-  pub within : AllWithin limit s
-  pub some : is_nil S ≡ false
-  pub goes_on : is_over s ≡ false
-
--- In this order: too many positions are possible, or none, or the game is over; or the search answers.
+-- of the positions that a sheet leaves possible, unless the game is over
 abbrev pub Solved : ℕ → ℕ → ℕ → SheetState → Result (List ℕ) Refusal → Type 0
-Solved n budget limit s (Err (TooMany line)) = IsFirstExcess s limit line
-Solved n budget limit s (Err NonePossible) = IsPossible s [] × AllWithin limit s
-Solved n budget limit s (Err GameOver) = (S : List Pos) × IsPossible s S × AllWithin limit s × (is_nil S ≡ false) × (is_over s ≡ true)
-Solved n budget limit s outcome = (S : List Pos) × Asks limit s S × Searched s.dialect s.side S n budget outcome
+Solved n budget limit s outcome = OfPossible limit s (is_over s) (λ S. Searched s.dialect s.side S n budget) outcome
 
 -- the same of a text that may spell a sheet
 abbrev pub Solves : ℕ → ℕ → ℕ → List ℕ → Result (List ℕ) Refusal → Type 0

@@ -1,13 +1,17 @@
-//! What each command makes of its text, one file each.
+//! What each command makes of its text, one file each. `asked`, `counted` and `recorded` have what several of them share.
 
+pub(crate) mod asked;
 pub(crate) mod believe;
 pub(crate) mod check;
+pub(crate) mod counted;
+pub(crate) mod deny;
 pub(crate) mod job;
 pub(crate) mod lead;
 pub(crate) mod make;
 pub(crate) mod next;
 pub(crate) mod play;
 pub(crate) mod recorded;
+pub(crate) mod refute;
 pub(crate) mod san;
 pub(crate) mod solve;
 pub(crate) mod umpire;

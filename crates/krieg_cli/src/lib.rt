@@ -1,14 +1,16 @@
 //! The whole program as one call over streams: `run`.
 //!
-//! The commands are `umpire` and `san` on any session, `unsan` on any record, `believe`, `why` and `solve` on any sheet, `check` on any plan file, `play` from
-//! any position, and `make` and `job` on no input. The definitions of `specs/` say what is seen of a run before it and
-//! after it (`World`), what comes of its input (`Input`), how it ends (`Ending`, `Refusal`), what each command makes of its
-//! input (`Solve`, `Check`, `Believe`, `Why`, `Umpire`, `San`, `Unsan`, `Play`, `Make`, `Job` with `Tally`, and `Outcome` for all), and by what causes a run
-//! ends so (`Top`).
+//! The commands are `umpire` and `san` on any session, `unsan` on any record, `believe`, `why`, `solve` and `refute` on any sheet,
+//! `check` and `lead` on any plan file, `deny` on any refutation file, `next` on a plan file and what its player heard, `play` from
+//! any position, and `make` and `job` on no input. The definitions of `specs/` say what is seen of a run before it and after it
+//! (`World`), what comes of its input (`Input`), how it ends (`Ending`, `Refusal`), what each command makes of its input (a file
+//! of its name; `Asked` of what a search is asked of a sheet, `Tally` of what `job` counts, and `Outcome` for all), and by what
+//! causes a run ends so (`Top`).
 //!
-//! `Headline` is the promise of `solve` on one page. `WholePlans` says that `check` finds what `solve` states, and
-//! `WholeGames` that `believe` lists where a game stands, given what `umpire` writes of it, and `WholeRecords` what comes back
-//! of a session by `san` and `unsan`. `Complete` says when there must be an answer.
+//! `Headline` is the promise of `solve` on one page. `WholePlans` says that `check` finds what `solve` states, `WholeRefutations`
+//! that `refute` writes a refutation and that `deny` finds that such a one holds, `WholeGames` that `believe` lists where a game
+//! stands, given what `umpire` writes of it, `WholeRecords` what comes back of a session by `san` and `unsan`, and `LedGames` that
+//! a plan that mates leads to a mate. `Complete` says when there must be an answer.
 //!
 //! `commands` has a file for each command, and `outcome` chooses among them.
 //!

@@ -4,7 +4,7 @@ ghost use Rattle.krieg_cli.specs.Live.{LivesBy};
 ghost use Rattle.krieg_cli.specs.Outcome as spec;
 
 use crate::commands::{
-    believe, check, job, lead, make, next, play, san, solve, umpire, unsan, why,
+    believe, check, deny, job, lead, make, next, play, refute, san, solve, umpire, unsan, why,
 };
 use crate::ending::Ending;
 use crate::live::Bench;
@@ -33,6 +33,12 @@ pub(crate) fn outcome(
             limit,
         } => { solve::answer(alloc, *moves, *budget, *limit, text) }
         Command::Check { budget } => check::answer(alloc, *budget, text),
+        Command::Refute {
+            moves,
+            budget,
+            limit,
+        } => { refute::answer(alloc, *moves, *budget, *limit, text) }
+        Command::Deny { budget } => deny::answer(alloc, *budget, text),
         Command::Believe { limit } => believe::answer(alloc, *limit, text),
         Command::Why { limit } => why::answer(alloc, *limit, text),
         Command::Umpire { who } => umpire::answer(alloc, *who, text),

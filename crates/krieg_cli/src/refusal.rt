@@ -13,14 +13,18 @@ pub(crate) enum Refusal {
     TooMany(usize),
     /// No position is consistent with the sheet.
     NonePossible,
-    /// The game of the sheet is over.
-    GameOver,
+    /// It is not the player's turn: the game of the sheet is over, or claims are asked for and the opponent is to move.
+    NotThePlayersTurn,
     /// The budget is less than the work takes.
     BudgetSpent,
     /// The plan does not mate every listed position within the number that its file claims.
     PlanFails,
-    /// The best plan has more nodes than a plan file may have.
+    /// The best plan has more nodes than a plan file may have, or the claims are more than a refutation file may have.
     PlanTooLarge,
+    /// Some plan mates within the number of moves for which a refutation is asked.
+    PlanExists,
+    /// The refutation does not hold.
+    RefutationFails,
     /// The answer has more bytes than an input may have.
     AnswerTooLong,
     /// The plan file lists fewer positions than the number that was asked for.
@@ -82,10 +86,12 @@ impl Refusal {
             Refusal::BadText(_, kind) => text_status(kind),
             Refusal::TooMany(_) => 7,
             Refusal::NonePossible => 5,
-            Refusal::GameOver => 6,
+            Refusal::NotThePlayersTurn => 6,
             Refusal::BudgetSpent => 8,
             Refusal::PlanFails => 13,
             Refusal::PlanTooLarge => 14,
+            Refusal::PlanExists => 17,
+            Refusal::RefutationFails => 18,
             Refusal::NoSeat(_) | Refusal::SeatFault(_) => 12,
             Refusal::AnswerTooLong => 19,
             Refusal::NoSuchPosition => 20,
@@ -101,10 +107,12 @@ impl Refusal {
             Refusal::BadText(line, kind) => (Some(*line), text_reason(kind)),
             Refusal::TooMany(line) => (Some(*line), b"too many positions"),
             Refusal::NonePossible => (None, b"no consistent position"),
-            Refusal::GameOver => (None, b"not the player's turn"),
+            Refusal::NotThePlayersTurn => (None, b"not the player's turn"),
             Refusal::BudgetSpent => (None, b"budget spent"),
             Refusal::PlanFails => (None, b"plan fails"),
             Refusal::PlanTooLarge => (None, b"plan too large"),
+            Refusal::PlanExists => (None, b"a plan exists"),
+            Refusal::RefutationFails => (None, b"refutation fails"),
             Refusal::AnswerTooLong => (None, b"answer too long"),
             Refusal::NoSuchPosition => (None, b"no such position"),
             Refusal::NoSeat(Side::White) => (None, b"no seat w"),

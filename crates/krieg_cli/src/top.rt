@@ -8,6 +8,7 @@ ghost use Rattle.krieg_cli.specs.Live.{LivesBy};
 ghost use Rattle.krieg_cli.specs.Top.{Ends, Runs, IsRun, LeavesBench, asked_by, reads};
 ghost use Rattle.krieg_cli.specs.WholeGames.{UmpiresGames, BelievesGames};
 ghost use Rattle.krieg_cli.specs.WholePlans.{ChecksSolutions};
+ghost use Rattle.krieg_cli.specs.WholeRefutations.{RefutesSheets, DeniesRefutations};
 ghost use Rattle.krieg_cli.specs.LedGames.{LeadsToMate};
 ghost use Rattle.krieg_cli.specs.WholeRecords.{ReturnsGames};
 ghost use Rattle.krieg_cli.specs.Headline.{SolvesSheets};
@@ -74,35 +75,49 @@ fn obey<S: Source, O: Sink>(
 
 /// Does all that the program does, over streams, and gives the status with which it ends.
 ///
-/// The commands are `umpire w`, `umpire b` and `umpire all` on any session, for which `out` gets the
-/// player's sheet or the lines of both, `san` on any session, for which it gets the record of the moves that
-/// were made, and `unsan` on any record, for which it gets the session of these moves, `believe LIMIT` on any sheet, for which it gets a sheet that lists
-/// every position that is still possible, `why LIMIT` on any sheet, for which it gets the text of the least hidden
-/// game that explains each of these, `solve MOVES BUDGET LIMIT` on any sheet, for which it gets the plan
-/// file of the canonical plan that mates from each of these within the fewest own moves, or the line
-/// `none MOVES` exactly where no plan mates within that number, `check BUDGET` on any plan file, for which
-/// it gets the plan's worst case, `play ASKS ..` from any position, for which the seats of the bench play a
-/// game and it gets their session, `lead ASKS NUMBER ..` on any plan file, for which the plan leads a game from the
-/// listed position with that number against the first of White's seats, whatever his colour, and it gets their session
-/// in the plan's dialect, `next` on a plan file and the lines that its player heard, for which it gets what he does
-/// next, and without an input `make session NUMBER` and `make sheet NUMBER`, for which
-/// it gets the made text, and `job NUMBER`, for which it gets the numbers that the other commands come to on these.
+/// The commands, by what they take:
 ///
-/// The status is 0 with the answer, and no call of `input` or of `out` failed then; 1 exactly where the words
-/// are no command (nothing is read then); 2 exactly where one byte more came than the
-/// [`MOST_INPUT`](crate::MOST_INPUT) that an input may have, before an end or a fault; 3 or 4 exactly where it has
-/// a first bad line; 7 exactly where more positions are possible after some part of the sheet than the limit
-/// allows; then of `why` 5 exactly where none is possible, and 19 exactly where the text of the games has more bytes
-/// than an input may have; then of `solve` 5 exactly where none is possible, 6 exactly where the game is over, 8 only where the
-/// budget is less than a search may take, and 14 exactly where the best plan is too large for a text and the
-/// budget is not spent; 8 exactly where the check of a plan takes more than the budget, and otherwise 13 exactly
-/// where the plan does not mate all that it lists within the number that it claims; of `job` 8 only where
-/// 50,000,000 units are less than its search or its check may take, and 14 as of `solve`; of `lead` 20 exactly where
-/// the plan file lists fewer positions than its number; 9 where a read failed,
-/// with no more bytes read than an input may have; 10 where a write to `out` failed, which has got a front part
-/// of the answer then; 11 for want of memory; 12 exactly where a side has no seat, and only where a call of the
-/// last seat of a side failed, and of `lead` for the opponent's side. At each status but 0 `err` gets one line, and at each but 0 and 10 `out` gets
-/// nothing.
+/// - any session: `umpire w`, `umpire b` and `umpire all`, for which `out` gets the player's sheet or the lines of both, and
+///   `san`, for which it gets the record of the moves that were made;
+/// - any record: `unsan`, for which it gets the session of these moves;
+/// - any sheet: `believe LIMIT`, for which it gets a sheet that lists every position that is still possible; `why LIMIT`, for which
+///   it gets the text of the least hidden game that explains each of these; `solve MOVES BUDGET LIMIT`, for which it gets the plan
+///   file of the canonical plan that mates from each of these within the fewest own moves, or the line `none MOVES` exactly where
+///   no plan mates within that number; and `refute MOVES BUDGET LIMIT`, for which it gets the refutation file that no plan mates
+///   from each of these within that number;
+/// - any plan file: `check BUDGET`, for which it gets the plan's worst case, and `lead ASKS NUMBER ..`, for which the plan leads a
+///   game from the listed position with that number against the first of White's seats, whatever his colour, and it gets their
+///   session in the plan's dialect;
+/// - any refutation file: `deny BUDGET`, for which it gets the line `refuted N`, where N is the number of moves of the file;
+/// - a plan file and the lines that its player heard: `next`, for which it gets what he does next;
+/// - a position: `play ASKS ..`, for which the seats of the bench play a game and it gets their session;
+/// - no input: `make session NUMBER` and `make sheet NUMBER`, for which it gets the made text, and `job NUMBER`, for which it gets
+///   the numbers that other commands come to on these.
+///
+/// The status tells how it ended:
+///
+/// | Status | Where |
+/// | --- | --- |
+/// | 0 | exactly with the answer; no call of `input` or of `out` failed then |
+/// | 1 | exactly where the words are no command; nothing is read then |
+/// | 2 | exactly where one byte more came than the [`MOST_INPUT`](crate::MOST_INPUT) that an input may have, before an end or a fault |
+/// | 3, 4 | exactly where the input has a first bad line: 4 at a position that is not valid or not of the first one's hand |
+/// | 7 | of a sheet, exactly where more positions are possible after some part of it than the limit allows |
+/// | 5 | of `why`, `solve` and `refute`, exactly where no position is possible |
+/// | 6 | of `solve` and `refute`, exactly where the game is over, and of `refute` also at the opponent's turn |
+/// | 8 | of `solve` and `refute` only where the budget is less than a search may take; of `check` and `deny` exactly where it is less than the look at the file takes; of `job` only where 50,000,000 units are less than its search or its check may take |
+/// | 13 | of `check`, exactly where the plan does not mate all that it lists within the number that it claims |
+/// | 14 | of `solve` and `job`, exactly where the best plan is too large for a text; of `refute`, exactly where no plan mates and the claims are too many for a text; the budget is not spent then |
+/// | 17 | of `refute`, exactly where some plan mates, and the budget is not spent |
+/// | 18 | of `deny`, exactly where the refutation does not hold |
+/// | 19 | of `why`, exactly where the text of the games has more bytes than an input may have |
+/// | 20 | of `lead`, exactly where the plan file lists fewer positions than its number |
+/// | 12 | of `play` exactly where a side has no seat, and only where a call of the last seat of a side failed; of `lead` the same for the opponent's side |
+/// | 9 | where a read failed, with no more bytes read than an input may have |
+/// | 10 | where a write to `out` failed, which has got a front part of the answer then |
+/// | 11 | for want of memory |
+///
+/// At each status but 0 `err` gets one line, and at each but 0 and 10 `out` gets nothing.
 ///
 /// The bench is as it was for every command but `play` and `lead`, and for these where no seat was called: so it is at
 /// 1 to 4, 9 and 20, and at 12 for want of a seat. At 11 it is as it was, or the input was read whole and its seats
@@ -131,6 +146,14 @@ pub fn run<S: Source, O: Sink, E: Sink>(
     // Given a plan that `solve` wrote, `check` writes the number that it states.
     ensures checks { let seen = world S.left S.faults O.got O.faults in
         ChecksSolutions (asked_by words.now) result (seen input.old out.old) (seen input.new out.new) }
+
+    // What `refute` has written is a refutation for the sheet: no plan mates within the number of moves.
+    ensures refutes { let seen = world S.left S.faults O.got O.faults in
+        RefutesSheets (asked_by words.now) result (seen input.old out.old) (seen input.new out.new) }
+
+    // Given a refutation that `refute` wrote, `deny` writes its number of moves, and no plan mates within it.
+    ensures denies { let seen = world S.left S.faults O.got O.faults in
+        DeniesRefutations (asked_by words.now) result (seen input.old out.old) (seen input.new out.new) }
 
     // Given a plan that mates what it lists, `lead` writes a game that is won.
     ensures wins { let seen = world S.left S.faults O.got O.faults in

@@ -1,12 +1,12 @@
 -- What blocks a try, as stored results tell it, and what is claimed for it.
-use Rattle.std.proofs.Common.{◌≡◌, ℕ, zero, suc, ◌-◌, ◌<◌, Bool, true, false, ◌&&◌, ◌⊎◌, List, [], ◌∷◌, map, find, Option, Some, None, Result, Ok, Err, refl, sym, ap, subst, inl, inr, ◌∙◌, arith}
+use Rattle.std.proofs.Common.{◌≡◌, ℕ, zero, suc, ◌-◌, ◌<◌, Bool, true, false, ◌&&◌, ◌⊎◌, List, [], ◌∷◌, map, find, Option, Some, None, Ok, refl, sym, ap, subst, inl, inr, ◌∙◌, arith}
 use Rattle.std.specs.Prelude.{◌==◌, IfSome, if◌then◌else◌}
 use Rattle.std.proofs.lemmas.Bool.{cases_Bool, eqb-true, false_from_ne_true}
 use Rattle.krieg_board.specs.Pos.{Pos}
 use Rattle.krieg_board.specs.declared.men.Move.{Move}
 use Rattle.krieg_words.specs.declared.dialects.Dialect.{Dialect}
 use Rattle.krieg_pack.specs.Order.{position_lt}
-use Rattle.krieg_theory.specs.Sets.{In, is_nil}
+use Rattle.krieg_theory.specs.Sets.{In}
 use Rattle.krieg_theory.specs.Split.{refused, legal_in_some, keys, class}
 use Rattle.krieg_costs.specs.Block.{Block, Lives, Stale, LostClass, LostRefused, NoBlock, lives_in_some, block, pair_of, block_pair}
 use Rattle.krieg_costs.specs.Backing.{behind}
@@ -30,7 +30,7 @@ use Rattle.krieg_game.proofs.ChessLaws.{chess_is_game}
 use Rattle.krieg_table.specs.Interned.{Interned}
 use Rattle.krieg_table.specs.Entries.{entries}
 use Rattle.krieg_search.specs.declared.left.Left.{Left}
-use Rattle.krieg_search.specs.Leaving.{FailsAtOnce, Leaves}
+use Rattle.krieg_search.specs.Leaving.{Leaves}
 use Rattle.krieg_search.specs.Searched.{IsReady}
 use Rattle.krieg_search.specs.Opened.{AddsSets}
 use Rattle.krieg_search.proofs.Building.{adds_nothing, adds_then}
@@ -38,6 +38,7 @@ use Rattle.krieg_refute.specs.declared.claiming.Asked.{Asked}
 use Rattle.krieg_refute.specs.declared.claiming.Claimed.{Claimed}
 use Rattle.krieg_refute.specs.declared.refutation.Why.{Why}
 use Rattle.krieg_refute.specs.Refutations.{why_of}
+use Rattle.krieg_refute.specs.Blocking.{IsBlockedBy}
 use Rattle.krieg_refute.specs.Claiming.{IsLost, is_lost_class, at_once_reason, pairs_in, IsClaimed, Claims, Blocks}
 use Rattle.krieg_refute.proofs.Carrying.{AreTooMany}
 use Rattle.krieg_refute.proofs.Finding.{on_found, find_map}
@@ -62,15 +63,6 @@ is_one zero = refl
 is_one (suc i) = false_from_ne_true (suc (suc i) == 1) (λ e. let q = eqb-true (suc (suc i)) 1 e in omega arith) ∙ sym (false_from_ne_true (suc i == 0) (λ e. let q = eqb-true (suc i) 0 e in omega arith))
 
 module _ (d : Dialect) where
-  -- a try at the number j is blocked by the pair, which is stored as lost, for this reason at its place; i is j - 1
-  pub record IsBlockedBy (T : Interned) (B : List Pos) (t : Move) (i j : ℕ) (q : List Pos × ℕ) (r : ℕ → Reason Key) : Type 0 where
-    pub adds : behind_try (chess d) i B t ≡ claimed (chess d) q.1 q.0
-    pub pair : block_pair (chess d) j B t ≡ Some q
-    pub reason : (qs : List (List Pos × ℕ)) → written.reason_at (chess d) qs j B t ≡ r (written.place_of (chess d) qs q)
-    pub lost : IsLost T q.0 q.1
-    pub some : is_nil q.0 ≡ false
-    pub number : 0 < q.1
-
   module _ (T : Interned) (B : List Pos) (t : Move) (i : ℕ) (ready : IsReady d T) (lost : IsLost T B (suc i)) (legal : legal_in_some (chess d) B t ≡ true) where
     says : (b : Block Key) → block (chess d) (suc i) B t ≡ b → BlockSays (chess d) (chess_is_game d) i B t b
     says b e = subst (BlockSays (chess d) (chess_is_game d) i B t) e (block_says (chess d) (chess_is_game d) i B t)
@@ -78,7 +70,7 @@ module _ (d : Dialect) where
     is_stored : (b : Block Key) → block (chess d) (suc i) B t ≡ b → IfSome (pair_of (chess d) i B t b) (λ q. StoredLost (chess d) (entries T) q)
     is_stored b e = subst (λ (x : Block Key). IfSome (pair_of (chess d) i B t x) (λ q. StoredLost (chess d) (entries T) q)) e (block_lost (chess d) (chess_is_game d) (entries T) ready.sound B i lost t legal)
 
-    by_class : (key : Key) → block (chess d) (suc i) B t ≡ LostClass key → IsBlockedBy T B t i (suc i) (class (chess d) B t key, i) (ByClass key)
+    by_class : (key : Key) → block (chess d) (suc i) B t ≡ LostClass key → IsBlockedBy d T B t i (suc i) (class (chess d) B t key, i) (ByClass key)
     by_class key e = record {
       adds = ap (behind (chess d) (claimed (chess d) i) (claimed (chess d) (suc i)) B t) e;
       pair = ap (pair_of (chess d) i B t) e;
@@ -88,7 +80,7 @@ module _ (d : Dialect) where
       number = (ready.sound.backed (class (chess d) B t key) i None (is_stored (LostClass key) e)).some;
     }
 
-    by_refused : block (chess d) (suc i) B t ≡ LostRefused → IsBlockedBy T B t i (suc i) (refused (chess d) B t, suc i) ByRefused
+    by_refused : block (chess d) (suc i) B t ≡ LostRefused → IsBlockedBy d T B t i (suc i) (refused (chess d) B t, suc i) ByRefused
     by_refused e = record {
       adds = ap (behind (chess d) (claimed (chess d) i) (claimed (chess d) (suc i)) B t) e;
       pair = ap (pair_of (chess d) i B t) e;
@@ -109,21 +101,21 @@ module _ (d : Dialect) where
       found : find (is_lost_class T i) (map class_pair l.classes.items) ≡ with_set (class (chess d) B t) (find (λ key. is_loss (stored position_lt (entries T) (class (chess d) B t key, i))) (keys (chess d) B t))
       found = ap (find (is_lost_class T i)) a.classes_part ∙ find_map (λ (c : Key × List Pos). is_loss (stored position_lt (entries T) (c.1, i))) (λ key. (key, class (chess d) B t key)) (keys (chess d) B t)
 
-      class_found : (key : Key) (C : List Pos) → find (is_lost_class T i) (map class_pair l.classes.items) ≡ Some (key, C) → IsBlockedBy T B t i (suc i) (C, i) (ByClass key)
+      class_found : (key : Key) (C : List Pos) → find (is_lost_class T i) (map class_pair l.classes.items) ≡ Some (key, C) → IsBlockedBy d T B t i (suc i) (C, i) (ByClass key)
       class_found key C e =
           let f = keyed_some (class (chess d) B t) (find (λ key. is_loss (stored position_lt (entries T) (class (chess d) B t key, i))) (keys (chess d) B t)) key C (sym found ∙ e) in
-          subst (λ (X : List Pos). IsBlockedBy T B t i (suc i) (X, i) (ByClass key)) f.1
+          subst (λ (X : List Pos). IsBlockedBy d T B t i (suc i) (X, i) (ByClass key)) f.1
           (by_class key (class_blocks (chess d) (chess_is_game d) (entries T) ready.sound B i lost t legal alive a.none_stale key f.0))
 
-      refused_found : find (is_lost_class T i) (map class_pair l.classes.items) ≡ None → IsBlockedBy T B t i (suc i) (l.refused, suc i) ByRefused
+      refused_found : find (is_lost_class T i) (map class_pair l.classes.items) ≡ None → IsBlockedBy d T B t i (suc i) (l.refused, suc i) ByRefused
       refused_found e =
           let f = keyed_none (class (chess d) B t) (find (λ key. is_loss (stored position_lt (entries T) (class (chess d) B t key, i))) (keys (chess d) B t)) (sym found ∙ e) in
-          subst (λ (X : List Pos). IsBlockedBy T B t i (suc i) (X, suc i) ByRefused) (sym a.refused_part)
+          subst (λ (X : List Pos). IsBlockedBy d T B t i (suc i) (X, suc i) ByRefused) (sym a.refused_part)
           (by_refused (refused_blocks (chess d) (chess_is_game d) (entries T) ready.sound B i lost t legal alive a.none_stale f))
 
     -- a try that fails at once adds nothing
-    at_once_adds : FailsAtOnce d B t (suc i) → behind_try (chess d) i B t ≡ []
-    at_once_adds f = go (block (chess d) (suc i) B t) f.no_pair
+    at_once_adds : block_pair (chess d) (suc i) B t ≡ None → behind_try (chess d) i B t ≡ []
+    at_once_adds f = go (block (chess d) (suc i) B t) f
       where
         go : (b : Block Key) → pair_of (chess d) i B t b ≡ None → behind (chess d) (claimed (chess d) i) (claimed (chess d) (suc i)) B t b ≡ []
         go Lives e = refl
@@ -132,8 +124,8 @@ module _ (d : Dialect) where
         go LostRefused e = absurd (cc)
         go NoBlock e = refl
 
-    at_once_is : FailsAtOnce d B t (suc i) → (qs : List (List Pos × ℕ)) → at_once_reason (suc i) ≡ written.reason_at (chess d) qs (suc i) B t
-    at_once_is f qs = ap (λ (b : Bool). if b then ByLife else ByStalemate) (is_one i) ∙ sym (at_once (chess d) (chess_is_game d) (entries T) ready.sound B i lost t legal qs f.no_pair)
+    at_once_is : block_pair (chess d) (suc i) B t ≡ None → (qs : List (List Pos × ℕ)) → at_once_reason (suc i) ≡ written.reason_at (chess d) qs (suc i) B t
+    at_once_is f qs = ap (λ (b : Bool). if b then ByLife else ByStalemate) (is_one i) ∙ sym (at_once (chess d) (chess_is_game d) (entries T) ready.sound B i lost t legal qs f)
 
   -- the same at any number
   module _ (T : Interned) (B B' : List Pos) (t : Move) (j : ℕ) (some : 0 < j) (is : B' ≡ B) (ready : IsReady d T) (lost : IsLost T B j) (legal : legal_in_some (chess d) B t ≡ true) where
@@ -143,25 +135,24 @@ module _ (d : Dialect) where
     before_lost : IsLost T B (suc (j - 1))
     before_lost = subst (IsLost T B) (sym before) lost
 
-    pub class_at : (l : Left) → Leaves d B' t j l → (key : Key) (C : List Pos) → find (is_lost_class T (j - 1)) (map class_pair l.classes.items) ≡ Some (key, C) → IsBlockedBy T B t (j - 1) j (C, j - 1) (ByClass key)
+    pub class_at : (l : Left) → Leaves d B' t j l → (key : Key) (C : List Pos) → find (is_lost_class T (j - 1)) (map class_pair l.classes.items) ≡ Some (key, C) → IsBlockedBy d T B t (j - 1) j (C, j - 1) (ByClass key)
     class_at l a key C e =
-        subst (λ (k : ℕ). IsBlockedBy T B t (j - 1) k (C, j - 1) (ByClass key)) before
+        subst (λ (k : ℕ). IsBlockedBy d T B t (j - 1) k (C, j - 1) (ByClass key)) before
         (class_found T B t (j - 1) ready before_lost legal l (subst (λ (k : ℕ). Leaves d B t k l) (sym before) (subst (λ (X : List Pos). Leaves d X t j l) is a)) key C e)
 
-    pub refused_at : (l : Left) → Leaves d B' t j l → find (is_lost_class T (j - 1)) (map class_pair l.classes.items) ≡ None → IsBlockedBy T B t (j - 1) j (l.refused, j) ByRefused
+    pub refused_at : (l : Left) → Leaves d B' t j l → find (is_lost_class T (j - 1)) (map class_pair l.classes.items) ≡ None → IsBlockedBy d T B t (j - 1) j (l.refused, j) ByRefused
     refused_at l a e =
-        subst (λ (k : ℕ). IsBlockedBy T B t (j - 1) k (l.refused, k) ByRefused) before
+        subst (λ (k : ℕ). IsBlockedBy d T B t (j - 1) k (l.refused, k) ByRefused) before
         (refused_found T B t (j - 1) ready before_lost legal l (subst (λ (k : ℕ). Leaves d B t k l) (sym before) (subst (λ (X : List Pos). Leaves d X t j l) is a)) e)
 
-    pub fails_blocks : (w : Claimed) (y : Why) → FailsAtOnce d B' t j → IsClaimed d T w → why_of y ≡ at_once_reason j → Blocks d (Ok y) B j t T T w w
-    fails_blocks w y f' c e =
-        let f0 = subst (λ (X : List Pos). FailsAtOnce d X t j) is f' in
-        let f = subst (FailsAtOnce d B t) (sym before) f0 in
+    pub fails_blocks : (w : Claimed) (y : Why) → block_pair (chess d) j B t ≡ None → IsClaimed d T w → why_of y ≡ at_once_reason j → Blocks d (Ok y) B j t T T w w
+    fails_blocks w y none c e =
+        let f = subst (λ (k : ℕ). block_pair (chess d) k B t ≡ None) (sym before) none in
         let qs = pairs_in T w.places.keys in (
           adds_nothing T ready.counted,
           c,
           ap (add_all (chess d) qs) (sym (at_once_adds T B t (j - 1) ready before_lost legal f)),
-          subst (λ (o : Option (List Pos × ℕ)). IfSome o (λ q. In q qs)) (sym f0.no_pair) tt,
+          subst (λ (o : Option (List Pos × ℕ)). IfSome o (λ q. In q qs)) (sym none) tt,
           e ∙ subst (λ (k : ℕ). at_once_reason k ≡ written.reason_at (chess d) qs k B t) before (at_once_is T B t (j - 1) ready before_lost legal f qs),
         )
 
@@ -184,7 +175,7 @@ module _ (d : Dialect) where
       }
 
   -- the pair of the block is claimed, or is too many
-  module _ (T0 T1 T2 : Interned) (w0 w1 : Claimed) (B X : List Pos) (t : Move) (j k : ℕ) (r : ℕ → Reason Key) (b : IsBlockedBy T0 B t (j - 1) j (X, k) r) (sets : AddsSets T0 T1) (c : IsClaimed d T0 w0) where
+  module _ (T0 T1 T2 : Interned) (w0 w1 : Claimed) (B X : List Pos) (t : Move) (j k : ℕ) (r : ℕ → Reason Key) (b : IsBlockedBy d T0 B t (j - 1) j (X, k) r) (sets : AddsSets T0 T1) (c : IsClaimed d T0 w0) where
     same : add_all (chess d) (pairs_in T1 w0.places.keys) (claimed (chess d) k X) ≡ add_all (chess d) (pairs_in T0 w0.places.keys) (behind_try (chess d) (j - 1) B t)
     same = let e = same_pairs T0 T1 w0.places.keys sets c.numbered in let f = sym b.adds in λ i. add_all (chess d) (e i) (f i)
 

@@ -1,8 +1,8 @@
 -- A claim by the tries of its set and by its reasons, and claims one after another.
-use Rattle.std.proofs.Common.{◌≡◌, ℕ, zero, suc, ◌+◌, ◌-◌, ◌<◌, ◌≤◌, Bool, true, false, not, ◌&&◌, leb, nat_lt, ◌⊎◌, List, [], ◌∷◌, ◌++◌, length, take, drop, get_or, map, Some, IsTrue, refl, sym, ap, subst, inl, inr, ◌∙◌, arith}
+use Rattle.std.proofs.Common.{◌≡◌, ℕ, zero, suc, ◌+◌, ◌-◌, ◌<◌, Bool, true, false, not, ◌&&◌, leb, nat_lt, ◌⊎◌, List, [], ◌∷◌, ◌++◌, length, take, drop, get_or, map, Some, IsTrue, refl, sym, ap, subst, inl, inr, ◌∙◌, arith}
 use Rattle.std.specs.List.{list_all, list_any}
-use Rattle.std.proofs.lemmas.List.{map-append, take_more, drop_more, drop_all}
-use Rattle.std.proofs.lemmas.Bool.{and_parts, and_from, both_ways, cases_Bool, cond-true, cond-false, not-true, not_from_false, leb-true, le-leb, ltb-false, le-ltb}
+use Rattle.std.proofs.lemmas.List.{map-append, take_more, drop_more}
+use Rattle.std.proofs.lemmas.Bool.{and_parts, and_from, cases_Bool, cond-true, cond-false, not-true, not_from_false, leb-true, le-leb, ltb-false, le-ltb}
 use Rattle.krieg_board.specs.Pos.{Pos}
 use Rattle.krieg_board.specs.declared.men.Move.{Move}
 use Rattle.krieg_words.specs.declared.dialects.Dialect.{Dialect}
@@ -96,13 +96,6 @@ module _ (d : Dialect) (before : List (Claim (chess d))) where
           let e : suc j - 1 ≡ j = omega arith in
           let k' = subst (λ (i : ℕ). held ≡ list_all (λ t. try_holds d before i c.set t c.reasons) (tries (chess d) c.set)) e k in
           (λ i. (nat_lt 0 (suc j) && s i) && (k' i && o i)) ∙ ap (λ (b : Bool). (nat_lt 0 (suc j) && not (is_nil c.set)) && b) (reasons_found j c.set c.reasons) ∙ ap (λ (b : Bool). (b && not (is_nil c.set)) && are_reasons (chess d) before (suc j) c.set c.reasons) (Rattle.std.proofs.lemmas.Bool.lt-ltb 0 (suc j) (omega arith))
-
--- where no claim is left
-pub claims_end : {X : Type 0} (d : Dialect) (f : X → Claim (chess d)) (xs : List X) (i : ℕ) (all whole : Bool) → length xs ≤ i
-    → (all && claims_hold (chess d) (map f (take i xs)) (map f (drop i xs))) ≡ whole → all ≡ whole
-claims_end {X} d f xs i all whole l h =
-    let q : drop i xs ≡ [] = drop_all i xs l in
-    sym (and_true all) ∙ ap (λ (ys : List X). all && claims_hold (chess d) (map f (take i xs)) (map f ys)) (sym q) ∙ h
 
 -- one claim more
 pub claims_more : {X : Type 0} (d : Dialect) (f : X → Claim (chess d)) (xs : List X) (i : ℕ) (x : X) (all held new whole : Bool) → i < length xs → x ≡ get_or xs i x

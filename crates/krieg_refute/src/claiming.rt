@@ -1,4 +1,6 @@
 ghost use Rattle.std.specs.Prelude.{◌≡◌, ◌<◌, ◌≤◌, ◌^◌, ◌↔◌, ◌++◌, ◌∷◌, [], false, true, IfOk, OnOk, IsTrue, map, length};
+ghost use Rattle.std.specs.List.{list_any};
+ghost use Rattle.krieg_parting.specs.Mating.{lives};
 ghost use Rattle.krieg_theory.specs.Sets.{In, is_nil};
 ghost use Rattle.krieg_theory.specs.Split as theory;
 ghost use Rattle.krieg_theory.specs.Split.{legal_in_some};
@@ -10,8 +12,8 @@ ghost use Rattle.krieg_accounts.specs.Stored.{stored};
 ghost use Rattle.krieg_table.specs.Interned.{set_at};
 ghost use Rattle.krieg_table.specs.Entries.{entries};
 ghost use Rattle.krieg_claims.specs.Losses.{is_loss};
-ghost use Rattle.krieg_search.specs.Leaving.{IsLeft};
 ghost use Rattle.krieg_search.specs.Built.{IsPaidFor};
+ghost use Rattle.krieg_refute.specs.Blocking.{reason_by, HasBlock, LeavesAgain};
 ghost use Rattle.krieg_refute.specs.Claiming.{at_once_reason, IsLost, IsFirstLost, IsClaimed, IsNext, IsPushed, Claims, Reasons, Blocks};
 ghost use Rattle.krieg_refute.specs.Refutations.{why_of, reason_of, most_claims, most_claimed};
 ghost use Rattle.krieg_search.specs.Searched.{AreCounted};
@@ -20,7 +22,8 @@ use crate::refutation::{Claim, MOST_CLAIMED, MOST_CLAIMS, Reason, Why};
 use indexmap::IndexSet;
 use krieg_board::{Move, NoMemory, Units};
 use krieg_game::Class;
-use krieg_pack::Belief;
+use krieg_moves::{after_if_legal, is_mate};
+use krieg_pack::{Belief, Packed, unpack};
 use krieg_search::{Left, Stop2, left_by, number_of};
 use krieg_split::{SplitStop, tries};
 use krieg_table::{Known, Table};
@@ -46,12 +49,21 @@ pub(crate) struct Claimed {
     pub reasons: usize,
 }
 
-/// A class that cannot be won.
+/// What may be heard behind a try, with the set that is possible then.
 #[derive(Drop)]
 pub(crate) struct LostClass {
     pub own: Words,
     pub reply: Words,
     pub set: u32,
+}
+
+/// What blocks a try: a set that cannot be won within `moves`.
+#[derive(Drop)]
+pub(crate) struct Block {
+    pub set: u32,
+    pub moves: u8,
+    /// The words of which the set is the class, and nothing where it is what refuses the try.
+    pub heard: Option<(Words, Words)>,
 }
 
 /// Whether the set is stored as one that cannot be won within `moves`.
@@ -66,7 +78,22 @@ pub(crate) fn is_lost(table: &Table, set: u32, moves: u8) -> bool
     }
 }
 
-/// What the try leaves to be won, by units that are made for this split alone, since the search has paid for it.
+/// Whether in some member the try is legal and does not mate.
+fn lives_in_some(members: &[Packed], mv: &Move) -> bool
+    ensures { result ≡ list_any (lives mv.now) members.now }
+{
+    for member in members {
+        if let Some(q) = after_if_legal(&unpack(member), *mv) {
+            if !is_mate(&q) {
+                return true;
+            }
+        }
+    }
+    false
+}
+
+/// What the try leaves to be won, by units that are made for this split alone, since the search has paid for it. Where one
+/// move is left, no reply is counted once a member lives.
 fn left_again(
     alloc: Global,
     d: Dialect,
@@ -76,13 +103,60 @@ fn left_again(
 ) -> Result<Option<Left>, NoMemory>
     requires some { 0 < moves }
     requires paid { made (chess d) b.now mv < 2 ^ 64 }
-    ensures { IfOk result (IsLeft d b.now mv moves) }
+    ensures { IfOk result (LeavesAgain d b.now mv moves) }
 {
+    if moves == 1 && lives_in_some(b.members(), &mv) {
+        return Ok(None);
+    }
     let mut units = Units::new(u64::MAX);
     match left_by(alloc, d, b, mv, moves, &mut units) {
         Ok(left) => Ok(left),
         Err(SplitStop::Spent) => unreachable!(),
         Err(SplitStop::NoMemory) => Err(NoMemory),
+    }
+}
+
+/// The first thing that blocks the try, as it is stored: a class with one move less, or the members that refuse it. Nothing,
+/// where it fails at once.
+fn block_of(
+    alloc: Global,
+    d: Dialect,
+    table: &mut Table,
+    set: u32,
+    mv: Move,
+    moves: u8,
+) -> Result<Option<Block>, NoMemory>
+    requires some { 0 < moves }
+    requires within { set < length table.old }
+    requires paid { IsPaidFor d table.old }
+    requires lost { IsLost table.old (set_at table.old set) moves }
+    requires legal { legal_in_some (chess d) (set_at table.old set) mv ≡ true }
+    ensures { IfOk result (HasBlock d table.old table.new (set_at table.old set) mv moves) }
+{
+    let Some(Left { classes, refused }) = left_again(alloc, d, table.belief(set), mv, moves)? else {
+        return Ok(None);
+    };
+    if let Some(class) = first_lost(table, classes, moves - 1)? {
+        return Ok(Some(Block {
+            set: class.set,
+            moves: moves - 1,
+            heard: Some((class.own, class.reply)),
+        }));
+    }
+    Ok(Some(Block {
+        set: number_of(table, refused)?,
+        moves,
+        heard: None,
+    }))
+}
+
+/// The reason that cites the claim of what blocks a try.
+fn reason_by(heard: Option<(Words, Words)>, place: u32) -> Why
+    ensures { why_of result ≡ reason_by heard place }
+{
+    match heard {
+        Some((own, reply)) => Why::Class(own, reply, place),
+        None => Why::Refused(place),
     }
 }
 
@@ -255,15 +329,9 @@ fn why(
     requires legal { legal_in_some (chess d) (set_at table.old set) mv ≡ true }
     ensures { Blocks d result (set_at table.old set) moves mv table.old table.new claimed.old claimed.new }
 {
-    let Some(Left { classes, refused }) = left_again(alloc, d, table.belief(set), mv, moves)? else {
+    let Some(block) = block_of(alloc, d, table, set, mv, moves)? else {
         return Ok(at_once(moves));
     };
-    if let Some(lost) = first_lost(table, classes, moves - 1)? {
-        drop(refused);
-        let place = claim(alloc, d, table, claimed, lost.set, moves - 1)?;
-        return Ok(Why::Class(lost.own, lost.reply, place));
-    }
-    let rest = number_of(table, refused)?;
-    let place = claim(alloc, d, table, claimed, rest, moves)?;
-    Ok(Why::Refused(place))
+    let place = claim(alloc, d, table, claimed, block.set, block.moves)?;
+    Ok(reason_by(block.heard, place))
 }

@@ -17,9 +17,10 @@ ghost use Rattle.krieg_refute.specs.Stops.{IsPaid};
 use crate::reasons::{are_for, is_within, reasons_hold};
 use crate::refutation::{Claim, Refutation};
 use crate::stop::DenyStop;
+use crate::tried::try_in_all;
 use krieg_board::{Move, NoMemory, Position, Side, Units};
 use krieg_pack::Belief;
-use krieg_split::{Opened, SplitStop, openings, split, tries};
+use krieg_split::{Opened, SplitStop, openings, tries};
 use krieg_words::Dialect;
 use std::alloc::Global;
 
@@ -35,8 +36,8 @@ fn try_holds(
     ensures { Charged result (λ yes. yes ≡ try_spec d (claims_of d before.now) (claim.now.moves - 1) claim.now.set mv.now (map reason_of claim.now.reasons.items)) (made (chess d) claim.now.set mv.now) units.old units.new }
 {
     let fewer = claim.moves.saturating_sub(1);
-    let parted = split(alloc, d, &claim.set, *mv, units)?;
-    Ok(reasons_hold(alloc, before, fewer, mv, &parted, claim.reasons.as_slice()))
+    let tried = try_in_all(alloc, d, fewer, &claim.set, mv, units)?;
+    Ok(reasons_hold(alloc, before, fewer, mv, &tried, claim.reasons.as_slice()))
 }
 
 /// Whether both are true, where both have been found.

@@ -6,11 +6,13 @@
 //! what is possible after something that may be heard, or denies the members that refuse the try.
 //!
 //! What makes a refutation hold stands in `Refutations` of `specs/`, in the terms of krieg_costs, and what `refute` answers
-//! and takes in `Refuted`; which claims it writes says krieg_claims. `Reasons` and `Claiming` are parts of the work.
+//! and takes in `Refuted`; which claims it writes says krieg_claims. `Tried`, `Reasons`, `Claiming` and `Blocking` are parts of the
+//! work.
 //!
 //! `refute` searches by krieg_search and reads its table, in which each lost set has what blocks its tries: the splits are
 //! made again, and nothing is searched twice. `claiming` walks that table, each set behind those that it stands on.
-//! `deny` takes nothing for granted: it splits each claim's set by each of its tries.
+//! `deny` takes nothing for granted: it makes each try in each claim's set. Where one move is left nothing that is heard
+//! matters: then both look only at what lives, and at what refuses the try.
 //!
 //! ```
 //! let mut units = Units::new(81);
@@ -31,6 +33,7 @@ mod reasons;
 mod refutation;
 mod refuting;
 mod stop;
+mod tried;
 
 pub use denial::deny;
 pub use refutation::{Claim, MOST_CLAIMED, MOST_CLAIMS, Reason, Refutation, Why};

@@ -16,8 +16,10 @@ ghost use Rattle.krieg_split.specs.Parted.{IsParted};
 ghost use Rattle.krieg_refute.specs.Refutations.{claims_of, claim_of, why_of, reason_of};
 ghost use Rattle.krieg_refute.specs.Reasons.{class_in, try_holds};
 ghost use Rattle.krieg_refute.specs.Reasons as spec;
+ghost use Rattle.krieg_refute.specs.Tried.{IsLast, IsTried};
 
 use crate::refutation::{Claim, Reason, Why};
+use crate::tried::{LastTry, Tried, stalemates_in_some};
 use krieg_board::Move;
 use krieg_game::Class;
 use krieg_pack::{Belief, Packed, unpack};
@@ -118,8 +120,8 @@ fn lives(parted: &Parted) -> bool
     parted.stale || !parted.classes.is_empty()
 }
 
-/// Whether the reason holds at a number of moves, one more than `fewer`, by what the try makes of the set.
-fn holds(alloc: Global, before: &[Claim], fewer: u8, parted: &Parted, why: &Why) -> bool
+/// Whether the reason holds at a number of moves, one more than `fewer`, by the parts of the set.
+fn holds_by_parts(alloc: Global, before: &[Claim], fewer: u8, parted: &Parted, why: &Why) -> bool
     requires { fewer < 255 }
     ensures { (d : Dialect) (B : List Pos) (t : Try) → IsParted d B t parted.now → result ≡ theory.holds (chess d) (claims_of d before.now) fewer B t (why_of why.now) }
 {
@@ -131,6 +133,30 @@ fn holds(alloc: Global, before: &[Claim], fewer: u8, parted: &Parted, why: &Why)
             fewer > 0 && is_class_shown(alloc, before, *place, fewer, classes, own, reply)
         }
         Why::Refused(place) => is_shown(before, *place, fewer + 1, &parted.refused),
+    }
+}
+
+/// Whether the reason holds where one move is left, by the last try.
+fn holds_at_last(before: &[Claim], last: &LastTry, why: &Why) -> bool
+    ensures { (d : Dialect) (B : List Pos) (t : Try) → IsLast d B t last.now → result ≡ theory.holds (chess d) (claims_of d before.now) 0 B t (why_of why.now) }
+{
+    match why {
+        Why::Lives => last.lives,
+        Why::Stale => stalemates_in_some(last.members, &last.mv),
+        Why::Class(_, _, _) => false,
+        Why::Refused(place) => is_shown(before, *place, 1, &last.refused),
+    }
+}
+
+/// Whether the reason holds at a number of moves, one more than `fewer`, by what the try makes of the set.
+#[tactic(auto, unfolding(crate::specs::Tried::IsTried))]
+fn holds(alloc: Global, before: &[Claim], fewer: u8, tried: &Tried, why: &Why) -> bool
+    requires { fewer < 255 }
+    ensures { (d : Dialect) (B : List Pos) (t : Try) → IsTried d fewer B t tried.now → result ≡ theory.holds (chess d) (claims_of d before.now) fewer B t (why_of why.now) }
+{
+    match tried {
+        Tried::Parts(parted) => holds_by_parts(alloc, before, fewer, parted, why),
+        Tried::Last(last) => holds_at_last(before, last, why),
     }
 }
 
@@ -154,13 +180,13 @@ fn holds_if_own(
     before: &[Claim],
     fewer: u8,
     mv: &Move,
-    parted: &Parted,
+    tried: &Tried,
     r: &Reason,
 ) -> bool
     requires { fewer < 255 }
-    ensures { (d : Dialect) (B : List Pos) → IsParted d B mv.now parted.now → result ≡ spec.holds_if_own d (claims_of d before.now) fewer B mv.now (reason_of r.now) }
+    ensures { (d : Dialect) (B : List Pos) → IsTried d fewer B mv.now tried.now → result ≡ spec.holds_if_own d (claims_of d before.now) fewer B mv.now (reason_of r.now) }
 {
-    !is_for(r, mv) || holds(alloc, before, fewer, parted, &r.why)
+    !is_for(r, mv) || holds(alloc, before, fewer, tried, &r.why)
 }
 
 /// Whether some reason is one for the move.
@@ -181,14 +207,14 @@ fn all_hold(
     before: &[Claim],
     fewer: u8,
     mv: &Move,
-    parted: &Parted,
+    tried: &Tried,
     reasons: &[Reason],
 ) -> bool
     requires { fewer < 255 }
-    ensures { (d : Dialect) (B : List Pos) → IsParted d B mv.now parted.now → result ≡ list_all (spec.holds_if_own d (claims_of d before.now) fewer B mv.now) (map reason_of reasons.now) }
+    ensures { (d : Dialect) (B : List Pos) → IsTried d fewer B mv.now tried.now → result ≡ list_all (spec.holds_if_own d (claims_of d before.now) fewer B mv.now) (map reason_of reasons.now) }
 {
     for r in reasons {
-        if !holds_if_own(alloc, before, fewer, mv, parted, r) {
+        if !holds_if_own(alloc, before, fewer, mv, tried, r) {
             return false;
         }
     }
@@ -201,13 +227,13 @@ pub(crate) fn reasons_hold(
     before: &[Claim],
     fewer: u8,
     mv: &Move,
-    parted: &Parted,
+    tried: &Tried,
     reasons: &[Reason],
 ) -> bool
     requires { fewer < 255 }
-    ensures { (d : Dialect) (B : List Pos) → IsParted d B mv.now parted.now → result ≡ try_holds d (claims_of d before.now) fewer B mv.now (map reason_of reasons.now) }
+    ensures { (d : Dialect) (B : List Pos) → IsTried d fewer B mv.now tried.now → result ≡ try_holds d (claims_of d before.now) fewer B mv.now (map reason_of reasons.now) }
 {
-    has_reason(mv, reasons) && all_hold(alloc, before, fewer, mv, parted, reasons)
+    has_reason(mv, reasons) && all_hold(alloc, before, fewer, mv, tried, reasons)
 }
 
 /// Whether one of the moves is that one.

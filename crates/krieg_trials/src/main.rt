@@ -1,7 +1,7 @@
 //! Runs cases of data through `krieg_cli::run`, over streams and seats in memory, and tells of each file how many runs
 //! hold.
 //!
-//! A case says line by line what a run is given and what must come of it. `docs/TESTING.md` has the marks with which
+//! A case says line by line what a run is given and what must come of it. `docs/CASES.md` has the marks with which
 //! these lines begin. `given` gathers what the next run gets: its text, how its streams behave (`stream`), who plays
 //! (`player`), and plans that are too long to be written out (`made`). `running` makes the run, and `came` compares
 //! what it came to, page by page (`page`). `trial` goes through the lines of a file.

@@ -1,17 +1,16 @@
-ghost use Rattle.std.specs.Prelude.{◌≡◌, ◌∷◌, [], IfOk};
-ghost use Rattle.krieg_text.specs.Writing.{PutsLines};
+ghost use Rattle.std.specs.Prelude.{◌≡◌, IfOk};
 ghost use Rattle.krieg_plan.specs.Listed.{IsOneTurn};
 ghost use Rattle.krieg_planfile.specs.PlanFiles.{state_of};
 ghost use Rattle.krieg_cli.specs.Parts.{Decides};
 ghost use Rattle.krieg_cli.specs.Check as spec;
 
+use crate::commands::counted::counted;
 use crate::ending::Ending;
 use crate::refusal::Refusal;
 use krieg_board::{NoMemory, Units};
 use krieg_checker::{CheckStop, Checked, check};
 use krieg_plan::PlanFile;
 use krieg_planfile::read_plan;
-use krieg_text::{Text, put_number};
 use std::alloc::Global;
 
 impl From<CheckStop> for Ending {
@@ -27,25 +26,12 @@ impl From<CheckStop> for Ending {
     }
 }
 
-/// Adds the line of the worst case.
-fn put_worst(worst: u16, text: &mut Text) -> Result<(), NoMemory>
-    ensures { PutsLines result text.old text.new (spec.worst_line worst ∷ []) }
-{
-    text.put(b"mates ")?;
-    put_number(worst as u64, text)?;
-    text.end_line()
-}
-
-/// The text that tells the worst case.
+/// The line of the worst case.
 #[tactic(auto, unfolding(crate::specs::Check::worst_text))]
 fn worst_text(alloc: Global, worst: u16) -> Result<Vec<u8>, NoMemory>
     ensures { IfOk result (λ text. text.items ≡ spec.worst_text worst) }
 {
-    let mut answer = Vec::new(alloc);
-    let mut text = Text::after(&mut answer);
-    let done = put_worst(worst, &mut text);
-    text.end(done, &mut answer)?;
-    Ok(answer)
+    counted(alloc, b"mates ", usize::from(worst))
 }
 
 /// What the check of a plan file comes to, within so many units.

@@ -16,8 +16,8 @@ ghost use Rattle.krieg_cli.specs.Job as spec;
 mod summary;
 mod tally;
 
+use crate::commands::asked::listed;
 use crate::commands::job::tally::made_tally;
-use crate::commands::solve::listed;
 use crate::ending::Ending;
 use krieg_args::MOST_SEED;
 use krieg_belief::{BeliefStop, believe};

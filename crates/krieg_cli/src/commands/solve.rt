@@ -1,8 +1,6 @@
-ghost use Rattle.std.specs.Prelude.{◌≡◌, ◌∷◌, [], ◌≤◌, ◌⊎◌, false, length, All, Ok, IfOk};
-ghost use Rattle.krieg_board.specs.Validity.{IsValid};
+ghost use Rattle.std.specs.Prelude.{◌≡◌, ◌≤◌, false, length, Ok, IfOk};
 ghost use Rattle.krieg_text.specs.Lines.{lines};
 ghost use Rattle.krieg_text.specs.Reading.{whole};
-ghost use Rattle.krieg_text.specs.Writing.{PutsLines};
 ghost use Rattle.krieg_theory.specs.Sets.{is_nil};
 ghost use Rattle.krieg_belief.specs.Possible.{HaveOneHand};
 ghost use Rattle.krieg_plan.specs.Plans.{plan_of};
@@ -12,9 +10,10 @@ ghost use Rattle.krieg_planfile.specs.PlanText.{plan_text};
 ghost use Rattle.krieg_cli.specs.Parts.{Decides};
 ghost use Rattle.krieg_cli.specs.Solve as spec;
 
+use crate::commands::asked::{asked, listed};
+use crate::commands::counted::counted;
 use crate::ending::Ending;
 use crate::refusal::Refusal;
-use krieg_belief::believe;
 use krieg_board::{MOST_MOVES, NoMemory, Position, Side, Units};
 use krieg_fen::MOST_LISTED;
 use krieg_pack::Belief;
@@ -22,7 +21,6 @@ use krieg_plan::{MOST_NODES, Plan, PlanFile};
 use krieg_planfile::write_plan;
 use krieg_search::{Answer, Stop2, solve};
 use krieg_sheet::{Sheet, read_sheet};
-use krieg_text::{Text, put_number};
 use krieg_words::Dialect;
 use std::alloc::Global;
 
@@ -38,18 +36,6 @@ impl From<Stop2> for Ending {
             Stop2::NoMemory => Ending::NoMemory,
         }
     }
-}
-
-/// The members of the set as a list.
-pub(crate) fn listed(alloc: Global, set: &Belief) -> Result<Vec<Position>, NoMemory>
-    ensures same { IfOk result (λ list. list.items ≡ set.now) }
-    ensures valid { IfOk result (λ list. All IsValid list.items) }
-{
-    let mut list = Vec::with_capacity(alloc, set.len())?;
-    for i in 0..set.len() {
-        list.push(set.get(i))?;
-    }
-    Ok(list)
 }
 
 /// The text of the plan file of a plan for the listed positions.
@@ -77,25 +63,12 @@ fn file_text(
     Ok(text)
 }
 
-/// Adds the line that no plan mates within so many moves.
-pub(crate) fn put_none(moves: u64, text: &mut Text) -> Result<(), NoMemory>
-    ensures { PutsLines result text.old text.new (spec.none_line moves ∷ []) }
-{
-    text.put(b"none ")?;
-    put_number(moves, text)?;
-    text.end_line()
-}
-
-/// The text that tells it.
+/// The line that no plan mates within so many moves.
 #[tactic(auto, unfolding(crate::specs::Solve::none_text))]
 fn none_text(alloc: Global, moves: u64) -> Result<Vec<u8>, NoMemory>
     ensures { IfOk result (λ text. text.items ≡ spec.none_text moves) }
 {
-    let mut answer = Vec::new(alloc);
-    let mut text = Text::after(&mut answer);
-    let done = put_none(moves, &mut text);
-    text.end(done, &mut answer)?;
-    Ok(answer)
+    counted(alloc, b"none ", moves as usize)
 }
 
 /// What a search for the best plan for the set comes to, within so many moves and units.
@@ -135,13 +108,7 @@ fn solved(
     requires few { limit ≤ MOST_LISTED }
     ensures { Decides (λ answer. answer.items) result (spec.Solved moves budget limit sheet.now) }
 {
-    let set = believe(alloc, sheet, limit as usize)?;
-    if set.is_empty() {
-        return Err(Ending::Refused(Refusal::NonePossible));
-    }
-    if sheet.is_over() {
-        return Err(Ending::Refused(Refusal::GameOver));
-    }
+    let set = asked(alloc, sheet, limit, sheet.is_over())?;
     searched(alloc, sheet.dialect(), sheet.side(), &set, moves, budget)
 }
 

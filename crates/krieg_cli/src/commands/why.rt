@@ -6,7 +6,7 @@ use crate::ending::Ending;
 use crate::input::MOST_INPUT;
 use crate::refusal::Refusal;
 use krieg_sheet::{Sheet, read_sheet};
-use krieg_why::{WhyStop, why, write_games};
+use krieg_why::{WhyStop, least_games, write_games_of};
 use std::alloc::Global;
 
 impl From<WhyStop> for Ending {
@@ -26,12 +26,12 @@ impl From<WhyStop> for Ending {
 fn shown(alloc: Global, sheet: &Sheet, limit: u64) -> Result<Vec<u8>, Ending>
     ensures { Decides (λ answer. answer.items) result (spec.Shows limit sheet.now) }
 {
-    let games = why(alloc, sheet, limit as usize)?;
+    let games = least_games(alloc, sheet, limit as usize)?;
     if games.is_empty() {
         return Err(Ending::Refused(Refusal::NonePossible));
     }
     let mut answer = Vec::new(alloc);
-    write_games(sheet.dialect(), &games, &mut answer)?;
+    write_games_of(alloc, sheet.dialect(), &games, &mut answer)?;
     if answer.len() > MOST_INPUT {
         return Err(Ending::Refused(Refusal::AnswerTooLong));
     }

@@ -1,6 +1,7 @@
 use Rattle.krieg_cli.proofs.WholeGames.{umpires_games, believes_games}
 use Rattle.krieg_cli.proofs.WholeRecords.{returns_games}
 use Rattle.krieg_cli.proofs.WholePlans.{checks_solutions}
+use Rattle.krieg_cli.proofs.WholeRefutations.{refutes_sheets, denies_refutations}
 use Rattle.krieg_cli.proofs.Headline.{solves_sheets}
 use Rattle.krieg_cli.proofs.Complete.{completes}
 use Rattle.krieg_cli.specs.Live.{LivesBy}
@@ -27,3 +28,9 @@ returns-clause-wins g c = leads_to_mate _ _ _ _ _ _ _ _ c.obey-ending.ensures.ru
 
 pub returns-clause-returns : goal.returns-clause-returns
 returns-clause-returns g c = returns_games (LivesBy _ _ _) _ _ _ _ _ c.obey-ending.ensures.runs c.status.ensures
+
+pub returns-clause-refutes : goal.returns-clause-refutes
+returns-clause-refutes g c = refutes_sheets (LivesBy _ _ _) _ _ _ _ _ c.obey-ending.ensures.runs c.status.ensures
+
+pub returns-clause-denies : goal.returns-clause-denies
+returns-clause-denies g c = denies_refutations (LivesBy _ _ _) _ _ _ _ _ c.obey-ending.ensures.runs c.status.ensures

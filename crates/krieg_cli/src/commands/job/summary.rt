@@ -3,9 +3,9 @@ ghost use Rattle.std.specs.Prelude.{◌≡◌, [], IfOk};
 ghost use Rattle.krieg_text.specs.Writing.{PutsLines, put_lines};
 ghost use Rattle.krieg_cli.specs.Job as spec;
 
-use crate::commands::job::tally::{Tally, put_count, put_counted, put_tally};
+use crate::commands::counted::{put_count, put_counted};
+use crate::commands::job::tally::{Tally, put_tally};
 use crate::commands::job::{Finding, JOB_MOVES};
-use crate::commands::solve::put_none;
 use krieg_board::NoMemory;
 use krieg_text::Text;
 use std::alloc::Global;
@@ -24,7 +24,7 @@ fn put_found(found: &Finding, text: &mut Text) -> Result<(), NoMemory>
             put_counted(b" nodes ", *nodes, text)?;
             put_counted(b"checked ", usize::from(*checked), text)
         }
-        Finding::NoPlan => put_none(u64::from(JOB_MOVES), text),
+        Finding::NoPlan => put_counted(b"none ", usize::from(JOB_MOVES), text),
     }
 }
 

@@ -1,14 +1,14 @@
 ghost use Rattle.std.specs.Prelude.{◌≡◌, ◌∷◌, [], IfOk};
-ghost use Rattle.krieg_text.specs.Decimals.{number_text};
-ghost use Rattle.krieg_text.specs.Writing.{PutsPieces, PutsLines};
+ghost use Rattle.krieg_text.specs.Writing.{PutsLines};
 ghost use Rattle.krieg_referee.specs.Games.{judge};
 ghost use Rattle.krieg_make.specs.MadeSessions.{made_session};
 ghost use Rattle.krieg_cli.specs.Tally as spec;
 
+use crate::commands::counted::{put_count, put_counted};
 use krieg_board::NoMemory;
 use krieg_make::made_session;
 use krieg_referee::{Judged, Verdict, judge};
-use krieg_text::{Text, put_number};
+use krieg_text::Text;
 use std::alloc::Global;
 
 /// How many tries there are, and of each verdict.
@@ -89,22 +89,6 @@ fn tally_of(log: &[Judged]) -> Tally
         early: count_early(log),
         over: count_over(log),
     }
-}
-
-/// Adds what is counted, and how many there are.
-pub(crate) fn put_count(name: &[u8], count: usize, text: &mut Text) -> Result<(), NoMemory>
-    ensures { PutsPieces result text.old text.new (name.now ∷ number_text count ∷ []) }
-{
-    text.put(name)?;
-    put_number(count as u64, text)
-}
-
-/// Adds a line with one number.
-pub(crate) fn put_counted(name: &[u8], count: usize, text: &mut Text) -> Result<(), NoMemory>
-    ensures { PutsLines result text.old text.new ((name.now ∷ number_text count ∷ []) ∷ []) }
-{
-    put_count(name, count, text)?;
-    text.end_line()
 }
 
 /// Adds the line of the tries.

@@ -1,4 +1,4 @@
-use Rattle.std.proofs.Common.{◌≡◌, ℕ, ◌+◌, ◌-◌, ◌<◌, ◌^◌, ◌∷◌, [], ◌++◌, List, length, map, take, Some, None, Option, sym, ap, subst, ◌∙◌, arith, refl}
+use Rattle.std.proofs.Common.{◌≡◌, ℕ, ◌+◌, ◌-◌, ◌<◌, ◌^◌, ◌∷◌, ◌++◌, List, length, map, None, Option, sym, ap, subst, ◌∙◌, arith, refl}
 use Rattle.std.specs.Prelude.{IfSome}
 use Rattle.krieg_board.specs.Pos.{Pos}
 use Rattle.krieg_pack.specs.Order.{position_lt}
@@ -12,7 +12,7 @@ use Rattle.krieg_claims.specs.Written as written
 use Rattle.krieg_claims.specs.Walks.{behind_try}
 use Rattle.krieg_game.specs.Chess.{chess}
 use Rattle.krieg_game.proofs.ChessLaws.{chess_is_game}
-use Rattle.krieg_table.specs.Interned.{set_at}
+use Rattle.krieg_table.specs.Interned.{Interned, set_at}
 use Rattle.krieg_search.proofs.Building.{adds_nothing, adds_then, still_paid}
 use Rattle.krieg_refute.specs.Refutations.{why_of, reason_of}
 use Rattle.krieg_refute.specs.declared.refutation.Reason.{Reason}
@@ -22,28 +22,17 @@ use Rattle.krieg_claims.specs.Walks.{WalksTries}
 use Rattle.krieg_claims.proofs.Walking.{walks_there}
 use Rattle.krieg_refute.specs.declared.claiming.Asked.{Asked}
 use Rattle.krieg_refute.specs.contracts.claiming.AskedPartialEq.TheImpl as derived_eq
-use Rattle.krieg_costs.specs.Cost.{made}
-use Rattle.krieg_claims.proofs.StoredLosses.{loss_paid}
-use Rattle.krieg_refute.specs.Claiming.{IsLost}
 use Rattle.krieg_refute.proofs.Places.{absent, place_at, same_asked}
 use Rattle.krieg_refute.proofs.Carrying.{carried, set_large, tries_large, pushed, next_is}
 use Rattle.krieg_refute.specs.Claiming.{Claims, Reasons, Blocks}
 use Rattle.krieg_accounts.proofs.Tables.{result_can}
 use Rattle.krieg_table.specs.Entries.{entries}
-use Rattle.std.proofs.Common.{Err, is_some}
+use Rattle.std.proofs.Common.{Ok, Err, is_some}
 use Rattle.std.proofs.lemmas.Bool.{and_from, eq-eqb}
-use Rattle.std.proofs.Common.{Ok, find, ◌*◌}
-use Rattle.krieg_theory.proofs.Steps.{refused_lt}
+use Rattle.std.proofs.Common.{◌*◌}
 use Rattle.krieg_theory.specs.Split.{refused}
-use Rattle.krieg_costs.specs.Refutation.{ByClass, ByRefused}
-use Rattle.krieg_game.specs.Classes.{class_pair}
-use Rattle.krieg_search.specs.declared.left.Left.{Left}
-use Rattle.krieg_search.specs.Leaving.{IsLeft}
-use Rattle.krieg_search.specs.Opened.{AddsSets}
-use Rattle.krieg_refute.specs.declared.refutation.Why.TheVariants.{Class, Refused}
-use Rattle.krieg_refute.specs.declared.claiming.LostClass.{LostClass}
-use Rattle.krieg_refute.specs.Claiming.{IsFirstLost}
-use Rattle.krieg_refute.proofs.Blocking.{IsBlockedBy, class_at, refused_at, fails_blocks, still_claimed, blocked, blocked_large}
+use Rattle.krieg_refute.specs.Blocking.{reason_by}
+use Rattle.krieg_refute.proofs.Blocking.{fails_blocks, still_claimed, blocked, blocked_large}
 use Rattle.krieg_refute.proofs.claiming.+claim.Goals as goal
 
 pub claim-returns-in-Some : goal.claim-returns-in-Some
@@ -167,154 +156,46 @@ reasons_for-loop-mv-preserved t c =
       reasons = ap (map reason_of) pushed ∙ reasons_more d qs qs1 qs2 B j c.requires.some c.args.tries.now c.loop-mv.mv-index m c.loop-mv-test.true c.mv-item.is inv.walked more r.1.stands has c.loop-mv.reasons.items new refl why inv.reasons;
     }
 
-pub why-left_again-requires-clause-paid : goal.why-left_again-requires-clause-paid
-why-left_again-requires-clause-paid t c =
-    let d = c.args.d in
-    let T = c.args.table.now in
-    let B = set_at T c.args.set in
-    let j = c.args.moves in
-    let some = c.requires.some in
-    let before : Rattle.std.proofs.Common.suc (j - 1) ≡ j = omega arith in
-    let lost = subst (λ (i : ℕ). IsLost T B i) (sym before) c.requires.lost in
-    let a = loss_paid (chess d) (chess_is_game d) (entries T) c.requires.paid.ready.sound B (j - 1) lost c.args.mv c.requires.legal in
-    let b = c.requires.paid.paid in
-    let fits : made (chess d) B c.args.mv < 2 ^ 64 = omega arith in
-    subst (λ (X : List Pos). made (chess d) X c.args.mv < 2 ^ 64) (sym c.belief.ensures) fits
-
 pub why-returns-in_default : goal.why-returns-in_default
 why-returns-in_default t c =
     let d = c.args.d in
-    let T0 = c.args.table.now in
-    let B = set_at T0 c.args.set in
-    let j = c.args.moves in
-    let mv = c.args.mv in
-    let w0 = c.args.claimed.now in
-    let ready = c.requires.paid.ready in
-    let f = subst (λ (o : Option Left). IsLeft d c.belief.result.now mv j o) c.in_default.is c.in_ok-classes.ensures in
-    fails_blocks d T0 B c.belief.result.now mv j c.requires.some c.belief.ensures ready c.requires.lost c.requires.legal w0 c.at_once.result f c.requires.claimed c.at_once.ensures
+    let T = c.args.table.now in
+    let w = c.args.claimed.now in
+    let B = set_at T c.args.set in
+    let h = rw c.in_default.is at c.in_ok-block.ensures in
+    subst (λ (T' : Interned). Blocks d (Ok c.at_once.result) B c.args.moves c.args.mv T T' w w) (sym h.1)
+    (fails_blocks d T B B c.args.mv c.args.moves c.requires.some refl c.requires.paid.ready c.requires.lost c.requires.legal w c.at_once.result h.0 c.requires.claimed c.at_once.ensures)
 
 pub why-claim-requires : goal.why-claim-requires
 why-claim-requires t c =
-    let d = c.args.d in
     let T0 = c.args.table.now in
-    let B = set_at T0 c.args.set in
-    let j = c.args.moves in
-    let mv = c.args.mv in
-    let w0 = c.args.claimed.now in
-    let ready = c.requires.paid.ready in
-    let l = c.in-Some.field-0 in
-    let a = subst (λ (o : Option Left). IsLeft d c.belief.result.now mv j o) c.in-Some.is c.in_ok-classes.ensures in
-    let T1 = c.first_lost.new.table in
-    let x = c.in-Some-2.lost in
-    let h = subst (λ (o : Option LostClass). IsFirstLost T0 T1 (map class_pair l.classes.items) (j - 1) o) c.in-Some-2.is c.in_ok-lost.ensures in
-    let X = set_at T1 x.set in
-    let b = class_at d T0 B c.belief.result.now mv j c.requires.some c.belief.ensures ready c.requires.lost c.requires.legal l a (x.own, x.reply) X h.first in
-    let small = h.sets.counted x.set in
-    let some = c.requires.some in
+    let T1 = c.block_of.new.table in
+    let block = c.in-Some.block in
+    let h = rw c.in-Some.is at c.in_ok-block.ensures in
+    let less = h.less in
     let noted = h.sets.noted in
-    (omega arith, (b.number, (h.within, (b.some, (still_paid d T0 T1 h.sets c.requires.paid, ((λ i. stored position_lt (noted i) (X, j - 1)) ∙ b.lost, still_claimed d T0 T1 w0 h.sets c.requires.claimed))))))
+    (omega arith, (h.blocked.number, (h.within, (h.blocked.some, (still_paid c.args.d T0 T1 h.sets c.requires.paid, ((λ i. stored position_lt (noted i) (set_at T1 block.set, block.moves)) ∙ h.blocked.lost, still_claimed c.args.d T0 T1 c.args.claimed.now h.sets c.requires.claimed))))))
 
 pub why-returns-in_err-place : goal.why-returns-in_err-place
 why-returns-in_err-place t c =
     let d = c.args.d in
     let T0 = c.args.table.now in
-    let B = set_at T0 c.args.set in
-    let j = c.args.moves in
-    let mv = c.args.mv in
-    let w0 = c.args.claimed.now in
-    let ready = c.requires.paid.ready in
-    let l = c.in-Some.field-0 in
-    let a = subst (λ (o : Option Left). IsLeft d c.belief.result.now mv j o) c.in-Some.is c.in_ok-classes.ensures in
-    let T1 = c.first_lost.new.table in
-    let x = c.in-Some-2.lost in
-    let h = subst (λ (o : Option LostClass). IsFirstLost T0 T1 (map class_pair l.classes.items) (j - 1) o) c.in-Some-2.is c.in_ok-lost.ensures in
-    let X = set_at T1 x.set in
-    let b = class_at d T0 B c.belief.result.now mv j c.requires.some c.belief.ensures ready c.requires.lost c.requires.legal l a (x.own, x.reply) X h.first in
+    let T1 = c.block_of.new.table in
     let T2 = c.claim.new.table in
+    let B = set_at T0 c.args.set in
+    let block = c.in-Some.block in
+    let X = set_at T1 block.set in
+    let w0 = c.args.claimed.now in
     let w1 = c.claim.new.claimed in
-    carried _ c.from_residual-in_err-place.result c.in_err-place.field-0.0 (λ e. Claims d (Err e) X (j - 1) T1 T2 w0 w1) (λ r. Blocks d r B j mv T0 T2 w0 w1)
-    (λ x h. cc) c.from_residual-in_err-place.ensures.1 (λ v. v) (blocked_large d T0 T1 T2 w0 w1 B X mv j (j - 1) (ByClass (x.own, x.reply)) b h.sets c.requires.claimed) tt c.in_err-place.ensures
-
-pub why-returns-in-Some-2 : goal.why-returns-in-Some-2
-why-returns-in-Some-2 t c =
-    let d = c.args.d in
-    let T0 = c.args.table.now in
-    let B = set_at T0 c.args.set in
-    let j = c.args.moves in
-    let mv = c.args.mv in
-    let w0 = c.args.claimed.now in
-    let ready = c.requires.paid.ready in
-    let l = c.in-Some.field-0 in
-    let a = subst (λ (o : Option Left). IsLeft d c.belief.result.now mv j o) c.in-Some.is c.in_ok-classes.ensures in
-    let T1 = c.first_lost.new.table in
-    let x = c.in-Some-2.lost in
-    let h = subst (λ (o : Option LostClass). IsFirstLost T0 T1 (map class_pair l.classes.items) (j - 1) o) c.in-Some-2.is c.in_ok-lost.ensures in
-    let X = set_at T1 x.set in
-    let b = class_at d T0 B c.belief.result.now mv j c.requires.some c.belief.ensures ready c.requires.lost c.requires.legal l a (x.own, x.reply) X h.first in
-    blocked d T0 T1 c.claim.new.table w0 c.claim.new.claimed B X mv j (j - 1) (ByClass (x.own, x.reply)) b h.sets c.requires.claimed c.in_ok-place.place (Class x.own x.reply c.in_ok-place.place) refl c.in_ok-place.ensures
-
-pub why-claim-requires-2 : goal.why-claim-requires-2
-why-claim-requires-2 t c =
-    let d = c.args.d in
-    let T0 = c.args.table.now in
-    let B = set_at T0 c.args.set in
-    let j = c.args.moves in
-    let mv = c.args.mv in
-    let w0 = c.args.claimed.now in
-    let ready = c.requires.paid.ready in
-    let l = c.in-Some.field-0 in
-    let a = subst (λ (o : Option Left). IsLeft d c.belief.result.now mv j o) c.in-Some.is c.in_ok-classes.ensures in
-    let T1 = c.first_lost.new.table in
-    let h = subst (λ (o : Option LostClass). IsFirstLost T0 T1 (map class_pair l.classes.items) (j - 1) o) c.in_default-2.is c.in_ok-lost.ensures in
-    let T2 = c.number_of.new.table in
-    let n = c.in_ok-rest.ensures in
-    let X = set_at T2 c.in_ok-rest.rest in
-    let sets : AddsSets T0 T2 = adds_then T0 T1 T2 h.0 (record { counted = n.counted; more = n.interned.more; noted = n.interned.noted }) in
-    let b = subst (λ (R : List Pos). IsBlockedBy d T0 B mv (j - 1) j (R, j) ByRefused) (sym n.interned.at) (refused_at d T0 B c.belief.result.now mv j c.requires.some c.belief.ensures ready c.requires.lost c.requires.legal l a h.1) in
-    let noted = sets.noted in
-    let less = refused_lt (chess d) (chess_is_game d) B mv c.requires.legal in
-    let same : length X ≡ length (refused (chess d) B mv) = ap length (n.interned.at ∙ a.refused_part ∙ ap (λ (Y : List Pos). refused (chess d) Y mv) c.belief.ensures) in
-    (omega arith, (c.requires.some, (n.interned.within, (b.some, (still_paid d T0 T2 sets c.requires.paid, ((λ i. stored position_lt (noted i) (X, j)) ∙ b.lost, still_claimed d T0 T2 w0 sets c.requires.claimed))))))
-
-pub why-returns-in_err-place-2 : goal.why-returns-in_err-place-2
-why-returns-in_err-place-2 t c =
-    let d = c.args.d in
-    let T0 = c.args.table.now in
-    let B = set_at T0 c.args.set in
-    let j = c.args.moves in
-    let mv = c.args.mv in
-    let w0 = c.args.claimed.now in
-    let ready = c.requires.paid.ready in
-    let l = c.in-Some.field-0 in
-    let a = subst (λ (o : Option Left). IsLeft d c.belief.result.now mv j o) c.in-Some.is c.in_ok-classes.ensures in
-    let T1 = c.first_lost.new.table in
-    let h = subst (λ (o : Option LostClass). IsFirstLost T0 T1 (map class_pair l.classes.items) (j - 1) o) c.in_default-2.is c.in_ok-lost.ensures in
-    let T2 = c.number_of.new.table in
-    let n = c.in_ok-rest.ensures in
-    let X = set_at T2 c.in_ok-rest.rest in
-    let sets : AddsSets T0 T2 = adds_then T0 T1 T2 h.0 (record { counted = n.counted; more = n.interned.more; noted = n.interned.noted }) in
-    let b = subst (λ (R : List Pos). IsBlockedBy d T0 B mv (j - 1) j (R, j) ByRefused) (sym n.interned.at) (refused_at d T0 B c.belief.result.now mv j c.requires.some c.belief.ensures ready c.requires.lost c.requires.legal l a h.1) in
-    let T3 = c.claim-2.new.table in
-    let w1 = c.claim-2.new.claimed in
-    carried _ c.from_residual-in_err-place-2.result c.in_err-place-2.field-0.0 (λ e. Claims d (Err e) X j T2 T3 w0 w1) (λ r. Blocks d r B j mv T0 T3 w0 w1)
-    (λ x h. cc) c.from_residual-in_err-place-2.ensures.1 (λ v. v) (blocked_large d T0 T2 T3 w0 w1 B X mv j j ByRefused b sets c.requires.claimed) tt c.in_err-place-2.ensures
+    let h = rw c.in-Some.is at c.in_ok-block.ensures in
+    carried _ c.from_residual-in_err-place.result c.in_err-place.field-0.0 (λ e. Claims d (Err e) X block.moves T1 T2 w0 w1) (λ r. Blocks d r B c.args.moves c.args.mv T0 T2 w0 w1)
+    (λ x h. cc) c.from_residual-in_err-place.ensures.1 (λ v. v) (blocked_large d T0 T1 T2 w0 w1 B X c.args.mv c.args.moves block.moves (reason_by block.heard) h.blocked h.sets c.requires.claimed) tt c.in_err-place.ensures
 
 pub why-returns : goal.why-returns
 why-returns t c =
-    let d = c.args.d in
     let T0 = c.args.table.now in
-    let B = set_at T0 c.args.set in
-    let j = c.args.moves in
-    let mv = c.args.mv in
-    let w0 = c.args.claimed.now in
-    let ready = c.requires.paid.ready in
-    let l = c.in-Some.field-0 in
-    let a = subst (λ (o : Option Left). IsLeft d c.belief.result.now mv j o) c.in-Some.is c.in_ok-classes.ensures in
-    let T1 = c.first_lost.new.table in
-    let h = subst (λ (o : Option LostClass). IsFirstLost T0 T1 (map class_pair l.classes.items) (j - 1) o) c.in_default-2.is c.in_ok-lost.ensures in
-    let T2 = c.number_of.new.table in
-    let n = c.in_ok-rest.ensures in
-    let X = set_at T2 c.in_ok-rest.rest in
-    let sets : AddsSets T0 T2 = adds_then T0 T1 T2 h.0 (record { counted = n.counted; more = n.interned.more; noted = n.interned.noted }) in
-    let b = subst (λ (R : List Pos). IsBlockedBy d T0 B mv (j - 1) j (R, j) ByRefused) (sym n.interned.at) (refused_at d T0 B c.belief.result.now mv j c.requires.some c.belief.ensures ready c.requires.lost c.requires.legal l a h.1) in
-    blocked d T0 T2 c.claim-2.new.table w0 c.claim-2.new.claimed B X mv j j ByRefused b sets c.requires.claimed c.in_ok-place-2.place (Refused c.in_ok-place-2.place) refl c.in_ok-place-2.ensures
+    let T1 = c.block_of.new.table in
+    let block = c.in-Some.block in
+    let h = rw c.in-Some.is at c.in_ok-block.ensures in
+    blocked c.args.d T0 T1 c.claim.new.table c.args.claimed.now c.claim.new.claimed (set_at T0 c.args.set) (set_at T1 block.set) c.args.mv c.args.moves block.moves (reason_by block.heard) h.blocked h.sets c.requires.claimed
+    c.in_ok-place.place c.reason_by.result c.reason_by.ensures c.in_ok-place.ensures

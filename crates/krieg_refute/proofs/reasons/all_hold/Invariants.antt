@@ -2,10 +2,10 @@ use Rattle.std.proofs.Common.{◌≡◌, List, map, drop}
 use Rattle.std.specs.List.{list_all}
 use Rattle.krieg_board.specs.Pos.{Pos}
 use Rattle.krieg_words.specs.declared.dialects.Dialect.{Dialect}
-use Rattle.krieg_split.specs.Parted.{IsParted}
+use Rattle.krieg_refute.specs.Tried.{IsTried}
 use Rattle.krieg_refute.specs.Refutations.{claims_of, reason_of}
 use Rattle.krieg_refute.specs.Reasons.{holds_if_own}
 use Rattle.krieg_refute.proofs.reasons.all_hold.Given as goal
 
 abbrev pub invariant-loop-r : goal.invariant-loop-r
-invariant-loop-r l = (d : Dialect) (B : List Pos) → IsParted d B l.mv l.parted → list_all (holds_if_own d (claims_of d l.before) l.fewer B l.mv) (map reason_of (drop l.r-index l.reasons)) ≡ list_all (holds_if_own d (claims_of d l.before) l.fewer B l.mv) (map reason_of l.reasons)
+invariant-loop-r l = (d : Dialect) (B : List Pos) → IsTried d l.fewer B l.mv l.tried → list_all (holds_if_own d (claims_of d l.before) l.fewer B l.mv) (map reason_of (drop l.r-index l.reasons)) ≡ list_all (holds_if_own d (claims_of d l.before) l.fewer B l.mv) (map reason_of l.reasons)

@@ -5,13 +5,14 @@ use Rattle.krieg_board.specs.declared.limits.TheConstants.{MOST_UNITS}
 use Rattle.krieg_words.specs.declared.dialects.Dialect.TheVariants.{Wild16}
 use Rattle.krieg_cli.specs.Parts.{Decides}
 use Rattle.krieg_cli.specs.Job.{Plans, found_lines}
-use Rattle.krieg_cli.proofs.Jobs.{turns, search_stopped}
+use Rattle.krieg_cli.proofs.BestFiles.{one_turn_of}
+use Rattle.krieg_cli.proofs.Jobs.{search_stopped}
 use Rattle.krieg_cli.proofs.Searching.{stop_told}
 use Rattle.krieg_cli.proofs.commands.job.found.Goals as goal
 use Rattle.krieg_cli.specs.declared.commands.job.TheConstants.{JOB_MOVES}
 
 pub solve-requires-clause-turn : goal.solve-requires-clause-turn
-solve-requires-clause-turn c = turns White c.args.set.now c.requires
+solve-requires-clause-turn c = one_turn_of White White c.args.set.now c.requires
 
 pub returns-in_err-answer : goal.returns-in_err-answer
 returns-in_err-answer c =

@@ -14,7 +14,7 @@ use Rattle.krieg_cli.proofs.Searching.{stop_told}
 use Rattle.krieg_cli.proofs.commands.solve.searched.Goals as goal
 
 pub solve-requires-clause-turn : goal.solve-requires-clause-turn
-solve-requires-clause-turn c = one_turn_of c.args.who c.args.set.now c.requires.hand c.requires.some
+solve-requires-clause-turn c = one_turn_of c.args.who c.args.who c.args.set.now c.requires.hand
 
 pub returns-in_err-worst : goal.returns-in_err-worst
 returns-in_err-worst c =

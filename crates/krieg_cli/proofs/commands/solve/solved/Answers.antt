@@ -1,20 +1,17 @@
-use Rattle.std.proofs.Common.{rules, ◌≡◌, [], false, sym, subst, ◌∙◌, arith}
-use Rattle.krieg_theory.specs.Sets.{is_nil}
-use Rattle.krieg_belief.specs.Possible.{IsPossible}
-use Rattle.krieg_cli.proofs.Searching.{few_possible, asked}
+use Rattle.std.proofs.Common.{sym, ◌∙◌, arith}
+use Rattle.krieg_sheet.specs.Turns.{is_over}
+use Rattle.krieg_cli.specs.Solve.{Searched}
+use Rattle.krieg_cli.proofs.Asking.{given, asked}
+use Rattle.krieg_cli.proofs.Searching.{few_possible, later}
 use Rattle.krieg_cli.proofs.commands.solve.solved.Goals as goal
 
-pub returns-then-is_empty : goal.returns-then-is_empty
-returns-then-is_empty c =
-    let none : c.in_ok-set.set ≡ [] = search rules in
-    (subst (IsPossible c.args.sheet.now) none c.in_ok-set.ensures.value, c.in_ok-set.ensures.within)
-
 pub searched-requires-clause-few : goal.searched-requires-clause-few
-searched-requires-clause-few c = omega (arith, few_possible c.args.sheet.now c.args.limit c.in_ok-set.set c.in_ok-set.ensures.within c.in_ok-set.ensures.value, c.requires.few)
+searched-requires-clause-few c =
+    let leaves = (given c.args.limit c.args.sheet.now c.is_over.result c.in_ok-set.set c.in_ok-set.ensures.set).0 in
+    omega (arith, few_possible c.args.sheet.now c.args.limit c.in_ok-set.set leaves.within leaves.possible, c.requires.few)
 
 pub returns : goal.returns
 returns c =
-    let some : is_nil c.in_ok-set.set ≡ false = search rules in
-    asked c.args.moves c.args.budget c.args.limit c.args.sheet.now c.in_ok-set.set
-    (record { possible = c.in_ok-set.ensures.value; within = c.in_ok-set.ensures.within; some = some; goes_on = sym c.is_over.ensures.value ∙ c.if-is_over.false })
+    let is = given c.args.limit c.args.sheet.now c.is_over.result c.in_ok-set.set c.in_ok-set.ensures.set in
+    asked c.args.limit c.args.sheet.now (is_over c.args.sheet.now) (λ d who S. Searched d who S c.args.moves c.args.budget) (later c.args.moves c.args.budget) c.in_ok-set.set is.0 (sym c.is_over.ensures.value ∙ is.1)
     (λ answer. answer.items) c.searched.result c.dialect.result c.side.result c.dialect.ensures.value c.side.ensures.value c.searched.ensures

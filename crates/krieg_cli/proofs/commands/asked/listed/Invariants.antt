@@ -1,7 +1,7 @@
 use Rattle.std.proofs.Common.{◌≡◌, take}
 use Rattle.std.specs.List.{All}
 use Rattle.krieg_board.specs.Validity.{IsValid}
-use Rattle.krieg_cli.proofs.commands.solve.listed.Given as goal
+use Rattle.krieg_cli.proofs.commands.asked.listed.Given as goal
 
 -- the members so far
 abbrev pub invariant-loop-i : goal.invariant-loop-i

@@ -6,7 +6,7 @@ use Rattle.krieg_game.specs.declared.classes.Class.{Class}
 use Rattle.krieg_refute.specs.Refutations.{why_of, claims_of}
 use Rattle.krieg_refute.specs.Reasons.{class_in}
 use Rattle.krieg_refute.proofs.Holding.{class_holds}
-use Rattle.krieg_refute.proofs.reasons.holds.Goals as goal
+use Rattle.krieg_refute.proofs.reasons.holds_by_parts.Goals as goal
 
 pub returns-then-fewer-gt0 : goal.returns-then-fewer-gt0
 returns-then-fewer-gt0 c = λ d B t q.

@@ -1,0 +1,169 @@
+-- What a search for claims finds, as the answer to a sheet.
+use Rattle.std.proofs.Common.{Vec, Global, ◌≡◌, ℕ, ◌≤◌, Bool, true, false, not, List, [], ◌∷◌, ◌++◌, length, map, Ok, Err, refl, sym, ap, subst, inl, ◌∙◌, arith}
+use Rattle.std.specs.Prelude.{◌||◌}
+use Rattle.std.specs.List.{All}
+use Rattle.std.proofs.lemmas.List.{length-map}
+use Rattle.std.proofs.lemmas.Bool.{both_ways, and_parts, and_from, false_from_ne_true}
+use Rattle.krieg_board.specs.Men.{is_same_side}
+use Rattle.krieg_board.specs.Pos.{Pos}
+use Rattle.krieg_board.specs.Validity.{IsValid}
+use Rattle.krieg_board.specs.declared.men.Side.{Side}
+use Rattle.krieg_board.specs.declared.limits.TheConstants.{MOST_MOVES}
+use Rattle.krieg_board.proofs.MenLemmas.{same_side_eq}
+use Rattle.krieg_text.specs.Lines.{lines}
+use Rattle.krieg_text.specs.Reading.{whole}
+use Rattle.krieg_sheet.specs.Sheets.{SheetState}
+use Rattle.krieg_sheet.specs.Turns.{is_my_turn, is_over}
+use Rattle.krieg_cli.specs.Asked.{has_no_turn}
+use Rattle.krieg_fen.specs.declared.forms.TheConstants.{MOST_LISTED}
+use Rattle.krieg_words.specs.declared.dialects.Dialect.{Dialect}
+use Rattle.krieg_theory.specs.Sets.{is_nil}
+use Rattle.krieg_theory.specs.Plans.{can_plan}
+use Rattle.krieg_theory.proofs.Lists.{all_from}
+use Rattle.krieg_theory.proofs.Planned.{mates_shows}
+use Rattle.krieg_game.proofs.ChessLaws.{chess_is_game, outset_is_lawful}
+use Rattle.krieg_costs.specs.Refutation as theory
+use Rattle.krieg_game.specs.Chess.{chess}
+use Rattle.krieg_game.specs.Outset.{outset}
+use Rattle.krieg_belief.specs.Possible.{HaveOneHand}
+use Rattle.krieg_split.specs.Turns.{IsOwnTurn}
+use Rattle.krieg_refute.specs.Refuted.{side_of, IsOneSide, IsDenial, IsMated, IsDenied, IsTaken}
+use Rattle.krieg_refute.specs.declared.refutation.Claim.{Claim}
+use Rattle.krieg_refute.specs.declared.stop.RefuteStop.{RefuteStop}
+use Rattle.krieg_refute.specs.declared.stop.RefuteStop.TheVariants as stop
+use Rattle.krieg_refute.specs.declared.refuting.Denied.TheVariants.{Denial, Exists}
+use Rattle.krieg_refute.specs.Refutations.{most_claims, most_claimed}
+use Rattle.krieg_refutefile.specs.Refutations.{RefutationState, claim_state_of, is_refutation, claim_from}
+use Rattle.krieg_refutefile.specs.Writable.{CanBeWritten, IsTurnOf}
+use Rattle.krieg_refutefile.specs.RefutationFormat.{refutation_at}
+use Rattle.krieg_refutefile.specs.RefutationText.{refutation_text}
+use Rattle.krieg_refutefile.proofs.Agreeing.{states_from, claims_again, positions_same, reasons_same}
+use Rattle.krieg_claims.specs.Sizes.{AreFew}
+use Rattle.krieg_claims.specs.Written.{denial}
+use Rattle.krieg_search.specs.Decided.{IsBetween}
+use Rattle.krieg_cli.specs.Solve.{NoneMates}
+use Rattle.krieg_cli.specs.declared.refusal.Refusal.TheVariants.{PlanExists}
+use Rattle.krieg_cli.specs.Parts.{of_refute, Decides}
+use Rattle.krieg_cli.specs.Refute.{denial_file, IsDenialText, Claimed}
+use Rattle.krieg_cli.proofs.BestFiles.{valid_of, some_length, alike, one_turn_of}
+use Rattle.krieg_cli.proofs.ClaimedSets.{denial_written}
+use Rattle.krieg_cli.proofs.ToldClaims.{told_claims}
+use Rattle.krieg_cli.proofs.Asking.{IsLater}
+
+-- ---- whose turn it is
+
+pub one_side_of : (who : Side) (S : List Pos) → HaveOneHand who S → IsOneSide S
+one_side_of who S hand w = one_turn_of who w S hand
+
+pub side_is : (who : Side) (S : List Pos) → is_nil S ≡ false → IsOwnTurn who S → side_of S ≡ who
+side_is who [] some own = absurd (both_ways true some refl)
+side_is who (p ∷ S) some own = same_side_eq p.side who (own p (inl refl))
+
+-- a player who has a turn is to move
+pub is_to_move : (s : SheetState) → has_no_turn s ≡ false → is_my_turn s ≡ true
+is_to_move s h = go (is_over s) (is_my_turn s) h
+  where
+    go : (over mine : Bool) → (over || not mine) ≡ false → mine ≡ true
+    go true mine h = absurd (both_ways true h refl)
+    go false true h = refl
+    go false false h = absurd (both_ways true h refl)
+
+-- ---- the file
+
+turn_of : (who : Side) (S : List Pos) → IsOwnTurn who S → IsTurnOf who S
+turn_of who [] own = tt
+turn_of who (p ∷ S) own = own p (inl refl)
+
+module _ (d : Dialect) (who : Side) (S : List Pos) (n : ℕ) (cs : List Claim) (found : IsDenial d who S n cs) where
+  abbrev claims : List (theory.Claim (chess d))
+  claims = denial (chess d) (outset d who) n S
+
+  abbrev found_file : List Pos → RefutationState
+  found_file L = record { dialect = d; side = who; moves = n; list = L; claims = map claim_state_of cs }
+
+  -- a file of the claims that were found is the file of the sheet
+  pub file_is : (L : List Pos) → L ≡ S → found_file L ≡ denial_file d who S n
+  file_is L e = λ i. record { dialect = d; side = who; moves = n; list = e i; claims = (sym (states_from d cs) ∙ ap (λ (xs : List (theory.Claim (chess d))). map (claim_from d) xs) found.claims_part) i }
+
+  holds : theory.refutes (chess d) (outset d who) n S claims ≡ true
+  holds = subst (λ (xs : List (theory.Claim (chess d))). theory.refutes (chess d) (outset d who) n S xs ≡ true) found.claims_part found.refute
+
+  few : AreFew (chess d) most_claims most_claimed claims
+  few = subst (AreFew (chess d) most_claims most_claimed) found.claims_part found.few
+
+  -- it is a refutation
+  pub file_refutes : IsOwnTurn who S → is_refutation (denial_file d who S n) ≡ true
+  file_refutes own =
+      and_from _ _ (all_from (λ p. is_same_side p.side who) S own)
+      (subst (λ (xs : List (theory.Claim (chess d))). theory.refutes (chess d) (outset d who) n S xs ≡ true) (sym (claims_again d claims)) holds)
+
+  -- its text is the answer
+  pub text_told : (L : List Pos) (old answer : List ℕ) → L ≡ S → IsOwnTurn who S → old ≡ [] → answer ≡ old ++ refutation_text (found_file L) → whole refutation_at (lines (refutation_text (found_file L))) ≡ Ok (found_file L) → IsDenialText d who S n answer
+  text_told L old answer same own empty is again =
+      let e = file_is L same in
+      let text : answer ≡ refutation_text (denial_file d who S n) = is ∙ ap (λ (t : List ℕ). t ++ refutation_text (found_file L)) empty ∙ ap refutation_text e in
+      record {
+        text = text;
+        again = ap (λ (t : List ℕ). whole refutation_at (lines t)) text ∙ subst (λ (f : RefutationState). whole refutation_at (lines (refutation_text f)) ≡ Ok f) e again;
+        refutes = file_refutes own;
+        none_mates = found.no_plan;
+      }
+
+  -- and it can be written
+  pub can_be_written : is_nil S ≡ false → length S ≤ MOST_LISTED → HaveOneHand who S → All IsValid S → IsOwnTurn who S → 1 ≤ n → n ≤ MOST_MOVES → CanBeWritten (denial_file d who S n)
+  can_be_written some listed hand valid own least most =
+      let claimed = and_parts (theory.claims_hold (chess d) [] claims) (theory.denies (chess d) (outset d who) n S (theory.last_of claims)) holds in
+      let last = some_claim claims claimed.1 in
+      let size = length-map claims (claim_from d) in
+      let positions = positions_same d claims in
+      let reasons = reasons_same d claims in
+      record {
+        least_moves = least;
+        most_moves = most;
+        some_listed = some_length S some;
+        few_listed = listed;
+        valid = valid;
+        turn = turn_of who S own;
+        alike = alike who S hand;
+        some_claims = omega (arith, last, size);
+        few_claims = omega (arith, few.claims, size);
+        few_positions = omega (arith, few.positions, positions);
+        few_reasons = omega (arith, few.reasons, reasons);
+        told = told_claims d [] claims 1 (omega arith) (λ c i. absurd i) (denial_written d who S n (valid_of S valid) own most) claimed.0;
+      }
+    where
+      some_claim : (xs : List (theory.Claim (chess d))) → theory.denies (chess d) (outset d who) n S (theory.last_of xs) ≡ true → 1 ≤ length xs
+      some_claim [] h = absurd (both_ways false refl h)
+      some_claim (x ∷ xs) h = omega arith
+
+-- ---- the answer
+
+pub later : (n budget : ℕ) → IsLater (λ d who S. Claimed d who S n budget)
+later n budget = record { many = λ d who S line h. h; none = λ d who S h. h; turn = λ d who S h. h }
+
+none_mates : (d : Dialect) (who : Side) (S : List Pos) (n : ℕ) → can_plan (chess d) (outset d who) n S ≡ false → NoneMates d who S n
+none_mates d who S n cannot plan =
+    false_from_ne_true _ (λ m. both_ways _ cannot (mates_shows (chess d) (chess_is_game d) (outset d who) (outset_is_lawful d who) plan S n m))
+
+module _ (d : Dialect) (who : Side) (S : List Pos) (n budget start left : ℕ) (same : start ≡ budget) (side : side_of S ≡ who) where
+  -- what a search without an answer tells
+  pub stop_told : {X : Type 0} (view : X → List ℕ) (e : RefuteStop) → IsDenied d (side_of S) S n (Err e) → IsTaken d (side_of S) S n (Err e) start left → Decides view (Err (of_refute e)) (Claimed d who S n budget)
+  stop_told {X = X} view e found taken = by e (subst (λ (w : Side). IsDenied d w S n (Err e)) side found) (subst (λ (w : Side). IsTaken d w S n (Err e) start left) side taken)
+    where
+      by : (e : RefuteStop) → IsDenied d who S n (Err e) → IsTaken d who S n (Err e) start left → Decides view (Err (of_refute e)) (Claimed d who S n budget)
+      by stop.Spent found taken = omega (arith, same, taken.0)
+      by stop.Large found taken = (none_mates d who S n found.cannot, found.many)
+      by stop.NoMemory found taken = tt
+
+  -- that a plan mates
+  pub exists_told : IsDenied d (side_of S) S n (Ok Exists) → IsTaken d (side_of S) S n (Ok Exists) start left → Claimed d who S n budget (Err PlanExists)
+  exists_told found taken =
+      let mated : IsMated d who S n = subst (λ (w : Side). IsMated d w S n) side found in
+      let paid : IsBetween d who S n start left = subst (λ (w : Side). IsBetween d w S n start left) side taken.1 in
+      (omega (arith, same, paid.at_least), (mated.plan, mated.mates_all))
+
+  -- the text of the claims
+  pub claims_told : (cs : Vec Claim Global) (answer : List ℕ) → IsTaken d (side_of S) S n (Ok (Denial cs)) start left → IsDenialText d who S n answer → Claimed d who S n budget (Ok answer)
+  claims_told cs answer taken text =
+      let paid : IsBetween d who S n start left = subst (λ (w : Side). IsBetween d w S n start left) side taken.1 in
+      (omega (arith, same, paid.at_least), text)

@@ -1,0 +1,58 @@
+-- In each position that is consistent with a sheet it is the turn of the side whose turn it is by the sheet.
+use Rattle.std.proofs.Common.{◌≡◌, true, List, [], ◌∷◌, None, refl, sym, ap, subst, ◌∙◌, arith}
+use Rattle.std.specs.List.{Contains}
+use Rattle.std.proofs.lemmas.List.Elements.{All-nil}
+use Rattle.krieg_board.specs.Men.{is_same_side}
+use Rattle.krieg_board.specs.Pos.{Pos}
+use Rattle.krieg_board.specs.declared.men.Side.{Side}
+use Rattle.krieg_board.specs.declared.men.Move.{Move}
+use Rattle.krieg_moves.proofs.Hands.{same_hand_alike}
+use Rattle.krieg_moves.proofs.Turns.{side_after}
+use Rattle.krieg_words.specs.declared.dialects.Dialect.{Dialect}
+use Rattle.krieg_words.specs.declared.line.Line.{Line}
+use Rattle.krieg_words.specs.declared.line.Line.TheVariants.{Opens, Illegal, Done, Heard, Early, Over}
+use Rattle.krieg_theory.specs.Sets.{In}
+use Rattle.krieg_sheet.specs.Sheets.{SheetState, new_sheet}
+use Rattle.krieg_sheet.specs.Games.{Gives, Consistent}
+use Rattle.krieg_sheet.specs.Places.{IsSheet, IsTold}
+use Rattle.krieg_sheet.specs.Turns.{first_turn, turn_behind, turn_of, is_my_turn}
+use Rattle.krieg_sheet.proofs.OneHand.{one_hand}
+use Rattle.krieg_belief.specs.Possible.{IsPossible}
+use Rattle.krieg_split.specs.Turns.{IsOwnTurn}
+
+-- each done move passes the turn
+turn_given : (d : Dialect) (ls : List Line) (who : Side) (p : Pos) (rs : List Move) (q : Pos) → Gives d p ls who rs q → q.side ≡ turn_behind p.side ls
+turn_given d [] who p rs q g = ap (λ (x : Pos). x.side) g.1
+turn_given d (Illegal m ∷ ls) who p rs q g = turn_given d ls who p rs q g.3
+turn_given d (Done m w ∷ ls) who p rs q g = turn_given d ls who _ rs q g.3 ∙ ap (λ (t : Side). turn_behind t ls) (side_after p m g.1)
+turn_given d (Early m ∷ ls) who p rs q g = turn_given d ls who p rs q g.2
+turn_given d (Over m ∷ ls) who p rs q g = turn_given d ls who p rs q g.1
+turn_given d (Heard w ∷ ls) who p [] q g = absurd g
+turn_given d (Heard w ∷ ls) who p (r ∷ rs) q g = turn_given d ls who _ rs q g.3 ∙ ap (λ (t : Side). turn_behind t ls) (side_after p r g.1)
+turn_given d (Opens w ∷ ls) who p rs q g = absurd g
+
+-- the list alone as a sheet
+list_alone : (s : SheetState) → IsSheet s → IsSheet (new_sheet s.dialect s.side s.list None)
+list_alone s sheet = record { listed = sheet.listed; valid = sheet.valid; fits = tt; opening = tt; told = All-nil (IsTold s.dialect); in_place = refl }
+
+-- in each listed position it is the same turn
+turn_listed : (s : SheetState) → IsSheet s → (p : Pos) → Contains s.list p → p.side ≡ first_turn s.list
+turn_listed s sheet p at = go s.list refl at
+  where
+    alone : (q : Pos) → Contains s.list q → Consistent (new_sheet s.dialect s.side s.list None) q
+    alone q at = record { start = q; replies = []; is_listed = at; opens = tt; gives = (refl, refl) }
+
+    go : (list : List Pos) → s.list ≡ list → Contains list p → p.side ≡ first_turn list
+    go [] e at = absurd cc
+    go (first ∷ ps) e at =
+        (same_hand_alike s.side p first (one_hand (new_sheet s.dialect s.side s.list None) (list_alone s sheet) p first (alone p (subst (λ (l : List Pos). Contains l p) (sym e) at))
+        (alone first (subst (λ (l : List Pos). Contains l first) (sym e) (0, omega arith, refl))))).turn
+
+pub turn_possible : (s : SheetState) (S : List Pos) → IsSheet s → IsPossible s S → (p : Pos) → In p S → p.side ≡ turn_of s
+turn_possible s S sheet possible p at =
+    let c = (possible.exact p).0 at in
+    turn_given s.dialect s.entries s.side c.start c.replies p c.gives ∙ ap (λ (t : Side). turn_behind t s.entries) (turn_listed s sheet c.start c.is_listed)
+
+-- at the player's turn by the sheet he is to move in all that is possible
+pub own_turn : (s : SheetState) (S : List Pos) → IsSheet s → IsPossible s S → is_my_turn s ≡ true → IsOwnTurn s.side S
+own_turn s S sheet possible mine p at = ap (λ (t : Side). is_same_side t s.side) (turn_possible s S sheet possible p at) ∙ mine

@@ -1,0 +1,91 @@
+-- A run of `refute` that answers writes a refutation, and one like those is judged by `deny` with its number of moves.
+use Rattle.std.proofs.Common.{◌≡◌, ℕ, List, Option, Some, Result, Ok, Err, refl, sym, ap, subst, ◌∙◌, arith}
+use Rattle.std.proofs.lemmas.Bool.{both_ways}
+use Rattle.std.specs.Io.KnownBytes.{Appends}
+use Rattle.krieg_board.specs.Pos.{Pos}
+use Rattle.krieg_text.specs.Lines.{lines}
+use Rattle.krieg_text.specs.Reading.{whole}
+use Rattle.krieg_text.specs.declared.fault.TextFault.{TextFault}
+use Rattle.krieg_text.specs.declared.fault.TextFault.TheVariants as fault
+use Rattle.krieg_sheet.specs.Sheets.{SheetState}
+use Rattle.krieg_sheet.specs.SheetReading.{sheet_at}
+use Rattle.krieg_refutefile.specs.Refutations.{RefutationState}
+use Rattle.krieg_refutefile.specs.RefutationFormat.{refutation_at}
+use Rattle.krieg_args.specs.declared.command.Command.{Command}
+use Rattle.krieg_args.specs.declared.command.Command.TheVariants.{Refute, Deny}
+use Rattle.krieg_cli.specs.World.{World}
+use Rattle.krieg_cli.specs.Input.{WasRead}
+use Rattle.krieg_cli.specs.Refusal.{OfText}
+use Rattle.krieg_cli.specs.Ending.{status}
+use Rattle.krieg_cli.specs.Refute.{IsDenialText, Refuted}
+use Rattle.krieg_cli.specs.Deny.{Judged}
+use Rattle.krieg_cli.specs.Headline.{HasSheet}
+use Rattle.krieg_cli.specs.Outcome.{LiveOutcome}
+use Rattle.krieg_cli.specs.Top.{ComesTo, Answers, Ends, Runs}
+use Rattle.krieg_cli.specs.WholeRefutations.{IsRefutation, sheet_file, WritesRefutation, RefutesSheets, EndsOnRefutation, DeniesRefutations}
+use Rattle.krieg_cli.specs.declared.refusal.Refusal.{Refusal}
+use Rattle.krieg_cli.specs.declared.refusal.Refusal.TheVariants.{BudgetSpent, RefutationFails}
+use Rattle.krieg_cli.specs.declared.ending.Ending.{Ending}
+use Rattle.krieg_cli.specs.declared.ending.Ending.TheVariants as ending
+use Rattle.krieg_cli.proofs.WholeGames.{answered, text_read, given_le}
+
+-- ---- refute
+
+-- what is told is what is written
+told : (n : ℕ) (s : SheetState) (S : List Pos) (before after : World) (answer : List ℕ) → Appends before.out.bytes after.out.bytes answer → IsDenialText s.dialect s.side S n answer →
+    WritesRefutation n s S before after
+told n s S before after answer written t = record {
+  refutation = record { read = subst (λ text. whole refutation_at (lines text) ≡ Ok (sheet_file n s S)) t.text t.again; holds = t.refutes };
+  none_mates = t.none_mates;
+  written = subst (Appends before.out.bytes after.out.bytes) t.text written;
+}
+
+abbrev Keeps : ℕ → World → World → Type 0
+Keeps n before after = (s : SheetState) × (S : List Pos) × HasSheet s S before after × WritesRefutation n s S before after
+
+of_text : (n budget limit : ℕ) (before after : World) (text answer : List ℕ) (r : Result SheetState TextFault) → whole sheet_at (lines text) ≡ r → WasRead before.input after.input text →
+    Appends before.out.bytes after.out.bytes answer → OfText r (Refuted n budget limit) (Ok answer) → Keeps n before after
+of_text n budget limit before after text answer (Ok s) is read written (S, leaves, goes, claimed) =
+    (s, S, record { text = text; was_read = read; spelled = is; possible = leaves.possible; some = leaves.some }, told n s S before after answer written claimed.1)
+of_text n budget limit before after text answer (Err (fault.At line kind)) is read written e = absurd cc
+of_text n budget limit before after text answer (Err fault.NoMemory) is read written e = absurd e
+
+kept : (plays : LiveOutcome) (n budget limit : ℕ) (before after : World) → Answers plays (Refute n budget limit) before after → Keeps n before after
+kept plays n budget limit before after (answer, (text, read, comes), written, no_fault) =
+    of_text n budget limit before after text answer (whole sheet_at (lines text)) refl read written comes
+
+pub refutes_sheets : (plays : LiveOutcome) (e : Ending) (asked : Option Command) (before after : World) (code : ℕ) → Runs plays e asked before after → code ≡ status e → RefutesSheets asked code before after
+refutes_sheets plays e asked before after code runs is n budget limit words zero =
+    let done = answered e (sym is ∙ zero) in
+    kept plays n budget limit before after (subst (λ x. Ends plays x (Refute n budget limit) before after) done (subst (λ x. Runs plays e x before after) words runs))
+
+-- ---- deny
+
+-- what `deny` comes to on that text
+judged : (plays : LiveOutcome) (budget : ℕ) (f : RefutationState) (text : List ℕ) (before after : World) (outcome : Result (List ℕ) Refusal) → IsRefutation f text → before.input.bytes ≡ Some text →
+    ComesTo plays (Deny budget) before after outcome → Judged budget f outcome
+judged plays budget f text before after outcome refutation holds (read, was, made) =
+    subst (λ r. OfText r (Judged budget) outcome) (ap (λ t. whole refutation_at (lines t)) (text_read before.input after.input text read holds was) ∙ refutation.read) made
+
+refused : (r : Refusal) (budget : ℕ) (f : RefutationState) (text : List ℕ) (before after : World) → IsRefutation f text → Judged budget f (Err r) → EndsOnRefutation (ending.Refused r) budget f text before after
+refused BudgetSpent budget f text before after refutation h = h
+refused RefutationFails budget f text before after refutation h = both_ways _ h.1 refutation.holds
+refused _ budget f text before after refutation h = h
+
+ends_on_refutation : (plays : LiveOutcome) (e : Ending) (budget : ℕ) (f : RefutationState) (text : List ℕ) (before after : World) → IsRefutation f text → before.input.bytes ≡ Some text →
+    Ends plays e (Deny budget) before after → EndsOnRefutation e budget f text before after
+ends_on_refutation plays ending.Answered budget f text before after refutation holds (answer, comes, written, kept) =
+    let is = judged plays budget f text before after (Ok answer) refutation holds comes in
+    (subst (Appends before.out.bytes after.out.bytes) is.3 written, is.2)
+ends_on_refutation plays ending.TooLong budget f text before after refutation holds ((takes, (took, consumed, long), kept), out) =
+    omega (arith, long, given_le before.input.bytes after.input.bytes text took holds consumed)
+ends_on_refutation plays ending.ReadFault budget f text before after refutation holds ((takes, came, rose), out) = rose
+ends_on_refutation plays ending.WriteFault budget f text before after refutation holds (answer, comes, front, rose) = rose
+ends_on_refutation plays ending.NoMemory budget f text before after refutation holds e = tt
+ends_on_refutation plays (ending.Refused r) budget f text before after refutation holds e =
+    refused r budget f text before after refutation (judged plays budget f text before after (Err r) refutation holds e.0)
+ends_on_refutation plays _ budget f text before after refutation holds e = e
+
+pub denies_refutations : (plays : LiveOutcome) (e : Ending) (asked : Option Command) (before after : World) (code : ℕ) → Runs plays e asked before after → code ≡ status e → DeniesRefutations asked code before after
+denies_refutations plays e asked before after code runs ended =
+    (e, ended, λ budget f text is refutation holds. ends_on_refutation plays e budget f text before after refutation holds (subst (λ x. Runs plays e x before after) is runs))

@@ -1,0 +1,33 @@
+-- What is asked of a sheet: its possible positions, unless they are too many, or there is none, or it is not the player's turn.
+use Rattle.std.specs.Prelude.{◌≡◌, ℕ, Bool, true, false, not, ◌||◌, List, [], Result, Ok, Err}
+use Rattle.krieg_board.specs.Pos.{Pos}
+use Rattle.krieg_sheet.specs.Sheets.{SheetState}
+use Rattle.krieg_sheet.specs.Turns.{is_my_turn, is_over}
+use Rattle.krieg_belief.specs.Possible.{IsPossible}
+use Rattle.krieg_belief.specs.Limits.{AllWithin, IsFirstExcess}
+use Rattle.krieg_theory.specs.Sets.{is_nil}
+use Rattle.krieg_cli.specs.declared.refusal.Refusal.{Refusal}
+use Rattle.krieg_cli.specs.declared.refusal.Refusal.TheVariants.{TooMany, NonePossible, NotThePlayersTurn}
+
+-- The sheet leaves these positions: they are all that is possible, no part of the sheet leaves more than the limit possible, and
+-- there is one.
+pub record Leaves (limit : ℕ) (s : SheetState) (S : List Pos) : Type 0 where
+  pub possible : IsPossible s S
+  pub within : AllWithin limit s
+  pub some : is_nil S ≡ false
+
+-- the player has no turn: the game is over, or the opponent is to move
+abbrev pub has_no_turn : SheetState → Bool
+has_no_turn s = is_over s || not (is_my_turn s)
+
+-- In this order: too many positions are possible, or none, or nothing is asked (`rests`); or it is what comes of the positions.
+abbrev pub OfPossible : {A : Type 0} → ℕ → SheetState → Bool → (List Pos → Result A Refusal → Type 0) → Result A Refusal → Type 0
+OfPossible limit s rests Of (Err (TooMany line)) = IsFirstExcess s limit line
+OfPossible limit s rests Of (Err NonePossible) = IsPossible s [] × AllWithin limit s
+OfPossible limit s rests Of (Err NotThePlayersTurn) = (S : List Pos) × Leaves limit s S × (rests ≡ true)
+OfPossible limit s rests Of outcome = (S : List Pos) × Leaves limit s S × (rests ≡ false) × Of S outcome
+
+-- of the part of the work that finds the positions: it gives them
+
+abbrev pub IsGiven : List Pos → Result (List Pos) Refusal → Type 0
+IsGiven S outcome = outcome ≡ Ok S

@@ -1,0 +1,5 @@
+pub mod Lines
+pub mod Descriptions
+pub mod Readers
+pub mod Tables
+pub mod Written

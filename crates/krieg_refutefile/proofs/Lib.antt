@@ -1,0 +1,12 @@
+mod LastCuts
+mod ClaimLines
+mod ReasonLines
+mod RefutationLaws
+mod WrittenLines
+mod WrittenClaims
+mod Chains
+mod Writables
+mod Loops
+mod RefutationTexts
+pub mod Agreeing
+pub mod Sizes

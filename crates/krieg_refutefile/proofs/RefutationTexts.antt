@@ -1,0 +1,75 @@
+-- The text of a refutation spells it, and is read as it again.
+use Rattle.std.proofs.Common.{◌≡◌, true, List, [], Ok, refl, subst, arith}
+use Rattle.std.specs.Prelude.{codes}
+use Rattle.krieg_text.specs.declared.fault.TextKind.TheVariants.{Version, Count}
+use Rattle.krieg_text.specs.Lines.{lines, is_line}
+use Rattle.krieg_text.specs.Reading.{whole}
+use Rattle.krieg_text.specs.Writing.{Pieces, put_lines}
+use Rattle.krieg_fen.proofs.CleanTexts.{position_line, side_is}
+use Rattle.krieg_fen.proofs.ListSpellings.{written_spells}
+use Rattle.krieg_words.specs.Versions.{dialect_line}
+use Rattle.krieg_words.specs.declared.dialects.Dialect.{Dialect}
+use Rattle.krieg_words.specs.declared.dialects.Dialect.TheVariants.{Wild16, Anytry, Plain}
+use Rattle.krieg_format.specs.Readers.{reader}
+use Rattle.krieg_format.specs.Tables.{table}
+use Rattle.krieg_format.proofs.LeafTexts.{literal_written, number_written, tested_written, which_written, telling_written}
+use Rattle.krieg_format.proofs.Writing.{OwesText, IsWritten, text_says, text_again}
+use Rattle.krieg_refutefile.specs.Refutations.{RefutationState}
+use Rattle.krieg_refutefile.specs.RefutationFormat.{claim_format, refutation_format, refutation_at, SpellsRefutation}
+use Rattle.krieg_refutefile.specs.RefutationLines.{a_list, a_claims, a_tries, a_dialect, a_position, a_claim, a_reason, Totals}
+use Rattle.krieg_refutefile.specs.RefutationText.{refutation_text}
+use Rattle.krieg_refutefile.specs.Writable.{CanBeWritten}
+use Rattle.krieg_refutefile.proofs.ClaimLines.{claim_written}
+use Rattle.krieg_refutefile.proofs.ReasonLines.{reason_written}
+use Rattle.krieg_refutefile.proofs.RefutationLaws.{refutation_owes}
+use Rattle.krieg_refutefile.proofs.Writables.{fits_from}
+use Rattle.krieg_refutefile.proofs.WrittenLines.{lines_are}
+
+dialect_written : IsWritten a_dialect
+dialect_written d f = (refl, clean d)
+  where
+    clean : (d : Dialect) → is_line (dialect_line d) ≡ true
+    clean Wild16 = refl
+    clean Anytry = refl
+    clean Plain = refl
+
+position_written : IsWritten a_position
+position_written p valid = (written_spells p valid, position_line p)
+
+claim_writes : (d : Dialect) (s : Totals) → OwesText (claim_format d s)
+claim_writes d s = (
+  telling_written a_claim _ claim_written,
+  λ h. (
+    λ last. tested_written a_position _ position_written,
+    λ set. (telling_written a_tries _ (number_written Count (codes "tries ") 0 200000 (omega arith) refl), λ n last. tested_written (a_reason d) _ (reason_written d)),
+  ),
+)
+
+writes : OwesText refutation_format
+writes = (
+  number_written Version (codes "krieg refutation ") 1 1 (omega arith) refl,
+  λ v. (
+    which_written a_dialect dialect_written,
+    λ d. (
+      λ who f. (refl, side_is who),
+      λ who. (
+        number_written Count (codes "moves ") 1 6 (omega arith) refl,
+        λ n. (
+          which_written a_list (number_written Count (codes "list ") 1 200000 (omega arith) refl),
+          λ k. (
+            λ first. tested_written a_position _ position_written,
+            λ list. (which_written a_claims (number_written Count (codes "claims ") 1 20000 (omega arith) refl), λ c. (λ s. claim_writes d s, λ claims. literal_written (codes "end") refl)),
+          ),
+        ),
+      ),
+    ),
+  ),
+)
+
+pub spelled : (s : RefutationState) → CanBeWritten s → SpellsRefutation s (lines (refutation_text s))
+unfolding SpellsRefutation refutation_text
+spelled s w = subst (λ (ls : List Pieces). table refutation_format s (lines (put_lines [] ls))) (lines_are s) (text_says refutation_format writes s (fits_from s w))
+
+pub again : (s : RefutationState) → CanBeWritten s → whole refutation_at (lines (refutation_text s)) ≡ Ok s
+unfolding refutation_at refutation_text
+again s w = subst (λ (ls : List Pieces). whole (reader refutation_format) (lines (put_lines [] ls)) ≡ Ok s) (lines_are s) (text_again refutation_format refutation_owes writes s (fits_from s w))

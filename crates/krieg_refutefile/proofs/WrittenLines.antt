@@ -1,0 +1,38 @@
+-- The written lines are those of the description.
+use Rattle.std.proofs.Common.{◌≡◌, List, [], ◌∷◌, ◌++◌, map, length, Option, Some, None, refl, ap, ◌∙◌}
+use Rattle.std.specs.Prelude.{codes, unwrap_or}
+use Rattle.std.specs.List.{flat_map}
+use Rattle.krieg_board.specs.Pos.{Pos}
+use Rattle.krieg_board.specs.declared.men.Move.{Move}
+use Rattle.krieg_text.specs.Writing.{Pieces, alone}
+use Rattle.krieg_fen.specs.ListText.{position_line}
+use Rattle.krieg_words.specs.declared.dialects.Dialect.{Dialect}
+use Rattle.krieg_refute.specs.declared.refutation.Reason.{Reason}
+use Rattle.krieg_format.specs.Written.{each_text, written}
+use Rattle.krieg_refutefile.specs.Refutations.{ClaimState, RefutationState}
+use Rattle.krieg_refutefile.specs.RefutationFormat.{none_yet, claim_format, refutation_format}
+use Rattle.krieg_refutefile.specs.RefutationLines.{Totals, with_claim}
+use Rattle.krieg_refutefile.specs.RefutationText.{numbered, reason_line, claim_line, claim_lines, head_lines, refutation_lines}
+
+-- the text of an item rests on nothing before it
+each_is : {S A : Type 0} (item : S → A → List Pieces) (f : A → List Pieces) (next : S → A → S) → ((s : S) (x : A) → item s x ≡ f x) → (s : S) (xs : List A) → each_text item next s xs ≡ flat_map f xs
+each_is item f next same s [] = refl
+each_is item f next same s (x ∷ xs) = ap (λ (t : List Pieces). t ++ each_text item next (next s x) xs) (same s x) ∙ ap (λ (t : List Pieces). f x ++ t) (each_is item f next same (next s x) xs)
+
+-- nor does that of an item of one line
+each_line : {S A : Type 0} (f : A → Pieces) (next : S → A → S) (s : S) (xs : List A) → each_text (λ t x. f x ∷ []) next s xs ≡ map f xs
+each_line f next s [] = refl
+each_line f next s (x ∷ xs) = ap (λ (t : List Pieces). f x ∷ t) (each_line f next (next s x) xs)
+
+claim_are : (d : Dialect) (s : Totals) (c : ClaimState) → written (claim_format d s) c ≡ claim_lines d c
+claim_are d s c =
+    ap (λ (t : List Pieces). claim_line c.moves (length c.set) ∷ (t ++ (numbered (codes "tries ") (length c.reasons) ∷ each_text {S = Option Move} (λ t r. reason_line d r ∷ []) (λ last r. Some r.mv) None c.reasons))) (each_line position_line (λ (last : Option Pos) (p : Pos). Some p) None c.set)
+    ∙ ap (λ (t : List Pieces). claim_line c.moves (length c.set) ∷ (map position_line c.set ++ (numbered (codes "tries ") (length c.reasons) ∷ t))) (each_line (reason_line d) (λ (last : Option Move) (r : Reason). Some r.mv) None c.reasons)
+
+pub lines_are : (s : RefutationState) → written refutation_format s ≡ refutation_lines s
+lines_are s =
+    let d = s.dialect in
+    let end : List Pieces = alone (codes "end") ∷ [] in
+    ap (λ (t : List Pieces). head_lines s ++ (t ++ (numbered (codes "claims ") (length s.claims) ∷ (each_text (λ t c. written (claim_format d t) c) with_claim none_yet s.claims ++ end)))) (each_line position_line (λ (first : Option Pos) (p : Pos). Some (unwrap_or first p)) None s.list)
+    ∙ ap (λ (t : List Pieces). head_lines s ++ (map position_line s.list ++ (numbered (codes "claims ") (length s.claims) ∷ (t ++ end))))
+    (each_is (λ t c. written (claim_format d t) c) (claim_lines d) with_claim (claim_are d) none_yet s.claims)

@@ -1,0 +1,13 @@
+use Rattle.krieg_refutefile.specs.Refutations.{state_of}
+use Rattle.krieg_refutefile.proofs.RefutationTexts.{spelled, again}
+use Rattle.krieg_refutefile.proofs.WrittenClaims.{are_told}
+use Rattle.krieg_refutefile.proofs.writing.write_refutation.Goals as goal
+
+pub put_refutation-done-requires : goal.put_refutation-done-requires
+put_refutation-done-requires c = are_told c.args.f.now.dialect 1 c.args.f.now.claims.items c.requires.told
+
+pub returns-clause-spelled : goal.returns-clause-spelled
+returns-clause-spelled c = spelled (state_of c.args.f.now) c.requires
+
+pub returns-clause-again : goal.returns-clause-again
+returns-clause-again c = again (state_of c.args.f.now) c.requires

@@ -1,0 +1,7 @@
+pub mod Refutations
+pub mod Writable
+pub mod LineForms
+pub mod RefutationText
+pub mod RefutationLines
+pub mod RefutationFormat
+pub mod Parts

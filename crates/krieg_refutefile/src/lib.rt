@@ -1,0 +1,31 @@
+//! The text of refutations, which krieg_refute writes and checks: files that show that no plan mates.
+//!
+//! A file names the dialect and the player's side, says within how many own moves no plan mates, and lists the positions.
+//! Then come claims, each with a number of moves, the positions of a set, and a reason for each try why it does not win all
+//! of the set within that number. A reason may cite a claim before its own. Reading asks for the form alone, that positions
+//! and moves ascend, and that what is cited stands before; whether the claims hold is for `deny` of krieg_refute.
+//!
+//! The rules are the definitions of `specs/`: what a refutation is to contracts and when it refutes (`Refutations`), which
+//! have a text (`Writable`), the forms of the lines of a claim (`LineForms`), the one written form (`RefutationText`), and the
+//! format, described once in the terms of krieg_format: its lines (`RefutationLines`), and their order, of which its reader,
+//! the lines that spell a file and the grammar are read off (`RefutationFormat`). `Parts` is a part of the work.
+//!
+//! ```
+//! let text = b"krieg refutation 1\ndialect wild16\nside w\nmoves 1\nlist 1\n7k/8/8/8/8/8/8/K7 w - -\nclaims 1\n\
+//!     claim 1 1\n7k/8/8/8/8/8/8/K7 w - -\ntries 3\na1b1 lives\na1a2 lives\na1b2 lives\nend\n";
+//! let file = read_refutation(alloc, text)?;
+//! let held = deny(alloc, &file, &mut units)?; // true: a king alone does not mate
+//! let mut written = Vec::new(alloc);
+//! write_refutation(&file, &mut written)?; // the same bytes
+//! let cut = read_refutation(alloc, b"krieg refutation 1\nside w\n");
+//! // Err(TextFault::At { line: 2, kind: TextKind::Syntax }): the dialect has a line
+//! ```
+#![tactic(auto)]
+
+mod claims;
+mod forms;
+mod reading;
+mod writing;
+
+pub use reading::read_refutation;
+pub use writing::write_refutation;

@@ -1,0 +1,159 @@
+ghost use Rattle.std.specs.Prelude.{◌≡◌, IfOk, map, slice_get};
+ghost use Rattle.krieg_text.specs.Formats.{Always, IsReading};
+ghost use Rattle.krieg_text.specs.Lines.{lines};
+ghost use Rattle.krieg_text.specs.Reading.{taken, whole, Gives, GivesOn};
+ghost use Rattle.krieg_format.specs.Lines.{tested};
+ghost use Rattle.krieg_refutefile.specs.Parts as parts;
+ghost use Rattle.krieg_refutefile.specs.RefutationFormat.{refutation_at, SpellsRefutation, RefutationGrammar};
+ghost use Rattle.krieg_refutefile.specs.RefutationLines.{a_moves, an_end, a_position, listed};
+ghost use Rattle.krieg_refutefile.specs.Refutations.{state_of, claim_state_of};
+ghost use Rattle.krieg_refutefile.specs.Writable.{CanBeWritten};
+
+use crate::claims::read_claims;
+use krieg_board::{MOST_MOVES, Position, Side};
+use krieg_fen::{MOST_LISTED, Turn, listed_form, read_side};
+use krieg_refute::{Claim, MOST_CLAIMS, Refutation};
+use krieg_text::{Cursor, TextFault, TextKind, is_name, read_count, read_version};
+use krieg_words::{Dialect, read_dialect_line};
+use std::alloc::Global;
+
+/// The format's name with its one version, and the dialect. It has a line here, as in version 2 of the other formats, whose
+/// version 1 names none.
+fn read_heading(from: &mut Cursor<'_>) -> Result<Dialect, TextFault>
+    ensures { GivesOn (λ d. d) result from.new (parts.heading_at from.old) }
+{
+    read_version(from, b"krieg refutation ", 1)?;
+    read_dialect_line(from, 2)
+}
+
+/// The next line, as the number of own moves that is denied.
+fn read_moves(from: &mut Cursor<'_>) -> Result<u8, TextFault>
+    ensures { GivesOn (λ n. n) result from.new (taken a_moves.form from.old) }
+{
+    let moves = read_count(from, b"moves ", 1, u64::from(MOST_MOVES))?;
+    Ok(moves as u8)
+}
+
+/// The position of a line, after the first of the list.
+#[tactic(auto, unfolding(krieg_fen::specs::Forms::listed_form, krieg_fen::specs::Forms::position_form))]
+fn listed(who: Side, list: &[Position], line: &[u8]) -> Result<Position, TextKind>
+    ensures { result ≡ (tested a_position (listed who (slice_get list.now 0))).form line.now }
+{
+    listed_form(Turn::Own, who, list.first(), line)
+}
+
+/// The next line, as a position that may stand after those of the list.
+#[tactic(auto, using(krieg_text::proofs::ReadingLemmas::refused))]
+fn next_listed(from: &mut Cursor<'_>, who: Side, list: &[Position]) -> Result<Position, TextFault>
+    ensures { GivesOn (λ p. p) result from.new (parts.listed_at who (slice_get list.now 0) from.old) }
+{
+    let line = from.number();
+    listed(who, list, from.line()?).map_err(|kind| TextFault::At { line, kind })
+}
+
+/// The next `n` lines as positions with one hand, in which the side is to move.
+#[tactic(auto, using(crate::proofs::Loops::listing, krieg_text::proofs::ReadingLemmas::passed))]
+fn read_list(
+    alloc: Global,
+    from: &mut Cursor<'_>,
+    who: Side,
+    n: usize,
+) -> Result<Vec<Position>, TextFault>
+    ensures { GivesOn (λ v. v.items) result from.new (parts.list_at who n from.old) }
+{
+    let mut list: Vec<Position> = Vec::with_capacity(alloc, n)?;
+    for i in 0..n {
+        match next_listed(from, who, &list) {
+            Ok(position) => list.push(position)?,
+            Err(fault) => return Err(fault),
+        }
+    }
+    Ok(list)
+}
+
+/// The number of listed positions, and these.
+fn read_listing(alloc: Global, from: &mut Cursor<'_>, who: Side) -> Result<Vec<Position>, TextFault>
+    ensures { GivesOn (λ v. v.items) result from.new (parts.listing_at who from.old) }
+{
+    let n = read_count(from, b"list ", 1, MOST_LISTED)?;
+    read_list(alloc, from, who, n as usize)
+}
+
+/// The number of claims, and these.
+fn read_all_claims(
+    alloc: Global,
+    from: &mut Cursor<'_>,
+    d: Dialect,
+) -> Result<Vec<Claim>, TextFault>
+    ensures { GivesOn (λ v. map claim_state_of v.items) result from.new (parts.all_claims_at d from.old) }
+{
+    let n = read_count(from, b"claims ", 1, MOST_CLAIMS as u64)?;
+    read_claims(alloc, from, d, n as usize)
+}
+
+fn end_form(line: &[u8]) -> Result<(), TextKind>
+    ensures { result ≡ an_end.form line.now }
+{
+    if is_name(b"end", line) {
+        Ok(())
+    } else {
+        Err(TextKind::Syntax)
+    }
+}
+
+/// The next line, as `end`.
+#[tactic(auto, using(krieg_text::proofs::ReadingLemmas::refused))]
+fn read_end(from: &mut Cursor<'_>) -> Result<(), TextFault>
+    ensures { GivesOn (λ u. u) result from.new (taken an_end.form from.old) }
+{
+    let line = from.number();
+    end_form(from.line()?).map_err(|kind| TextFault::At { line, kind })
+}
+
+/// The lines of a refutation.
+#[tactic(auto, unfolding(crate::specs::RefutationFormat::refutation_at))]
+fn read_parts(alloc: Global, from: &mut Cursor<'_>) -> Result<Refutation, TextFault>
+    ensures { GivesOn (λ f. state_of f) result from.new (refutation_at from.old) }
+{
+    let dialect = read_heading(from)?;
+    let side = read_side(from)?;
+    let moves = read_moves(from)?;
+    let list = read_listing(alloc, from, side)?;
+    let claims = read_all_claims(alloc, from, dialect)?;
+    read_end(from)?;
+    Ok(Refutation {
+        dialect,
+        side,
+        moves,
+        list,
+        claims,
+    })
+}
+
+fn read_lines(alloc: Global, text: &[u8]) -> Result<Refutation, TextFault>
+    ensures { Gives (λ f. state_of f) result (whole refutation_at (lines text.now)) }
+{
+    let mut from = Cursor::new(text);
+    let file = read_parts(alloc, &mut from)?;
+    from.end()?;
+    Ok(file)
+}
+
+/// The refutation that the text spells.
+///
+/// The fault is the first line that is not accepted, or, where all lines are and the text is not complete, the number of
+/// lines plus 1 with `Syntax`. `Count` comes at a number of moves, positions, claims or reasons that is a plain decimal out of
+/// range; `Large` at the line that takes the positions or the reasons of all claims over `MOST_CLAIMED`; `Differs` at a listed
+/// position with another hand than the first; `OutOfPlace` at a first listed position where the other side is to move, at a
+/// position or a move of a claim that does not come after the one before it, and at a reason that cites no claim before its
+/// own. Whether the claims hold is not asked.
+///
+/// The text is read once, and each position is packed as it is read.
+#[tactic(auto, using(crate::proofs::RefutationLaws::refutation_reading, crate::proofs::Writables::spelled_can))]
+pub fn read_refutation(alloc: Global, text: &[u8]) -> Result<Refutation, TextFault>
+    ensures reading { IsReading (λ f. state_of f) refutation_at Always SpellsRefutation RefutationGrammar (lines text.now) result }
+    // What is read can be written: it is within the limits, and its claims are in order.
+    ensures written { IfOk result (λ f. CanBeWritten (state_of f)) }
+{
+    read_lines(alloc, text)
+}
