@@ -32,6 +32,8 @@ LINES = {
     12: rb"krieg: (?:no seat|seat fault) [wb]\n",
     13: rb"krieg: plan fails\n",
     14: rb"krieg: plan too large\n",
+    17: rb"krieg: a plan exists\n",
+    18: rb"krieg: refutation fails\n",
     19: rb"krieg: answer too long\n",
     20: rb"krieg: no such position\n",
 }
@@ -45,6 +47,8 @@ STATUSES = {
     "why": {0, 3, 4, 5, 7, 19},
     "solve": {0, 3, 4, 5, 6, 7, 8, 14},
     "check": {0, 3, 4, 8, 13},
+    "refute": {0, 3, 4, 5, 6, 7, 8, 14, 17},
+    "deny": {0, 3, 4, 8, 18},
     "next": {0, 3, 4},
     "lead": {0, 3, 4, 12, 20},
     "play": {0, 3, 4, 12},
@@ -61,6 +65,8 @@ ANSWERS = {
     "why": rb"krieg games 1\n",
     "solve": rb"krieg plan [12]\n|none [1-6]\n$",
     "check": rb"mates [1-9][0-9]*\n$",
+    "refute": rb"krieg refutation 1\n",
+    "deny": rb"refuted [1-6]\n$",
     "next": rb"(?:try [a-h][1-8][a-h][1-8][qrbn]?|wait|mated|lost)\n$",
     "lead": rb"krieg session [12]\n",
     "play": rb"krieg session 1\n",
@@ -153,12 +159,12 @@ def heard(plan):
 
 
 def examples():
-    """The name, the kind and the text of each sheet, session, record and plan directly in examples/, by their first lines; and each plan
-    with lines that its player heard behind it, which are of the kind `followed`."""
+    """The name, the kind and the text of each sheet, session, record, plan and refutation directly in examples/, by their first lines; and
+    each plan with lines that its player heard behind it, which are of the kind `followed`."""
     for path in sorted((TOP / "examples").glob("*")):
         if path.is_file():
             text = path.read_bytes()
-            kind = re.match(rb"krieg (sheet|session|record|plan) [12]\n", text)
+            kind = re.match(rb"krieg (sheet|session|record|plan|refutation) [12]\n", text)
             name = str(path.relative_to(TOP))
             if kind:
                 yield name, kind.group(1).decode(), text

@@ -53,6 +53,9 @@ end|end over|end left w|end left b|end asks|worst 1|worst 2500|worst 2501|roots 
 on silent|on silent / silent|on mate|on silent / silent / silent|play h1h8 0|play h1h8 1|play h1h8 no 0|play g1g8 no 1
 play h1h8 100000|play h1h8 100001|w e2e4|b e7e5|w  e2e4|heard silent|opens silent|try e2e4 illegal|try e2e4 ok silent
 try e2e4 early|try e2e4 over|try e2e4|try e2e4 ok
+krieg refutation 1|krieg refutation 2|moves 1|moves 6|moves 7|moves 0|claims 1|claims 2|claims 20000|claims 20001|claims 0
+claim 1 1|claim 2 1|claim 6 200000|claim 7 1|claim 0 1|claim 1 200001|tries 0|tries 1|tries 200000|tries 200001|h1h8 lives|h1h8 stale
+h1h8 class silent / silent 1|h1h8 class silent / silent 0|h1h8 class silent 1|h1h8 refused 1|h1h8 refused 0|h1h8 refused|h1h8 class
 """.strip().replace("\n", "|").split("|") + [""]
 
 # Texts of forms that the examples may lack.
@@ -139,8 +142,79 @@ b Ke8d7
 w e4
 b K7d6
 end
+
+krieg refutation 1
+dialect wild16
+side w
+moves 2
+list 1
+7k/7P/7K/8/8/8/8/8 w - -
+claims 3
+claim 1 1
+8/6kP/8/6K1/8/8/8/8 w - -
+tries 9
+g5f4 lives
+g5g4 lives
+g5h4 lives
+g5f5 lives
+g5h5 lives
+h7h8q lives
+h7h8r lives
+h7h8b lives
+h7h8n lives
+claim 1 1
+8/6kP/8/7K/8/8/8/8 w - -
+tries 7
+h5g4 lives
+h5h4 lives
+h5g5 lives
+h7h8q lives
+h7h8r lives
+h7h8b lives
+h7h8n lives
+claim 2 1
+7k/7P/7K/8/8/8/8/8 w - -
+tries 3
+h6g5 class silent / silent 1
+h6h5 class silent / silent 2
+h6g6 stale
+end
+
+krieg refutation 1
+dialect plain
+side b
+moves 1
+list 2
+8/8/8/8/8/6k1/5p2/7K b - -
+8/8/8/8/8/6k1/5p2/5B1K b - -
+claims 2
+claim 1 1
+8/8/8/8/8/6k1/5p2/5B1K b - -
+tries 4
+g3f3 lives
+g3f4 lives
+g3g4 lives
+g3h4 lives
+claim 1 2
+8/8/8/8/8/6k1/5p2/7K b - -
+8/8/8/8/8/6k1/5p2/5B1K b - -
+tries 9
+f2f1q refused 1
+f2f1r refused 1
+f2f1b lives
+f2f1n lives
+g3f3 lives
+g3h3 lives
+g3f4 lives
+g3g4 lives
+g3h4 lives
+end
 """.split("\n\n")
 ]
+
+# What a reason of a refutation may say.
+REASONS = ["lives", "stale", "refused 1", "refused 2", "refused 0", "refused 9", "refused 40000000000"]
+REASONS += [f"class {words} {cited}" for words in ["silent / silent", "silent / pawn h7", "check / silent", "silent"] for cited in "0123"]
 
 BYTES = [b"\n", b"\r", b"\r\n", b"\0", b"\xff", b"\xc3", b"\xef\xbb\xbf", b" ", b"  ", b"\t"]
 BYTES += [b"/", b",", b"+", b"-", b".", b"w", b"b"]
@@ -152,7 +226,9 @@ def pieces():
     lines += [form + words for form in ("heard ", "opens ", "on ", "on silent / ", "try h1h8 ok ") for words in WORDS]
     lines += [form % mv for form in ("w %s", "b %s", "try %s illegal", "play %s 0", "play %s no 0") for mv in MOVES]
     lines += [side + mv for side in ("w ", "b ") for mv in ALGEBRAIC]
+    lines += [f"h1h8 {reason}" for reason in REASONS]
     lines += [form % n for form in ("list %s", "worst %s", "roots %s", "play h1h8 %s", "krieg plan %s", "krieg record %s") for n in NUMBERS]
+    lines += [form % n for form in ("moves %s", "claims %s", "claim 1 %s", "claim %s 1", "tries %s", "h1h8 refused %s") for n in NUMBERS]
     return [line.encode() for line in lines]
 
 

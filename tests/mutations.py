@@ -2,7 +2,7 @@
 
 import re
 
-from dictionary import ALGEBRAIC, BYTES, MOVES, NUMBERS, PIECES, POSITIONS, WORDS
+from dictionary import ALGEBRAIC, BYTES, MOVES, NUMBERS, PIECES, POSITIONS, REASONS, WORDS
 
 
 def span(rng, length):
@@ -102,6 +102,12 @@ def replace_algebraic(rng, text):
     return replace_by(rng, ALGEBRAIC_PLACE, text, rng.choice(places)) if text.startswith(b"krieg record") else text
 
 
+def replace_reason(rng, text):
+    """Puts another reason in the place of one, or says another number of moves of a claim."""
+    place, others = rng.choice([(REASON, REASONS), (CLAIM, "1123")])
+    return replace_by(rng, place, text, lambda _: rng.choice(others).encode()) if text.startswith(b"krieg refutation") else text
+
+
 def with_man_moved(rng, board):
     squares = re.sub(rb"[1-8]", lambda digit: b"." * int(digit.group()), board.replace(b"/", b""))
     if len(squares) != 64:
@@ -142,6 +148,8 @@ def add_entry(rng, text):
 
 MOVE = re.compile(rb"[a-h][1-8][a-h][1-8][qrbn]?")
 NUMBER = re.compile(rb"(?<= )[0-9]{1,18}(?=\n|$)")
+REASON = re.compile(rb"(?<= )(?:lives|stale|refused|class)(?= |\n)[^\n]*")
+CLAIM = re.compile(rb"(?<=\nclaim )[0-9]+(?= )")
 ALGEBRAIC_PLACE = re.compile(rb"(?<=\n[wb] )[^\n]+")
 BOARD = re.compile(rb"(?:[1-8pnbrqkPNBRQK]+/){7}[1-8pnbrqkPNBRQK]+")
 
@@ -167,6 +175,8 @@ ROUGH = [
 GENTLE = [
     replace_move,
     replace_algebraic,
+    replace_reason,
+    replace_reason,
     move_man,
     move_man,
     nudge_number,

@@ -13,6 +13,7 @@ pub struct Answer {
 }
 
 impl Answer {
+    /// An empty text.
     pub fn new(alloc: Global) -> Answer {
         Answer {
             text: Vec::new(alloc),
@@ -28,6 +29,7 @@ impl Answer {
         }
     }
 
+    /// Adds the bytes, right behind what stands there.
     pub fn put(&mut self, bytes: &[u8]) -> Result<(), Stop> {
         Ok(self.text.extend_from_slice(bytes)?)
     }
@@ -48,6 +50,7 @@ impl Answer {
         self.put(bytes)
     }
 
+    /// `yes` or `no` as a word.
     pub fn yes_or_no(&mut self, is_so: bool) -> Result<(), Stop> {
         self.word(if is_so { b"yes" } else { b"no" })
     }
@@ -81,6 +84,7 @@ impl Answer {
         Ok(())
     }
 
+    /// The text of a position, right behind what stands there.
     pub fn position(&mut self, p: &Position) -> Result<(), Stop> {
         Ok(write_position(p, &mut self.text)?)
     }

@@ -1,4 +1,4 @@
-//! Facts from outside about the layers below the commands, as files of lines: `docs/TESTING.md` tells which lines
+//! Facts from outside about the layers below the commands, as files of lines: `docs/CASES.md` tells which lines
 //! there are.
 //!
 //! `krieg_facts FILE..` tells of each file how many facts hold, or the first line that does not.

@@ -6,7 +6,7 @@ use crate::scene::Scene;
 use crate::sets::say_members;
 use crate::stop::Stop;
 use crate::terms::{halves, number_of, small_of};
-use krieg_board::{Side, Units};
+use krieg_board::{MOST_MOVES, Side, Units};
 use krieg_fen::write_move;
 use krieg_refute::{Claim, Denied, DenyStop, Reason, Refutation, RefuteStop, Why, deny, refute};
 use krieg_search::has_one_turn;
@@ -22,7 +22,7 @@ fn refuted(
     units: &mut Units,
 ) -> Result<Result<Denied, RefuteStop>, Stop> {
     let b = &scene.belief()?;
-    if moves == 0 || moves > 6 {
+    if moves == 0 || moves > MOST_MOVES {
         return Err(Stop::Unread);
     }
     if !has_one_turn(b) {

@@ -16,6 +16,7 @@ pub fn first_word(text: &str) -> (&str, &str) {
     text.split_once(' ').unwrap_or((text, ""))
 }
 
+/// The side that `w` or `b` names.
 pub fn side_of(text: &str) -> Result<Side, Stop> {
     match text {
         "w" => Ok(Side::White),
@@ -24,14 +25,17 @@ pub fn side_of(text: &str) -> Result<Side, Stop> {
     }
 }
 
+/// A square by its name, as `e4`.
 pub fn square_of(text: &str) -> Result<Square, Stop> {
     read_square(text.as_bytes()).ok_or(Stop::Unread)
 }
 
+/// A move, as `e2e4` or `e7e8q`.
 pub fn move_of(text: &str) -> Result<Move, Stop> {
     Ok(read_move(text.as_bytes())?)
 }
 
+/// A number in plain decimal digits.
 pub fn number_of(text: &str) -> Result<u64, Stop> {
     read_number(text.as_bytes(), u64::MAX).ok_or(Stop::Unread)
 }

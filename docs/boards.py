@@ -1,0 +1,209 @@
+"""Boards with men on them, and trees of boards, as pictures. What docs/draw-plan draws with."""
+
+import collections
+import html
+
+# The size of a square and of a board, and the room around it.
+SQUARE = 26
+BOARD = 8 * SQUARE
+MARGIN, GAP, RANKS = 22, 58, 16
+LINE, CAPTION = 16, 40
+
+INK = "#2b2b2b"
+
+# Each kind of man in a box of 45 by 45.
+BASE = "M11 35h23v4.5H11z"
+SHAPES = {
+    "p": "M22.5 8.5a6 6 0 0 1 4.2 10.3h2.3v3h-2.6c.6 6 4.6 7.7 5.1 13.2h-18c.5-5.5 4.5-7.2 5.1-13.2h-2.6v-3h2.3"
+         "A6 6 0 0 1 22.5 8.5z" + BASE,
+    "r": "M12 8h4.8v3.5h3.7V8h4v3.5h3.7V8H33v8l-3.5 3v11.5l3 4.5h-20l3-4.5V19L12 16z" + BASE,
+    "n": "M13 35c0-8 8-9.5 8.5-14.5-2.5 2.5-5.5 2.5-7.5 5.5-1.5 2-5.5.5-5-2.5 1.5-2 3-7.5 7.5-11l-.5-5.5 4.5 3"
+         "C28.5 9.5 33.5 15 33 25c-.2 4-1 6-1 10z" + BASE,
+    "b": "M22.5 5a2.8 2.8 0 0 1 1.8 4.9c5 3.6 7.2 8.6 5.2 13.1l-3 4.5c0 3 3 4.5 5.5 7.5H13c2.5-3 5.5-4.5 5.5-7.5"
+         "l-3-4.5c-2-4.5.2-9.5 5.2-13.1A2.8 2.8 0 0 1 22.5 5z" + BASE,
+    "q": "M7.5 13.5 15 24l1-14.5L22.5 23 29 9.5 30 24l7.5-10.5L33 35H12z" + BASE,
+    "k": "M21 4h3v2.7h2.8v3H24V13h-3V9.7h-2.8v-3H21zM22.5 20c2-5 7-7.5 11-5 5.5 3.5 3 11-2.5 16.5V35H14v-3.5"
+         "C8.5 26 6 18.5 11.5 15c4-2.5 9 0 11 5z" + BASE,
+}
+
+# A board of a tree: the lines above it, the positions that are drawn on it, perhaps a try, a bold line below it and others below that, and
+# the boards behind it: where a try was refused, and elsewhere.
+Board = collections.namedtuple("Board", "above found move bold notes refused edges")
+
+
+def behind(node):
+    """The boards behind a board."""
+    return [*node.refused, *node.edges]
+
+
+def all_boards(nodes):
+    """These boards and all behind them, those that stand before others first."""
+    for node in nodes:
+        yield node
+        yield from all_boards(behind(node))
+
+
+def places(nodes):
+    """A column and a row for each board by its identity: a row for each last one, and the others in the middle before those behind them."""
+    spots, rows = {}, 0
+
+    def place(node, column):
+        nonlocal rows
+        below = [place(child, column + 1) for child in behind(node)]
+        row = (below[0] + below[-1]) / 2 if below else rows
+        rows += not below
+        spots[id(node)] = column, row
+        return row
+
+    for node in nodes:
+        place(node, 0)
+    return spots
+
+
+def men(position):
+    """The men of a position by their squares, as (file, rank) from 0."""
+    placed = {}
+    for rank, row in zip(range(7, -1, -1), position.split()[0].split("/")):
+        file = 0
+        for letter in row:
+            if letter.isdigit():
+                file += int(letter)
+            else:
+                placed[file, rank] = letter
+                file += 1
+    return placed
+
+
+def man(letter, x, y, size, sure):
+    """A man in a box, pale where he may also stand elsewhere."""
+    fill = "#ffffff" if letter.isupper() else INK
+    return (f'<use href="#{letter.lower()}" fill="{fill}" opacity="{1 if sure else 0.5}" '
+            f'transform="translate({x:g} {y:g}) scale({size / 45:.3f})"/>')
+
+
+def square_men(boards, file, rank, x, y, shares=False):
+    """What may stand on one square in these positions: a tint where that is not certain, and each man that may stand there; with shares
+    also in how many of a hundred positions one does."""
+    letters = sorted({board[file, rank] for board in boards if (file, rank) in board})
+    sure = len(letters) == 1 and all((file, rank) in board for board in boards)
+    drawn = []
+    if letters and not sure:
+        drawn.append(f'<rect x="{x:g}" y="{y:g}" width="{SQUARE}" height="{SQUARE}" fill="#7048e8" opacity=".3"/>')
+    size = SQUARE if len(letters) < 2 else SQUARE / 2
+    for index, letter in enumerate(letters[:4]):
+        drawn.append(man(letter, x + size * (index % 2), y + size * (index // 2), size, sure))
+    if shares and letters and not sure:
+        held = sum((file, rank) in board for board in boards)
+        drawn.append(words(str(max(1, 100 * held // len(boards))), x + SQUARE - 1, y + SQUARE - 1, "share"))
+    return drawn
+
+
+def arrow(move, x, y):
+    """The try from square to square."""
+    ends = [(x + SQUARE * (ord(move[i]) - ord("a") + 0.5), y + SQUARE * (8 - int(move[i + 1]) + 0.5)) for i in (0, 2)]
+    (x1, y1), (x2, y2) = ends
+    length = max(((x2 - x1) ** 2 + (y2 - y1) ** 2) ** 0.5, 1)
+    dx, dy = (x2 - x1) / length, (y2 - y1) / length
+    x1, y1, bx, by = x1 + 8 * dx, y1 + 8 * dy, x2 - 11 * dx, y2 - 11 * dy
+    tip = f"{x2:.1f},{y2:.1f} {bx - 7 * dy:.1f},{by + 7 * dx:.1f} {bx + 7 * dy:.1f},{by - 7 * dx:.1f}"
+    return (f'<g fill="#e8590c" stroke="#e8590c" opacity=".8"><line x1="{x1:.1f}" y1="{y1:.1f}" x2="{bx:.1f}" y2="{by:.1f}" '
+            f'stroke-width="5" stroke-linecap="round"/><polygon points="{tip}" stroke="none"/></g>')
+
+
+def shapes():
+    """What is drawn many times: the empty board with the names of files and ranks, and each kind of man."""
+    dark = "".join(f"M{SQUARE * file} {SQUARE * (7 - rank)}h{SQUARE}v{SQUARE}h{-SQUARE}z"
+                   for rank in range(8) for file in range(8) if (file + rank) % 2 == 0)
+    drawn = ['<defs>', '<g id="board">', f'<rect width="{BOARD}" height="{BOARD}" fill="#e9edf2"/>',
+             f'<path d="{dark}" fill="#bcc8d6"/>',
+             f'<rect width="{BOARD}" height="{BOARD}" fill="none" stroke="#5c6773"/>']
+    for i in range(8):
+        middle = SQUARE * (i + 0.5)
+        drawn += [words("abcdefgh"[i], middle, BOARD + 12, "name"), words(str(8 - i), -8, middle + 3.5, "name")]
+    drawn.append("</g>")
+    drawn += [f'<path id="{kind}" d="{shape}" stroke="{INK}" stroke-width="1.8" stroke-linejoin="round"/>'
+              for kind, shape in SHAPES.items()]
+    return drawn + ["</defs>"]
+
+
+def board(boards, move, shares, x, y):
+    """A board with its men, perhaps a try, and perhaps shares."""
+    drawn = [f'<use href="#board" x="{x:g}" y="{y:g}"/>']
+    for rank in range(8):
+        for file in range(8):
+            drawn += square_men(boards, file, rank, x + SQUARE * file, y + SQUARE * (7 - rank), shares)
+    return drawn + ([arrow(move, x, y)] if move else [])
+
+
+def words(text, x, y, style):
+    """A line of text in a style of the picture's own."""
+    return f'<text x="{x:g}" y="{y:g}" class="{style}">{html.escape(text)}</text>'
+
+
+def framed(width, height, title, drawn, style=""):
+    """A picture of this size with what is drawn, perhaps with one more style of words."""
+    return [
+        f'<svg xmlns="http://www.w3.org/2000/svg" viewBox="0 0 {width:.0f} {height:.0f}" width="{width:.0f}" height="{height:.0f}">',
+        f"<title>{title}</title>",
+        "<style>text{font-family:'DejaVu Sans',Verdana,Arial,sans-serif;fill:#212529}.name{font-size:9px;fill:#868e96;"
+        "text-anchor:middle}.key{font-size:12px}.no{font-size:12px;fill:#c92a2a}.try{font-size:13px;font-weight:bold;fill:#d9480f}"
+        f".note{{font-size:11px;fill:#5c6773}}{style}</style>",
+        f'<rect width="{width:.0f}" height="{height:.0f}" fill="#ffffff"/>',
+        *shapes(),
+        *drawn,
+        "</svg>",
+    ]
+
+
+def curve(x1, y1, x2, y2, refused):
+    """A line from one board to the next, broken where it is the illegal case."""
+    middle = (x1 + x2) / 2
+    look = 'stroke="#c92a2a" stroke-dasharray="5 4"' if refused else 'stroke="#868e96"'
+    return (f'<path d="M{x1:g} {y1:g}C{middle:g} {y1:g} {middle:g} {y2:g} {x2:g} {y2:g}" fill="none" '
+            f'stroke-width="2" {look}/>')
+
+
+def drawn_board(node, is_refused, shares, x, y):
+    """One board of a tree, with what stands above and below it."""
+    drawn = [words(line, x, y - 8 - LINE * (len(node.above) - 1 - i), "no" if is_refused else "key") for i, line in enumerate(node.above)]
+    drawn += board(node.found, node.move, shares, x, y)
+    drawn.append(words(node.bold, x, y + BOARD + RANKS + 16, "try"))
+    return drawn + [words(line, x, y + BOARD + RANKS + 32 + LINE * i, "note") for i, line in enumerate(node.notes)]
+
+
+def drawn_lines(roots, nodes, corner):
+    """The lines to the roots, and from each board to those behind it."""
+    drawn, middle = [], BOARD / 2
+    for root in roots:
+        x, y = corner[id(root)]
+        drawn.append(curve(x - RANKS - GAP / 2, y + middle, x - RANKS, y + middle, False))
+    for node in nodes:
+        x, y = corner[id(node)]
+        for i, child in enumerate(behind(node)):
+            to_x, to_y = corner[id(child)]
+            drawn.append(curve(x + BOARD + 4, y + middle, to_x - RANKS, to_y + middle, i < len(node.refused)))
+    return drawn
+
+
+def tree(title, roots):
+    """The picture of a tree of boards."""
+    nodes, spots = list(all_boards(roots)), places(roots)
+    refused = {id(child) for node in nodes for child in node.refused}
+    above = LINE * max(len(node.above) for node in nodes)
+    below = LINE * (max(len(node.notes) for node in nodes) - 1)
+    high, wide = above + 8 + BOARD + RANKS + CAPTION + below + 14, BOARD + RANKS + GAP
+    corner = {spot: (MARGIN + GAP / 2 + RANKS + wide * column, MARGIN + above + 4 + high * row)
+              for spot, (column, row) in spots.items()}
+    width = 2 * MARGIN + GAP / 2 + wide * (1 + max(column for column, _ in spots.values())) - GAP
+    height = MARGIN + high * (1 + max(row for _, row in spots.values()))
+    return framed(width, height, title, [
+        *drawn_lines(roots, nodes, corner),
+        *(line for node in nodes for line in drawn_board(node, id(node) in refused, False, *corner[id(node)])),
+    ])
+
+
+def alone(title, found, note):
+    """The picture of one board: in how many of these positions a hidden man stands on a square."""
+    x, y = MARGIN + RANKS, MARGIN
+    drawn = [*board(found, None, True, x, y), words(note, x, y + BOARD + RANKS + 16, "note")]
+    return framed(x + BOARD + MARGIN, y + BOARD + RANKS + CAPTION, title, drawn, ".share{font-size:7px;text-anchor:end}")
