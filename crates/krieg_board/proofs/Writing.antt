@@ -1,6 +1,7 @@
 -- Sets that show a board make that board, and what they show after a square is written.
 use Rattle.std.proofs.Common.{◌≡◌, ℕ, ◌-◌, ◌*◌, ◌%◌, ◌^◌, ◌<◌, Bool, true, false, ◌==◌, ◌⊎◌, inl, inr, refl, sym, ◌∙◌, ap, arith, cond, map, length, set, bit_and, bit_or, w64, ◌≢◌}
 use Rattle.std.specs.Prelude.{Option, Some, None}
+use Rattle.std.proofs.Math.ListN.{length-set}
 use Rattle.std.proofs.lemmas.Bool.{eq-eqb, ne_eqb, cases_eq}
 use Rattle.std.proofs.lemmas.List.{ext_get_or, get_or-map, get_or-set_same, get_or-set_other, length-map}
 use Rattle.std.proofs.lemmas.Nat.Bits.{bit_at_clear_same, bit_at_clear_other, bit_at_set_same, bit_at_set_other}
@@ -108,10 +109,9 @@ has_removed n s k hs hk = by_place (cases_eq k s)
 
 pub ruleset written = (has_added, has_removed)
 
--- the board after a square is written is shown by the sets after it
-pub write_one : (q : Option Man → Bool) (b : Board) (n m s : ℕ) (x : Option Man) → length b ≡ 64 → s < 64 →
-    ((k : ℕ) → k < 64 → has n k ≡ q (man_at b k)) → ((k : ℕ) → k < 64 → has m k ≡ cond (k == s) (q x) (has n k)) → (k : ℕ) → k < 64 → has m k ≡ q (man_at (set b s x) k)
-write_one q b n m s x e hs was is k hk = is k hk ∙ ap (cond (k == s) (q x)) (was k hk) ∙ by_place (cases_eq k s)
+-- a test of the board after a square is written
+written_at : (q : Option Man → Bool) (b : Board) (s k : ℕ) (x : Option Man) → length b ≡ 64 → s < 64 → cond (k == s) (q x) (q (man_at b k)) ≡ q (man_at (set b s x) k)
+written_at q b s k x e hs = by_place (cases_eq k s)
   where
     by_place : (k ≡ s) ⊎ (k ≢ s) → cond (k == s) (q x) (q (man_at b k)) ≡ q (man_at (set b s x) k)
     by_place (inl p) =
@@ -120,6 +120,20 @@ write_one q b n m s x e hs was is k hk = is k hk ∙ ap (cond (k == s) (q x)) (w
     by_place (inr p) =
         ap (λ t. cond t (q x) (q (man_at b k))) (ne_eqb k s p)
         ∙ sym (ap q (get_or-set_other b s k x None p))
+
+-- the board after a square is written is shown by the sets after it
+pub write_one : (q : Option Man → Bool) (b : Board) (n m s : ℕ) (x : Option Man) → length b ≡ 64 → s < 64 →
+    ((k : ℕ) → k < 64 → has n k ≡ q (man_at b k)) → ((k : ℕ) → k < 64 → has m k ≡ cond (k == s) (q x) (has n k)) → (k : ℕ) → k < 64 → has m k ≡ q (man_at (set b s x) k)
+write_one q b n m s x e hs was is k hk = is k hk ∙ ap (cond (k == s) (q x)) (was k hk) ∙ written_at q b s k x e hs
+
+-- and so is that after two are
+pub write_two : (q : Option Man → Bool) (b : Board) (n m f t : ℕ) (x : Option Man) → length b ≡ 64 → f < 64 → t < 64 →
+    ((k : ℕ) → k < 64 → has n k ≡ q (man_at b k)) → ((k : ℕ) → k < 64 → has m k ≡ cond (k == t) (q x) (cond (k == f) (q None) (has n k))) →
+    (k : ℕ) → k < 64 → has m k ≡ q (man_at (set (set b f None) t x) k)
+write_two q b n m f t x e hf ht was is k hk =
+    is k hk ∙ ap (λ y. cond (k == t) (q x) (cond (k == f) (q None) y)) (was k hk)
+    ∙ ap (cond (k == t) (q x)) (written_at q b f k None e hf)
+    ∙ written_at q (set b f None) t k x (length-set b f None ∙ e) ht
 
 pub length_board_of : (i : Sets) → length (board_of i) ≡ 64
 unfolding board_of

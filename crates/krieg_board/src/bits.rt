@@ -1,4 +1,4 @@
-ghost use Rattle.std.specs.Prelude.{◌≡◌, ◌<◌, ◌==◌, ℕ, cond, true, is_some, slice_set};
+ghost use Rattle.std.specs.Prelude.{◌≡◌, ◌<◌, ◌==◌, ℕ, cond, true, false, is_some, slice_set, Some, None};
 ghost use Rattle.krieg_board.specs.Board.{man_at, is_of, is_man};
 ghost use Rattle.krieg_board.specs.Boards as boards;
 ghost use Rattle.krieg_board.specs.Boards.{AreExact, Show, board_of};
@@ -9,7 +9,7 @@ ghost use Rattle.krieg_board.specs.declared.men.Kind.TheVariants.{King};
 use crate::board::{Board, is_of};
 use crate::men::{Kind, Man, Side};
 use crate::position::Position;
-use crate::set::has;
+use crate::set::{has, only, only_if};
 use std::marker::Model;
 
 /// Eight sets of squares: where each side's men stand, and where the men of each kind do. Bit s of a set
@@ -161,6 +161,40 @@ impl Bits {
             },
         }
     }
+
+    /// The board after that nothing stands on the one square, and then that man on the other: each set is
+    /// written once.
+    #[inline]
+    pub fn moved(&self, from: u8, to: u8, man: Man) -> Bits
+        requires from { from < 64 }
+        requires to { to < 64 }
+        ensures { result ≡ slice_set (slice_set self.now from None) to (Some man) }
+    {
+        let sets = &self.sets;
+        let man = Some(man);
+        Bits {
+            sets: Sets {
+                white: passed(sets.white, from, to, is_of(Side::White, man)),
+                black: passed(sets.black, from, to, is_of(Side::Black, man)),
+                pawns: passed(sets.pawns, from, to, is_kind(Kind::Pawn, man)),
+                knights: passed(sets.knights, from, to, is_kind(Kind::Knight, man)),
+                bishops: passed(sets.bishops, from, to, is_kind(Kind::Bishop, man)),
+                rooks: passed(sets.rooks, from, to, is_kind(Kind::Rook, man)),
+                queens: passed(sets.queens, from, to, is_kind(Kind::Queen, man)),
+                kings: passed(sets.kings, from, to, is_kind(Kind::King, man)),
+            },
+        }
+    }
+}
+
+/// The set without both squares, or with the second, as `here` says.
+#[inline]
+fn passed(set: u64, from: u8, to: u8, here: bool) -> u64
+    requires from { from < 64 }
+    requires to { to < 64 }
+    ensures { (k : ℕ) → k < 64 → spec.has result k ≡ cond (k == to) here (cond (k == from) false (spec.has set k)) }
+{
+    set & !(only(from) | only(to)) | only_if(here, to)
 }
 
 /// What stands on the square.

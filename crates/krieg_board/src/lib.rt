@@ -36,7 +36,7 @@ pub use limits::{MOST_MOVES, MOST_UNITS};
 pub use memory::NoMemory;
 pub use men::{Kind, Man, Move, Promo, Rights, Side, know_squares};
 pub use position::{BadPosition, Position, know_valid};
-pub use set::{has, lowest, only, without_lowest};
+pub use set::{has, lowest, only, only_if, without_lowest};
 pub use square::{
     Square, crossed_rank, file_of, home_rank, landing_rank, last_rank, pawn_rank, rank_of,
     square_at,

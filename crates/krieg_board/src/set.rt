@@ -24,6 +24,15 @@ pub fn only(s: u8) -> u64
     1 << s
 }
 
+/// The set of that square, or no square, as `here` says.
+#[inline]
+pub fn only_if(here: bool, s: u8) -> u64
+    requires { s < 64 }
+    ensures { (k : ℕ) → k < 64 → spec.has result k ≡ (here && k == s) }
+{
+    if here { only(s) } else { 0 }
+}
+
 /// The lowest square of a set that has one.
 #[inline]
 pub fn lowest(set: u64) -> Square

@@ -1,8 +1,13 @@
-ghost use Rattle.std.specs.Prelude.{◌≡◌, ◌<◌, ◌≤◌, ◌↔◌, IsNone, IfSome};
+ghost use Rattle.std.specs.Prelude.{◌≡◌, ◌<◌, ◌≤◌, ◌↔◌, ◌&&◌, ℕ, true, IsNone, IfSome};
+ghost use Rattle.krieg_board.specs.Men.{other};
+ghost use Rattle.krieg_board.specs.Attacks.{attacks};
+ghost use Rattle.krieg_board.specs.Board.{man_at, is_of, is_man};
+ghost use Rattle.krieg_board.specs.Sets.{has};
+ghost use Rattle.krieg_board.specs.declared.men.Kind.TheVariants.{King};
 ghost use Rattle.krieg_checks.specs.Kinds as spec;
 
 use crate::diagonals::diagonals_through;
-use krieg_board::{Position, king_of};
+use krieg_board::{Position, king_of, know_valid};
 use krieg_rays::{attackers_at, file_through, rank_through};
 
 /// Which kinds of check a king is in. A kind is there however many men give it.
@@ -64,11 +69,22 @@ pub fn kinds_of(p: &Position) -> Kinds
     let side = p.side();
     let enemy = side.other();
     let king = king_of(bits, side);
-    let givers = attackers_at(bits, king, enemy);
+    kinds_by(p, king, attackers_at(bits, king, enemy))
+}
+
+/// The same, by a caller who knows where the king stands and which men give check.
+#[inline]
+pub fn kinds_by(p: &Position, king: u8, givers: u64) -> Kinds
+    requires square { king < 64 }
+    requires king { is_man p.now.side King (man_at p.now.board king) ≡ true }
+    requires givers { (k : ℕ) → k < 64 → has givers k ≡ (is_of (other p.now.side) (man_at p.now.board k) && attacks p.now.board k king) }
+    ensures { result ≡ spec.kinds p.now }
+{
+    know_valid(p);
     if givers == 0 {
         return NO_KINDS;
     }
-    let knights = givers & bits.sets().knights;
+    let knights = givers & p.bits().sets().knights;
     let others = givers ^ knights;
     let diagonals = diagonals_through(king);
     Kinds {

@@ -15,4 +15,4 @@ mod diagonals;
 mod kinds;
 
 pub use diagonals::long_diagonal;
-pub use kinds::{Kinds, NO_KINDS, kinds_of};
+pub use kinds::{Kinds, NO_KINDS, kinds_by, kinds_of};

@@ -1,6 +1,6 @@
 -- The readers of listed positions keep to their grammar, so that a fault is the first bad line.
 use Rattle.std.proofs.Common.{◌≡◌, ◌≢◌, inl, inr, ℕ, zero, suc, Bool, true, false, cond, List, [], ◌∷◌, ◌++◌, length, Option, Some, None, Result, Ok, Err, refl, sym, ap, subst, ◌∙◌, arith}
-use Rattle.std.specs.Prelude.{◌⊎◌, unwrap_or, replicate, IfErr}
+use Rattle.std.specs.Prelude.{◌⊎◌, unwrap_or, replicate, IfErr, codes}
 use Rattle.std.proofs.lemmas.List.Elements.{All-nil, All-cons, All-head, All-tail}
 use Rattle.krieg_board.specs.Pos.{Pos}
 use Rattle.krieg_board.specs.Hand.{same_hand}
@@ -32,8 +32,6 @@ use Rattle.krieg_text.proofs.Grammars.{untold, KeepsTo, HasForm, line_keeps, pur
 use Rattle.krieg_fen.proofs.HandOfItself.{hand_self}
 use Rattle.krieg_fen.proofs.ListSpellings.{written_spells, listed_spells}
 use Rattle.krieg_text.proofs.FormGrammars.{form_of, value_form}
-use Rattle.std.specs.Prelude.{codes}
-use Rattle.std.proofs.Common.{◌++◌, ap, ◌∙◌}
 use Rattle.krieg_text.specs.Formats.{behind_or}
 use Rattle.krieg_text.proofs.NameLemmas.{behind_again}
 

@@ -1,4 +1,6 @@
-ghost use Rattle.std.specs.Prelude.{◌≡◌, ◌<◌, ◌≤◌, ◌++◌, ◌∷◌, [], length, if◌then◌else◌};
+ghost use Rattle.std.specs.Prelude.{◌≡◌, ◌<◌, ◌≤◌, ◌++◌, ◌∷◌, [], ℕ, IfSome, is_some, length, if◌then◌else◌};
+ghost use Rattle.krieg_board.specs.Board.{man_at};
+ghost use Rattle.krieg_board.specs.Sets as sets;
 ghost use Rattle.krieg_board.specs.Validity.{IsValid};
 ghost use Rattle.krieg_fen.specs.Letters as letters;
 ghost use Rattle.krieg_fen.specs.FenText as spec;
@@ -6,42 +8,30 @@ ghost use Rattle.krieg_fen.specs.FenText.{position_text};
 ghost use Rattle.krieg_text.specs.Writing.{PutsText, Appends};
 
 use crate::moves::put_square;
-use krieg_board::{Board, Kind, Man, NoMemory, Position, Rights, Side, Square};
+use krieg_board::{Bits, NoMemory, Position, Rights, Side, Square, has, lowest, without_lowest};
 use krieg_text::Text;
 
-fn capital(kind: Kind) -> u8
-    ensures { result ≡ letters.capital kind }
+/// The letter where that is asked for, else the other.
+fn pick(here: bool, letter: u8, other: u8) -> u8
+    ensures { result ≡ (if here then letter else other) }
 {
-    match kind {
-        Kind::Pawn => b'P',
-        Kind::Knight => b'N',
-        Kind::Bishop => b'B',
-        Kind::Rook => b'R',
-        Kind::Queen => b'Q',
-        Kind::King => b'K',
-    }
+    if here { letter } else { other }
 }
 
-fn small_letter(kind: Kind) -> u8
-    ensures { result ≡ letters.small_letter kind }
+/// The letter of the man on an occupied square. Each set is asked, so that no jump hangs on the man.
+#[tactic(auto, using(crate::proofs::RankWriting::chosen))]
+fn letter_on(bits: &Bits, s: u8) -> u8
+    requires { s < 64 }
+    ensures { IfSome (man_at bits.now s) (λ m. result ≡ letters.letter m.side m.kind) }
 {
-    match kind {
-        Kind::Pawn => b'p',
-        Kind::Knight => b'n',
-        Kind::Bishop => b'b',
-        Kind::Rook => b'r',
-        Kind::Queen => b'q',
-        Kind::King => b'k',
-    }
-}
-
-fn letter(man: Man) -> u8
-    ensures { result ≡ letters.letter man.side man.kind }
-{
-    match man.side {
-        Side::White => capital(man.kind),
-        Side::Black => small_letter(man.kind),
-    }
+    let sets = bits.sets();
+    let letter = pick(has(sets.pawns, s), b'P', b'K');
+    let letter = pick(has(sets.knights, s), b'N', letter);
+    let letter = pick(has(sets.bishops, s), b'B', letter);
+    let letter = pick(has(sets.rooks, s), b'R', letter);
+    let letter = pick(has(sets.queens, s), b'Q', letter);
+    // A small letter is the capital with one bit more.
+    letter | pick(has(sets.black, s), 0x20, 0)
 }
 
 fn put_run(empty: u8, text: &mut Text) -> Result<(), NoMemory>
@@ -54,61 +44,63 @@ fn put_run(empty: u8, text: &mut Text) -> Result<(), NoMemory>
     Ok(())
 }
 
-/// Adds a man after a run of empty squares.
-fn put_man(empty: u8, man: Man, text: &mut Text) -> Result<(), NoMemory>
+/// Adds a letter after a run of empty squares.
+fn put_man(empty: u8, letter: u8, text: &mut Text) -> Result<(), NoMemory>
     requires { empty ≤ 8 }
-    ensures { PutsText result text.old text.new (spec.run empty ++ (letters.letter man.side man.kind ∷ [])) }
+    ensures { PutsText result text.old text.new (spec.run empty ++ (letter ∷ [])) }
 {
     put_run(empty, text)?;
-    text.byte(letter(man))
+    text.byte(letter)
 }
 
-/// Adds the text of a rank.
-#[tactic(auto, using(crate::proofs::RankWriting::rows))]
-fn put_rank(row: &[Option<Man>], text: &mut Text) -> Result<(), NoMemory>
-    requires { length row.now ≤ 8 }
-    ensures { PutsText result text.old text.new (spec.rank_text row.now) }
+/// The squares of a rank on which men stand, by their files.
+#[tactic(auto, using(crate::proofs::RankWriting::men_there))]
+fn men_on(bits: &Bits, rank: u8) -> u64
+    requires rank { rank < 8 }
+    requires squares { length bits.now ≡ 64 }
+    ensures { (k : ℕ) → k < 64 → sets.has result k ≡ is_some (man_at (spec.rank_at bits.now rank) k) }
 {
-    let mut empty = 0;
-    for man in row {
-        match man {
-            None => empty += 1,
-            Some(man) => {
-                put_man(empty, *man, text)?;
-                empty = 0;
-            }
-        }
+    bits.occupied() >> (8 * rank) & 0xFF
+}
+
+/// Adds the text of a rank, where 0 is the first rank. Only its men are looked at.
+#[tactic(auto, using(crate::proofs::RankWriting::rows))]
+fn put_rank(bits: &Bits, rank: u8, text: &mut Text) -> Result<(), NoMemory>
+    requires rank { rank < 8 }
+    requires squares { length bits.now ≡ 64 }
+    ensures { PutsText result text.old text.new (spec.rank_text (spec.rank_at bits.now rank)) }
+{
+    let mut left = men_on(bits, rank);
+    let mut file = 0;
+    while left > 0 {
+        let next = lowest(left).number();
+        put_man(next - file, letter_on(bits, 8 * rank + next), text)?;
+        file = next + 1;
+        left = without_lowest(left);
     }
-    put_run(empty, text)
+    put_run(8 - file, text)
 }
 
 /// Adds the text of a rank that is not the lowest.
-fn put_upper_rank(row: &[Option<Man>], text: &mut Text) -> Result<(), NoMemory>
-    requires { length row.now ≤ 8 }
-    ensures { PutsText result text.old text.new (spec.rank_text row.now ++ (47 ∷ [])) }
+fn put_upper_rank(bits: &Bits, rank: u8, text: &mut Text) -> Result<(), NoMemory>
+    requires rank { rank < 8 }
+    requires squares { length bits.now ≡ 64 }
+    ensures { PutsText result text.old text.new (spec.rank_text (spec.rank_at bits.now rank) ++ (47 ∷ [])) }
 {
-    put_rank(row, text)?;
+    put_rank(bits, rank, text)?;
     text.byte(b'/')
-}
-
-/// The squares of a rank, where 0 is the first rank.
-fn rank_at(board: &Board, rank: usize) -> &[Option<Man>]
-    requires { rank < 8 }
-    ensures value { result.now ≡ spec.rank_at board.now rank }
-    ensures eight { length result.now ≡ 8 }
-{
-    &board[8 * rank..8 * rank + 8]
 }
 
 /// Adds the eight ranks, from the highest to the lowest.
 #[tactic(auto, using(crate::proofs::RankWriting::boards), unfolding(crate::specs::FenText::board_text))]
-fn put_board(board: &Board, text: &mut Text) -> Result<(), NoMemory>
-    ensures { PutsText result text.old text.new (spec.board_text board.now) }
+fn put_board(bits: &Bits, text: &mut Text) -> Result<(), NoMemory>
+    requires { length bits.now ≡ 64 }
+    ensures { PutsText result text.old text.new (spec.board_text bits.now) }
 {
-    for rank in 0..7usize {
-        put_upper_rank(rank_at(board, 7 - rank), text)?;
+    for rank in 0..7u8 {
+        put_upper_rank(bits, 7 - rank, text)?;
     }
-    put_rank(rank_at(board, 0), text)
+    put_rank(bits, 0, text)
 }
 
 fn side_letter(side: Side) -> &'static [u8]
@@ -186,7 +178,7 @@ fn put_state(
 pub fn put_position(p: &Position, text: &mut Text) -> Result<(), NoMemory>
     ensures { PutsText result text.old text.new (position_text p.now) }
 {
-    put_board(&p.bits().to_board(), text)?;
+    put_board(p.bits(), text)?;
     put_state(p.side(), p.rights(), p.mark(), text)
 }
 

@@ -1,4 +1,4 @@
-ghost use Rattle.std.specs.Prelude.{◌≡◌, ◌<◌, ◌≤◌, ◌-◌, ◌+◌, take, drop, replicate, ◌++◌, IfSome, IfNone, None};
+ghost use Rattle.std.specs.Prelude.{◌≡◌, ◌<◌, ◌≤◌, ◌-◌, ◌+◌, take, drop, replicate, ◌++◌, IfSome, IfNone, None, Some};
 ghost use Rattle.krieg_fen.specs.Letters as letters;
 ghost use Rattle.krieg_fen.specs.Ranks as spec;
 
@@ -8,49 +8,30 @@ use krieg_text::cut;
 /// What stands on the eight squares of a rank, from the a-file on.
 type Row = [Option<Man>; 8];
 
-fn white_kind(letter: u8) -> Option<Kind>
-    ensures { result ≡ letters.kind_by letters.capital letter }
+fn man(side: Side, kind: Kind) -> Option<Man>
+    ensures { result ≡ letters.man_as side (Some kind) }
 {
-    match letter {
-        b'P' => Some(Kind::Pawn),
-        b'N' => Some(Kind::Knight),
-        b'B' => Some(Kind::Bishop),
-        b'R' => Some(Kind::Rook),
-        b'Q' => Some(Kind::Queen),
-        b'K' => Some(Kind::King),
-        _ => None,
-    }
-}
-
-fn black_kind(letter: u8) -> Option<Kind>
-    ensures { result ≡ letters.kind_by letters.small_letter letter }
-{
-    match letter {
-        b'p' => Some(Kind::Pawn),
-        b'n' => Some(Kind::Knight),
-        b'b' => Some(Kind::Bishop),
-        b'r' => Some(Kind::Rook),
-        b'q' => Some(Kind::Queen),
-        b'k' => Some(Kind::King),
-        _ => None,
-    }
-}
-
-fn man_as(side: Side, kind: Option<Kind>) -> Option<Man>
-    ensures { result ≡ letters.man_as side kind }
-{
-    let kind = kind?;
     Some(Man { side, kind })
 }
 
+/// The man whose letter this is.
 fn man_of(letter: u8) -> Option<Man>
     ensures { result ≡ letters.man_of letter }
 {
-    let white = white_kind(letter);
-    if white.is_some() {
-        man_as(Side::White, white)
-    } else {
-        man_as(Side::Black, black_kind(letter))
+    match letter {
+        b'P' => man(Side::White, Kind::Pawn),
+        b'N' => man(Side::White, Kind::Knight),
+        b'B' => man(Side::White, Kind::Bishop),
+        b'R' => man(Side::White, Kind::Rook),
+        b'Q' => man(Side::White, Kind::Queen),
+        b'K' => man(Side::White, Kind::King),
+        b'p' => man(Side::Black, Kind::Pawn),
+        b'n' => man(Side::Black, Kind::Knight),
+        b'b' => man(Side::Black, Kind::Bishop),
+        b'r' => man(Side::Black, Kind::Rook),
+        b'q' => man(Side::Black, Kind::Queen),
+        b'k' => man(Side::Black, Kind::King),
+        _ => None,
     }
 }
 

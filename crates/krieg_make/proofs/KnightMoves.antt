@@ -1,6 +1,7 @@
 -- The four positions of a made session by turns, and what comes of the move in each.
 use Rattle.std.proofs.Common.{◌≡◌, ℕ, ◌<◌, Bool, true, false, not, ◌&&◌, ◌||◌, cond, refl, ◌∙◌, ap, arith}
 use Rattle.std.specs.List.{list_any}
+use Rattle.std.proofs.lemmas.Bool.{and_right}
 use Rattle.krieg_board.specs.Attacks.{attacks, is_attacked, is_between, is_clear, is_king_attacked}
 use Rattle.krieg_board.specs.Board.{man_at}
 use Rattle.krieg_board.specs.Pos.{Pos}
@@ -51,21 +52,14 @@ some_legal p f t low_f low_t legal =
 
 goes_on : (p : Pos) → is_ended p ≡ false → end_of p ≡ Goes
 unfolding is_mate is_stalemate
-goes_on p goes = by (in_check p) (is_ended p) goes
-  where
-    by : (check ended : Bool) → ended ≡ false → cond (check && ended) Mate (cond (not check && ended) Stalemate Goes) ≡ Goes
-    by true true e = cc
-    by false true e = cc
-    by true false e = refl
-    by false false e = refl
+goes_on p goes =
+    (λ i. cond (in_check p && goes i) Mate (cond (not (in_check p) && goes i) Stalemate Goes))
+    ∙ (λ i. cond (and_right (in_check p) false refl i) Mate (cond (and_right (not (in_check p)) false refl i) Stalemate Goes))
 
 silent_words : (p q : Pos) (m : Move) → after p m ≡ q → took_by p (man_at p.board m.from) m ≡ Nothing → is_ended q ≡ false → kinds q ≡ no_kinds → tries q ≡ 0 → words p m ≡ silent
 unfolding words
 silent_words p q m next took goes none_of none =
-    let then_end : end_of (after p m) ≡ Goes = ap end_of next ∙ goes_on q goes in
-    let then_kinds : kinds (after p m) ≡ no_kinds = ap kinds next ∙ none_of in
-    let then_tries : tries (after p m) ≡ 0 = ap tries next ∙ none in
-    λ i. record { end = then_end i; took = took i; checks = then_kinds i; tries = then_tries i }
+    λ i. record { end = (ap end_of next ∙ goes_on q goes) i; took = took i; checks = (ap kinds next ∙ none_of) i; tries = (ap tries next ∙ none) i }
 
 -- what computing shows of a move and of the position in which it is made
 record Computed (p q : Pos) (f t : ℕ) (who : Side) : Type 0 where
@@ -77,45 +71,26 @@ record Computed (p q : Pos) (f t : ℕ) (who : Side) : Type 0 where
   no_try : tries p ≡ 0
   next : after p (plain_move f t) ≡ q
 
-first : Computed p0 p1 g1 f3 White
-unfolding p0 p1 start_position kinds is_checked is_checked_at checks_from tries tries_from is_try can_go after is_legal is_candidate is_king_attacked attacks is_attacked is_between is_clear every_square some_square squares
-first = record { turn = refl; squares_in = (omega arith, omega arith); legal = refl; took = refl; no_check = refl; no_try = refl; next = refl }
-
-second : Computed p1 p2 g8 f6 Black
-unfolding p0 p1 p2 start_position kinds is_checked is_checked_at checks_from tries tries_from is_try can_go after is_legal is_candidate is_king_attacked attacks is_attacked is_between is_clear every_square some_square squares
-second = record { turn = refl; squares_in = (omega arith, omega arith); legal = refl; took = refl; no_check = refl; no_try = refl; next = refl }
-
-third : Computed p2 p3 f3 g1 White
+-- both knights are back behind the fourth
+computed : Computed p0 p1 g1 f3 White × Computed p1 p2 g8 f6 Black × Computed p2 p3 f3 g1 White × Computed p3 p0 f6 g8 Black
 unfolding p0 p1 p2 p3 start_position kinds is_checked is_checked_at checks_from tries tries_from is_try can_go after is_legal is_candidate is_king_attacked attacks is_attacked is_between is_clear every_square some_square squares
-third = record { turn = refl; squares_in = (omega arith, omega arith); legal = refl; took = refl; no_check = refl; no_try = refl; next = refl }
-
--- both knights are back
-fourth : Computed p3 p0 f6 g8 Black
-unfolding p0 p1 p2 p3 start_position kinds is_checked is_checked_at checks_from tries tries_from is_try can_go after is_legal is_candidate is_king_attacked attacks is_attacked is_between is_clear every_square some_square squares
-fourth = record { turn = refl; squares_in = (omega arith, omega arith); legal = refl; took = refl; no_check = refl; no_try = refl; next = refl }
-
-goes_on_from : (p q : Pos) (f t : ℕ) (who : Side) → Computed p q f t who → is_ended p ≡ false
-goes_on_from p q f t who c = some_legal p f t c.squares_in.0 c.squares_in.1 c.legal
+computed = (
+  record { turn = refl; squares_in = (omega arith, omega arith); legal = refl; took = refl; no_check = refl; no_try = refl; next = refl },
+  record { turn = refl; squares_in = (omega arith, omega arith); legal = refl; took = refl; no_check = refl; no_try = refl; next = refl },
+  record { turn = refl; squares_in = (omega arith, omega arith); legal = refl; took = refl; no_check = refl; no_try = refl; next = refl },
+  record { turn = refl; squares_in = (omega arith, omega arith); legal = refl; took = refl; no_check = refl; no_try = refl; next = refl },
+)
 
 -- what is computed of two moves that follow one another shows that the first leads to where the second is made
 leads : {p q r : Pos} {f t g u : ℕ} {who next_who : Side} → Computed p q f t who → Computed q r g u next_who → Leads p q (plain_move f t) who
 leads {p = p} {q = q} {r = r} {f = f} {t = t} {g = g} {u = u} {who = who} {next_who = next_who} c n =
     record {
       turn = c.turn;
-      goes = goes_on_from p q f t who c;
+      goes = some_legal p f t c.squares_in.0 c.squares_in.1 c.legal;
       legal = c.legal;
-      said = silent_words p q (plain_move f t) c.next c.took (goes_on_from q r g u next_who n) n.no_check n.no_try;
+      said = silent_words p q (plain_move f t) c.next c.took (some_legal q g u n.squares_in.0 n.squares_in.1 n.legal) n.no_check n.no_try;
       next = c.next;
     }
 
-pub leads_0 : Leads p0 p1 (plain_move g1 f3) White
-leads_0 = leads first second
-
-pub leads_1 : Leads p1 p2 (plain_move g8 f6) Black
-leads_1 = leads second third
-
-pub leads_2 : Leads p2 p3 (plain_move f3 g1) White
-leads_2 = leads third fourth
-
-pub leads_3 : Leads p3 p0 (plain_move f6 g8) Black
-leads_3 = leads fourth first
+pub all_lead : Leads p0 p1 (plain_move g1 f3) White × Leads p1 p2 (plain_move g8 f6) Black × Leads p2 p3 (plain_move f3 g1) White × Leads p3 p0 (plain_move f6 g8) Black
+all_lead = let (first, second, third, fourth) = computed in (leads first second, leads second third, leads third fourth, leads fourth first)

@@ -1,14 +1,10 @@
 mod StartText
 mod Numbers
 mod PairNumbers
-mod Grounds
-mod PawnsAside
-mod BareBoards
 mod ValidPositions
 mod MadeLists
 mod Rounds
 mod Distinct
-mod NoMoves
 mod MatedKing
 mod Mates
 mod KnightMoves

@@ -1,107 +1,137 @@
--- In each made position the rook mates: five boards without pawns decide it.
-use Rattle.std.proofs.Common.{◌≡◌, ℕ, ◌/◌, ◌%◌, ◌<◌, Bool, true, false, not, ◌&&◌, Some, None, set, refl, sym, ◌∙◌, ap, subst, arith}
-use Rattle.std.proofs.lemmas.Bool.{and_from, not-true, not_from_false}
+-- In each made position the rook mates: the men on the two highest ranks do it, and all that stand below is computed away.
+use Rattle.std.proofs.Common.{◌≡◌, ℕ, ◌%◌, ◌<◌, Bool, true, not, ◌&&◌, ◌||◌, ◌==◌, nat_lt, Option, Some, None, set, length, refl, sym, ◌∙◌, ap, subst, inl, inr, arith}
+use Rattle.std.specs.Prelude.{◌⊎◌, ◌++◌, replicate}
 use Rattle.std.specs.List.{list_all, range_with_len}
-use Rattle.krieg_board.specs.Attacks.{attacks, is_between, is_clear, is_king_attacked}
+use Rattle.std.proofs.lemmas.Bool.{and_parts, eqb-true, lt-ltb, or_cases}
+use Rattle.krieg_board.specs.Attacks.{attacks, is_attacked, is_between, is_clear, is_king_attacked}
 use Rattle.krieg_board.specs.Board.{Board, man_at, is_of, is_man}
 use Rattle.krieg_board.specs.Boards.{empty_board}
+use Rattle.krieg_board.specs.Hand.{is_same_man}
 use Rattle.krieg_board.specs.Squares.{square_at, squares, every_square, some_square}
 use Rattle.krieg_board.specs.Validity.{IsValid}
-use Rattle.krieg_board.specs.declared.men.Kind.TheVariants.{Rook, King}
+use Rattle.krieg_board.specs.declared.men.Kind.TheVariants.{Pawn, Rook, King}
+use Rattle.krieg_board.specs.declared.men.Man.{Man}
 use Rattle.krieg_board.specs.declared.men.Side.TheVariants.{White, Black}
+use Rattle.krieg_board.proofs.MenLemmas.{same_side_eq, same_kind_eq}
+use Rattle.krieg_board.proofs.SquareTests.{every_square_at}
 use Rattle.krieg_moves.specs.After.{after, after_by}
 use Rattle.krieg_moves.specs.Legal.{is_legal, is_candidate}
 use Rattle.krieg_moves.specs.Moves.{plain_move, is_mate}
 use Rattle.krieg_moves.proofs.KeepsValid.{valid_after}
-use Rattle.krieg_moves.proofs.Safety.{candidate_is}
+use Rattle.krieg_moves.proofs.Movers.{below_from}
 use Rattle.krieg_make.specs.Laws.{RookMates}
-use Rattle.krieg_make.specs.MadePositions.{man, made_board, made_position, pair_at, pawn_place}
-use Rattle.krieg_make.specs.Named.{g1, g8}
-use Rattle.krieg_make.proofs.BareBoards.{bare, bare_size, each_file, made_board_is, pawns_beside, places_of}
-use Rattle.krieg_make.proofs.Grounds.{passes_by, is_hit, attack_past}
-use Rattle.krieg_make.proofs.MatedKing.{Net, is_caught, is_unseen, net_mates, king_unseen}
-use Rattle.krieg_make.proofs.PawnsAside.{to_move, Beside, is_place, is_low, is_lone, beside_set, agree_off_places, man_found}
+use Rattle.krieg_make.specs.MadePositions.{man, made_board, made_position, pair_at, pairs}
+use Rattle.krieg_make.specs.Named.{g1, g8, h7}
+use Rattle.krieg_make.proofs.MatedKing.{to_move, Agree, Mans, Net, is_filled, is_caught, net_mates, man_found, implied, below_or_not}
+use Rattle.krieg_make.proofs.Numbers.{all_within}
 use Rattle.krieg_make.proofs.ValidPositions.{made_valid}
+use Rattle.krieg_make.specs.declared.position.TheConstants.{POSITION_COUNT}
 
 -- the board after the rook went from g1 to g8
 abbrev rook_gone : Board → Board
 rook_gone b = set (set b g1 None) g8 (Some (man White Rook))
 
--- what is computed of the board without pawns, before the move and after it
-record Mates (file : ℕ) : Type 0 where
-  rook : is_man White Rook (man_at (bare file) g1) ≡ true
-  free : is_of White (man_at (bare file) g8) ≡ false
-  past : passes_by is_place g1 g8 ≡ true
-  goes : attacks (bare file) g1 g8 ≡ true
-  unseen : is_unseen (rook_gone (bare file)) (square_at file 7) ≡ true
-  net : Net (rook_gone (bare file)) (square_at file 7)
+-- Black's king on a file of the last rank and White's rooks, with black pawns on the six lower ranks
+unfoldable netted : ℕ → Board
+netted file =
+    set (set (set (replicate 48 (Some (man Black Pawn)) ++ replicate 16 None) g8 (Some (man White Rook))) h7 (Some (man White Rook))) (square_at file 7) (Some (man Black King))
 
-mates : (file : ℕ) → file < 5 → Mates file
-unfolding bare empty_board passes_by is_place is_low is_hit is_lone is_caught is_unseen attacks is_between is_clear every_square some_square squares
-mates file h =
-    let each : (test : ℕ → Bool) → list_all test (range_with_len 0 5) ≡ true → test file ≡ true = λ test all. each_file test file h all in
-    record {
-      rook = each (λ k. is_man White Rook (man_at (bare k) g1)) refl;
-      free = not-true (is_of White (man_at (bare file) g8)) (each (λ k. not (is_of White (man_at (bare k) g8))) refl);
-      past = refl;
-      goes = each (λ k. attacks (bare k) g1 g8) refl;
-      unseen = each (λ k. is_unseen (rook_gone (bare k)) (square_at k 7)) refl;
-      net = record {
+-- no other black man stands above
+unfoldable is_lone : ℕ → Bool
+is_lone file = every_square (λ s. not (is_of Black (man_at (netted file) s)) || (nat_lt s 48 || s == square_at file 7))
+
+net : (file : ℕ) → file < 5 → Net (netted file) (square_at file 7) × (is_lone file ≡ true)
+unfolding netted is_lone is_filled is_caught is_attacked attacks is_between is_clear every_square some_square squares
+net file h =
+    let each : (test : ℕ → Bool) → list_all test (range_with_len 0 5) ≡ true → test file ≡ true = λ test all. all_within test 0 5 file (omega arith) h all in (
+      record {
+        size = eqb-true (length (netted file)) 64 (each (λ k. length (netted k) == 64) refl);
+        high = omega arith;
         inside = omega arith;
-        high = not-true (is_low (square_at file 7)) (each (λ k. not (is_low (square_at k 7))) refl);
-        king = man_found Black King (man_at (rook_gone (bare file)) (square_at file 7)) (each (λ k. is_man Black King (man_at (rook_gone (bare k)) (square_at k 7))) refl);
-        lone = each (λ k. is_lone (rook_gone (bare k)) (square_at k 7)) refl;
-        check = each (λ k. is_hit is_low (rook_gone (bare k)) (square_at k 7)) refl;
-        caught = each (λ k. is_caught (rook_gone (bare k)) (square_at k 7)) refl;
-      };
-    }
-
--- the made board is the bare one with two black pawns
-made_beside : (file q : ℕ) → file < 5 → q < 276 → Beside (made_board file (pair_at q)) (bare file)
-made_beside file q low h =
-    let pair = pair_at q in
-    subst (λ (b : Board). Beside b (bare file)) (sym (made_board_is file pair))
-    (pawns_beside (bare file) (pawn_place pair.0) (pawn_place pair.1) (bare_size file low) (places_of q h))
-
-gone_beside : (b c : Board) → Beside b c → Beside (rook_gone b) (rook_gone c)
-gone_beside b c x = beside_set (set b g1 None) (set c g1 None) g8 (Some (man White Rook)) (beside_set b c g1 None x (omega arith)) (omega arith)
-
-rook_stands : (b : Board) (file : ℕ) → Beside b (bare file) → Mates file → man_at b g1 ≡ Some (man White Rook)
-unfolding is_place
-rook_stands b file x t = agree_off_places b (bare file) x g1 refl ∙ man_found White Rook (man_at (bare file) g1) t.rook
-
-after_rook : (b : Board) (file : ℕ) → Beside b (bare file) → Mates file → after (to_move White b) (plain_move g1 g8) ≡ to_move Black (rook_gone b)
-unfolding after
-after_rook b file x t = ap (λ y. after_by (to_move White b) y (plain_move g1 g8)) (rook_stands b file x t)
-
-rook_legal : (b : Board) (file : ℕ) → Beside b (bare file) → Mates file → is_legal (to_move White b) (plain_move g1 g8) ≡ true
-unfolding is_legal is_place
-rook_legal b file x t =
-    let free : is_of White (man_at b g8) ≡ false = ap (is_of White) (agree_off_places b (bare file) x g8 refl) ∙ t.free in
-    let (same, goes) = attack_past is_place b (bare file) g1 g8 (agree_off_places b (bare file) x) t.past t.goes in
-    let candidate : is_candidate (to_move White b) (plain_move g1 g8) ≡ true =
-    candidate_is (to_move White b) (plain_move g1 g8) (man White Rook) (omega arith) (omega arith) (rook_stands b file x t) refl
-    ∙ (λ i. not (free i) && goes i) in
-    let safe : is_king_attacked (after (to_move White b) (plain_move g1 g8)).board White ≡ false =
-    ap (λ q. is_king_attacked q.board White) (after_rook b file x t)
-    ∙ king_unseen (rook_gone b) (rook_gone (bare file)) (square_at file 7) (gone_beside b (bare file) x) t.net.lone t.unseen in
-    and_from (is_candidate (to_move White b) (plain_move g1 g8)) (not (is_king_attacked (after (to_move White b) (plain_move g1 g8)).board White)) candidate
-    (not_from_false (is_king_attacked (after (to_move White b) (plain_move g1 g8)).board White) safe)
-
-rook_mates_on : (b : Board) (file : ℕ) → Beside b (bare file) → Mates file → IsValid (to_move White b) →
-    (is_legal (to_move White b) (plain_move g1 g8) ≡ true) × (is_mate (after (to_move White b) (plain_move g1 g8)) ≡ true)
-rook_mates_on b file x t valid =
-    let legal = rook_legal b file x t in
-    let next = after_rook b file x t in (
-      legal,
-      ap is_mate next
-          ∙ net_mates (rook_gone b) (rook_gone (bare file)) (square_at file 7) (gone_beside b (bare file) x) t.net
-          (subst IsValid next (valid_after (to_move White b) (plain_move g1 g8) valid legal)),
+        filled = each (λ k. is_filled (netted k)) refl;
+        king = man_found Black King (man_at (netted file) (square_at file 7)) (each (λ k. is_man Black King (man_at (netted k) (square_at k 7))) refl);
+        check = each (λ k. is_attacked (netted k) (square_at k 7) White) refl;
+        caught = each (λ k. is_caught (netted k) (square_at k 7)) refl;
+      },
+      each is_lone refl,
     )
 
+-- no black man but a pawn stands on a square below, and above the man of the net
+abbrev fits_at : Board → ℕ → ℕ → Bool
+fits_at b file s =
+    (not (nat_lt s 48) || (not (is_of Black (man_at b s)) || is_man Black Pawn (man_at b s)))
+    && (nat_lt s 48 || is_same_man (man_at b s) (man_at (netted file) s))
+
+unfoldable fits : Board → ℕ → Bool
+fits b file = every_square (fits_at b file)
+
+same_man_eq : (x y : Option Man) → is_same_man x y ≡ true → x ≡ y
+same_man_eq None None h = refl
+same_man_eq None (Some b) h = cc
+same_man_eq (Some a) None h = cc
+same_man_eq (Some a) (Some b) h =
+    let r = and_parts _ _ h in
+    λ i. Some (record { side = same_side_eq a.side b.side r.0 i; kind = same_kind_eq a.kind b.kind r.1 i })
+
+at_square : (b : Board) (file s : ℕ) → fits b file ≡ true → s < 64 →
+    ((not (nat_lt s 48) || (not (is_of Black (man_at b s)) || is_man Black Pawn (man_at b s))) ≡ true) × ((nat_lt s 48 || is_same_man (man_at b s) (man_at (netted file) s)) ≡ true)
+unfolding fits
+at_square b file s fit l = and_parts (not (nat_lt s 48) || (not (is_of Black (man_at b s)) || is_man Black Pawn (man_at b s))) _ (every_square_at (fits_at b file) fit s l)
+
+fits_above : (b : Board) (file : ℕ) → fits b file ≡ true → Agree b (netted file)
+fits_above b file fit s high l = by (or_cases (nat_lt s 48) (is_same_man (man_at b s) (man_at (netted file) s)) (at_square b file s fit l).1)
+  where
+    by : (nat_lt s 48 ≡ true) ⊎ (is_same_man (man_at b s) (man_at (netted file) s) ≡ true) → man_at b s ≡ man_at (netted file) s
+    by (inl low) = absurd (let least = below_from s 48 low in omega arith)
+    by (inr same) = same_man_eq (man_at b s) (man_at (netted file) s) same
+
+fits_mans : (b : Board) (file : ℕ) → fits b file ≡ true → is_lone file ≡ true → Net (netted file) (square_at file 7) → Mans b (square_at file 7)
+unfolding is_lone
+fits_mans b file fit lone n s l black = by (below_or_not s)
+  where
+    only : man_at b s ≡ man_at (netted file) s → 47 < s → (nat_lt s 48 ≡ true) ⊎ ((s == square_at file 7) ≡ true) → (s ≡ square_at file 7) × (man_at b s ≡ Some (man Black King))
+    only same high (inl low) = absurd (let least = below_from s 48 low in omega arith)
+    only same high (inr here) = let e = eqb-true s (square_at file 7) here in (e, same ∙ (ap (man_at (netted file)) e ∙ n.king))
+
+    by : (s < 48) ⊎ (47 < s) → ((s < 48) × (man_at b s ≡ Some (man Black Pawn))) ⊎ ((s ≡ square_at file 7) × (man_at b s ≡ Some (man Black King)))
+    by (inl low) =
+        inl (
+          low,
+          man_found Black Pawn (man_at b s) (implied (is_of Black (man_at b s)) (is_man Black Pawn (man_at b s)) black
+              (implied (nat_lt s 48) (not (is_of Black (man_at b s)) || is_man Black Pawn (man_at b s)) (lt-ltb s 48 low) (at_square b file s fit l).0)),
+        )
+    by (inr high) =
+        let same = fits_above b file fit s high l in
+        inr (only same high (or_cases (nat_lt s 48) (s == square_at file 7)
+        (implied (is_of Black (man_at (netted file) s)) (nat_lt s 48 || s == square_at file 7) (ap (is_of Black) (sym same) ∙ black)
+        (every_square_at (λ s. not (is_of Black (man_at (netted file) s)) || (nat_lt s 48 || s == square_at file 7)) lone s l))))
+
+-- what is computed of each made position
+unfoldable fits_gone : ℕ → Bool
+fits_gone i = is_man White Rook (man_at (made_position i).board g1) && fits (rook_gone (made_position i).board) (i % 5)
+
+unfoldable may_go : ℕ → Bool
+may_go i = is_legal (made_position i) (plain_move g1 g8)
+
+all_fit : list_all fits_gone (range_with_len 0 POSITION_COUNT) ≡ true
+unfolding fits_gone fits netted made_position made_board pair_at pairs empty_board every_square squares
+all_fit = refl
+
+all_go : list_all may_go (range_with_len 0 POSITION_COUNT) ≡ true
+unfolding may_go made_position made_board pair_at pairs empty_board after is_legal is_candidate is_king_attacked attacks is_attacked is_between is_clear every_square some_square squares
+all_go = refl
+
 pub rook_mates : RookMates
-unfolding made_position
+unfolding fits_gone may_go after made_position
 rook_mates i h =
+    let p = made_position i in
+    let b = rook_gone p.board in
     let file = i % 5 in
-    let q = i / 5 in
-    rook_mates_on (made_board file (pair_at q)) file (made_beside file q (omega arith) (omega arith)) (mates file (omega arith)) (made_valid i h)
+    let legal : is_legal p (plain_move g1 g8) ≡ true = all_within may_go 0 POSITION_COUNT i (omega arith) h all_go in
+    let r = and_parts (is_man White Rook (man_at p.board g1)) (fits b file) (all_within fits_gone 0 POSITION_COUNT i (omega arith) h all_fit) in
+    let (caught, lone) = net file (omega arith) in
+    let next : after p (plain_move g1 g8) ≡ to_move Black b = ap (λ y. after_by p y (plain_move g1 g8)) (man_found White Rook (man_at p.board g1) r.0) in (
+      legal,
+      ap is_mate next
+          ∙ net_mates b (netted file) (square_at file 7) (fits_above b file r.1) (fits_mans b file r.1 lone caught) caught (subst IsValid next (valid_after p (plain_move g1 g8) (made_valid i h) legal)),
+    )

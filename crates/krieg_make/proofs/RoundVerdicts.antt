@@ -1,6 +1,7 @@
 -- Each round of a made session is judged alike.
 use Rattle.std.proofs.Common.{◌≡◌, ℕ, zero, suc, ◌+◌, ◌%◌, ◌==◌, Bool, true, false, not, ◌&&◌, cond, if◌then◌else◌, Option, Some, None, List, [], ◌∷◌, ◌++◌, map, refl, ◌∙◌, ap, inl, inr, arith, add-one}
 use Rattle.std.specs.Prelude.{◌⊎◌, nat_lt, slice_index_or}
+use Rattle.std.proofs.lemmas.Bool.{and_right}
 use Rattle.krieg_board.specs.Attacks.{is_king_attacked}
 use Rattle.krieg_board.specs.Board.{man_at, is_of}
 use Rattle.krieg_board.specs.Men.{other, is_same_side}
@@ -25,7 +26,7 @@ use Rattle.krieg_referee.specs.declared.verdict.Verdict.TheVariants.{Early, Ille
 use Rattle.krieg_make.specs.Laws.{round_verdicts, RoundsAreAlike}
 use Rattle.krieg_make.specs.MadeSessions.{made_tries, round_of, mover, knight_moves, knight_move, event}
 use Rattle.krieg_make.specs.Named.{g1, f3}
-use Rattle.krieg_make.proofs.KnightMoves.{Leads, p0, p1, p2, p3, leads_0, leads_1, leads_2, leads_3}
+use Rattle.krieg_make.proofs.KnightMoves.{Leads, p0, p1, p2, p3, all_lead}
 
 -- the verdicts of tries from a position
 abbrev verdicts : Pos → List Event → List Verdict
@@ -39,24 +40,20 @@ last-append : (p : Pos) (es fs : List Event) → last p (es ++ fs) ≡ last (las
 last-append p [] fs = refl
 last-append p (e ∷ es) fs = last-append (next p e.who e.mv) es fs
 
-of_side : (own kind : Bool) → (not own && (own && kind)) ≡ false
-of_side true kind = refl
-of_side false kind = refl
-
 of_man : (p : Pos) (m : Move) (man : Option Man) → (not (is_of p.side man) && is_move_of man p m) ≡ false
 of_man p m None = refl
-of_man p m (Some man) = of_side (is_same_side man.side p.side) (is_move_of_kind man.kind p m)
-
-at_last : (low b : Bool) → b ≡ false → (low && (low && b)) ≡ false
-at_last true b e = e
-at_last false b e = refl
+of_man p m (Some man) = by (is_same_side man.side p.side)
+  where
+    by : (own : Bool) → (not own && (own && is_move_of_kind man.kind p m)) ≡ false
+    by true = refl
+    by false = refl
 
 -- no man goes from a square to itself
 nowhere : (p : Pos) (z : ℕ) → is_legal p (plain_move z z) ≡ false
 unfolding is_legal is_candidate
 nowhere p z =
     let m : Move = plain_move z z in
-    let none : is_candidate p m ≡ false = at_last (nat_lt z 64) (not (is_of p.side (man_at p.board z)) && is_move_of (man_at p.board z) p m) (of_man p m (man_at p.board z)) in
+    let none : is_candidate p m ≡ false = and_right (nat_lt z 64) _ (and_right (nat_lt z 64) _ (of_man p m (man_at p.board z))) in
     ap (λ (b : Bool). b && not (is_king_attacked (after p m).board p.side)) none
 
 early : (p : Pos) (m : Move) (who : Side) → p.side ≡ who → is_ended p ≡ false → verdict p (other who) m ≡ Early
@@ -80,13 +77,12 @@ done p q m who l =
 abbrev tries : ℕ → Side → Move → List Event
 tries z who m = event (other who) (plain_move z z) ∷ event who (plain_move z z) ∷ event who m ∷ []
 
-tries_verdicts : (p q : Pos) (z : ℕ) (who : Side) (m : Move) → Leads p q m who → verdicts p (tries z who m) ≡ round_verdicts
-tries_verdicts p q z who m l =
-    rw (early p (plain_move z z) who l.turn l.goes, illegal p (plain_move z z) who l.turn l.goes (nowhere p z), done p q m who l)
-
-tries_last : (p q : Pos) (z : ℕ) (who : Side) (m : Move) → Leads p q m who → last p (tries z who m) ≡ q
-tries_last p q z who m l =
-    rw (early p (plain_move z z) who l.turn l.goes, illegal p (plain_move z z) who l.turn l.goes (nowhere p z), done p q m who l) l.next
+tries_judged : (p q : Pos) (z : ℕ) (who : Side) (m : Move) → Leads p q m who → (verdicts p (tries z who m) ≡ round_verdicts) × (last p (tries z who m) ≡ q)
+tries_judged p q z who m l =
+    let first = early p (plain_move z z) who l.turn l.goes in
+    let second = illegal p (plain_move z z) who l.turn l.goes (nowhere p z) in
+    let third = done p q m who l in
+    (rw (first, second, third), rw (first, second, third) l.next)
 
 -- where the game stands after a number of rounds, by what is left of it when fours are taken away
 stand : ℕ → Pos
@@ -104,10 +100,10 @@ round_leads n = go (n % 4) ((n + 1) % 4) (n % 2) (fours n)
   where
     go : (r next half : ℕ) → ((r ≡ 0) × (next ≡ 1) × (half ≡ 0)) ⊎ (((r ≡ 1) × (next ≡ 2) × (half ≡ 1)) ⊎ (((r ≡ 2) × (next ≡ 3) × (half ≡ 0)) ⊎ ((r ≡ 3) × (next ≡ 0) × (half ≡ 1)))) →
         Leads (stand r) (stand next) (slice_index_or knight_moves r (plain_move g1 f3)) (if half == 0 then White else Black)
-    go r next half (inl (a, b, c)) = rw (a, b, c) leads_0
-    go r next half (inr (inl (a, b, c))) = rw (a, b, c) leads_1
-    go r next half (inr (inr (inl (a, b, c)))) = rw (a, b, c) leads_2
-    go r next half (inr (inr (inr (a, b, c)))) = rw (a, b, c) leads_3
+    go r next half (inl (a, b, c)) = rw (a, b, c) all_lead.0
+    go r next half (inr (inl (a, b, c))) = rw (a, b, c) all_lead.1
+    go r next half (inr (inr (inl (a, b, c)))) = rw (a, b, c) all_lead.2
+    go r next half (inr (inr (inr (a, b, c)))) = rw (a, b, c) all_lead.3
 
 after_rounds : (s n : ℕ) → last p0 (made_tries s n) ≡ stand (n % 4)
 unfolding made_tries stand
@@ -115,7 +111,7 @@ after_rounds s zero = refl
 after_rounds s (suc n) =
     last-append p0 (gathered (round_of s) n) (round_of s n)
     ∙ (ap (λ p. last p (round_of s n)) (after_rounds s n)
-    ∙ (tries_last (stand (n % 4)) (stand ((n + 1) % 4)) ((s + n) % 64) (mover n) (knight_move n) (round_leads n)
+    ∙ ((tries_judged (stand (n % 4)) (stand ((n + 1) % 4)) ((s + n) % 64) (mover n) (knight_move n) (round_leads n)).1
     ∙ ap (λ k. stand (k % 4)) (add-one n)))
 
 all_verdicts : (s n : ℕ) → verdicts p0 (made_tries s n) ≡ gathered (λ m. round_verdicts) n
@@ -126,7 +122,7 @@ all_verdicts s (suc n) =
     ∙ (ap (λ vs. vs ++ verdicts (last p0 (gathered (round_of s) n)) (round_of s n)) (all_verdicts s n)
     ∙ ap (λ vs. gathered (λ m. round_verdicts) n ++ vs) (
     ap (λ p. verdicts p (round_of s n)) (after_rounds s n)
-    ∙ tries_verdicts (stand (n % 4)) (stand ((n + 1) % 4)) ((s + n) % 64) (mover n) (knight_move n) (round_leads n)))
+    ∙ (tries_judged (stand (n % 4)) (stand ((n + 1) % 4)) ((s + n) % 64) (mover n) (knight_move n) (round_leads n)).0))
 
 pub rounds_alike : RoundsAreAlike
 unfolding p0

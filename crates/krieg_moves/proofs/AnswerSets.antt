@@ -1,7 +1,7 @@
 -- Sets of squares that answer attacks, and of squares that are safe, gathered one attacker or square after another.
 use Rattle.std.proofs.Common.{◌≡◌, ℕ, ◌<◌, Bool, true, false, not, ◌&&◌, ◌||◌, ◌==◌, ◌⊎◌, inl, inr, refl, sym, ◌∙◌, ap, bit_and, bit_or, ◌≢◌}
-use Rattle.std.proofs.Math.Bool.{and_assoc, or-false}
-use Rattle.std.proofs.lemmas.Bool.{and_parts, and_from, cases_eq, eq-eqb, ne_eqb, or_right}
+use Rattle.std.proofs.Math.Bool.{and_assoc}
+use Rattle.std.proofs.lemmas.Bool.{and_parts, and_from, cases_eq, ne_eqb, or_right}
 use Rattle.krieg_board.specs.declared.men.Side.{Side}
 use Rattle.krieg_board.specs.Board.{Board, man_at, is_of}
 use Rattle.krieg_board.specs.Attacks.{attacks, is_between}
@@ -65,35 +65,3 @@ pub answered_by_set : (b : Board) (by : Side) (n k t : ℕ) → ((s : ℕ) → s
 unfolding answers_all is_answered
 answered_by_set b by n k t e =
     every_square_same (λ s. not (has n s) || answers s k t) (λ s. not (is_of by (man_at b s) && attacks b s k) || answers s k t) (λ s l. ap (λ x. not x || answers s k t) (e s l))
-
--- a loop keeps the lowest square of those that are left, where it passes
-pub kept_more : (test : ℕ → Bool) (safe n rest less s t : ℕ) (here : Bool) → IsLowest rest s → t < 64 → ((j : ℕ) → j < 64 → has less j ≡ (has rest j && not (j == s))) →
-    here ≡ test s → has n t ≡ (here && t == s) → (has (bit_or safe n) t || (has less t && test t)) ≡ (has safe t || (has rest t && test t))
-kept_more test safe n rest less s t here l ht others eh en =
-    (λ i. (has_or safe n t ∙ ap (λ x. has safe t || x) en) i || (others t ht i && test t))
-    ∙ by_place (cases_eq t s)
-  where
-    same : (a r h x e : Bool) → e ≡ true → r ≡ true → h ≡ x → ((a || (h && e)) || ((r && not e) && x)) ≡ (a || (r && x))
-    same true r h x true p q z = refl
-    same false true true true true p q z = refl
-    same false true false false true p q z = refl
-    same false true true false true p q z = cc
-    same false true false true true p q z = cc
-    same a false h x e p q z = cc
-    same a r h x false p q z = cc
-
-    apart : (a r h x e : Bool) → e ≡ false → ((a || (h && e)) || ((r && not e) && x)) ≡ (a || (r && x))
-    apart true r h x false p = refl
-    apart false true true x false p = refl
-    apart false true false x false p = refl
-    apart false false true x false p = refl
-    apart false false false x false p = refl
-    apart a r h x true p = cc
-
-    by_place : (t ≡ s) ⊎ (t ≢ s) → ((has safe t || (here && t == s)) || ((has rest t && not (t == s)) && test t)) ≡ (has safe t || (has rest t && test t))
-    by_place (inl e) = same (has safe t) (has rest t) here (test t) (t == s) (eq-eqb t s e) (ap (has rest) e ∙ l.member) (eh ∙ ap test (sym e))
-    by_place (inr n) = apart (has safe t) (has rest t) here (test t) (t == s) (ne_eqb t s n)
-
--- and ends when none is left
-pub kept_all : (test : ℕ → Bool) (safe rest t : ℕ) → rest ≡ 0 → (has safe t || (has rest t && test t)) ≡ has safe t
-kept_all test safe rest t z = ap (λ x. has safe t || (x && test t)) (ap (λ n. has n t) z ∙ has_zero t) ∙ or-false (has safe t)

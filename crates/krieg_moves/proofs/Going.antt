@@ -39,7 +39,7 @@ pub attacks_is : (p : Pos) (f t : ℕ) (man : Man) → man_at p.board f ≡ Some
 unfolding attacks
 attacks_is p f t man is = ap (λ x. man_attacks p.board x f t) is
 
-no_pawn : (which : Kind) → is_officer which ≡ true → is_same_kind which Pawn ≡ false
+pub no_pawn : (which : Kind) → is_officer which ≡ true → is_same_kind which Pawn ≡ false
 no_pawn Pawn h = cc
 no_pawn Knight h = refl
 no_pawn Bishop h = refl

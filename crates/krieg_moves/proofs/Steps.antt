@@ -1,18 +1,15 @@
 -- Where a pawn steps, by sets, and a clear way, by the squares between.
-use Rattle.std.proofs.Common.{◌≡◌, ℕ, ◌<◌, ◌^◌, Bool, true, false, not, ◌&&◌, ◌||◌, ◌==◌, refl, sym, ◌∙◌, ap}
+use Rattle.std.proofs.Common.{◌≡◌, ℕ, ◌<◌, Bool, true, false, not, ◌&&◌, ◌||◌, ◌==◌, refl, sym, ◌∙◌, ap}
 use Rattle.std.proofs.Math.Bool.{and-false}
 use Rattle.std.specs.Prelude.{Option, Some, None, is_some, is_none}
-use Rattle.std.proofs.lemmas.Bool.{and_parts, eqb-true, both_ways, false_from_ne_true, not-true, and_right}
+use Rattle.std.proofs.lemmas.Bool.{and_parts, eqb-true, and_right}
 use Rattle.krieg_board.specs.declared.men.Side.{Side}
 use Rattle.krieg_board.specs.declared.men.Side.TheVariants.{White, Black}
 use Rattle.krieg_board.specs.declared.men.Man.{Man}
-use Rattle.krieg_board.specs.Squares.{squares, some_square, every_square, file_of, rank_of, pawn_rank, landing_rank}
+use Rattle.krieg_board.specs.Squares.{squares, every_square, file_of, rank_of, pawn_rank, landing_rank}
 use Rattle.krieg_board.specs.Board.{Board, man_at}
-use Rattle.krieg_board.specs.Attacks.{is_forward, is_between, is_clear}
-use Rattle.krieg_board.specs.Sets.{has}
-use Rattle.krieg_board.proofs.OneKing.{set_empty}
-use Rattle.krieg_board.proofs.SameTests.{same_tests}
-use Rattle.krieg_board.proofs.SquareTests.{every_square_at, every_square_all, some_square_at, some_square_tells}
+use Rattle.krieg_board.specs.Attacks.{is_forward}
+use Rattle.krieg_board.proofs.SquareTests.{every_square_at}
 use Rattle.krieg_rays.specs.Rays.{is_ahead}
 use Rattle.krieg_moves.specs.After.{crossed}
 use Rattle.krieg_moves.specs.Legal.{is_step, is_double_step}
@@ -89,19 +86,3 @@ steps_blocked b side f t hf ht blocked =
     neither false forward free begin land clear c n = refl
     neither true true free begin land clear c n = (λ i. n refl i || (begin && (land && (c i && free)))) ∙ no_way begin land
     neither true false free begin land clear c n = ap (λ x. begin && (land && (x && free))) c ∙ no_way begin land
-
--- a way is clear where no occupied square is between its ends
-pub clear_set : (b : Board) (f t n : ℕ) → n < 2 ^ 64 → ((s : ℕ) → s < 64 → has n s ≡ (is_between f t s && is_some (man_at b s))) → (n == 0) ≡ is_clear b f t
-unfolding is_clear
-clear_set b f t n small e =
-    turned (n == 0) (some_square there) (set_empty n there small e)
-    ∙ same_tests (not (some_square there)) (every_square (λ s. not (there s)))
-    (λ h. every_square_all (λ s. not (there s)) (λ s l. ap not (false_from_ne_true (there s) (λ k. both_ways (some_square there) (not-true (some_square there) h) (some_square_at there s l k)))))
-    (λ h. ap not (false_from_ne_true (some_square there) (λ k. let (s, l, is) = some_square_tells there k in both_ways (there s) (not-true (there s) (every_square_at (λ s. not (there s)) h s l)) is)))
-  where
-    there : ℕ → Bool
-    there s = is_between f t s && is_some (man_at b s)
-
-    turned : (x y : Bool) → y ≡ not x → x ≡ not y
-    turned true y e = sym (ap not e)
-    turned false y e = sym (ap not e)

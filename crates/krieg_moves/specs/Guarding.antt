@@ -23,9 +23,10 @@ answers_all attackers k t = every_square (λ s. not (has attackers s) || answers
 unfoldable pub is_answered : Board → Side → ℕ → ℕ → Bool
 is_answered b by k t = every_square (λ s. not (is_of by (man_at b s) && attacks b s k) || answers s k t)
 
--- the guard of the king of the side to move: where he stands, who is pinned, and where the attacks on him are answered
+-- the guard of the king of the side to move: where he stands, who attacks him, who is pinned, and where the attacks on him are answered
 pub record IsGuard (p : Pos) (g : Guard) : Type 0 where
   pub inside : g.king < 64
   pub king : is_man p.side King (man_at p.board g.king) ≡ true
+  pub checkers : (k : ℕ) → k < 64 → has g.checkers k ≡ (is_of (other p.side) (man_at p.board k) && attacks p.board k g.king)
   pub pinned : (k : ℕ) → k < 64 → has g.pinned k ≡ is_pinned p.board p.side k
   pub answers : (t : ℕ) → t < 64 → has g.answers t ≡ is_answered p.board (other p.side) g.king t

@@ -1,9 +1,10 @@
 -- Where a king steps, and which men have but one way to go.
-use Rattle.std.specs.Prelude.{ℕ, Bool, ◌≡◌, true, false, Some, None, ◌&&◌, ◌||◌, not, slice_set}
-use Rattle.krieg_board.specs.Men.{other}
+use Rattle.std.specs.Prelude.{ℕ, Bool, ◌≡◌, true, false, Option, Some, None, ◌&&◌, ◌||◌, not, slice_set}
+use Rattle.krieg_board.specs.Men.{other, is_same_side}
 use Rattle.krieg_board.specs.Pos.{Pos}
 use Rattle.krieg_board.specs.Board.{man_at, is_of, is_man}
 use Rattle.krieg_board.specs.Attacks.{attacks, man_attacks, is_attacked}
+use Rattle.krieg_board.specs.declared.men.Side.{Side}
 use Rattle.krieg_board.specs.declared.men.Kind.{Kind}
 use Rattle.krieg_board.specs.declared.men.Kind.TheVariants.{Pawn, Knight, Bishop, Rook, Queen, King}
 use Rattle.krieg_board.specs.declared.men.Man.{Man}
@@ -21,6 +22,15 @@ is_officer Bishop = true
 is_officer Rook = true
 is_officer Queen = true
 is_officer King = false
+
+-- a knight, bishop, rook or queen of that side
+abbrev pub is_officer_of : Side → Option Man → Bool
+is_officer_of side None = false
+is_officer_of side (Some m) = is_same_side m.side side && is_officer m.kind
+
+-- a knight, bishop, rook or queen of the side to move on k who is not pinned
+abbrev pub is_free_officer : Pos → ℕ → Bool
+is_free_officer p k = is_officer_of p.side (man_at p.board k) && not (is_pinned p.board p.side k)
 
 -- the king on f attacks t, where no own man stands and which no enemy man attacks once the king has left
 abbrev pub is_king_step : Pos → ℕ → Man → ℕ → Bool

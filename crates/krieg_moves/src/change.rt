@@ -34,8 +34,7 @@ fn placed(man: Man, mv: &Move) -> Man
 fn moved(bits: &Bits, man: Man, mv: &Move) -> Bits
     ensures { result ≡ spec.moved bits.now man mv.now }
 {
-    bits.with(mv.from.number(), None)
-        .with(mv.to.number(), Some(placed(man, mv)))
+    bits.moved(mv.from.number(), mv.to.number(), placed(man, mv))
 }
 
 /// Whether the mark is that square.
@@ -119,9 +118,13 @@ fn keeps_right(held: bool, wing: Wing, side: Side, man: Man, mv: &Move) -> bool
         && mv.to.number() != corner(wing, side)
 }
 
+/// The rights that stay. Where none is held, as is soon so in a game, no square is looked at.
 fn rights_after(rights: Rights, man: Man, mv: &Move) -> Rights
     ensures { result ≡ spec.rights_after rights man mv.now }
 {
+    if !(rights.white_short || rights.white_long || rights.black_short || rights.black_long) {
+        return rights;
+    }
     Rights {
         white_short: keeps_right(rights.white_short, Wing::Short, Side::White, man, mv),
         white_long: keeps_right(rights.white_long, Wing::Long, Side::White, man, mv),

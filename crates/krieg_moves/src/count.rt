@@ -1,17 +1,19 @@
-ghost use Rattle.std.specs.Prelude.{◌≡◌, ◌<◌, ◌≤◌, ◌&&◌, ◌==◌, ℕ, true, filter, length};
+ghost use Rattle.std.specs.Prelude.{◌≡◌, ◌<◌, ◌≤◌, ◌&&◌, ◌==◌, ℕ, true, false, bit_and, filter, length, Some};
 ghost use Rattle.krieg_board.specs.Board.{man_at, is_man};
+ghost use Rattle.krieg_board.specs.Boards.{is_kind};
 ghost use Rattle.krieg_board.specs.Sets as sets;
 ghost use Rattle.krieg_board.specs.declared.men.Kind.TheVariants.{King};
 ghost use Rattle.krieg_board.specs.Squares as squares;
+ghost use Rattle.krieg_rays.specs.Pinned.{is_pinned};
 ghost use Rattle.krieg_moves.specs.Guarding.{IsGuard};
 ghost use Rattle.krieg_moves.specs.Legal as spec;
 ghost use Rattle.krieg_moves.specs.Moves as list;
-ghost use Rattle.krieg_moves.specs.Targets.{IsFreePawn};
+ghost use Rattle.krieg_moves.specs.Targets.{IsFreePawn, is_free_officer, is_officer};
 
 use crate::guard::Guard;
-use crate::target::{own_pawns, targets, targets_of_king};
+use crate::target::{own_pawns, targets, targets_of_free_officer, targets_of_king};
 use crate::ways::count_ways;
-use krieg_board::{Position, Side, Square, has, know_valid, lowest, without_lowest};
+use krieg_board::{Kind, Man, Position, Side, Square, has, know_valid, lowest, without_lowest};
 
 /// The squares of the rank on which a side's pawns are promoted.
 fn last_rank_squares(side: Side) -> u64
@@ -42,6 +44,9 @@ fn count_of_free_pawns(p: &Position, guard: &Guard, pawns: u64) -> usize
     requires pawns { (k : ℕ) → k < 64 → sets.has pawns k ≡ true → IsFreePawn p.now k }
     ensures { result ≡ length (list.moves_of p.now pawns) }
 {
+    if pawns == 0 {
+        return 0;
+    }
     let bits = p.bits();
     let side = p.side();
     let by = side.other();
@@ -62,6 +67,82 @@ fn promoting(p: &Position, from: Square, targets: u64) -> u64
     } else {
         0
     }
+}
+
+/// The knights, bishops, rooks and queens of the side to move who are not pinned.
+fn free_officers(p: &Position, pinned: u64) -> u64
+    requires { (k : ℕ) → k < 64 → sets.has pinned k ≡ is_pinned p.now.board p.now.side k }
+    ensures { (k : ℕ) → k < 64 → sets.has result k ≡ is_free_officer p.now k }
+{
+    let bits = p.bits();
+    let side = p.side();
+    let sets = bits.sets();
+    (sets.knights | sets.bishops | (sets.rooks | sets.queens)) & bits.men_of(side) & !pinned
+}
+
+/// The number of the legal moves of a knight, bishop, rook or queen who is not pinned.
+#[inline]
+fn count_of_officer(p: &Position, guard: &Guard, man: Man, from: Square) -> usize
+    requires guard { IsGuard p.now guard.now }
+    requires man { man_at p.now.board from ≡ Some man }
+    requires own { man.side ≡ p.now.side }
+    requires officer { is_officer man.kind ≡ true }
+    requires free { is_pinned p.now.board p.now.side from ≡ false }
+    ensures { result ≡ length (filter (spec.is_legal p.now) (list.moves_from from)) }
+{
+    know_valid(p);
+    let _from = from.number();
+    targets_of_free_officer(p, guard, from, man).count_ones() as usize
+}
+
+/// The number of the legal moves of those of such men who are of one kind: no square is asked who stands there.
+#[inline]
+fn count_of_kind(p: &Position, guard: &Guard, man: Man, men: u64, of_kind: u64) -> usize
+    requires guard { IsGuard p.now guard.now }
+    requires men { (k : ℕ) → k < 64 → sets.has men k ≡ is_free_officer p.now k }
+    requires kind { (k : ℕ) → k < 64 → sets.has of_kind k ≡ is_kind man.kind (man_at p.now.board k) }
+    requires own { man.side ≡ p.now.side }
+    requires officer { is_officer man.kind ≡ true }
+    ensures { result ≡ length (list.moves_of p.now (bit_and men of_kind)) }
+{
+    let mut count = 0usize;
+    let mut rest = men & of_kind;
+    while rest != 0 {
+        let from = lowest(rest);
+        rest = without_lowest(rest);
+        count += count_of_officer(p, guard, man, from);
+    }
+    count
+}
+
+/// The number of the legal moves of knights, bishops, rooks and queens who are not pinned, kind by kind.
+fn count_of_officers(p: &Position, guard: &Guard, men: u64) -> usize
+    requires guard { IsGuard p.now guard.now }
+    requires men { (k : ℕ) → k < 64 → sets.has men k ≡ is_free_officer p.now k }
+    ensures { result ≡ length (list.moves_of p.now men) }
+{
+    let side = p.side();
+    let sets = p.bits().sets();
+    let knight = Man {
+        side,
+        kind: Kind::Knight,
+    };
+    let bishop = Man {
+        side,
+        kind: Kind::Bishop,
+    };
+    let rook = Man {
+        side,
+        kind: Kind::Rook,
+    };
+    let queen = Man {
+        side,
+        kind: Kind::Queen,
+    };
+    count_of_kind(p, guard, knight, men, sets.knights)
+        + count_of_kind(p, guard, bishop, men, sets.bishops)
+        + count_of_kind(p, guard, rook, men, sets.rooks)
+        + count_of_kind(p, guard, queen, men, sets.queens)
 }
 
 /// The number of the legal moves of the king.
@@ -107,7 +188,8 @@ fn count_one_by_one(p: &Position, guard: &Guard, men: u64) -> usize
 /// No position has more legal moves than 64 times 64 times 5.
 pub const MOST_LEGAL_MOVES: usize = 20_480;
 
-/// The number of the legal moves of the side to move, without their list. It takes no memory.
+/// The number of the legal moves of the side to move, without their list. Free pawns are counted together, and men who
+/// are not pinned kind by kind. It takes no memory.
 pub fn count_moves(p: &Position) -> usize
     ensures value { result ≡ length (list.moves p.now) }
     ensures few { result ≤ MOST_LEGAL_MOVES }
@@ -115,6 +197,9 @@ pub fn count_moves(p: &Position) -> usize
     let guard = &Guard::of(p);
     let men = p.bits().men_of(p.side());
     let free = free_pawns(p, guard);
-    let others = men & !free;
-    count_of_free_pawns(p, guard, free) + count_one_by_one(p, guard, others)
+    let officers = free_officers(p, guard.pinned);
+    let others = men & !(free | officers);
+    count_of_free_pawns(p, guard, free)
+        + count_of_officers(p, guard, officers)
+        + count_one_by_one(p, guard, others)
 }

@@ -1,12 +1,14 @@
 ghost use Rattle.krieg_moves.specs.Guarding.{IsGuard};
 ghost use Rattle.std.specs.Prelude.{◌≡◌, not, length};
 ghost use Rattle.std.specs.List.{list_any};
+ghost use Rattle.krieg_board.specs.Sets.{has};
+ghost use Rattle.krieg_board.specs.Squares.{some_square};
 ghost use Rattle.krieg_moves.specs.Legal as spec;
 ghost use Rattle.krieg_moves.specs.Moves as list;
 
 use crate::guard::Guard;
 use crate::target::targets;
-use krieg_board::{Position, king_of, lowest, without_lowest};
+use krieg_board::{Position, king_of, know_valid, lowest, without_lowest};
 use krieg_rays::is_attacked;
 
 fn has_any(p: &Position, guard: &Guard) -> bool
@@ -51,6 +53,23 @@ pub fn in_check(p: &Position) -> bool
     is_attacked(bits, king, by)
 }
 
+/// Whether some square belongs to the set.
+#[inline]
+fn has_squares(set: u64) -> bool
+    ensures { result ≡ some_square (has set) }
+{
+    set != 0
+}
+
+/// The same, by a caller that has the guard.
+pub fn in_check_by(p: &Position, guard: &Guard) -> bool
+    requires { IsGuard p.now guard.now }
+    ensures { result ≡ list.in_check p.now }
+{
+    know_valid(p);
+    has_squares(guard.checkers)
+}
+
 /// Whether the position is mate: the side to move is in check and has no legal move (FIDE Laws,
 /// article 5.1.1).
 #[tactic(auto, unfolding(crate::specs::Moves::is_mate))]
@@ -66,7 +85,8 @@ pub fn is_mate(p: &Position) -> bool
 pub fn is_stalemate(p: &Position) -> bool
     ensures { result ≡ list.is_stalemate p.now }
 {
-    !in_check(p) && !has_move(p)
+    let guard = &Guard::of(p);
+    !in_check_by(p, guard) && !has_move_by(p, guard)
 }
 
 /// The same as `is_mate`, by a caller that has counted the legal moves.

@@ -5,8 +5,12 @@ ghost use Rattle.krieg_board.specs.Attacks as attack;
 ghost use Rattle.krieg_board.specs.Sets as sets;
 ghost use Rattle.krieg_moves.specs.Guarding as spec;
 
-use krieg_board::{Bits, Position, Side, has, king_of, know_valid, lowest, only, without_lowest};
-use krieg_rays::{attacked_by, attackers_at, between_at, is_attacked, pinned};
+use krieg_board::{
+    Bits, Position, Side, has, king_of, know_valid, lowest, only, only_if, without_lowest,
+};
+use krieg_rays::{
+    attacked_by_without, attackers_without, between_at, is_attacked_without, king_lines,
+};
 
 /// What keeps the king of the side to move safe. It is made once for a position, and serves all of its
 /// moves.
@@ -14,6 +18,8 @@ use krieg_rays::{attacked_by, attackers_at, between_at, is_attacked, pinned};
 pub struct Guard {
     /// The number of the square on which the king stands.
     pub king: u8,
+    /// The enemy men who give check.
+    pub checkers: u64,
     /// The men of his side that are pinned.
     pub pinned: u64,
     /// Where a man who is not pinned must arrive so that his king is not in check behind the move: every
@@ -37,46 +43,33 @@ fn answers_to(attackers: u64, square: u8) -> u64
     answers
 }
 
-/// Where a man must arrive to answer each attack of that side on the square.
-fn answers_on(b: &Bits, square: u8, by: Side) -> u64
-    requires { square < 64 }
-    ensures { (t : ℕ) → t < 64 → sets.has result t ≡ spec.is_answered b.now by square t }
-{
-    answers_to(attackers_at(b, square, by), square)
-}
-
-/// The set of that square, or no square, as `here` says.
-pub(crate) fn only_if(here: bool, square: u8) -> u64
-    requires { square < 64 }
-    ensures { (t : ℕ) → t < 64 → sets.has result t ≡ (here && t == square) }
-{
-    if here { only(square) } else { 0 }
-}
-
-/// Those of the squares that no man of that side attacks, by a look at each of them.
-fn safe_one_by_one(b: &Bits, squares: u64, by: Side) -> u64
-    ensures { (t : ℕ) → t < 64 → sets.has result t ≡ (sets.has squares t && not (attack.is_attacked b.now t by)) }
+/// Those of the squares that no man of that side would attack, did nobody stand on `gone`, by a look at each
+/// of them.
+fn safe_one_by_one(b: &Bits, gone: u8, squares: u64, by: Side) -> u64
+    requires { gone < 64 }
+    ensures { (t : ℕ) → t < 64 → sets.has result t ≡ (sets.has squares t && not (attack.is_attacked (slice_set b.now gone None) t by)) }
 {
     let mut rest = squares;
     let mut safe = 0u64;
     while rest != 0 {
         let square = lowest(rest).number();
-        let is_safe = !is_attacked(b, square, by);
+        let is_safe = !is_attacked_without(b, gone, square, by);
         safe |= only_if(is_safe, square);
         rest = without_lowest(rest);
     }
     safe
 }
 
-/// Those of the squares that no man of that side attacks. It looks at each of the squares or at each of
-/// the men, whichever are fewer.
-pub(crate) fn safe_squares(b: &Bits, squares: u64, by: Side) -> u64
-    ensures { (t : ℕ) → t < 64 → sets.has result t ≡ (sets.has squares t && not (attack.is_attacked b.now t by)) }
+/// Those of the squares that no man of that side would attack, did nobody stand on `gone`. It looks at each of
+/// the squares or at each of the men, whichever are fewer.
+pub(crate) fn safe_squares(b: &Bits, gone: u8, squares: u64, by: Side) -> u64
+    requires { gone < 64 }
+    ensures { (t : ℕ) → t < 64 → sets.has result t ≡ (sets.has squares t && not (attack.is_attacked (slice_set b.now gone None) t by)) }
 {
     if squares.count_ones() < b.men_of(by).count_ones() {
-        return safe_one_by_one(b, squares, by);
+        return safe_one_by_one(b, gone, squares, by);
     }
-    squares & !attacked_by(b, by)
+    squares & !attacked_by_without(b, gone, by)
 }
 
 impl Guard {
@@ -86,14 +79,13 @@ impl Guard {
     {
         let bits = p.bits();
         let side = p.side();
-        let by = side.other();
         let king = king_of(bits, side);
-        let pinned = pinned(bits, side);
-        let answers = answers_on(bits, king, by);
+        let lines = king_lines(bits, king, side);
         Guard {
             king,
-            pinned,
-            answers,
+            checkers: lines.checkers,
+            pinned: lines.pinned,
+            answers: answers_to(lines.checkers, king),
         }
     }
 
@@ -106,8 +98,7 @@ impl Guard {
         let bits = p.bits();
         let side = p.side();
         let by = side.other();
-        let lifted = bits.with(from, None);
-        answers_on(&lifted, self.king, by)
+        answers_to(attackers_without(bits, from, self.king, by), self.king)
     }
 
     /// Where the man on that square must arrive so that his king is safe behind the move. Of a man who is

@@ -31,10 +31,11 @@ mod wing;
 pub use change::{after, is_castling, is_en_passant, passed_square};
 pub use count::{MOST_LEGAL_MOVES, count_moves};
 pub use ends::{
-    has_move, has_move_by, in_check, is_mate, is_mate_by, is_stalemate, is_stalemate_by,
+    has_move, has_move_by, in_check, in_check_by, is_mate, is_mate_by, is_stalemate,
+    is_stalemate_by,
 };
 pub use guard::Guard;
 pub use legality::{after_if_legal, is_legal};
-pub use list::legal_moves;
+pub use list::{legal_moves, legal_moves_by};
 pub use target::{own_pawns, pawn_captures, targets};
 pub use wing::{Wing, arrival};

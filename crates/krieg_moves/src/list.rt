@@ -42,11 +42,12 @@ fn push_promotions(from: Square, to: Square, moves: &mut SmallVec<Move, 64>) -> 
     push(from, to, Promo::Knight, moves)
 }
 
-/// Whether a pawn of the side to move would be promoted by going there (FIDE Laws, article 3.7.5.1).
+/// Whether a pawn of the side to move would be promoted by going there (FIDE Laws, article 3.7.5.1). Who goes is
+/// asked on the last rank alone.
 fn promotes(p: &Position, from: Square, to: Square) -> bool
     ensures { result ≡ list.promotes p.now from to }
 {
-    is_man(p.side(), Kind::Pawn, p.man_at(from)) && rank_of(to.number()) == last_rank(p.side())
+    rank_of(to.number()) == last_rank(p.side()) && is_man(p.side(), Kind::Pawn, p.man_at(from))
 }
 
 /// Adds the legal moves between two squares, where there are any: four promotions where a pawn reaches
@@ -97,13 +98,26 @@ fn push_from(
 /// All legal moves of the side to move, each once, by from-square, then by to-square, then by
 /// promotion. `NoMemory` comes only for want of memory, and never where there are 64 moves at most: they
 /// take none.
-#[tactic(auto, unfolding(crate::specs::Moves::moves))]
 pub fn legal_moves(alloc: Global, p: &Position) -> Result<SmallVec<Move, 64>, NoMemory>
     ensures exact { IfOk result (λ found. found.items ≡ list.moves p.now) }
     ensures ascending { IfOk result (λ found. IsStrictlySortedBy move_cmp found.items) }
     ensures few { IfErr result (λ e. 64 < length (list.moves p.now)) }
 {
-    let guard = &Guard::of(p);
+    legal_moves_by(alloc, p, &Guard::of(p))
+}
+
+/// The same, by a caller that has the guard.
+#[tactic(auto, unfolding(crate::specs::Moves::moves))]
+pub fn legal_moves_by(
+    alloc: Global,
+    p: &Position,
+    guard: &Guard,
+) -> Result<SmallVec<Move, 64>, NoMemory>
+    requires { IsGuard p.now guard.now }
+    ensures exact { IfOk result (λ found. found.items ≡ list.moves p.now) }
+    ensures ascending { IfOk result (λ found. IsStrictlySortedBy move_cmp found.items) }
+    ensures few { IfErr result (λ e. 64 < length (list.moves p.now)) }
+{
     let mut moves = SmallVec::new(alloc);
     let mut rest = p.bits().men_of(p.side());
     while rest != 0 {

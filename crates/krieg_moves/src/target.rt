@@ -4,6 +4,7 @@ ghost use Rattle.krieg_board.specs.Attacks as attack;
 ghost use Rattle.krieg_board.specs.Sets as sets;
 ghost use Rattle.krieg_board.specs.declared.men.Kind.TheVariants.{Pawn, King};
 ghost use Rattle.krieg_board.specs.Squares as squares;
+ghost use Rattle.krieg_rays.specs.Pinned.{is_pinned};
 ghost use Rattle.krieg_moves.specs.After as change;
 ghost use Rattle.krieg_moves.specs.Guarding.{IsGuard};
 ghost use Rattle.krieg_moves.specs.Legal as spec;
@@ -14,12 +15,12 @@ ghost use Rattle.krieg_moves.specs.Targets.{is_officer, IsFreePawn};
 
 use crate::candidate::can_castle;
 use crate::change::crossed;
-use crate::guard::{Guard, only_if, safe_squares};
+use crate::guard::{Guard, safe_squares};
 use crate::legality::leaves_king_safe;
 use crate::wing::{Wing, arrival, king_square};
 use krieg_board::{
     Bits, Kind, Man, Move, Position, Promo, Side, Square, has, is_of, know_squares, know_valid,
-    pawn_rank, rank_of,
+    only_if, pawn_rank, rank_of,
 };
 use krieg_rays::{attacked_from, king_attacks, pawn_attacks, pawn_steps};
 
@@ -69,8 +70,7 @@ fn king_steps(p: &Position, from: Square, man: Man) -> u64
     let side = p.side();
     let by = side.other();
     let squares = king_attacks(from.number()) & !bits.men_of(side);
-    let lifted = bits.with(from.number(), None);
-    safe_squares(&lifted, squares, by)
+    safe_squares(bits, from.number(), squares, by)
 }
 
 fn king_targets(p: &Position, from: Square, man: Man) -> u64
@@ -267,6 +267,23 @@ fn officer_targets(p: &Position, guard: &Guard, from: Square, man: Man) -> u64
     let side = p.side();
     let attacked = attacked_from(bits, man, from.number());
     attacked & !bits.men_of(side) & guard.answers_from(p, from.number())
+}
+
+/// Where a knight, bishop, rook or queen who is not pinned may go: to what he attacks, but for squares of own men,
+/// so that the checks on his king are answered.
+#[inline]
+pub(crate) fn targets_of_free_officer(p: &Position, guard: &Guard, from: Square, man: Man) -> u64
+    requires guard { IsGuard p.now guard.now }
+    requires man { man_at p.now.board from ≡ Some man }
+    requires own { man.side ≡ p.now.side }
+    requires officer { is_officer man.kind ≡ true }
+    requires free { is_pinned p.now.board p.now.side from ≡ false }
+    ensures { (t : ℕ) → t < 64 → sets.has result t ≡ can_go p.now from t }
+{
+    let bits = p.bits();
+    let side = p.side();
+    let attacked = attacked_from(bits, man, from.number());
+    attacked & !bits.men_of(side) & guard.answers
 }
 
 /// Where this man of the side to move may go.

@@ -58,10 +58,6 @@ left_none d always parts [] B t is l = record {
 }
 left_none d always parts (p ∷ rest) B t is l = absurd cc
 
--- where the try stalemates in no member, all was wanted
-pub always_gathered : (d : Dialect) (B : List Pos) (t : Move) (parts : Gathered) → parts.stale ≡ false → IsGathered d false B t parts → IsGathered d true B t parts
-always_gathered d B t parts s g = record { stale_part = g.stale_part; refused_part = λ e. g.refused_part (ap not s); pool_part = λ e. g.pool_part (ap not s) }
-
 -- a member whose replies are only counted adds nothing that is wanted
 pub counted : (d : Dialect) (always : Bool) (parts : Gathered) (p : Pos) (t : Move) (r : Result (Unit {0}) PartStop) (n old new : ℕ) → parts.stale ≡ true → always ≡ false → n ≡ replies t p
     → Charged r (λ u. Unit {0}) (1 + n) old new → Charged r (λ u. IsAdded d always parts parts p t) (suc (length (given (chess d) t p))) old new

@@ -1,5 +1,6 @@
 ghost use Rattle.std.specs.Prelude.{◌≡◌, ◌≤◌, true, suc, length, IfOk};
 ghost use Rattle.krieg_moves.specs.After.{after};
+ghost use Rattle.krieg_moves.specs.Guarding.{IsGuard};
 ghost use Rattle.krieg_moves.specs.Legal as rule;
 ghost use Rattle.krieg_words.specs.WordsOfMoves.{words};
 ghost use Rattle.krieg_theory.specs.Split.{given};
@@ -14,7 +15,7 @@ use crate::pool::Pool;
 use crate::stop::{PartStop, take};
 use krieg_board::{Move, NoMemory, Position, Units};
 use krieg_game::Class;
-use krieg_moves::{MOST_LEGAL_MOVES, after_if_legal, count_moves, is_stalemate_by, legal_moves};
+use krieg_moves::{MOST_LEGAL_MOVES, after_if_legal, count_moves, is_stalemate_by, legal_moves_by};
 use krieg_pack::{Belief, Packed, unpack};
 use krieg_words::{Dialect, Made, make_if_legal};
 use std::alloc::Global;
@@ -53,9 +54,10 @@ fn add_legal(
     requires legal { rule.is_legal p.now mv.now ≡ true }
     requires words { made.now.words ≡ words p.now mv.now }
     requires position { made.now.position ≡ after p.now mv.now }
+    requires guard { IsGuard made.now.position made.now.guard }
     ensures { Charged result (λ _. IsAdded d always parts.old parts.new p.now mv.now) (suc (length (given (chess d) mv.now p.now))) units.old units.new }
 {
-    let replies = legal_moves(alloc, &made.position)?;
+    let replies = legal_moves_by(alloc, &made.position, &made.guard)?;
     take(units, 1 + replies.len() as u64)?;
     parts.stale = parts.stale || is_stalemate_by(&made.position, replies.len());
     if always || !parts.stale {

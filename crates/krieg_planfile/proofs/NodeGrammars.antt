@@ -30,10 +30,9 @@ use Rattle.krieg_planfile.specs.NodeForms.{play_form, on_form}
 use Rattle.krieg_planfile.specs.NodeReading.{NodeReader, other_by, branch_by, branches_by, below_by, deep_form, node_at}
 use Rattle.krieg_planfile.specs.NodeText.{edge_count, is_just, play_line, on_line, node_lines, other_lines, edges_lines, branches_lines, IsToldKey, IsTold, IsToldOther, AreToldBranches}
 use Rattle.krieg_planfile.specs.PlanSpelling.{HasFewEdges, HasFewOther, HaveFewBranches, NodeGrammar, BranchesGrammar}
-use Rattle.krieg_planfile.proofs.BranchForms.{IsBranchForm, edges_form}
+use Rattle.krieg_planfile.proofs.BranchForms.{IsBranchForm, edges_form, some_said, some_told}
 use Rattle.krieg_planfile.proofs.Edges.{edges_of, edges_back, lines_of_edges, told_edges, told_back, few_edges, few_back, count_of_edges}
 use Rattle.krieg_planfile.proofs.PlayForms.{SaysPlay, any_play, play_spells}
-use Rattle.krieg_planfile.proofs.BranchForms.{some_said, some_told}
 
 -- ---- branches
 

@@ -46,6 +46,13 @@ diagonal : agree (λ s k. is_on_rising s k || is_on_falling s k) (goes Bishop Wh
 unfolding agree every_square squares goes is_on_rising is_on_falling
 diagonal = refl
 
+-- a rook goes along files and ranks, a bishop along diagonals
+pub straight_lines : (s k : ℕ) → s < 64 → k < 64 → (is_on_file s k || is_on_rank s k) ≡ goes Rook White s k
+straight_lines = agree_at (λ s k. is_on_file s k || is_on_rank s k) (goes Rook White) straight
+
+pub diagonal_lines : (s k : ℕ) → s < 64 → k < 64 → (is_on_rising s k || is_on_falling s k) ≡ goes Bishop White s k
+diagonal_lines = agree_at (λ s k. is_on_rising s k || is_on_falling s k) (goes Bishop White) diagonal
+
 along : (on : ℕ → ℕ → Bool) → is_line on ≡ true → (s : ℕ) → s < 64 → (on s s ≡ false)
     × ((k j : ℕ) → k < 64 → j < 64 → on s k ≡ true → is_between s k j ≡ (on s j && is_inside s j k))
 unfolding is_line

@@ -2,13 +2,13 @@
 use Rattle.std.proofs.Common.{◌≡◌, ℕ, ◌<◌, Bool, true, false, not, ◌&&◌, ◌||◌, ◌==◌, ◌⊎◌, inl, inr, refl, sym, ◌∙◌, ap, set, ◌≢◌}
 use Rattle.std.specs.Prelude.{Option, Some, None, is_some}
 use Rattle.std.proofs.lemmas.Bool.{both_ways, cases_eq, eq-eqb, ne_eqb, not-true}
-use Rattle.std.proofs.lemmas.List.{get_or-set_same, get_or-set_other}
-use Rattle.std.proofs.Math.Bool.{and-true, and-false}
+use Rattle.std.proofs.lemmas.List.{get_or-set_other}
+use Rattle.std.proofs.Math.Bool.{and-true, and-false, or-false, and-or_distrib_right}
 use Rattle.krieg_board.specs.declared.men.Side.{Side}
 use Rattle.krieg_board.specs.declared.men.Side.TheVariants.{White, Black}
 use Rattle.krieg_board.specs.declared.men.Kind.TheVariants.{Pawn, Knight, Bishop, Rook, Queen, King}
 use Rattle.krieg_board.specs.declared.men.Man.{Man}
-use Rattle.krieg_board.specs.Men.{other, is_same_side}
+use Rattle.krieg_board.specs.Men.{other}
 use Rattle.krieg_board.specs.Squares.{squares, every_square, some_square}
 use Rattle.krieg_board.specs.Board.{Board, man_at, is_of, is_man}
 use Rattle.krieg_board.specs.Boards.{is_kind}
@@ -16,14 +16,14 @@ use Rattle.krieg_board.specs.Attacks.{attacks, man_attacks, is_between, is_clear
 use Rattle.krieg_board.specs.Sets.{has}
 use Rattle.krieg_board.specs.Validity.{count_kind}
 use Rattle.krieg_board.proofs.SquareTests.{every_square_at, some_square_none}
-use Rattle.krieg_board.proofs.SameTests.{every_square_both, every_square_same, some_square_same}
+use Rattle.krieg_board.proofs.SameTests.{every_square_same, some_square_same}
 use Rattle.krieg_rays.specs.Rays.{goes}
 use Rattle.krieg_rays.specs.Pinned.{is_pinned, is_pinned_by}
-use Rattle.krieg_rays.specs.Snipers.{is_open_of, is_sniper, is_only}
-use Rattle.krieg_rays.proofs.Kings.{standing, king_search}
+use Rattle.krieg_rays.specs.Snipers.{is_near, is_sniper, is_only}
+use Rattle.krieg_rays.proofs.Kings.{king_search}
 use Rattle.krieg_rays.proofs.Spans.{is_between_turned}
 use Rattle.krieg_rays.proofs.Symmetry.{rook_turned, bishop_turned}
-use Rattle.krieg_rays.proofs.Attacking.{found_attacks}
+use Rattle.krieg_rays.proofs.Attacking.{emptied, found_attacks, near_turned, clear_turned}
 
 -- what is asked of no square in particular may be asked before the search
 some_square_and : (u : Bool) (p : ℕ → Bool) → some_square (λ f. u && p f) ≡ (u && some_square p)
@@ -82,79 +82,35 @@ apart f k s hf hk between e =
     (ap (is_between f k) (sym e) ∙ not-true (is_between f k f) (every_square_at (λ k. not (is_between f k f)) (every_square_at (λ f. every_square (λ k. not (is_between f k f))) own_end f hf) k hk))
     between
 
--- of that side's men between the two, only he on s
-abbrev pub is_alone : Board → Side → ℕ → ℕ → ℕ → Bool
-is_alone b who k f s = every_square (λ j. not ((is_between k f j && is_of who (man_at b j)) && not (j == s)))
+-- of the men between the two, only he on s
+abbrev pub is_alone : Board → ℕ → ℕ → ℕ → Bool
+is_alone b k f s = every_square (λ j. not ((is_between k f j && is_some (man_at b j)) && not (j == s)))
 
--- a man of that side stands on s, and of that side's men he alone stands between the two
+-- a man of that side stands on s, and he alone stands between the two
 abbrev pub shields : Board → Side → ℕ → ℕ → ℕ → Bool
-shields b who k s f = (is_between k f s && is_of who (man_at b s)) && is_alone b who k f s
+shields b who k s f = (is_between k f s && is_of who (man_at b s)) && is_alone b k f s
 
-some_side : (who : Side) (x : Option Man) → is_some x ≡ (is_of (other who) x || is_of who x)
-some_side who None = refl
-some_side who (Some m) = by_sides who m.side
+-- without the man on s the way is clear, where nobody else stands between
+clear_without : (b : Board) (k f s : ℕ) → f < 64 → k < 64 → is_clear (set b s None) f k ≡ is_alone b k f s
+unfolding is_clear
+clear_without b k f s hf hk =
+    sym (every_square_same (λ j. not ((is_between k f j && is_some (man_at b j)) && not (j == s))) (λ j. not (is_between f k j && is_some (man_at (set b s None) j))) (λ j hj.
+    ap (λ t. not ((t && is_some (man_at b j)) && not (j == s))) (is_between_turned k f j hk hf hj) ∙ ap not (each j (cases_eq j s))))
   where
-    by_sides : (who s : Side) → true ≡ (is_same_side s (other who) || is_same_side s who)
-    by_sides White White = refl
-    by_sides White Black = refl
-    by_sides Black White = refl
-    by_sides Black Black = refl
-
-other_side : (who : Side) (x : Option Man) → is_of who x ≡ true → is_of (other who) x ≡ false
-other_side who None h = refl
-other_side who (Some m) h = by_sides who m.side h
-  where
-    by_sides : (who s : Side) → is_same_side s who ≡ true → is_same_side s (other who) ≡ false
-    by_sides White White h = refl
-    by_sides White Black h = cc
-    by_sides Black White h = cc
-    by_sides Black Black h = refl
-
--- without the man on s the way is clear, where no enemy man and no other man of his side stands between
-clear_without : (b : Board) (who : Side) (k f s : ℕ) → f < 64 → k < 64 → is_of who (man_at b s) ≡ true →
-    is_clear (set b s None) f k ≡ (is_open_of b (other who) k f && is_alone b who k f s)
-unfolding is_clear is_open_of
-clear_without b who k f s hf hk own =
-    sym (every_square_both free alone ∙ every_square_same (λ j. free j && alone j) (λ j. not (is_between f k j && is_some (man_at (set b s None) j))) (λ j hj.
-    ap (λ t. not (t && is_of (other who) (man_at b j)) && not ((t && is_of who (man_at b j)) && not (j == s))) (is_between_turned k f j hk hf hj) ∙ each j (cases_eq j s)))
-  where
-    free : ℕ → Bool
-    free j = not (is_between k f j && is_of (other who) (man_at b j))
-
-    alone : ℕ → Bool
-    alone j = not ((is_between k f j && is_of who (man_at b j)) && not (j == s))
-
-    here : (t u : Bool) → (not (t && false) && not ((t && u) && false)) ≡ not (t && false)
-    here true true = refl
-    here true false = refl
-    here false u = refl
-
-    there : (t e u : Bool) → (not (t && e) && not ((t && u) && true)) ≡ not (t && (e || u))
-    there true true u = refl
-    there true false true = refl
-    there true false false = refl
-    there false e u = refl
-
-    each : (j : ℕ) → (j ≡ s) ⊎ (j ≢ s) →
-        (not (is_between f k j && is_of (other who) (man_at b j)) && not ((is_between f k j && is_of who (man_at b j)) && not (j == s)))
-        ≡ not (is_between f k j && is_some (man_at (set b s None) j))
+    each : (j : ℕ) → (j ≡ s) ⊎ (j ≢ s) → ((is_between f k j && is_some (man_at b j)) && not (j == s)) ≡ (is_between f k j && is_some (man_at (set b s None) j))
     each j (inl e) =
-        (λ i. not (is_between f k j && (ap (λ k. is_of (other who) (man_at b k)) e ∙ other_side who (man_at b s) own) i)
-        && not ((is_between f k j && is_of who (man_at b j)) && not (eq-eqb j s e i)))
-        ∙ here (is_between f k j) (is_of who (man_at b j))
-        ∙ sym (ap (λ x. not (is_between f k j && is_some x)) (ap (man_at (set b s None)) e ∙ get_or-set_same b s None None (standing (is_of who) refl b s own)))
+        ap (λ t. (is_between f k j && is_some (man_at b j)) && not t) (eq-eqb j s e) ∙ and-false (is_between f k j && is_some (man_at b j))
+        ∙ sym (ap (λ x. is_between f k j && is_some x) (ap (man_at (set b s None)) e ∙ emptied b s) ∙ and-false (is_between f k j))
     each j (inr p) =
-        (λ i. not (is_between f k j && is_of (other who) (man_at b j)) && not ((is_between f k j && is_of who (man_at b j)) && not (ne_eqb j s p i)))
-        ∙ there (is_between f k j) (is_of (other who) (man_at b j)) (is_of who (man_at b j))
-        ∙ sym (ap (λ x. not (is_between f k j && x)) (ap is_some (get_or-set_other b s j None None p) ∙ some_side who (man_at b j)))
+        ap (λ t. (is_between f k j && is_some (man_at b j)) && not t) (ne_eqb j s p) ∙ and-true (is_between f k j && is_some (man_at b j))
+        ∙ sym (ap (λ x. is_between f k j && is_some x) (get_or-set_other b s j None None p))
 
 -- an enemy man would attack the king without the man on s, where he is a sniper and that man stands alone
-sniper_attacks : (b : Board) (who : Side) (k f s : ℕ) → f < 64 → k < 64 → s < 64 → is_between f k s ≡ true → is_of who (man_at b s) ≡ true →
-    (is_sniper b (other who) k f && is_alone b who k f s) ≡ (is_of (other who) (man_at b f) && attacks (set b s None) f k)
+sniper_attacks : (b : Board) (who : Side) (k f s : ℕ) → f < 64 → k < 64 → s < 64 → is_between f k s ≡ true →
+    (is_sniper b (other who) k f && is_alone b k f s) ≡ (is_of (other who) (man_at b f) && attacks (set b s None) f k)
 unfolding is_sniper attacks
-sniper_attacks b who k f s hf hk hs between own =
-    gathered (goes Rook White k f) (goes Bishop White k f) (is_open_of b (other who) k f) (is_kind Rook x || is_kind Queen x) (is_kind Bishop x || is_kind Queen x)
-    (is_of (other who) x) (is_alone b who k f s)
+sniper_attacks b who k f s hf hk hs between =
+    gathered (goes Rook White k f) (goes Bishop White k f) (is_kind Rook x || is_kind Queen x) (is_kind Bishop x || is_kind Queen x) (is_of (other who) x) (is_alone b k f s)
     ∙ (λ i. ((((pawn i && is_kind Pawn x) || ((knight i && is_kind Knight x) || (king i && is_kind King x)))
     || (((rook_turned k f hk hf i && way i) && (is_kind Rook x || is_kind Queen x)) || ((bishop_turned k f hk hf i && way i) && (is_kind Bishop x || is_kind Queen x)))) && is_of (other who) x))
     ∙ found_attacks (set b s None) (other who) k f x
@@ -172,20 +128,20 @@ sniper_attacks b who k f s hf hk hs between own =
     king : false ≡ goes King White f k
     king = sym (not_near (goes King White) kings f k s hf hk hs between)
 
-    way : (is_open_of b (other who) k f && is_alone b who k f s) ≡ is_clear (set b s None) f k
-    way = sym (clear_without b who k f s hf hk own)
+    way : is_alone b k f s ≡ is_clear (set b s None) f k
+    way = sym (clear_without b k f s hf hk)
 
-    gathered : (r d o p q e a : Bool) → (((((r && o) && p) || ((d && o) && q)) && e) && a) ≡ ((((r && (o && a)) && p) || ((d && (o && a)) && q)) && e)
-    gathered r d o p q e true = simp and-true
-    gathered r d o p q e false = simp and-false
+    gathered : (r d p q e a : Bool) → ((((r && p) || (d && q)) && e) && a) ≡ ((((r && a) && p) || ((d && a) && q)) && e)
+    gathered r d p q e true = simp and-true
+    gathered r d p q e false = simp and-false
 
 -- a man is pinned by the snipers before whom he stands alone
 pub sniper_pins : (b : Board) (who : Side) (k f s : ℕ) → f < 64 → k < 64 → s < 64 →
     (is_sniper b (other who) k f && shields b who k s f) ≡ (is_of who (man_at b s) && is_pinned_by b (other who) f k s)
 sniper_pins b who k f s hf hk hs =
-    ap (λ t. is_sniper b (other who) k f && ((t && is_of who (man_at b s)) && is_alone b who k f s)) (is_between_turned k f s hk hf hs)
-    ∙ joined (is_between f k s) (is_of who (man_at b s)) (is_sniper b (other who) k f) (is_alone b who k f s) (is_of (other who) (man_at b f)) (attacks (set b s None) f k)
-    (sniper_attacks b who k f s hf hk hs)
+    ap (λ t. is_sniper b (other who) k f && ((t && is_of who (man_at b s)) && is_alone b k f s)) (is_between_turned k f s hk hf hs)
+    ∙ joined (is_between f k s) (is_of who (man_at b s)) (is_sniper b (other who) k f) (is_alone b k f s) (is_of (other who) (man_at b f)) (attacks (set b s None) f k)
+    (λ t u. sniper_attacks b who k f s hf hk hs t)
   where
     joined : (t u x a e y : Bool) → (t ≡ true → u ≡ true → (x && a) ≡ (e && y)) → (x && ((t && u) && a)) ≡ (u && (e && (t && y)))
     joined true true x a e y same = same refl refl
@@ -202,9 +158,34 @@ some_sniper_pins b who k s n one hk hs is e =
     ∙ some_square_and (is_of who (man_at b s)) (λ f. is_pinned_by b (other who) f k s)
     ∙ sym (pinned_to b who k s one hk is)
 
--- the only man of his side between the two shields the king
-pub only_shields : (b : Board) (who : Side) (k f s n : ℕ) → s < 64 → ((j : ℕ) → j < 64 → has n j ≡ (is_between k f j && is_of who (man_at b j))) →
-    is_only n s ≡ shields b who k s f
+-- the one man between the two, if of the king's side, shields the king
+pub only_shields : (b : Board) (who : Side) (k f s n own : ℕ) → s < 64 → ((j : ℕ) → j < 64 → has n j ≡ (is_between k f j && is_some (man_at b j))) →
+    has own s ≡ is_of who (man_at b s) → (is_only n s && has own s) ≡ shields b who k s f
 unfolding is_only
-only_shields b who k f s n hs e =
-    λ i. e s hs i && every_square_same (λ j. not (has n j && not (j == s))) (λ j. not ((is_between k f j && is_of who (man_at b j)) && not (j == s))) (λ j hj n. not (e j hj n && not (j == s))) i
+only_shields b who k f s n own hs e eo =
+    (λ i. (e s hs i && every_square_same (λ j. not (has n j && not (j == s))) (λ j. not ((is_between k f j && is_some (man_at b j)) && not (j == s))) (λ j hj n. not (e j hj n && not (j == s))) i) && eo i)
+    ∙ gathered (is_between k f s) (is_some (man_at b s)) (is_alone b k f s) (is_of who (man_at b s)) (some_there (man_at b s))
+  where
+    some_there : (x : Option Man) → is_of who x ≡ true → is_some x ≡ true
+    some_there None h = cc
+    some_there (Some m) h = refl
+
+    gathered : (t x a o : Bool) → (o ≡ true → x ≡ true) → (((t && x) && a) && o) ≡ ((t && o) && a)
+    gathered t x a false h = and-false ((t && x) && a) ∙ sym (ap (λ y. y && a) (and-false t))
+    gathered t x a true h = and-true ((t && x) && a) ∙ ap (λ y. (t && y) && a) (h refl)
+
+-- a king is attacked by those near him, and by the snipers before whom nobody stands
+pub lines_attack : (b : Board) (by : Side) (k f : ℕ) → f < 64 → k < 64 →
+    ((is_near b by k f && is_of by (man_at b f)) || (is_sniper b by k f && is_clear b k f)) ≡ (is_of by (man_at b f) && attacks b f k)
+unfolding is_sniper attacks
+lines_attack b by k f hf hk =
+    (λ i. (near_turned b by k f hk hf i && is_of by x) || (((((rook_turned k f hk hf i && (is_kind Rook x || is_kind Queen x)) || (bishop_turned k f hk hf i && (is_kind Bishop x || is_kind Queen x))) && is_of by x)) && clear_turned b k f hk hf i))
+    ∙ gathered _ (goes Rook White f k) (goes Bishop White f k) (is_kind Rook x || is_kind Queen x) (is_kind Bishop x || is_kind Queen x) (is_of by x) (is_clear b f k)
+    ∙ found_attacks b by k f x
+  where
+    x : Option Man
+    x = man_at b f
+
+    gathered : (n r d p q e a : Bool) → ((n && e) || ((((r && p) || (d && q)) && e) && a)) ≡ ((n || (((r && a) && p) || ((d && a) && q))) && e)
+    gathered n r d p q e true = simp and-true (sym (and-or_distrib_right n ((r && p) || (d && q)) e))
+    gathered n r d p q e false = simp (and-false, or-false)

@@ -1,5 +1,5 @@
 -- What a loop finds that takes the squares of a set one after another, and which sets have just one square.
-use Rattle.std.proofs.Common.{◌≡◌, ℕ, ◌+◌, ◌-◌, ◌%◌, ◌^◌, ◌<◌, Bool, true, false, not, ◌&&◌, ◌||◌, ◌==◌, ◌⊎◌, inl, inr, sym, ◌∙◌, ap, bit_and, bit_or, ◌≢◌, arith, w64}
+use Rattle.std.proofs.Common.{◌≡◌, ℕ, ◌+◌, ◌-◌, ◌%◌, ◌^◌, ◌<◌, Bool, true, false, not, ◌&&◌, ◌||◌, ◌==◌, ◌⊎◌, inl, inr, refl, sym, ◌∙◌, ap, bit_and, bit_or, ◌≢◌, arith, w64}
 use Rattle.std.specs.Int.{trailing_zeros}
 use Rattle.std.proofs.lemmas.Nat.{and_le_l}
 use Rattle.std.proofs.lemmas.Bool.{and_from, and_parts, and_left, and_right, both_ways, cases_eq, eq-eqb, ne_eqb, or_cases, or_left, or_right, false_from_ne_true, not-true}
@@ -119,3 +119,35 @@ not_only_one n s h more =
 -- a loop begins with no square found
 pub none_found : (x : Bool) (s : ℕ) → (has 0 s || x) ≡ x
 none_found x s = ap (λ y. y || x) (has_zero s)
+
+-- a loop keeps the lowest square of those that are left, where it passes
+pub kept_more : (test : ℕ → Bool) (safe n rest less s t : ℕ) (here : Bool) → IsLowest rest s → t < 64 → ((j : ℕ) → j < 64 → has less j ≡ (has rest j && not (j == s))) →
+    here ≡ test s → has n t ≡ (here && t == s) → (has (bit_or safe n) t || (has less t && test t)) ≡ (has safe t || (has rest t && test t))
+kept_more test safe n rest less s t here l ht others eh en =
+    (λ i. (has_or safe n t ∙ ap (λ x. has safe t || x) en) i || (others t ht i && test t))
+    ∙ by_place (cases_eq t s)
+  where
+    same : (a r h x e : Bool) → e ≡ true → r ≡ true → h ≡ x → ((a || (h && e)) || ((r && not e) && x)) ≡ (a || (r && x))
+    same true r h x true p q z = refl
+    same false true true true true p q z = refl
+    same false true false false true p q z = refl
+    same false true true false true p q z = cc
+    same false true false true true p q z = cc
+    same a false h x e p q z = cc
+    same a r h x false p q z = cc
+
+    apart : (a r h x e : Bool) → e ≡ false → ((a || (h && e)) || ((r && not e) && x)) ≡ (a || (r && x))
+    apart true r h x false p = refl
+    apart false true true x false p = refl
+    apart false true false x false p = refl
+    apart false false true x false p = refl
+    apart false false false x false p = refl
+    apart a r h x true p = cc
+
+    by_place : (t ≡ s) ⊎ (t ≢ s) → ((has safe t || (here && t == s)) || ((has rest t && not (t == s)) && test t)) ≡ (has safe t || (has rest t && test t))
+    by_place (inl e) = same (has safe t) (has rest t) here (test t) (t == s) (eq-eqb t s e) (ap (has rest) e ∙ l.member) (eh ∙ ap test (sym e))
+    by_place (inr n) = apart (has safe t) (has rest t) here (test t) (t == s) (ne_eqb t s n)
+
+-- and ends when none is left
+pub kept_all : (test : ℕ → Bool) (safe rest t : ℕ) → rest ≡ 0 → (has safe t || (has rest t && test t)) ≡ has safe t
+kept_all test safe rest t z = ap (λ x. has safe t || (x && test t)) (ap (λ n. has n t) z ∙ has_zero t) ∙ or-false (has safe t)

@@ -1,10 +1,11 @@
 -- Lines, what is seen along a line, and where men go on an empty board.
-use Rattle.std.specs.Prelude.{ℕ, Bool, ◌==◌, ◌&&◌, ◌||◌, ◌+◌, not, nat_lt}
+use Rattle.std.specs.Prelude.{ℕ, Bool, false, Option, Some, None, ◌==◌, ◌&&◌, ◌||◌, ◌+◌, not, nat_lt}
 use Rattle.krieg_board.specs.declared.men.Side.{Side}
 use Rattle.krieg_board.specs.declared.men.Kind.{Kind}
+use Rattle.krieg_board.specs.declared.men.Man.{Man}
 use Rattle.krieg_board.specs.Squares.{every_square, file_of, rank_of, pawn_rank, landing_rank}
 use Rattle.krieg_board.specs.Sets.{has}
-use Rattle.krieg_board.specs.Attacks.{is_inside, is_between, can_reach, is_forward}
+use Rattle.krieg_board.specs.Attacks.{is_inside, is_between, can_reach, slides, is_forward}
 
 -- k is another square on the file of s
 unfoldable pub is_on_file : ℕ → ℕ → Bool
@@ -41,6 +42,11 @@ goes which side f t = not (f == t) && can_reach which side f t
 -- no occupied square lies between the two
 unfoldable pub is_open : ℕ → ℕ → ℕ → Bool
 is_open occupied f t = every_square (λ j. not (is_between f t j && has occupied j))
+
+-- the man on f attacks t where these squares are occupied
+abbrev pub reaches : ℕ → Option Man → ℕ → ℕ → Bool
+reaches occupied None f t = false
+reaches occupied (Some m) f t = not (f == t) && (can_reach m.kind m.side f t && (not (slides m.kind) || is_open occupied f t))
 
 -- straight ahead of a pawn of that side: the next square, and the one behind it from the rank where pawns begin
 unfoldable pub is_ahead : Side → ℕ → ℕ → Bool

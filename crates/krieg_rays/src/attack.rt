@@ -1,14 +1,15 @@
-ghost use Rattle.std.specs.Prelude.{◌≡◌, ◌<◌, ◌&&◌, ℕ, true, Some};
+ghost use Rattle.std.specs.Prelude.{◌≡◌, ◌<◌, ◌&&◌, ◌==◌, ℕ, true, not, Some, None, slice_set};
 ghost use Rattle.krieg_board.specs.Attacks.{attacks, man_attacks};
 ghost use Rattle.krieg_board.specs.Attacks as spec;
-ghost use Rattle.krieg_board.specs.Board.{man_at, is_of, is_man};
-ghost use Rattle.krieg_board.specs.Boards.{is_kind};
+ghost use Rattle.krieg_board.specs.Board.{man_at, is_of};
 ghost use Rattle.krieg_board.specs.Squares.{some_square};
 ghost use Rattle.krieg_board.specs.Sets.{has};
+ghost use Rattle.krieg_rays.specs.Rays.{reaches};
+ghost use Rattle.krieg_rays.specs.Snipers.{is_near};
 
 use crate::leaps::{king_attacks, knight_attacks, pawn_attacks};
 use crate::lines::{diagonal_among, diagonal_from, straight_among, straight_from};
-use krieg_board::{Bits, Kind, Man, Side, Square, lowest, without_lowest};
+use krieg_board::{Bits, Kind, Man, Side, Square, lowest, only, without_lowest};
 
 /// The squares of the men of that side that attack the square (FIDE Laws, articles 3.1 to 3.9).
 pub fn attackers(b: &Bits, s: Square, by: Side) -> u64
@@ -17,20 +18,58 @@ pub fn attackers(b: &Bits, s: Square, by: Side) -> u64
     attackers_at(b, s.number(), by)
 }
 
+/// The pawns, knights and kings who would attack the square, were they of that side.
+#[inline]
+pub(crate) fn near_men(b: &Bits, s: u8, by: Side) -> u64
+    requires { s < 64 }
+    ensures { (k : ℕ) → k < 64 → has result k ≡ is_near b.now by s k }
+{
+    let sets = b.sets();
+    pawn_attacks(by.other(), s) & sets.pawns
+        | (knight_attacks(s) & sets.knights | king_attacks(s) & sets.kings)
+}
+
+/// Those of the men, all of one side, who attack the square where these squares are occupied.
+#[inline]
+fn attackers_among(b: &Bits, s: u8, by: Side, men: u64, occupied: u64) -> u64
+    requires square { s < 64 }
+    requires men { (f : ℕ) → f < 64 → has men f ≡ true → is_of by (man_at b.now f) ≡ true }
+    ensures { (k : ℕ) → k < 64 → has result k ≡ (has men k && reaches occupied (man_at b.now k) k s) }
+{
+    let sets = b.sets();
+    let straight = straight_among(s, occupied, (sets.rooks | sets.queens) & men);
+    let diagonal = diagonal_among(s, occupied, (sets.bishops | sets.queens) & men);
+    near_men(b, s, by) & men | (straight | diagonal)
+}
+
 /// The squares of the men of that side that attack the square with that number.
 #[inline]
 pub fn attackers_at(b: &Bits, s: u8, by: Side) -> u64
     requires { s < 64 }
     ensures { (k : ℕ) → k < 64 → has result k ≡ (is_of by (man_at b.now k) && attacks b.now k s) }
 {
-    let sets = b.sets();
-    let occupied = b.occupied();
-    let men = b.men_of(by);
-    let near = pawn_attacks(by.other(), s) & sets.pawns
-        | (knight_attacks(s) & sets.knights | king_attacks(s) & sets.kings);
-    let straight = straight_among(s, occupied, (sets.rooks | sets.queens) & men);
-    let diagonal = diagonal_among(s, occupied, (sets.bishops | sets.queens) & men);
-    near & men | (straight | diagonal)
+    attackers_among(b, s, by, b.men_of(by), b.occupied())
+}
+
+/// The set without that square.
+#[inline]
+fn left_out(set: u64, s: u8) -> u64
+    requires { s < 64 }
+    ensures { (k : ℕ) → k < 64 → has result k ≡ (has set k && not (k == s)) }
+{
+    set & !only(s)
+}
+
+/// The squares of the men of that side that attack the square, did nobody stand on the square `gone`.
+#[inline]
+pub fn attackers_without(b: &Bits, gone: u8, s: u8, by: Side) -> u64
+    requires gone { gone < 64 }
+    requires square { s < 64 }
+    ensures { (k : ℕ) → k < 64 → has result k ≡ (is_of by (man_at (slice_set b.now gone None) k) && attacks (slice_set b.now gone None) k s) }
+{
+    let men = left_out(b.men_of(by), gone);
+    let occupied = left_out(b.occupied(), gone);
+    attackers_among(b, s, by, men, occupied)
 }
 
 /// Whether a man of that side attacks the square with that number.
@@ -42,13 +81,22 @@ pub fn is_attacked(b: &Bits, s: u8, by: Side) -> bool
     attackers_at(b, s, by) != 0
 }
 
-/// The squares that this man attacks, where he stands on that square of the board.
+/// Whether a man of that side would attack the square, did nobody stand on the square `gone`.
 #[inline]
-pub fn attacked_from(b: &Bits, man: Man, from: u8) -> u64
-    requires { from < 64 }
-    ensures { (k : ℕ) → k < 64 → has result k ≡ man_attacks b.now (Some man) from k }
+pub fn is_attacked_without(b: &Bits, gone: u8, s: u8, by: Side) -> bool
+    requires gone { gone < 64 }
+    requires square { s < 64 }
+    ensures { result ≡ spec.is_attacked (slice_set b.now gone None) s by }
 {
-    let occupied = b.occupied();
+    attackers_without(b, gone, s, by) != 0
+}
+
+/// The squares that this man attacks from there, where these squares are occupied.
+#[inline]
+fn attacked_over(man: Man, from: u8, occupied: u64) -> u64
+    requires { from < 64 }
+    ensures { (k : ℕ) → k < 64 → has result k ≡ reaches occupied (Some man) from k }
+{
     match man.kind {
         Kind::Pawn => pawn_attacks(man.side, from),
         Kind::Knight => knight_attacks(from),
@@ -59,42 +107,95 @@ pub fn attacked_from(b: &Bits, man: Man, from: u8) -> u64
     }
 }
 
-/// The squares that these men attack, each of whom is of that side and kind.
+/// The squares that this man attacks, where he stands on that square of the board.
 #[inline]
-fn attacked_by_each(b: &Bits, man: Man, men: u64) -> u64
-    requires { (f : ℕ) → f < 64 → has men f ≡ true → man_at b.now f ≡ Some man }
-    ensures { (k : ℕ) → k < 64 → has result k ≡ some_square (λ f. has men f && attacks b.now f k) }
+pub fn attacked_from(b: &Bits, man: Man, from: u8) -> u64
+    requires { from < 64 }
+    ensures { (k : ℕ) → k < 64 → has result k ≡ man_attacks b.now (Some man) from k }
+{
+    attacked_over(man, from, b.occupied())
+}
+
+/// The squares that such a man attacks from one of these squares, where those squares are occupied.
+#[inline]
+fn attacked_by_each(man: Man, men: u64, occupied: u64) -> u64
+    ensures { (k : ℕ) → k < 64 → has result k ≡ some_square (λ f. has men f && reaches occupied (Some man) f k) }
 {
     let mut rest = men;
     let mut attacked = 0;
     while rest != 0 {
         let from = lowest(rest).number();
-        attacked |= attacked_from(b, man, from);
+        attacked |= attacked_over(man, from, occupied);
         rest = without_lowest(rest);
     }
     attacked
 }
 
-/// The squares that a side's men of one kind attack, where `of_kind` has the squares of both sides' men of that kind.
-#[inline]
-fn attacked_by_kind(b: &Bits, by: Side, kind: Kind, of_kind: u64) -> u64
-    requires { (f : ℕ) → f < 64 → has of_kind f ≡ is_kind kind (man_at b.now f) }
-    ensures { (k : ℕ) → k < 64 → has result k ≡ some_square (λ f. is_man by kind (man_at b.now f) && attacks b.now f k) }
+/// The squares that these men attack, all of one side, where those squares are occupied. Men of one kind are
+/// looked at together, so that no square is asked who stands there.
+fn attacked_among(b: &Bits, side: Side, men: u64, occupied: u64) -> u64
+    requires { (f : ℕ) → f < 64 → has men f ≡ true → is_of side (man_at b.now f) ≡ true }
+    ensures { (k : ℕ) → k < 64 → has result k ≡ some_square (λ f. has men f && reaches occupied (man_at b.now f) f k) }
 {
-    let men = of_kind & b.men_of(by);
-    attacked_by_each(b, Man { side: by, kind }, men)
+    let sets = b.sets();
+    attacked_by_each(
+        Man {
+            side,
+            kind: Kind::Pawn,
+        },
+        sets.pawns & men,
+        occupied,
+    ) | attacked_by_each(
+        Man {
+            side,
+            kind: Kind::Knight,
+        },
+        sets.knights & men,
+        occupied,
+    ) | attacked_by_each(
+        Man {
+            side,
+            kind: Kind::Bishop,
+        },
+        sets.bishops & men,
+        occupied,
+    ) | attacked_by_each(
+        Man {
+            side,
+            kind: Kind::Rook,
+        },
+        sets.rooks & men,
+        occupied,
+    ) | attacked_by_each(
+        Man {
+            side,
+            kind: Kind::Queen,
+        },
+        sets.queens & men,
+        occupied,
+    ) | attacked_by_each(
+        Man {
+            side,
+            kind: Kind::King,
+        },
+        sets.kings & men,
+        occupied,
+    )
 }
 
-/// The squares that men of that side attack. Men of one kind are looked at together, so that no square is asked who
-/// stands there.
+/// The squares that men of that side attack.
 pub fn attacked_by(b: &Bits, by: Side) -> u64
     ensures { (k : ℕ) → k < 64 → has result k ≡ spec.is_attacked b.now k by }
 {
-    let sets = b.sets();
-    attacked_by_kind(b, by, Kind::Pawn, sets.pawns)
-        | attacked_by_kind(b, by, Kind::Knight, sets.knights)
-        | attacked_by_kind(b, by, Kind::Bishop, sets.bishops)
-        | attacked_by_kind(b, by, Kind::Rook, sets.rooks)
-        | attacked_by_kind(b, by, Kind::Queen, sets.queens)
-        | attacked_by_kind(b, by, Kind::King, sets.kings)
+    attacked_among(b, by, b.men_of(by), b.occupied())
+}
+
+/// The squares that men of that side would attack, did nobody stand on the square `gone`.
+pub fn attacked_by_without(b: &Bits, gone: u8, by: Side) -> u64
+    requires { gone < 64 }
+    ensures { (k : ℕ) → k < 64 → has result k ≡ spec.is_attacked (slice_set b.now gone None) k by }
+{
+    let men = left_out(b.men_of(by), gone);
+    let occupied = left_out(b.occupied(), gone);
+    attacked_among(b, by, men, occupied)
 }

@@ -21,11 +21,14 @@ mod pawn_tables;
 mod pin;
 mod segment;
 
-pub use attack::{attacked_by, attacked_from, attackers, attackers_at, is_attacked};
+pub use attack::{
+    attacked_by, attacked_by_without, attacked_from, attackers, attackers_at, attackers_without,
+    is_attacked, is_attacked_without,
+};
 pub use krieg_board::Bits;
 pub use leaps::{king_attacks, knight_attacks, pawn_attacks, pawn_steps};
 pub use lines::{
     diagonal_from, falling_through, file_through, rank_through, rising_through, straight_from,
 };
-pub use pin::pinned;
+pub use pin::{KingLines, king_lines, pinned};
 pub use segment::{between, between_at};

@@ -7,8 +7,7 @@ use Rattle.krieg_record.specs.declared.notation.Officer.{Officer}
 use Rattle.krieg_record.specs.declared.notation.Origin.{Origin}
 use Rattle.krieg_record.specs.declared.notation.Movement.{Movement}
 use Rattle.krieg_record.specs.declared.notation.Movement.TheVariants.{ByOfficer}
-use Rattle.krieg_record.specs.NotationText.{told}
-use Rattle.krieg_record.specs.NotationText.{letter, file_text, rank_text, capture_text, officer_text, movement_text, IsCoordinate, IsMovement}
+use Rattle.krieg_record.specs.NotationText.{told, letter, file_text, rank_text, capture_text, officer_text, movement_text, IsCoordinate, IsMovement}
 use Rattle.krieg_record.specs.NotationReading.{one_told, both_told, officer_with, officer_movement}
 use Rattle.krieg_record.proofs.OriginTexts.{file_again, rank_again, no_file, Tells, none_tells, one_tells, both_tell}
 

@@ -1,10 +1,9 @@
 -- A loop over the squares of a set misses no man who may pass its test.
-use Rattle.std.proofs.Common.{◌≡◌, ℕ, zero, suc, ◌+◌, ◌<◌, Bool, true, false, not, cond, ◌&&◌, ◌==◌, List, [], ◌∷◌, ◌++◌, refl, sym, ap, ◌∙◌, arith, add-one}
+use Rattle.std.proofs.Common.{◌≡◌, ℕ, zero, suc, ◌+◌, ◌<◌, Bool, true, false, not, cond, ◌&&◌, ◌==◌, List, [], ◌∷◌, ◌++◌, refl, sym, ap, ◌∙◌, arith, add-one, inl, inr}
 use Rattle.std.proofs.Math.Bool.{and-true}
-use Rattle.std.proofs.lemmas.Bool.{and_from, and_left, and_right, ne_eqb, cases_eq}
-use Rattle.std.specs.Prelude.{◌⊎◌}
+use Rattle.std.proofs.lemmas.Bool.{and_from, and_left, and_right, ne_eqb, cases_eq, and_parts}
+use Rattle.std.specs.Prelude.{◌⊎◌, is_none}
 use Rattle.std.specs.List.{filter, range_with_len}
-use Rattle.std.proofs.Common.{inl, inr}
 use Rattle.std.proofs.lemmas.List.{map-id}
 use Rattle.std.proofs.lemmas.List.FromFn.{filter_of_map_range_with_len_more}
 use Rattle.krieg_board.specs.Pos.{Pos}
@@ -19,7 +18,6 @@ use Rattle.krieg_moves.specs.Moves.{plain_move}
 use Rattle.krieg_record.specs.declared.notation.Officer.{Officer}
 use Rattle.krieg_record.specs.declared.notation.Origin.{Origin}
 use Rattle.krieg_record.specs.declared.notation.Notation.{Notation}
-use Rattle.std.specs.Prelude.{is_none}
 use Rattle.krieg_board.specs.declared.men.Kind.TheVariants as kind
 use Rattle.krieg_board.specs.declared.men.Move.{Move}
 use Rattle.krieg_record.specs.declared.notation.Movement.{Movement}
@@ -30,7 +28,6 @@ use Rattle.krieg_record.specs.Matching.{is_movement, is_matched}
 use Rattle.krieg_record.specs.SanReading.{mover, move_from, goes_from, leaving}
 use Rattle.krieg_record.proofs.MoveTellings.{castling_tells}
 use Rattle.krieg_record.proofs.Sans.{wing_is}
-use Rattle.std.proofs.lemmas.Bool.{and_parts}
 
 -- ---- whether there is one
 

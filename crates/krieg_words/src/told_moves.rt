@@ -14,7 +14,7 @@ use crate::words::{End, Took, Words};
 use crate::words_of_moves::took_by;
 use krieg_board::{Move, Position};
 use krieg_checks::kinds_of;
-use krieg_moves::{Guard, after, after_if_legal, has_move_by, in_check};
+use krieg_moves::{Guard, after, after_if_legal, has_move_by, in_check_by};
 
 fn is_same_took(a: &Took, b: &Took) -> bool
     ensures { result ≡ spec.is_same_took a.now b.now }
@@ -46,8 +46,8 @@ fn has_end(end: End, p: &Position, guard: &Guard) -> bool
 {
     match end {
         End::Goes => has_move_by(p, guard),
-        End::Mate => in_check(p) && !has_move_by(p, guard),
-        End::Stalemate => !in_check(p) && !has_move_by(p, guard),
+        End::Mate => in_check_by(p, guard) && !has_move_by(p, guard),
+        End::Stalemate => !in_check_by(p, guard) && !has_move_by(p, guard),
     }
 }
 

@@ -9,16 +9,17 @@ ghost use Rattle.krieg_words.specs.WordsOfMoves as spec;
 use crate::pawn_tries::count_tries;
 use crate::words::{End, Took, Words};
 use krieg_board::{Kind, Man, Move, Position, Side, Square, is_man, know_valid};
-use krieg_checks::kinds_of;
+use krieg_checks::kinds_by;
 use krieg_moves::{
-    Guard, after, after_if_legal, has_move_by, in_check, is_en_passant, passed_square,
+    Guard, after, after_if_legal, has_move_by, in_check_by, is_en_passant, passed_square,
 };
 
-/// A legal move that was made: what both players hear of it, and the position after it.
+/// A legal move that was made: what both players hear of it, and the position after it with the guard of its king.
 #[derive(Clone, Copy)]
 pub struct Made {
     pub words: Words,
     pub position: Position,
+    pub guard: Guard,
 }
 
 #[tactic(auto, unfolding(krieg_moves::specs::Moves::is_mate, krieg_moves::specs::Moves::is_stalemate))]
@@ -28,7 +29,7 @@ fn end_of(p: &Position, guard: &Guard) -> End
 {
     if has_move_by(p, guard) {
         End::Goes
-    } else if in_check(p) {
+    } else if in_check_by(p, guard) {
         End::Mate
     } else {
         End::Stalemate
@@ -63,14 +64,14 @@ pub(crate) fn took_by(p: &Position, man: Option<Man>, mv: &Move) -> Took
     }
 }
 
-fn said(took: &Took, p: &Position) -> Words
+fn said(took: &Took, p: &Position, guard: &Guard) -> Words
+    requires { IsGuard p.now guard.now }
     ensures { result ≡ spec.said took.now p.now }
 {
-    let guard = &Guard::of(p);
     Words {
         end: end_of(p, guard),
         took: *took,
-        checks: kinds_of(p),
+        checks: kinds_by(p, guard.king, guard.checkers),
         tries: count_tries(p, guard),
     }
 }
@@ -90,7 +91,7 @@ pub fn opening(p: &Position) -> Words
 fn opening_of(p: &Position) -> Words
     ensures { result ≡ spec.opening p.now }
 {
-    said(&Took::Nothing, p)
+    said(&Took::Nothing, p, &Guard::of(p))
 }
 
 /// Makes a legal move. Both players hear what it captured, and the checks, tries and end of the position
@@ -100,6 +101,7 @@ pub fn make_move(p: &Position, mv: Move) -> Made
     requires { IsTrue (is_legal p.now mv) }
     ensures words { result.words ≡ spec.words p.now mv }
     ensures position { result.position ≡ after p.now mv }
+    ensures guard { IsGuard result.position result.guard }
     ensures said { IsSaid result.words }
 {
     know_valid(p);
@@ -115,6 +117,7 @@ pub fn make_if_legal(p: &Position, mv: Move) -> Option<Made>
     ensures illegal { IfNone result (is_legal p.now mv ≡ false) }
     ensures words { IfSome result (λ made. made.words ≡ spec.words p.now mv) }
     ensures position { IfSome result (λ made. made.position ≡ after p.now mv) }
+    ensures guard { IfSome result (λ made. IsGuard made.position made.guard) }
     ensures said { IfSome result (λ made. IsSaid made.words) }
 {
     know_valid(p);
@@ -130,11 +133,14 @@ fn made_to(p: &Position, mv: &Move, position: Position) -> Made
     requires { position ≡ after p.now mv.now }
     ensures words { result.words ≡ spec.words p.now mv.now }
     ensures position { result.position ≡ after p.now mv.now }
+    ensures guard { IsGuard result.position result.guard }
 {
     let took = took_by(p, p.man_at(mv.from), mv);
+    let guard = Guard::of(&position);
     Made {
-        words: said(&took, &position),
+        words: said(&took, &position, &guard),
         position,
+        guard,
     }
 }
 

@@ -1,7 +1,7 @@
 use Rattle.std.proofs.Common.{◌∙◌, ◌&&◌, bit_and, arith}
 use Rattle.std.proofs.lemmas.Nat.{and_le_l}
 use Rattle.krieg_board.proofs.SetLemmas.{has_and}
-use Rattle.krieg_moves.proofs.Steps.{clear_set}
+use Rattle.krieg_rays.proofs.Attacking.{clear_set}
 use Rattle.krieg_moves.proofs.candidate.is_clear.Goals as goal
 
 pub returns : goal.returns

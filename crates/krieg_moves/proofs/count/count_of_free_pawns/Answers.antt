@@ -1,4 +1,4 @@
-use Rattle.std.proofs.Common.{◌∙◌, ◌≡◌, ◌+◌, ◌-◌, ◌*◌, ◌&&◌, ◌==◌, ℕ, ◌<◌, not, refl, ap, arith, bit_and}
+use Rattle.std.proofs.Common.{◌∙◌, ◌≡◌, ◌+◌, ◌-◌, ◌*◌, ◌&&◌, ◌==◌, ℕ, ◌<◌, not, refl, sym, ap, arith, bit_and}
 use Rattle.std.proofs.lemmas.Nat.{and_le_l}
 use Rattle.std.specs.Prelude.{Option, Some, None, is_some, is_none}
 use Rattle.krieg_board.specs.Men.{other}
@@ -7,7 +7,12 @@ use Rattle.krieg_board.specs.Sets.{has}
 use Rattle.krieg_board.specs.Squares.{rank_of, last_rank}
 use Rattle.krieg_board.specs.declared.men.Man.{Man}
 use Rattle.krieg_board.proofs.SetLemmas.{has_and, has_not}
+use Rattle.std.specs.List.{filter}
+use Rattle.krieg_board.proofs.Picked.{picked}
+use Rattle.krieg_moves.specs.Legal.{is_legal}
+use Rattle.krieg_moves.specs.Moves.{moves_from, moves_of}
 use Rattle.krieg_moves.specs.Ways.{ways}
+use Rattle.krieg_moves.proofs.Counting.{counted_ended}
 use Rattle.krieg_moves.proofs.FreePawns.{counted_free_pawns}
 use Rattle.krieg_moves.proofs.count.count_of_free_pawns.Goals as goal
 
@@ -20,6 +25,10 @@ emptied c t h =
     has_not c.occupied-empty.result t c.occupied-empty.type_inv h
     ∙ ap not (c.occupied-empty.ensures t h ∙ (λ i. is_some (man_at (c.bits-bits.ensures.value i) t)))
     ∙ not_some (man_at c.args.p.now.board t)
+
+pub returns-then-pawns-eq0 : goal.returns-then-pawns-eq0
+unfolding moves_of picked
+returns-then-pawns-eq0 c = sym (counted_ended (λ k. filter (is_legal c.args.p.now) (moves_from k)) c.args.pawns c.if-pawns-eq0.true)
 
 pub returns : goal.returns
 returns c =

@@ -5,5 +5,5 @@ use Rattle.krieg_moves.proofs.guard.safe_squares.Goals as goal
 
 pub returns : goal.returns
 returns c = λ t h.
-    has_and c.args.squares (18446744073709551615 - c.attacked_by.result) t
-    ∙ ap (λ x. has c.args.squares t && x) (has_not c.attacked_by.result t c.attacked_by.type_inv h ∙ ap not (c.attacked_by.ensures t h))
+    has_and c.args.squares (18446744073709551615 - c.attacked_by_without.result) t
+    ∙ ap (λ x. has c.args.squares t && x) (has_not c.attacked_by_without.result t c.attacked_by_without.type_inv h ∙ ap not (c.attacked_by_without.ensures t h))

@@ -14,7 +14,7 @@ pub returns : goal.returns
 returns c = λ t h.
     c.safe_squares.ensures t h
     ∙ (λ i. has_and c.king_attacks.result (18446744073709551615 - c.men_of.result) t i
-    && not (is_attacked ((c.with-lifted.ensures ∙ (λ j. slice_set (c.bits-bits.ensures.value j) (c.number-2.ensures.value j) None)) i) t ((c.other-by.ensures ∙ ap other c.side-side.ensures.value) i)))
+    && not (is_attacked (slice_set (c.bits-bits.ensures.value i) (c.number-2.ensures.value i) None) t ((c.other-by.ensures ∙ ap other c.side-side.ensures.value) i)))
     ∙ (λ i. ((c.king_attacks.ensures t h ∙ (λ j. goes King White (c.number.ensures.value j) t) ∙ king_from c.args.p.now.board c.args.man c.args.from t c.requires) i
     && (has_not c.men_of.result t c.men_of.type_inv h ∙ ap not (c.men_of.ensures t h ∙ (λ j. is_of (c.side-side.ensures.value j) (man_at (c.bits-bits.ensures.value j) t)))) i)
     && not (is_attacked (slice_set c.args.p.now.board c.args.from None) t (other c.args.p.now.side)))

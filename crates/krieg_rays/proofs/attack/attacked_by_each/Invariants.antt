@@ -1,16 +1,14 @@
-use Rattle.std.proofs.Common.{◌≡◌, ◌<◌, ℕ, ◌&&◌, ◌||◌, true}
+use Rattle.std.proofs.Common.{◌≡◌, ◌<◌, ℕ, ◌&&◌, ◌||◌}
 use Rattle.std.specs.Prelude.{Some}
-use Rattle.krieg_board.specs.Board.{man_at}
-use Rattle.krieg_board.specs.Attacks.{attacks}
 use Rattle.krieg_board.specs.Squares.{some_square}
 use Rattle.krieg_board.specs.Sets.{has}
+use Rattle.krieg_rays.specs.Rays.{reaches}
 use Rattle.krieg_rays.proofs.attack.attacked_by_each.Given as goal
 
 abbrev pub invariant-loop-rest : goal.invariant-loop-rest
 invariant-loop-rest l =
-    ((s : ℕ) → s < 64 →
-    (has l.attacked s || some_square (λ f. has l.rest f && attacks l.b f s)) ≡ some_square (λ f. has l.initial.rest f && attacks l.b f s))
-    × ((f : ℕ) → f < 64 → has l.rest f ≡ true → man_at l.b f ≡ Some l.man)
+    (s : ℕ) → s < 64 →
+    (has l.attacked s || some_square (λ f. has l.rest f && reaches l.occupied (Some l.man) f s)) ≡ some_square (λ f. has l.initial.rest f && reaches l.occupied (Some l.man) f s)
 
 abbrev pub decreases-loop-rest : goal.decreases-loop-rest
 decreases-loop-rest l = l.rest

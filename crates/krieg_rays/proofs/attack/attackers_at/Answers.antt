@@ -1,12 +1,11 @@
-use Rattle.std.proofs.Common.{◌∙◌, ap}
-use Rattle.krieg_board.specs.declared.men.Kind.TheVariants.{Pawn}
-use Rattle.krieg_rays.specs.Rays.{goes}
-use Rattle.krieg_rays.proofs.Attacking.{attackers_has}
+use Rattle.std.proofs.Common.{◌∙◌, sym, refl}
+use Rattle.krieg_rays.proofs.Attacking.{attack_there}
 use Rattle.krieg_rays.proofs.attack.attackers_at.Goals as goal
+
+pub attackers_among-requires-clause-men : goal.attackers_among-requires-clause-men
+attackers_among-requires-clause-men c = λ f h here. sym (c.men_of.ensures f h) ∙ here
 
 pub returns : goal.returns
 returns c = λ k h.
-    attackers_has c.args.b.now c.args.by c.args.s k c.requires h c.sets-sets.result.now c.sets-sets.ensures
-    c.pawn_attacks.result c.knight_attacks.result c.king_attacks.result c.straight_among-straight.result c.diagonal_among-diagonal.result c.men_of-men.result c.occupied-occupied.result
-    (c.pawn_attacks.ensures k h ∙ ap (λ o. goes Pawn o c.args.s k) c.other.ensures) (c.knight_attacks.ensures k h) (c.king_attacks.ensures k h)
-    (c.straight_among-straight.ensures k h) (c.diagonal_among-diagonal.ensures k h) c.occupied-occupied.ensures (c.men_of-men.ensures k h)
+    c.attackers_among.ensures k h
+    ∙ attack_there c.args.b.now c.args.b.now c.args.by c.men_of.result c.occupied.result k c.args.s c.occupied.ensures (c.men_of.ensures k h) (λ own. refl)

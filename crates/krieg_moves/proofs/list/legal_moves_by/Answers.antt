@@ -9,7 +9,7 @@ use Rattle.krieg_moves.specs.Legal.{is_legal}
 use Rattle.krieg_moves.specs.Moves.{moves_from, moves}
 use Rattle.krieg_moves.proofs.Ascending.{moves_ascend}
 use Rattle.krieg_moves.proofs.Listing.{picked_men, past_whole, on_err}
-use Rattle.krieg_moves.proofs.list.legal_moves.Goals as goal
+use Rattle.krieg_moves.proofs.list.legal_moves_by.Goals as goal
 
 pub loop-rest-preserved : goal.loop-rest-preserved
 loop-rest-preserved c =
