@@ -38,40 +38,40 @@ module _ (G : Game) (L : IsGame G) where
   abbrev pub WonBy : Table G → List G.Position → ℕ → Type 0
   WonBy T X j = (i : ℕ) × (0 < i) × (i ≤ j) × (m : G.Move) × (known G T (X, i) ≡ Some (Some m))
 
-  pub first_stored : (T : Table G) → IsSound G T → (B : List G.Position) (k : ℕ) (m : G.Move) → known G T (B, suc k) ≡ Some (Some m) → (can G k B ≡ false) × (first_try G (suc k) B ≡ Some m)
-  first_stored T s B k m h = (lost k (s.backed B (suc k) (Some m) h).below, sym (s.right B (suc k) (Some m) h))
+  pub first_stored : (cut : Bool) → (T : Table G) → IsSound G cut T → (B : List G.Position) (k : ℕ) (m : G.Move) → known G T (B, suc k) ≡ Some (Some m) → (can G k B ≡ false) × (first_try G (suc k) B ≡ Some m)
+  first_stored cut T s B k m h = (lost k (s.backed B (suc k) (Some m) h).below, sym (s.right B (suc k) (Some m) h))
     where
       lost : (n : ℕ) → ((i : ℕ) → 0 < i → i < suc n → known G T (B, i) ≡ Some None) → can G n B ≡ false
       lost zero f = refl
-      lost (suc n) f = result_can G L T s B (suc n) None (f (suc n) (omega arith) (omega arith))
+      lost (suc n) f = result_can G L cut T s B (suc n) None (f (suc n) (omega arith) (omega arith))
 
-  pub canon_stored : (T : Table G) → IsSound G T → (B : List G.Position) (j k : ℕ) (m : G.Move) → known G T (B, suc k) ≡ Some (Some m) → suc k ≤ j → canon G j B ≡ Just (Try m (part G L (suc k) (refused G B m)) (edges_of G (keys G B m) (λ key. canon G k (class G B m key))))
-  canon_stored T s B j k m h l =
-      let f = first_stored T s B k m h in
-      canon_upto G L (suc k) j B l (result_can G L T s B (suc k) (Some m) h)
+  pub canon_stored : (cut : Bool) → (T : Table G) → IsSound G cut T → (B : List G.Position) (j k : ℕ) (m : G.Move) → known G T (B, suc k) ≡ Some (Some m) → suc k ≤ j → canon G j B ≡ Just (Try m (part G L (suc k) (refused G B m)) (edges_of G (keys G B m) (λ key. canon G k (class G B m key))))
+  canon_stored cut T s B j k m h l =
+      let f = first_stored cut T s B k m h in
+      canon_upto G L (suc k) j B l (result_can G L cut T s B (suc k) (Some m) h)
       ∙ canon_step G L k B f.0
       ∙ ap (λ o. node_of G o (λ t. part G L (suc k) (refused G B t)) (λ t. edges_of G (keys G B t) (λ key. canon G k (class G B t key)))) f.1
 
-  pub by_least : (T : Table G) → IsSound G T → (X : List G.Position) (j : ℕ) → StoredWon G T X → can G j X ≡ true → WonBy T X j
-  by_least T s X j w c = (w.0, (s.backed X w.0 (Some w.1) w.2).some, (let e = wins_least G L T s j X w c in let h = least_le G j X in omega arith), w.1, w.2)
+  pub by_least : (cut : Bool) → (T : Table G) → IsSound G cut T → (X : List G.Position) (j : ℕ) → StoredWon G T X → can G j X ≡ true → WonBy T X j
+  by_least cut T s X j w c = (w.0, (s.backed X w.0 (Some w.1) w.2).some, (let e = wins_least G L cut T s j X w c in let h = least_le G j X in omega arith), w.1, w.2)
 
-  pub class_won : (T : Table G) → IsSound G T → (B : List G.Position) (k : ℕ) (m : G.Move) → known G T (B, suc k) ≡ Some (Some m) → (key : G.Key) → In key (keys G B m) → WonBy T (class G B m key) k
-  class_won T s B k m h key i =
-      let f = first_is G L k B m (first_stored T s B k m h).1 in
-      by_least T s (class G B m key) k ((s.backed B (suc k) (Some m) h).classes m refl key i) (f.class_won key i)
+  pub class_won : (cut : Bool) → (T : Table G) → IsSound G cut T → (B : List G.Position) (k : ℕ) (m : G.Move) → known G T (B, suc k) ≡ Some (Some m) → (key : G.Key) → In key (keys G B m) → WonBy T (class G B m key) k
+  class_won cut T s B k m h key i =
+      let f = first_is G L k B m (first_stored cut T s B k m h).1 in
+      by_least cut T s (class G B m key) k ((s.backed B (suc k) (Some m) h).classes m refl key i) (f.class_won key i)
 
-  pub refused_won : (T : Table G) → IsSound G T → (B : List G.Position) (k : ℕ) (m : G.Move) → known G T (B, suc k) ≡ Some (Some m) → is_nil (refused G B m) ≡ false → WonBy T (refused G B m) (suc k)
-  refused_won T s B k m h e =
-      let f = first_is G L k B m (first_stored T s B k m h).1 in
-      by_least T s (refused G B m) (suc k) ((s.backed B (suc k) (Some m) h).refused_part m refl e) (f.refused_won e)
+  pub refused_won : (cut : Bool) → (T : Table G) → IsSound G cut T → (B : List G.Position) (k : ℕ) (m : G.Move) → known G T (B, suc k) ≡ Some (Some m) → is_nil (refused G B m) ≡ false → WonBy T (refused G B m) (suc k)
+  refused_won cut T s B k m h e =
+      let f = first_is G L k B m (first_stored cut T s B k m h).1 in
+      by_least cut T s (refused G B m) (suc k) ((s.backed B (suc k) (Some m) h).refused_part m refl e) (f.refused_won e)
 
   -- its split was paid for
-  pub split_paid : (T : Table G) → IsSound G T → (B : List G.Position) (k : ℕ) (m : G.Move) → known G T (B, suc k) ≡ Some (Some m) → made G B m ≤ charged G T
-  split_paid T s B k m h =
-      let f = first_stored T s B k m h in
+  pub split_paid : (cut : Bool) → (T : Table G) → IsSound G cut T → (B : List G.Position) (k : ℕ) (m : G.Move) → known G T (B, suc k) ≡ Some (Some m) → made G B m ≤ charged G T
+  split_paid cut T s B k m h =
+      let f = first_stored cut T s B k m h in
       let a = in_total (made G B) (up_to (begins G (suc k) B) (tries G B)) m (found_up_to (begins G (suc k) B) (tries G B) m (tried.first_is G L (suc k) B ∙ f.1)) in
       let b = in_total (floor_price G) (pairs T) (B, suc k) (known_in G L T (B, suc k) (Some m) h) in
       omega arith
 
   pub stored_is_canon : StoredIsCanon G
-  stored_is_canon T B j k m s h l = canon_stored T s B j k m h l
+  stored_is_canon cut T B j k m s h l = canon_stored cut T s B j k m h l

@@ -1,5 +1,5 @@
 -- A table that backs its results keeps the rules of backing, so it was paid for with at least the floor.
-use Rattle.std.proofs.Common.{◌≡◌, ℕ, suc, true, false, List, Option, Some, None, sym, subst, ◌∙◌, arith}
+use Rattle.std.proofs.Common.{refl, ◌≡◌, ℕ, suc, true, false, List, Option, Some, None, sym, subst, ◌∙◌, arith}
 use Rattle.std.specs.Prelude.{IfSome}
 use Rattle.krieg_theory.specs.Sets.{In}
 use Rattle.krieg_theory.specs.Game.{Game, IsGame}
@@ -26,16 +26,16 @@ module _ (G : Game) (L : IsGame G) where
   lost_in T (Some q) h = known_in G L T q None h
 
   -- at its least number
-  won_in : (T : Table G) → IsSound G T → (k : ℕ) (X : List G.Position) → StoredWon G T X → can G k X ≡ true → In (X, least G k X) (pairs T)
-  won_in T s k X w c = subst (λ i. In (X, i) (pairs T)) (sym (wins_least G L T s k X w c)) (known_in G L T (X, w.0) (Some w.1) w.2)
+  won_in : (T : Table G) → IsSound G false T → (k : ℕ) (X : List G.Position) → StoredWon G T X → can G k X ≡ true → In (X, least G k X) (pairs T)
+  won_in T s k X w c = subst (λ i. In (X, i) (pairs T)) (sym (wins_least G L false T s k X w c)) (known_in G L T (X, w.0) (Some w.1) w.2)
 
-  keeps_lost : (T : Table G) → IsSound G T → (B : List G.Position) (j : ℕ) → In (B, j) (pairs T) → can G j B ≡ false → (t : G.Move) → legal_in_some G B t ≡ true → IfSome (block_pair G j B t) (λ q. In q (pairs T))
+  keeps_lost : (T : Table G) → IsSound G false T → (B : List G.Position) (j : ℕ) → In (B, j) (pairs T) → can G j B ≡ false → (t : G.Move) → legal_in_some G B t ≡ true → IfSome (block_pair G j B t) (λ q. In q (pairs T))
   keeps_lost T s B j i c t l =
       let a = in_known G L T (B, j) i in
       let none : a.0 ≡ None = s.right B j a.0 a.1 ∙ first_none G L j B c in
-      lost_in T (block_pair G j B t) ((s.backed B j a.0 a.1).earlier t l (subst (λ o. IsEarlier G o t) (sym none) tt))
+      lost_in T (block_pair G j B t) ((s.backed B j a.0 a.1).earlier refl t l (subst (λ o. IsEarlier G o t) (sym none) tt))
 
-  keeps_won : (T : Table G) → IsSound G T → (B : List G.Position) (j : ℕ) (m : G.Move) → In (B, suc j) (pairs T) → can G j B ≡ false → first_try G (suc j) B ≡ Some m → HasWon G (pairs T) B j m
+  keeps_won : (T : Table G) → IsSound G false T → (B : List G.Position) (j : ℕ) (m : G.Move) → In (B, suc j) (pairs T) → can G j B ≡ false → first_try G (suc j) B ≡ Some m → HasWon G (pairs T) B j m
   keeps_won T s B j m i c f =
       let a = in_known G L T (B, suc j) i in
       let won : a.0 ≡ Some m = s.right B (suc j) a.0 a.1 ∙ f in
@@ -45,14 +45,14 @@ module _ (G : Game) (L : IsGame G) where
         below = λ h. known_in G L T (B, j) None (b.below j h (omega arith));
         classes = λ key k. won_in T s j (class G B m key) (b.classes m won key k) (w.class_won key k);
         refused_part = λ e. won_in T s (suc j) (refused G B m) (b.refused_part m won e) (w.refused_won e);
-        earlier = λ t l e. lost_in T (block_pair G (suc j) B t) (b.earlier t l (subst (λ o. IsEarlier G o t) (sym won) e));
+        earlier = λ t l e. lost_in T (block_pair G (suc j) B t) (b.earlier refl t l (subst (λ o. IsEarlier G o t) (sym won) e));
       }
 
   pub stored_is_backing : StoredIsBacking G
   stored_is_backing T s = (keeps_lost T s, keeps_won T s)
 
 module _ (G : Game) (L : IsGame G) (O : Outset G) (W : IsOutset G O) where
-  pub table_backs : (n : ℕ) (S : List G.Position) (T : Table G) → IsSound G T → AnswersPlan G O T n S → IsBacking G O n S (pairs T)
+  pub table_backs : (n : ℕ) (S : List G.Position) (T : Table G) → IsSound G false T → AnswersPlan G O T n S → IsBacking G O n S (pairs T)
   table_backs n S T s a = record {
     all_won = λ c key i. won_in G L T s n (opening_set G O S key) (a.all_won c key i) ((can_plan_at G L O W S n c).1 key i);
     one_lost = λ e h. there (first_lost G O n S) (a.one_lost e h);

@@ -23,8 +23,8 @@ use Rattle.krieg_accounts.proofs.TryEnds.{find_map, none_fails}
 
 module _ (G : Game) where
   -- nothing is stored in the empty table, so it is sound
-  pub empty_sound : IsSound G []
-  empty_sound = record {
+  pub empty_sound : (cut : Bool) → IsSound G cut []
+  empty_sound cut = record {
     right = λ B j o h. absurd (let q : ◌≡◌ {A = Option (Option G.Move)} None (Some o) = h in cc);
     backed = λ B j o h. absurd (let q : ◌≡◌ {A = Option (Option G.Move)} None (Some o) = h in cc);
   }
@@ -45,7 +45,7 @@ module _ (G : Game) (L : IsGame G) (O : Outset G) (W : IsOutset G O) where
       there C i a b k = subst (λ (X : List G.Position). In (X, i) (once G (reach_of G O n S))) k.2 ((fresh_is_reach G L O W n S).opened k.0 k.1 i a b)
 
   pub fresh_is_enough : FreshIsEnough G O
-  fresh_is_enough n S T had has w =
+  fresh_is_enough cut n S T had has w =
       let a = w.paid (once G (reach_of G O n S)) (reach_covers n S) in
       let b = owed_empty G (once G (reach_of G O n S)) in
       omega arith

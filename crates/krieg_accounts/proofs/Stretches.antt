@@ -1,6 +1,7 @@
 -- One stretch of a search after another, and the note at the end of one.
-use Rattle.std.proofs.Common.{◌≡◌, ℕ, ◌+◌, ◌≤◌, ◌<◌, List, ◌++◌, length, Option, Some, None, is_some, ◌⊎◌, inl, inr, refl, sym, ap, subst, ◌∙◌, arith}
-use Rattle.std.specs.Prelude.{IfSome}
+use Rattle.std.proofs.Common.{Bool, ◌≡◌, ℕ, ◌+◌, ◌≤◌, ◌<◌, List, ◌++◌, length, Option, Some, None, is_some, ◌⊎◌, inl, inr, refl, sym, ap, subst, ◌∙◌, arith}
+use Rattle.std.specs.Prelude.{IfSome, true}
+use Rattle.std.proofs.lemmas.Bool.{both_ways}
 use Rattle.krieg_theory.specs.Sets.{In}
 use Rattle.krieg_theory.specs.Game.{Game, IsGame}
 use Rattle.krieg_theory.specs.Split.{refused, tries, class}
@@ -20,16 +21,16 @@ use Rattle.krieg_accounts.proofs.Owed.{grows_kept, owed_over_at, owed_below_at}
 
 module _ (G : Game) where
   -- nothing is done
-  pub stretch_of_nothing : (Q : List (Pair G) → Type 0) (T : Table G) (u : ℕ) → IsSound G T → IsStretch G Q 0 T T u u
-  stretch_of_nothing Q T u s = record { sound = s; kept = λ q x h. h; news = λ R h q x k. inl k; exact = omega arith; paid = λ R q. omega arith }
+  pub stretch_of_nothing : (cut : Bool) → (Q : List (Pair G) → Type 0) (T : Table G) (u : ℕ) → IsSound G cut T → IsStretch G cut Q 0 T T u u
+  stretch_of_nothing cut Q T u s = record { sound = s; kept = λ q x h. h; news = λ R h q x k. inl k; exact = omega arith; paid = λ R q. omega arith }
 
   -- a try is split, which costs what it takes
-  pub stretch_of_split : (Q : List (Pair G) → Type 0) (T : Table G) (m had has : ℕ) → IsSound G T → has + m ≡ had → IsStretch G Q m T T had has
-  stretch_of_split Q T m had has s e = record { sound = s; kept = λ q x h. h; news = λ R h q x k. inl k; exact = omega arith; paid = λ R q. omega arith }
+  pub stretch_of_split : (cut : Bool) → (Q : List (Pair G) → Type 0) (T : Table G) (m had has : ℕ) → IsSound G cut T → has + m ≡ had → IsStretch G cut Q m T T had has
+  stretch_of_split cut Q T m had has s e = record { sound = s; kept = λ q x h. h; news = λ R h q x k. inl k; exact = omega arith; paid = λ R q. omega arith }
 
   -- one stretch behind another
-  pub stretch_then : (Q Q' : List (Pair G) → Type 0) (a b : ℕ) (T0 T1 T2 : Table G) (u0 u1 u2 : ℕ) → ((R : List (Pair G)) → Q R → Q' R) → IsStretch G Q a T0 T1 u0 u1 → IsStretch G Q' b T1 T2 u1 u2 → IsStretch G Q (a + b) T0 T2 u0 u2
-  stretch_then Q Q' a b T0 T1 T2 u0 u1 u2 f w v = record {
+  pub stretch_then : (cut : Bool) → (Q Q' : List (Pair G) → Type 0) (a b : ℕ) (T0 T1 T2 : Table G) (u0 u1 u2 : ℕ) → ((R : List (Pair G)) → Q R → Q' R) → IsStretch G cut Q a T0 T1 u0 u1 → IsStretch G cut Q' b T1 T2 u1 u2 → IsStretch G cut Q (a + b) T0 T2 u0 u2
+  stretch_then cut Q Q' a b T0 T1 T2 u0 u1 u2 f w v = record {
     sound = v.sound;
     kept = λ q x h. v.kept q x (w.kept q x h);
     news = λ R h q x k. before R h q x (v.news R (f R h) q x k);
@@ -42,19 +43,19 @@ module _ (G : Game) where
       before R h q x (inr i) = inr i
 
   -- units that fall short behind a stretch did so before it
-  pub short_then : (Q Q' : List (Pair G) → Type 0) (a b : ℕ) (T0 T1 : Table G) (u0 u1 : ℕ) → ((R : List (Pair G)) → Q R → Q' R) → IsStretch G Q a T0 T1 u0 u1 → FallsShort G Q' b T1 u1 → FallsShort G Q (a + b) T0 u0
-  short_then Q Q' a b T0 T1 u0 u1 f w v R q = let x = w.paid R q in let y = v R (f R q) in omega arith
+  pub short_then : (cut : Bool) → (Q Q' : List (Pair G) → Type 0) (a b : ℕ) (T0 T1 : Table G) (u0 u1 : ℕ) → ((R : List (Pair G)) → Q R → Q' R) → IsStretch G cut Q a T0 T1 u0 u1 → FallsShort G Q' b T1 u1 → FallsShort G Q (a + b) T0 u0
+  short_then cut Q Q' a b T0 T1 u0 u1 f w v R q = let x = w.paid R q in let y = v R (f R q) in omega arith
 
   -- with the cost in another form, or with more of it
-  pub stretch_cost : (Q : List (Pair G) → Type 0) (a b : ℕ) (T0 T1 : Table G) (u0 u1 : ℕ) → a ≡ b → IsStretch G Q a T0 T1 u0 u1 → IsStretch G Q b T0 T1 u0 u1
-  stretch_cost Q a b T0 T1 u0 u1 h w = subst (λ c. IsStretch G Q c T0 T1 u0 u1) h w
+  pub stretch_cost : (cut : Bool) → (Q : List (Pair G) → Type 0) (a b : ℕ) (T0 T1 : Table G) (u0 u1 : ℕ) → a ≡ b → IsStretch G cut Q a T0 T1 u0 u1 → IsStretch G cut Q b T0 T1 u0 u1
+  stretch_cost cut Q a b T0 T1 u0 u1 h w = subst (λ c. IsStretch G cut Q c T0 T1 u0 u1) h w
 
   pub short_cost : (Q : List (Pair G) → Type 0) (a b : ℕ) (T0 : Table G) (u0 : ℕ) → a ≤ b → FallsShort G Q a T0 u0 → FallsShort G Q b T0 u0
   short_cost Q a b T0 u0 h v R q = let x = v R q in omega arith
 
   -- for fewer lists
-  pub stretch_for : (Q Q' : List (Pair G) → Type 0) (a : ℕ) (T0 T1 : Table G) (u0 u1 : ℕ) → ((R : List (Pair G)) → Q R → Q' R) → IsStretch G Q' a T0 T1 u0 u1 → IsStretch G Q a T0 T1 u0 u1
-  stretch_for Q Q' a T0 T1 u0 u1 f w = record { sound = w.sound; kept = w.kept; news = λ R q. w.news R (f R q); exact = w.exact; paid = λ R q. w.paid R (f R q) }
+  pub stretch_for : (cut : Bool) → (Q Q' : List (Pair G) → Type 0) (a : ℕ) (T0 T1 : Table G) (u0 u1 : ℕ) → ((R : List (Pair G)) → Q R → Q' R) → IsStretch G cut Q' a T0 T1 u0 u1 → IsStretch G cut Q a T0 T1 u0 u1
+  stretch_for cut Q Q' a T0 T1 u0 u1 f w = record { sound = w.sound; kept = w.kept; news = λ R q. w.news R (f R q); exact = w.exact; paid = λ R q. w.paid R (f R q) }
 
   -- what holds of stored results holds in each table that keeps them
   abbrev pub Kept : Table G → Table G → Type 0
@@ -67,18 +68,26 @@ module _ (G : Game) where
   pub wins_kept : (T T' : Table G) (X : List G.Position) → Kept T T' → StoredWon G T X → StoredWon G T' X
   wins_kept T T' X k w = (w.0, w.1, k (X, w.0) (Some w.1) w.2)
 
-  pub backed_kept : (T T' : Table G) (B : List G.Position) (j : ℕ) (o : Option G.Move) → Kept T T' → IsBacked G T B j o → IsBacked G T' B j o
-  backed_kept T T' B j o k b = record {
+  pub backed_kept : (cut : Bool) → (T T' : Table G) (B : List G.Position) (j : ℕ) (o : Option G.Move) → Kept T T' → IsBacked G cut T B j o → IsBacked G cut T' B j o
+  backed_kept cut T T' B j o k b = record {
     some = b.some;
     below = λ i h l. k (B, i) None (b.below i h l);
-    earlier = λ t l e. lost_kept T T' (block_pair G j B t) k (b.earlier t l e);
+    earlier = λ c t l e. lost_kept T T' (block_pair G j B t) k (b.earlier c t l e);
     classes = λ m e key i. wins_kept T T' (class G B m key) k (b.classes m e key i);
     refused_part = λ m e n. wins_kept T T' (refused G B m) k (b.refused_part m e n);
   }
 
+  -- what is sound where tries may not be cut is so where they may
+  pub weaker : (cut : Bool) (T : Table G) → IsSound G cut T → IsSound G true T
+  weaker cut T s = record {
+    right = s.right;
+    backed = λ B j o h. (let b = s.backed B j o h in record { some = b.some; below = b.below; earlier = λ c. absurd (both_ways true c refl); classes = b.classes; refused_part = b.refused_part });
+  }
+
 module _ (G : Game) (L : IsGame G) where
-  noted_sound : (T T' : Table G) (B : List G.Position) (j : ℕ) (o : Option G.Move) → IsSound G T → AddsResult G.position_lt T T' (B, j) o → o ≡ first_try G j B → IsBacked G T B j o → IsSound G T'
-  noted_sound T T' B j o s n e b = record {
+  -- a result that is right and backed is noted
+  pub noted_sound : (cut : Bool) → (T T' : Table G) (B : List G.Position) (j : ℕ) (o : Option G.Move) → IsSound G cut T → AddsResult G.position_lt T T' (B, j) o → o ≡ first_try G j B → IsBacked G cut T B j o → IsSound G cut T'
+  noted_sound cut T T' B j o s n e b = record {
     right = λ C i x h. right C i x (n.nothing_else (C, i) x h);
     backed = λ C i x h. backed C i x (n.nothing_else (C, i) x h);
   }
@@ -87,16 +96,16 @@ module _ (G : Game) (L : IsGame G) where
       right C i x (inl a) = s.right C i x a
       right C i x (inr a) = sym a.1 ∙ e ∙ ap (λ (p : Pair G). first_try G p.1 p.0) a.0
 
-      backed : (C : List G.Position) (i : ℕ) (x : Option G.Move) → (known G T (C, i) ≡ Some x) ⊎ (◌≡◌ {A = Pair G} (B, j) (C, i) × (o ≡ x)) → IsBacked G T' C i x
-      backed C i x (inl a) = backed_kept G T T' C i x n.kept (s.backed C i x a)
+      backed : (C : List G.Position) (i : ℕ) (x : Option G.Move) → (known G T (C, i) ≡ Some x) ⊎ (◌≡◌ {A = Pair G} (B, j) (C, i) × (o ≡ x)) → IsBacked G cut T' C i x
+      backed C i x (inl a) = backed_kept G cut T T' C i x n.kept (s.backed C i x a)
       backed C i x (inr a) =
-          let P : Pair G → Type 0 = λ p. IsBacked G T' p.0 p.1 x in
-          subst P a.0 (subst (λ y. IsBacked G T' B j y) a.1 (backed_kept G T T' B j o n.kept b))
+          let P : Pair G → Type 0 = λ p. IsBacked G cut T' p.0 p.1 x in
+          subst P a.0 (subst (λ y. IsBacked G cut T' B j y) a.1 (backed_kept G cut T T' B j o n.kept b))
 
   -- the pair was expanded, and its result is noted
-  pub stretch_noted : (T0 T1 T2 : Table G) (B : List G.Position) (j : ℕ) (o : Option G.Move) (u0 u1 : ℕ) → IsStretch G (CoversTries G B j) (floor_price G (B, j)) T0 T1 u0 u1 → o ≡ first_try G j B → IsBacked G T1 B j o → known G T0 (B, j) ≡ None → AddsResult G.position_lt T1 T2 (B, j) o → IsStretch G (CoversPair G B j) 0 T0 T2 u0 u1
-  stretch_noted T0 T1 T2 B j o u0 u1 w e b none n = record {
-    sound = noted_sound T1 T2 B j o w.sound n e b;
+  pub stretch_noted : (cut : Bool) → (T0 T1 T2 : Table G) (B : List G.Position) (j : ℕ) (o : Option G.Move) (u0 u1 : ℕ) → IsStretch G cut (CoversTries G B j) (floor_price G (B, j)) T0 T1 u0 u1 → o ≡ first_try G j B → IsBacked G cut T1 B j o → known G T0 (B, j) ≡ None → AddsResult G.position_lt T1 T2 (B, j) o → IsStretch G cut (CoversPair G B j) 0 T0 T2 u0 u1
+  stretch_noted cut T0 T1 T2 B j o u0 u1 w e b none n = record {
+    sound = noted_sound cut T1 T2 B j o w.sound n e b;
     kept = λ q x h. n.kept q x (w.kept q x h);
     news = λ R h q x k. before R h q x (n.nothing_else q x k);
     exact = (let a = w.exact in let c = n.one_more (floor_price G) in omega arith);
@@ -116,8 +125,8 @@ module _ (G : Game) (L : IsGame G) where
       before R h q x (inr e) = inr (subst (λ p. In p R) e.0 h.1)
 
   -- a pair is not stored while it is expanded
-  pub still_unknown : (T0 T1 : Table G) (B : List G.Position) (j : ℕ) (cost u0 u1 : ℕ) → 0 < j → IsStretch G (CoversTries G B j) cost T0 T1 u0 u1 → known G T0 (B, j) ≡ None → known G T1 (B, j) ≡ None
-  still_unknown T0 T1 B j cost u0 u1 pos w none = go (known G T1 (B, j)) refl
+  pub still_unknown : (cut : Bool) → (T0 T1 : Table G) (B : List G.Position) (j : ℕ) (cost u0 u1 : ℕ) → 0 < j → IsStretch G cut (CoversTries G B j) cost T0 T1 u0 u1 → known G T0 (B, j) ≡ None → known G T1 (B, j) ≡ None
+  still_unknown cut T0 T1 B j cost u0 u1 pos w none = go (known G T1 (B, j)) refl
     where
       apart : (x : Option G.Move) → (known G T0 (B, j) ≡ Some x) ⊎ In (B, j) (below G L j (length B) (some_list G L B j pos).0) → ⊥
       apart x (inl k) = let q : ◌≡◌ {A = Option (Option G.Move)} None (Some x) = sym none ∙ k in cc
@@ -134,13 +143,13 @@ module _ (G : Game) (L : IsGame G) where
       omega arith
 
   pub noted_is_stretch : NotedIsStretch G
-  noted_is_stretch = stretch_noted
+  noted_is_stretch cut = stretch_noted cut
 
   pub short_of_pair : ShortOfPair G
   short_of_pair T B j u none v = short_noted T B j u none v
 
   pub stretches_join : StretchesJoin G
-  stretches_join Cs Ds j a b T0 T1 T2 u0 u1 u2 w v =
-      stretch_then G (CoversSets G (Cs ++ Ds) j) (CoversSets G Ds j) a b T0 T1 T2 u0 u1 u2 (λ R h. (h.0, λ C i. h.1 C (in_append_right Cs Ds C i)))
-      (stretch_for G (CoversSets G (Cs ++ Ds) j) (CoversSets G Cs j) a T0 T1 u0 u1 (λ R h. (h.0, λ C i. h.1 C (in_append_left Cs Ds C i))) w)
+  stretches_join cut Cs Ds j a b T0 T1 T2 u0 u1 u2 w v =
+      stretch_then G cut (CoversSets G (Cs ++ Ds) j) (CoversSets G Ds j) a b T0 T1 T2 u0 u1 u2 (λ R h. (h.0, λ C i. h.1 C (in_append_right Cs Ds C i)))
+      (stretch_for G cut (CoversSets G (Cs ++ Ds) j) (CoversSets G Cs j) a T0 T1 u0 u1 (λ R h. (h.0, λ C i. h.1 C (in_append_left Cs Ds C i))) w)
       v

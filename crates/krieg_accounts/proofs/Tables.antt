@@ -1,5 +1,5 @@
 -- Stored pairs, and what right results say.
-use Rattle.std.proofs.Common.{◌≡◌, ℕ, zero, suc, ◌≤◌, ◌<◌, true, false, ◌⊎◌, List, [], ◌∷◌, Option, Some, None, is_some, refl, sym, ap, subst, inl, inr, ◌∙◌, arith, eq-or-lt_of_le}
+use Rattle.std.proofs.Common.{Bool, ◌≡◌, ℕ, zero, suc, ◌≤◌, ◌<◌, true, false, ◌⊎◌, List, [], ◌∷◌, Option, Some, None, is_some, refl, sym, ap, subst, inl, inr, ◌∙◌, arith, eq-or-lt_of_le}
 use Rattle.std.proofs.lemmas.Bool.{cases_Bool, cond-true, cond-false, both_ways}
 use Rattle.krieg_theory.specs.Sets.{In}
 use Rattle.krieg_theory.specs.Game.{Game, IsGame}
@@ -33,15 +33,15 @@ module _ (G : Game) (L : IsGame G) where
       go (inr s) (inr k) r = let a = r k in (a.0, cond-false (same_pair G e.0 q) (Some e.1) (known G T q) s ∙ a.1)
 
   -- a stored result says whether the set can be won
-  pub result_can : (T : Table G) → IsSound G T → (B : List G.Position) (j : ℕ) (o : Option G.Move) → known G T (B, j) ≡ Some o → can G j B ≡ is_some o
-  result_can T s B j o h = sym (first_can G L j B) ∙ ap is_some (sym (s.right B j o h))
+  pub result_can : (cut : Bool) → (T : Table G) → IsSound G cut T → (B : List G.Position) (j : ℕ) (o : Option G.Move) → known G T (B, j) ≡ Some o → can G j B ≡ is_some o
+  result_can cut T s B j o h = sym (first_can G L j B) ∙ ap is_some (sym (s.right B j o h))
 
   -- a set that is stored as won is so at its least number
-  pub wins_least : (T : Table G) → IsSound G T → (k : ℕ) (X : List G.Position) (w : StoredWon G T X) → can G k X ≡ true → least G k X ≡ w.0
-  wins_least T s k X w c = go (eq-or-lt_of_le at_most)
+  pub wins_least : (cut : Bool) → (T : Table G) → IsSound G cut T → (k : ℕ) (X : List G.Position) (w : StoredWon G T X) → can G k X ≡ true → least G k X ≡ w.0
+  wins_least cut T s k X w c = go (eq-or-lt_of_le at_most)
     where
       here : can G w.0 X ≡ true
-      here = result_can T s X w.0 (Some w.1) w.2
+      here = result_can cut T s X w.0 (Some w.1) w.2
 
       at_most : least G k X ≤ w.0
       at_most = least_least G L k w.0 X here
@@ -55,11 +55,11 @@ module _ (G : Game) (L : IsGame G) where
       go (inr l) =
           let won = can_least G L k X c in
           let b = s.backed X w.0 (Some w.1) w.2 in
-          let lost = result_can T s X (least G k X) None (b.below (least G k X) (some (least G k X) won) l) in
+          let lost = result_can cut T s X (least G k X) None (b.below (least G k X) (some (least G k X) won) l) in
           absurd (both_ways _ lost won)
 
   pub result_is_can : ResultIsCan G
-  result_is_can T B j o s h = result_can T s B j o h
+  result_is_can cut T B j o s h = result_can cut T s B j o h
 
   pub won_is_least : WonIsLeast G
-  won_is_least T B j m s h = wins_least T s j B (j, m, h) (result_can T s B j (Some m) h)
+  won_is_least cut T B j m s h = wins_least cut T s j B (j, m, h) (result_can cut T s B j (Some m) h)

@@ -1,5 +1,5 @@
 -- The search of the set of 2 in the small game, as one stretch, and where units fall short.
-use Rattle.std.proofs.Common.{◌≡◌, ℕ, ◌⊎◌, inl, inr, List, [], ◌∷◌, Option, Some, None, refl, arith}
+use Rattle.std.proofs.Common.{◌≡◌, ℕ, false, ◌⊎◌, inl, inr, List, [], ◌∷◌, Option, Some, None, refl, arith}
 use Rattle.krieg_theory.specs.Sets.{In}
 use Rattle.krieg_theory.specs.Toy.{toy}
 use Rattle.krieg_theory.specs.ToyLawful.{lawful}
@@ -18,25 +18,25 @@ use Rattle.krieg_accounts.proofs.Searches.{owed_empty}
 use Rattle.krieg_accounts.proofs.ToyTables.{apart, noted, two_1, two_2, two_3, two_first, two_second, two_third, two_backed}
 
 -- the try 0 is split, and both of its classes are searched
-both_classes : IsStretch toy (CoversTries toy (2 ∷ []) 2) 3 two_1 two_3 16 11
+both_classes : IsStretch toy false (CoversTries toy (2 ∷ []) 2) 3 two_1 two_3 16 11
 both_classes =
     let Q = CoversTries toy (2 ∷ []) 2 in
-    let s = stretch_of_split toy Q two_1 3 16 13 two_first.sound refl in
-    let a = stretch_then toy Q (CoversPair toy (0 ∷ []) 1) 3 0 two_1 two_1 two_2 16 13 12 (λ R h. (h.0, (h.1 0 refl).classes 0 (inl refl) 1 (omega arith) (omega arith))) s two_second in
-    stretch_then toy Q (CoversPair toy (1 ∷ []) 1) 3 0 two_1 two_2 two_3 16 12 11 (λ R h. (h.0, (h.1 0 refl).classes 1 (inr (inl refl)) 1 (omega arith) (omega arith))) a two_third
+    let s = stretch_of_split toy false Q two_1 3 16 13 two_first.sound refl in
+    let a = stretch_then toy false Q (CoversPair toy (0 ∷ []) 1) 3 0 two_1 two_1 two_2 16 13 12 (λ R h. (h.0, (h.1 0 refl).classes 0 (inl refl) 1 (omega arith) (omega arith))) s two_second in
+    stretch_then toy false Q (CoversPair toy (1 ∷ []) 1) 3 0 two_1 two_2 two_3 16 12 11 (λ R h. (h.0, (h.1 0 refl).classes 1 (inr (inl refl)) 1 (omega arith) (omega arith))) a two_third
 
-pub by_hand : IsStretch toy (CoversSet toy (2 ∷ []) 2) 0 [] of_two 20 11
+pub by_hand : IsStretch toy false (CoversSet toy (2 ∷ []) 2) 0 [] of_two 20 11
 by_hand =
     let Q = CoversSet toy (2 ∷ []) 2 in
     let last = noted two_1 two_3 (2 ∷ []) 2 (Some 0) 16 11 both_classes refl two_backed refl refl in
-    stretch_then toy Q (CoversPair toy (2 ∷ []) 2) 0 0 [] two_1 of_two 20 16 11 (λ R h. (h.0, h.1 2 (omega arith) (omega arith)))
-    (stretch_for toy Q (CoversPair toy (2 ∷ []) 1) 0 [] two_1 20 16 (λ R h. (h.0, h.1 1 (omega arith) (omega arith))) two_first) last
+    stretch_then toy false Q (CoversPair toy (2 ∷ []) 2) 0 0 [] two_1 of_two 20 16 11 (λ R h. (h.0, h.1 2 (omega arith) (omega arith)))
+    (stretch_for toy false Q (CoversPair toy (2 ∷ []) 1) 0 [] two_1 20 16 (λ R h. (h.0, h.1 1 (omega arith) (omega arith))) two_first) last
 
 -- what is reached from a set covers it
 reached : (p : ℕ) (B : List ℕ) (j : ℕ) → CoversSet toy (p ∷ B) j (reach toy j (p ∷ B))
 reached p B j = (reach_leads toy lawful j (p ∷ B) (reach toy j (p ∷ B)) (λ q i. i), λ i a b. reach_all toy lawful j i (p ∷ B) refl a b)
 
-pub another_set : IsStretch toy (CoversSet toy (5 ∷ []) 2) 0 [] (won_within (0 ∷ []) 1 0 ∷ []) 20 19 → ⊥
+pub another_set : IsStretch toy false (CoversSet toy (5 ∷ []) 2) 0 [] (won_within (0 ∷ []) 1 0 ∷ []) 20 19 → ⊥
 another_set w = go (w.news (reach toy 2 (5 ∷ [])) (reached 5 [] 2) (0 ∷ [], 1) (Some 0) refl)
   where
     go : (known toy [] (0 ∷ [], 1) ≡ Some (Some 0)) ⊎ In (0 ∷ [], 1) (reach toy 2 (5 ∷ [])) → ⊥

@@ -82,38 +82,38 @@ module _ (G : Game) (L : IsGame G) where
         let f = none_fails (λ key. can G i (class G B t key)) (keys G B t) (sym (all_map (λ key. class G B t key) (can G i) (keys G B t)) ∙ a) in
         after_lives LostRefused (cond-false _ _ _ s ∙ ap (by_class G (suc i) B t) f ∙ cond-false (is_nil (refused G B t) || can G (suc i) (refused G B t)) NoBlock LostRefused (ap (λ x. x || can G (suc i) (refused G B t)) e ∙ c)) (λ l. h)
 
-module _ (G : Game) (L : IsGame G) (T : Table G) (B : List G.Position) (i : ℕ) (t : G.Move) where
+module _ (G : Game) (L : IsGame G) (cut : Bool) (T : Table G) (B : List G.Position) (i : ℕ) (t : G.Move) where
   -- the try stalemates in some member
-  pub answered_stale : stale_in_some G B t ≡ true → AnswersTry G T B (suc i) t false
+  pub answered_stale : stale_in_some G B t ≡ true → AnswersTry G cut T B (suc i) t false
   answered_stale s = record {
     classes = λ e. absurd (both_ways false refl e);
     refused_part = λ e. absurd (both_ways false refl e);
-    blocked = λ e. blocked_stale G L (λ q. StoredLost G T q) i B t s;
+    blocked = λ c e. blocked_stale G L (λ q. StoredLost G T q) i B t s;
   }
 
   -- some class cannot be won
-  pub answered_class : stale_in_some G B t ≡ false → list_all (can G i) (classes G B t) ≡ false → AnswersSets G T (classes G B t) i false → AnswersTry G T B (suc i) t false
+  pub answered_class : stale_in_some G B t ≡ false → list_all (can G i) (classes G B t) ≡ false → AnswersSets G T (classes G B t) i false → AnswersTry G cut T B (suc i) t false
   answered_class s a r = record {
     classes = λ e. absurd (both_ways false refl e);
     refused_part = λ e. absurd (both_ways false refl e);
-    blocked = λ e. blocked_class G L (λ q. StoredLost G T q) i B t s a (r.lost refl);
+    blocked = λ c e. blocked_class G L (λ q. StoredLost G T q) i B t s a (r.lost refl);
   }
 
   won_classes : ((C : List G.Position) → In C (classes G B t) → StoredWon G T C) → (key : G.Key) → In key (keys G B t) → StoredWon G T (class G B t key)
   won_classes w key k = w (class G B t key) (in_map (λ key. class G B t key) (keys G B t) key k)
 
   -- all classes are won, and no member refuses the try
-  pub answered_all : ((C : List G.Position) → In C (classes G B t) → StoredWon G T C) → is_nil (refused G B t) ≡ true → AnswersTry G T B (suc i) t true
+  pub answered_all : ((C : List G.Position) → In C (classes G B t) → StoredWon G T C) → is_nil (refused G B t) ≡ true → AnswersTry G cut T B (suc i) t true
   answered_all w n = record {
     classes = λ e. won_classes w;
     refused_part = λ e f. absurd (both_ways _ f n);
-    blocked = λ e. absurd (both_ways true e refl);
+    blocked = λ c e. absurd (both_ways true e refl);
   }
 
   -- all classes are won, and the refused part decides
-  pub answered_rest : (won : Bool) → stale_in_some G B t ≡ false → list_all (can G i) (classes G B t) ≡ true → ((C : List G.Position) → In C (classes G B t) → StoredWon G T C) → is_nil (refused G B t) ≡ false → won ≡ can G (suc i) (refused G B t) → AnswersSet G T (refused G B t) (suc i) won → AnswersTry G T B (suc i) t won
+  pub answered_rest : (won : Bool) → stale_in_some G B t ≡ false → list_all (can G i) (classes G B t) ≡ true → ((C : List G.Position) → In C (classes G B t) → StoredWon G T C) → is_nil (refused G B t) ≡ false → won ≡ can G (suc i) (refused G B t) → AnswersSet G T (refused G B t) (suc i) won → AnswersTry G cut T B (suc i) t won
   answered_rest won s a w n c r = record {
     classes = λ e. won_classes w;
     refused_part = λ e f. r.won e;
-    blocked = λ e. blocked_refused G L (λ q. StoredLost G T q) i B t s a n (sym c ∙ e) (r.lost e (omega arith));
+    blocked = λ x e. blocked_refused G L (λ q. StoredLost G T q) i B t s a n (sym c ∙ e) (r.lost e (omega arith));
   }

@@ -24,11 +24,12 @@ module _ (G : Game) where
     pub won : yes ≡ true → StoredWon G T B
     pub lost : yes ≡ false → 0 < j → StoredLost G T (B, j)
 
-  -- whether the try begins a node that wins: its parts are stored as won, or the pair of its block as lost
-  pub record AnswersTry (T : Table G) (B : List G.Position) (j : ℕ) (t : G.Move) (yes : Bool) : Type 0 where
+  -- whether the try begins a node that wins: its parts are stored as won, or, where tries may not be cut, the pair of
+  -- its block as lost
+  pub record AnswersTry (cut : Bool) (T : Table G) (B : List G.Position) (j : ℕ) (t : G.Move) (yes : Bool) : Type 0 where
     pub classes : yes ≡ true → (key : G.Key) → In key (keys G B t) → StoredWon G T (class G B t key)
     pub refused_part : yes ≡ true → is_nil (refused G B t) ≡ false → StoredWon G T (refused G B t)
-    pub blocked : yes ≡ false → IfSome (block_pair G j B t) (λ q. StoredLost G T q)
+    pub blocked : cut ≡ false → yes ≡ false → IfSome (block_pair G j B t) (λ q. StoredLost G T q)
 
   -- whether all of the sets can be won within j: each is stored as won, or the first that cannot be as lost with j
   pub record AnswersSets (T : Table G) (Cs : List (List G.Position)) (j : ℕ) (yes : Bool) : Type 0 where

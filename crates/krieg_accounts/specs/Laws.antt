@@ -1,5 +1,5 @@
 -- The laws, each a statement that a function of this crate has as its contract.
-use Rattle.std.specs.Prelude.{◌≡◌, ℕ, suc, ◌+◌, ◌<◌, ◌≤◌, false, List, [], ◌++◌, Option, Some, None, is_some, if◌then◌else◌}
+use Rattle.std.specs.Prelude.{◌≡◌, ℕ, suc, ◌+◌, ◌<◌, ◌≤◌, Bool, false, List, [], ◌++◌, Option, Some, None, is_some, if◌then◌else◌}
 use Rattle.std.specs.List.{list_any}
 use Rattle.krieg_theory.specs.Sets.{is_nil}
 use Rattle.krieg_theory.specs.Tree.{Try, Maybe, Nothing, Just}
@@ -21,15 +21,15 @@ use Rattle.krieg_accounts.specs.Answers.{AnswersSets, opening_sets, AnswersPlan}
 module _ (G : Game) where
   -- a stored result says whether the set can be won within the number
   abbrev pub ResultIsCan : Type 0
-  ResultIsCan = (T : Table G) (B : List G.Position) (j : ℕ) (o : Option G.Move) → IsSound G T → known G T (B, j) ≡ Some o → can G j B ≡ is_some o
+  ResultIsCan = (cut : Bool) (T : Table G) (B : List G.Position) (j : ℕ) (o : Option G.Move) → IsSound G cut T → known G T (B, j) ≡ Some o → can G j B ≡ is_some o
 
   -- a set that is stored as won is so with its least number
   abbrev pub WonIsLeast : Type 0
-  WonIsLeast = (T : Table G) (B : List G.Position) (j : ℕ) (m : G.Move) → IsSound G T → known G T (B, j) ≡ Some (Some m) → least G j B ≡ j
+  WonIsLeast = (cut : Bool) (T : Table G) (B : List G.Position) (j : ℕ) (m : G.Move) → IsSound G cut T → known G T (B, j) ≡ Some (Some m) → least G j B ≡ j
 
   -- the pairs for which something is stored keep the rules of backing
   abbrev pub StoredIsBacking : Type 0
-  StoredIsBacking = (T : Table G) → IsSound G T → KeepsLost G (pairs T) × KeepsWon G (pairs T)
+  StoredIsBacking = (T : Table G) → IsSound G false T → KeepsLost G (pairs T) × KeepsWon G (pairs T)
 
   -- the canonical node of the refused part, where it is not empty
   abbrev pub refused_canon : ℕ → List G.Position → Maybe G.Move G.Key
@@ -37,19 +37,19 @@ module _ (G : Game) where
 
   -- of a set that is stored as won, the stored try begins the canonical node, and the nodes of its parts go on
   abbrev pub StoredIsCanon : Type 0
-  StoredIsCanon = (T : Table G) (B : List G.Position) (j k : ℕ) (m : G.Move) → IsSound G T → known G T (B, suc k) ≡ Some (Some m) → suc k ≤ j →
+  StoredIsCanon = (cut : Bool) (T : Table G) (B : List G.Position) (j k : ℕ) (m : G.Move) → IsSound G cut T → known G T (B, suc k) ≡ Some (Some m) → suc k ≤ j →
       canon G j B ≡ Just (Try m (refused_canon (suc k) (refused G B m)) (edges_of G (keys G B m) (λ key. canon G k (class G B m key))))
 
   -- a stretch over some sets and one over others behind it are a stretch over all of them
   abbrev pub StretchesJoin : Type 0
-  StretchesJoin = (Cs Ds : List (List G.Position)) (j a b : ℕ) (T0 T1 T2 : Table G) (u0 u1 u2 : ℕ) →
-      IsStretch G (CoversSets G Cs j) a T0 T1 u0 u1 → IsStretch G (CoversSets G Ds j) b T1 T2 u1 u2 → IsStretch G (CoversSets G (Cs ++ Ds) j) (a + b) T0 T2 u0 u2
+  StretchesJoin = (cut : Bool) (Cs Ds : List (List G.Position)) (j a b : ℕ) (T0 T1 T2 : Table G) (u0 u1 u2 : ℕ) →
+      IsStretch G cut (CoversSets G Cs j) a T0 T1 u0 u1 → IsStretch G cut (CoversSets G Ds j) b T1 T2 u1 u2 → IsStretch G cut (CoversSets G (Cs ++ Ds) j) (a + b) T0 T2 u0 u2
 
   -- A pair is expanded: a stretch over all parts costs the tries up to the first that wins. Once the result is noted it
   -- is a stretch over the pair, and costs nothing apart from what is stored.
   abbrev pub NotedIsStretch : Type 0
-  NotedIsStretch = (T0 T1 T2 : Table G) (B : List G.Position) (j : ℕ) (o : Option G.Move) (u0 u1 : ℕ) → IsStretch G (CoversTries G B j) (floor_price G (B, j)) T0 T1 u0 u1 →
-      o ≡ first_try G j B → IsBacked G T1 B j o → known G T0 (B, j) ≡ None → AddsResult G.position_lt T1 T2 (B, j) o → IsStretch G (CoversPair G B j) 0 T0 T2 u0 u1
+  NotedIsStretch = (cut : Bool) (T0 T1 T2 : Table G) (B : List G.Position) (j : ℕ) (o : Option G.Move) (u0 u1 : ℕ) → IsStretch G cut (CoversTries G B j) (floor_price G (B, j)) T0 T1 u0 u1 →
+      o ≡ first_try G j B → IsBacked G cut T1 B j o → known G T0 (B, j) ≡ None → AddsResult G.position_lt T1 T2 (B, j) o → IsStretch G cut (CoversPair G B j) 0 T0 T2 u0 u1
 
   -- units that fall short of all tries of a pair that is not stored fall short of the pair
   abbrev pub ShortOfPair : Type 0
@@ -62,15 +62,15 @@ module _ (G : Game) (O : Outset G) where
 
   -- a sound table that has the answer was charged at least the floor
   abbrev pub FloorIsCharged : Type 0
-  FloorIsCharged = (n : ℕ) (S : List G.Position) (T : Table G) → IsSound G T → AnswersPlan G O T n S → floor G O n S ≤ first_made G O S + charged G T
+  FloorIsCharged = (n : ℕ) (S : List G.Position) (T : Table G) → IsSound G false T → AnswersPlan G O T n S → floor G O n S ≤ first_made G O S + charged G T
 
   -- a search from the empty table to one that has the answer takes at least the floor
   abbrev pub FloorIsTaken : Type 0
-  FloorIsTaken = (n : ℕ) (S : List G.Position) (T : Table G) (had has : ℕ) → IsStretch G (CoversSets G (opening_sets G O S) n) 0 [] T had has → AnswersPlan G O T n S → has + floor G O n S ≤ had + first_made G O S
+  FloorIsTaken = (n : ℕ) (S : List G.Position) (T : Table G) (had has : ℕ) → IsStretch G false (CoversSets G (opening_sets G O S) n) 0 [] T had has → AnswersPlan G O T n S → has + floor G O n S ≤ had + first_made G O S
 
   -- a search from the empty table takes at most what is fresh
   abbrev pub FreshIsEnough : Type 0
-  FreshIsEnough = (n : ℕ) (S : List G.Position) (T : Table G) (had has : ℕ) → IsStretch G (CoversSets G (opening_sets G O S) n) 0 [] T had has → had + first_made G O S ≤ has + fresh G O n S
+  FreshIsEnough = (cut : Bool) (n : ℕ) (S : List G.Position) (T : Table G) (had has : ℕ) → IsStretch G cut (CoversSets G (opening_sets G O S) n) 0 [] T had has → had + first_made G O S ≤ has + fresh G O n S
 
   -- and falls short only where fewer units are there
   abbrev pub ShortIsBelowFresh : Type 0

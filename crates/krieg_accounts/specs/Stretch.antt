@@ -1,5 +1,5 @@
 -- A stretch of a search: what it does to the table of results, and what it takes.
-use Rattle.std.specs.Prelude.{◌≡◌, ℕ, ◌+◌, ◌<◌, ◌≤◌, true, List, Option, Some, ◌⊎◌}
+use Rattle.std.specs.Prelude.{◌≡◌, ℕ, ◌+◌, ◌<◌, ◌≤◌, Bool, true, List, Option, Some, ◌⊎◌}
 use Rattle.krieg_theory.specs.Sets.{In}
 use Rattle.krieg_theory.specs.Game.{Game}
 use Rattle.krieg_theory.specs.Split.{legal_in_some}
@@ -12,8 +12,8 @@ module _ (G : Game) where
   -- From the table T and `had` units to the table T' and `has` units. A result may come only for a pair that stands in
   -- every list R that Q admits. The cost is what was split for pairs that have no result yet. All else that was taken
   -- is what the new results took, and of each list R at most what its pairs with a new result owed.
-  pub record IsStretch (Q : List (Pair G) → Type 0) (cost : ℕ) (T T' : Table G) (had has : ℕ) : Type 0 where
-    pub sound : IsSound G T'
+  pub record IsStretch (cut : Bool) (Q : List (Pair G) → Type 0) (cost : ℕ) (T T' : Table G) (had has : ℕ) : Type 0 where
+    pub sound : IsSound G cut T'
     pub kept : (q : Pair G) (x : Option G.Move) → known G T q ≡ Some x → known G T' q ≡ Some x
     pub news : (R : List (Pair G)) → Q R → (q : Pair G) (x : Option G.Move) → known G T' q ≡ Some x → (known G T q ≡ Some x) ⊎ In q R
     pub exact : had + charged G T ≡ has + cost + charged G T'

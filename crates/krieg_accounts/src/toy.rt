@@ -46,16 +46,18 @@ pub fn charging()
 
 /// Which tables are sound.
 pub fn standing()
-    ensures empty { IsSound toy [] }
-    ensures won { IsSound toy of_two }
-    ensures lost { IsSound toy of_nought_and_five }
-    ensures a_later_try { IsSound toy (won_within (8 ∷ []) 1 2 ∷ []) → ⊥ }
-    ensures lost_for_more { IsSound toy (lost_within (2 ∷ []) 1 ∷ lost_within (2 ∷ []) 2 ∷ []) → ⊥ }
-    ensures number_nought { IsSound toy (lost_within (0 ∷ []) 0 ∷ []) → ⊥ }
-    ensures smaller_number_is_missing { IsSound toy (won_within (0 ∷ []) 1 0 ∷ won_within (1 ∷ []) 1 1 ∷ won_within (2 ∷ []) 2 0 ∷ []) → ⊥ }
-    ensures class_is_missing { IsSound toy (lost_within (2 ∷ []) 1 ∷ won_within (0 ∷ []) 1 0 ∷ won_within (2 ∷ []) 2 0 ∷ []) → ⊥ }
-    ensures refused_part_is_missing { IsSound toy (won_within (0 ∷ 1 ∷ []) 1 0 ∷ []) → ⊥ }
-    ensures block_is_missing { IsSound toy (lost_within (5 ∷ []) 1 ∷ lost_within (0 ∷ 5 ∷ []) 1 ∷ lost_within (0 ∷ 5 ∷ []) 2 ∷ []) → ⊥ }
+    ensures empty { IsSound toy false [] }
+    ensures won { IsSound toy false of_two }
+    ensures lost { IsSound toy false of_nought_and_five }
+    ensures a_later_try { IsSound toy false (won_within (8 ∷ []) 1 2 ∷ []) → ⊥ }
+    ensures lost_for_more { IsSound toy false (lost_within (2 ∷ []) 1 ∷ lost_within (2 ∷ []) 2 ∷ []) → ⊥ }
+    ensures number_nought { IsSound toy false (lost_within (0 ∷ []) 0 ∷ []) → ⊥ }
+    ensures smaller_number_is_missing { IsSound toy false (won_within (0 ∷ []) 1 0 ∷ won_within (1 ∷ []) 1 1 ∷ won_within (2 ∷ []) 2 0 ∷ []) → ⊥ }
+    ensures class_is_missing { IsSound toy false (lost_within (2 ∷ []) 1 ∷ won_within (0 ∷ []) 1 0 ∷ won_within (2 ∷ []) 2 0 ∷ []) → ⊥ }
+    ensures refused_part_is_missing { IsSound toy false (won_within (0 ∷ 1 ∷ []) 1 0 ∷ []) → ⊥ }
+    ensures block_is_cut { IsSound toy true (lost_within (0 ∷ 5 ∷ []) 1 ∷ lost_within (0 ∷ 5 ∷ []) 2 ∷ []) }
+    ensures smaller_number_is_cut { IsSound toy true (lost_within (0 ∷ 5 ∷ []) 2 ∷ []) → ⊥ }
+    ensures block_is_missing { IsSound toy false (lost_within (5 ∷ []) 1 ∷ lost_within (0 ∷ 5 ∷ []) 1 ∷ lost_within (0 ∷ 5 ∷ []) 2 ∷ []) → ⊥ }
 {}
 
 /// Which tables have the answer for a list of positions.
@@ -69,10 +71,10 @@ pub fn answering()
 
 /// Which stretches there are.
 pub fn searching()
-    ensures by_hand { IsStretch toy (CoversSet toy (2 ∷ []) 2) 0 [] of_two 20 11 }
-    ensures one_unit_less { IsStretch toy (CoversSet toy (2 ∷ []) 2) 0 [] of_two 20 12 → ⊥ }
-    ensures forgetting { IsStretch toy (CoversSet toy (2 ∷ []) 2) 0 of_two [] 20 29 → ⊥ }
-    ensures another_set { IsStretch toy (CoversSet toy (5 ∷ []) 2) 0 [] (won_within (0 ∷ []) 1 0 ∷ []) 20 19 → ⊥ }
+    ensures by_hand { IsStretch toy false (CoversSet toy (2 ∷ []) 2) 0 [] of_two 20 11 }
+    ensures one_unit_less { IsStretch toy false (CoversSet toy (2 ∷ []) 2) 0 [] of_two 20 12 → ⊥ }
+    ensures forgetting { IsStretch toy false (CoversSet toy (2 ∷ []) 2) 0 of_two [] 20 29 → ⊥ }
+    ensures another_set { IsStretch toy false (CoversSet toy (5 ∷ []) 2) 0 [] (won_within (0 ∷ []) 1 0 ∷ []) 20 19 → ⊥ }
     ensures short { FallsShort toy (CoversSet toy (2 ∷ []) 2) 0 [] 14 }
     ensures enough { FallsShort toy (CoversSet toy (2 ∷ []) 2) 0 [] 15 → ⊥ }
 {}

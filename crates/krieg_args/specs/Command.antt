@@ -9,7 +9,7 @@ use Rattle.krieg_text.specs.Decimals.{number_between}
 use Rattle.krieg_fen.specs.declared.forms.TheConstants.{MOST_LISTED}
 use Rattle.krieg_args.specs.declared.command.TheConstants.{MOST_ASKS, MOST_SEED}
 use Rattle.krieg_args.specs.declared.command.Command.{Command}
-use Rattle.krieg_args.specs.declared.command.Command.TheVariants.{Solve, Check, Refute, Deny, Believe, Why, Umpire, San, Unsan, Play, Lead, Next, Make, Job}
+use Rattle.krieg_args.specs.declared.command.Command.TheVariants.{Solve, Check, Refute, Deny, Believe, Why, Umpire, San, Unsan, Play, Lead, Next, Find, Make, Job}
 use Rattle.krieg_args.specs.declared.command.Made.{Made}
 use Rattle.krieg_args.specs.declared.command.Made.TheVariants.{Session, Sheet}
 
@@ -77,6 +77,10 @@ search_numbers moves budget limit = do
 abbrev pub solve : ℕ × ℕ × ℕ → Command
 solve n = Solve n.0 n.1 n.2
 
+-- the same, by the program krieg_find
+abbrev pub find : ℕ × ℕ × ℕ → Command
+find n = Find n.0 n.1 n.2
+
 -- for a refutation
 abbrev pub refute : ℕ × ℕ × ℕ → Command
 refute n = Refute n.0 n.1 n.2
@@ -131,6 +135,11 @@ command_of (name ∷ moves ∷ budget ∷ limit ∷ []) = command_of_three name 
 command_of (name ∷ asks ∷ number ∷ tries ∷ told ∷ []) = if bytes_eq name (codes "lead") then lead asks number tries told else None
 command_of (name ∷ asks ∷ win ∷ wout ∷ bin ∷ bout ∷ []) = if bytes_eq name (codes "play") then play asks win wout bin bout else None
 command_of _ = None
+
+-- The command of these words of the program krieg_find: the three numbers of a search.
+abbrev pub find_of : List (List ℕ) → Option Command
+find_of (moves ∷ budget ∷ limit ∷ []) = option_map find (search_numbers moves budget limit)
+find_of _ = None
 
 -- whether the command reads an input
 abbrev pub takes_input : Command → Bool

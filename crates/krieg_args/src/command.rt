@@ -89,6 +89,16 @@ pub enum Command {
     },
     /// `next`: what a player does next who follows a plan and heard these lines.
     Next,
+    /// `MOVES BUDGET LIMIT`, the words of the program `krieg_find`: a plan for a sheet as for `solve`, mostly with far fewer
+    /// units of work.
+    Find {
+        /// From 1 to [`MOST_MOVES`].
+        moves: u64,
+        /// From 1 to [`MOST_UNITS`].
+        budget: u64,
+        /// From 1 to [`MOST_LISTED`].
+        limit: u64,
+    },
     /// `make session NUMBER`, `make sheet NUMBER`: a made input with that number.
     Make {
         /// Its kind.
@@ -218,6 +228,17 @@ fn refute(numbers: (u64, u64, u64)) -> Command
     }
 }
 
+fn find(numbers: (u64, u64, u64)) -> Command
+    ensures { result ≡ spec.find numbers }
+{
+    let (moves, budget, limit) = numbers;
+    Command::Find {
+        moves,
+        budget,
+        limit,
+    }
+}
+
 fn make(what: &str, seed: &str) -> Option<Command>
     ensures { result ≡ spec.make what.now seed.now }
 {
@@ -327,6 +348,16 @@ pub fn command_of(words: &[String]) -> Option<Command>
         [name, asks, win, wout, bin, bout] if is_name(b"play", name.as_bytes()) => {
             play(asks, win, wout, bin, bout)
         }
+        _ => None,
+    }
+}
+
+/// The command of these words of the program `krieg_find`, where they are the three numbers of a search in their ranges.
+pub fn find_of(words: &[String]) -> Option<Command>
+    ensures { result ≡ spec.find_of (map string_bytes words.now) }
+{
+    match words {
+        [moves, budget, limit] => Some(find(search_numbers(moves, budget, limit)?)),
         _ => None,
     }
 }

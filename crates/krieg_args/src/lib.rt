@@ -1,6 +1,7 @@
 //! The commands of the program, read from the words after its name.
 //!
-//! `specs/Command` says which words are a command, and which commands read an input. The reader takes no memory.
+//! `specs/Command` says which words are a command of `krieg`, which are that of `krieg_find`, and which commands read an input. The
+//! readers take no memory.
 //!
 //! ```
 //! let mut words = Vec::new(alloc);
@@ -15,5 +16,5 @@
 mod command;
 mod files;
 
-pub use command::{Command, MOST_ASKS, MOST_SEED, Made, command_of};
+pub use command::{Command, MOST_ASKS, MOST_SEED, Made, command_of, find_of};
 pub use files::{SeatFiles, lead_files, seat_files};

@@ -44,13 +44,13 @@ in_up_to f [] x h i = i
 in_up_to f (y ∷ ys) x h (inl e) = inl e
 in_up_to f (y ∷ ys) x h (inr i) = inr (subst (In x) (sym (cond-false (f y) [] (up_to f ys) (h y))) (in_up_to f ys x h i))
 
-module _ (G : Game) (L : IsGame G) (T : Table G) (sound : IsSound G T) (B : List G.Position) (j : ℕ) (lost : known G T (B, suc j) ≡ Some None) (t : G.Move) (legal : legal_in_some G B t ≡ true) where
+module _ (G : Game) (L : IsGame G) (T : Table G) (sound : IsSound G false T) (B : List G.Position) (j : ℕ) (lost : known G T (B, suc j) ≡ Some None) (t : G.Move) (legal : legal_in_some G B t ≡ true) where
   cannot : can G (suc j) B ≡ false
-  cannot = result_can G L T sound B (suc j) None lost
+  cannot = result_can G L false T sound B (suc j) None lost
 
   -- the pair of the block is stored as lost
   pub block_lost : IfSome (block_pair G (suc j) B t) (λ q. StoredLost G T q)
-  block_lost = (sound.backed B (suc j) None lost).earlier t legal tt
+  block_lost = (sound.backed B (suc j) None lost).earlier refl t legal tt
 
   abbrev pub loss : G.Key → Bool
   loss key = is_loss (known G T (class G B t key, j))
@@ -64,7 +64,7 @@ module _ (G : Game) (L : IsGame G) (T : Table G) (sound : IsSound G T) (B : List
   loss_is (Some (Some m)) e = absurd (both_ways false refl e)
 
   loss_cannot : (key : G.Key) → loss key ≡ true → not (can G j (class G B t key)) ≡ true
-  loss_cannot key e = not_from_false _ (result_can G L T sound (class G B t key) j None (loss_is (known G T (class G B t key, j)) e))
+  loss_cannot key e = not_from_false _ (result_can G L false T sound (class G B t key) j None (loss_is (known G T (class G B t key, j)) e))
 
   module _ (alive : ((j == 0) && lives_in_some G B t) ≡ false) (fresh : stale_in_some G B t ≡ false) where
     block_is : (o : Option G.Key) → find (λ key. not (can G j (class G B t key))) (keys G B t) ≡ o → block G (suc j) B t ≡ by_class G (suc j) B t o

@@ -20,14 +20,14 @@ use Rattle.krieg_play.specs.Teams.{Team, Turns, Service, BrokenCourse, HasFailed
 use Rattle.krieg_play.specs.Played.{Sides}
 use Rattle.krieg_args.specs.Command.{takes_input}
 use Rattle.krieg_args.specs.declared.command.Command.{Command}
-use Rattle.krieg_args.specs.declared.command.Command.TheVariants.{Solve, Check, Refute, Deny, Believe, Why, Umpire, San, Unsan, Play, Lead, Next, Make, Job}
+use Rattle.krieg_args.specs.declared.command.Command.TheVariants.{Solve, Check, Refute, Deny, Believe, Why, Umpire, San, Unsan, Play, Lead, Next, Find, Make, Job}
 use Rattle.krieg_args.specs.declared.command.Made.{Made}
 use Rattle.krieg_cli.specs.World.{World, FaultsRose}
 use Rattle.krieg_cli.specs.Input.{WasRead}
 use Rattle.krieg_cli.specs.Refusal.{OfText}
 use Rattle.krieg_cli.specs.Ending.{status}
 use Rattle.krieg_cli.specs.Asked.{Leaves, has_no_turn, OfPossible}
-use Rattle.krieg_cli.specs.Solve.{Searched, Solved}
+use Rattle.krieg_cli.specs.Parts.{SearchedBy, SolvedBy}
 use Rattle.krieg_cli.specs.Refute.{Claimed, Refuted}
 use Rattle.krieg_cli.specs.Deny.{Judged}
 use Rattle.krieg_cli.specs.Check.{Checked}
@@ -51,7 +51,7 @@ use Rattle.krieg_cli.specs.declared.ending.Ending.TheVariants as ending
 use Rattle.krieg_cli.proofs.WholeGames.{text_read, given_le}
 use Rattle.krieg_cli.specs.declared.input.TheConstants.{MOST_INPUT}
 
--- ---- solve and refute
+-- ---- solve, find and refute
 
 -- a sheet has one list of possible positions
 one_list : (s : SheetState) (S T : List Pos) → IsPossible s S → IsPossible s T → S ≡ T
@@ -66,13 +66,16 @@ module _ (limit : ℕ) (s : SheetState) (rests : Bool) (By : List Pos → Result
   asking refusal.NotThePlayersTurn h = both_ways rests goes h.2
   asking r (T, other, go, h) = answers r (subst (λ T. By T (Err r)) (one_list s T S other.possible leaves.possible) h)
 
-solving : (n budget limit : ℕ) (text : List ℕ) (can : CanBeSolved n budget limit text) (r : Refusal) → Solved n budget limit can.sheet (Err r) → ⊥
-solving n budget limit text can r h = asking limit can.sheet (is_over can.sheet) (λ S. Searched can.sheet.dialect can.sheet.side S n budget) can.positions can.leaves can.goes_on go r h
+solving : (cut : Bool) (n budget limit : ℕ) (text : List ℕ) (can : CanBeSolved n budget limit text) (r : Refusal) → SolvedBy cut n budget limit can.sheet (Err r) → ⊥
+solving cut n budget limit text can r h = asking limit can.sheet (is_over can.sheet) (λ S. SearchedBy cut can.sheet.dialect can.sheet.side S n budget) can.positions can.leaves can.goes_on (go cut) r h
   where
-    go : (r : Refusal) → Searched can.sheet.dialect can.sheet.side can.positions n budget (Err r) → ⊥
-    go refusal.BudgetSpent h = let enough = can.enough in omega (arith, h, enough)
-    go refusal.PlanTooLarge (least, f, best, large) = can.fits f best large
-    go _ h = h
+    go : (cut : Bool) (r : Refusal) → SearchedBy cut can.sheet.dialect can.sheet.side can.positions n budget (Err r) → ⊥
+    go true refusal.BudgetSpent h = let enough = can.enough in omega (arith, h, enough)
+    go false refusal.BudgetSpent h = let enough = can.enough in omega (arith, h, enough)
+    go true refusal.PlanTooLarge (f, best, large) = can.fits f best large
+    go false refusal.PlanTooLarge (least, f, best, large) = can.fits f best large
+    go true _ h = h
+    go false _ h = h
 
 refuting : (n budget limit : ℕ) (text : List ℕ) (can : CanBeRefuted n budget limit text) (r : Refusal) → Refuted n budget limit can.sheet (Err r) → ⊥
 refuting n budget limit text can r h = asking limit can.sheet (has_no_turn can.sheet) (λ S. Claimed can.sheet.dialect can.sheet.side S n budget) can.positions can.leaves can.turn go r h
@@ -187,7 +190,9 @@ saying h r e = cc
 refused : {X : Type 0} (account : X → Account) (entry now : Sides X) (c : Command) (text : List ℕ) (r : Refusal) → HasOutcome (LivesBy account entry now) c text (Err r) → MustAnswer c text →
     BenchHolds account c entry now → ⊥
 refused account entry now (Solve n budget limit) text r h can bench =
-    solving n budget limit text can r (subst (λ x. OfText x (Solved n budget limit) (Err r)) can.spelled h)
+    solving false n budget limit text can r (subst (λ x. OfText x (SolvedBy false n budget limit) (Err r)) can.spelled h)
+refused account entry now (Find n budget limit) text r h can bench =
+    solving true n budget limit text can r (subst (λ x. OfText x (SolvedBy true n budget limit) (Err r)) can.spelled h)
 refused account entry now (Check budget) text r h can bench = checking budget text can r (subst (λ x. OfText x (Checked budget) (Err r)) can.spelled h)
 refused account entry now (Refute n budget limit) text r h can bench =
     refuting n budget limit text can r (subst (λ x. OfText x (Refuted n budget limit) (Err r)) can.spelled h)

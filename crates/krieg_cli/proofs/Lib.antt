@@ -5,6 +5,7 @@ mod Checking
 mod ClaimedSets
 mod Complete
 mod Denying
+mod Finding
 mod Headline
 mod Jobs
 mod Leading

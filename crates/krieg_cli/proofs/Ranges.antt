@@ -8,7 +8,7 @@ use Rattle.krieg_fen.specs.declared.forms.TheConstants.{MOST_LISTED}
 use Rattle.krieg_text.specs.declared.number.NumberFault.{NumberFault}
 use Rattle.krieg_text.proofs.Numbers.{between_spells}
 use Rattle.krieg_args.specs.Command as words
-use Rattle.krieg_args.specs.Command.{◌>>=◌, command_of, command_of_name, command_of_one, command_of_three, search_numbers, solve, refute, make, play, lead, lead_from, number, moves_of, budget_of, limit_of, asks_of, place_of, made_input, seed_of}
+use Rattle.krieg_args.specs.Command.{◌>>=◌, command_of, command_of_name, command_of_one, command_of_three, find_of, search_numbers, solve, find, refute, make, play, lead, lead_from, number, moves_of, budget_of, limit_of, asks_of, place_of, made_input, seed_of}
 use Rattle.krieg_args.specs.declared.command.Command.{Command}
 use Rattle.krieg_args.specs.declared.command.Command.TheVariants.{Check, Deny, Believe, Why, Umpire, San, Unsan, Play, Lead, Next, Make, Job}
 use Rattle.krieg_args.specs.declared.command.Made.{Made}
@@ -114,3 +114,10 @@ in_range (name ∷ moves ∷ budget ∷ limit ∷ []) = of_three name moves budg
 in_range (name ∷ asks ∷ number ∷ tries ∷ told ∷ []) = either (bytes_eq name (codes "lead")) (lead asks number tries told) None (leading asks number tries told) none
 in_range (name ∷ asks ∷ win ∷ wout ∷ bin ∷ bout ∷ []) = either (bytes_eq name (codes "play")) (play asks win wout bin bout) None (playing asks win wout bin bout) none
 in_range (a ∷ b ∷ c ∷ d ∷ e ∷ f ∷ g ∷ more) = none
+
+pub find_in_range : (ws : List (List ℕ)) (c : Command) → find_of ws ≡ Some c → IsInRange c
+find_in_range (moves ∷ budget ∷ limit ∷ []) = searching moves budget limit find (λ n h. (h.1, h.2))
+find_in_range [] = none
+find_in_range (a ∷ []) = none
+find_in_range (a ∷ b ∷ []) = none
+find_in_range (a ∷ b ∷ c ∷ d ∷ more) = none

@@ -1,5 +1,6 @@
 -- What a search finds, as the answer to a sheet.
-use Rattle.std.proofs.Common.{◌≡◌, ℕ, suc, ◌≤◌, List, length, Err, refl, ap, subst, arith}
+use Rattle.std.proofs.Common.{◌≡◌, ℕ, suc, ◌≤◌, Bool, true, false, List, length, Result, Ok, Err, refl, ap, subst, arith}
+use Rattle.std.specs.Prelude.{MatchBool}
 use Rattle.std.proofs.lemmas.List.{take_all}
 use Rattle.krieg_board.specs.Pos.{Pos}
 use Rattle.krieg_board.specs.declared.men.Side.{Side}
@@ -11,12 +12,13 @@ use Rattle.krieg_belief.specs.Possible.{IsPossible}
 use Rattle.krieg_belief.specs.Limits.{AllWithin}
 use Rattle.krieg_plan.specs.Trees.{PlanTrees}
 use Rattle.krieg_plan.specs.declared.limits.TheConstants.{MOST_NODES}
-use Rattle.krieg_search.specs.Solved.{IsBest, IsAnswer, IsCharged}
+use Rattle.krieg_search.specs.Solved.{IsBest, IsAnswer, IsCharged, IsChargedAtMost}
+use Rattle.krieg_search.specs.declared.best_plan.Answer.{Answer}
 use Rattle.krieg_search.specs.declared.stop.Stop2.{Stop2}
 use Rattle.krieg_search.specs.declared.stop.Stop2.TheVariants as search
-use Rattle.krieg_cli.specs.Parts.{of_search, Decides}
+use Rattle.krieg_cli.specs.Parts.{of_search, Decides, SearchedBy}
 use Rattle.krieg_cli.proofs.Asking.{IsLater}
-use Rattle.krieg_cli.specs.Solve.{file_of, IsBestFile, Searched}
+use Rattle.krieg_cli.specs.Solve.{file_of, IsBestFile, Searched, Tells}
 
 -- where a search may stop at all, no more is possible than the limit
 pub few_possible : (s : SheetState) (limit : ℕ) (S : List Pos) → AllWithin limit s → IsPossible s S → length S ≤ limit
@@ -36,6 +38,21 @@ module _ (d : Dialect) (who : Side) (S : List Pos) (n budget start left : ℕ) (
   stop_told view search.Large answer units = (omega (arith, same, units.at_least), file_of d who S answer.worst answer.plan, best_file d who S n answer.worst answer.plan answer.best, answer.large)
   stop_told view search.NoMemory answer units = tt
 
+  -- what a search takes that may cut tries, or one that cuts none
+  abbrev ChargedBy : Bool → Result Answer Stop2 → Type 0
+  ChargedBy cut found = MatchBool cut (IsChargedAtMost d who S n found start left) (IsCharged d who S n found start left)
+
+  pub stop_told_by : {X : Type 0} (view : X → List ℕ) (cut : Bool) (stop : Stop2) → IsAnswer d who S n MOST_NODES (Err stop) → ChargedBy cut (Err stop) → Decides view (Err (of_search stop)) (SearchedBy cut d who S n budget)
+  stop_told_by view false stop answer units = stop_told view stop answer units
+  stop_told_by view true search.Spent answer units = omega (arith, same, units.0)
+  stop_told_by view true search.Large answer units = (file_of d who S answer.worst answer.plan, best_file d who S n answer.worst answer.plan answer.best, answer.large)
+  stop_told_by view true search.NoMemory answer units = tt
+
+  pub answer_told_by : (cut : Bool) (found : Answer) (answer : List ℕ) → ChargedBy cut (Ok found) → Tells d who S n answer → SearchedBy cut d who S n budget (Ok answer)
+  answer_told_by false found answer units tells = (omega (arith, same, units.at_least), tells)
+  answer_told_by true found answer units tells = tells
+
 -- a search for a plan refuses nothing that is refused before it
-pub later : (n budget : ℕ) → IsLater (λ d who S. Searched d who S n budget)
-later n budget = record { many = λ d who S line h. h; none = λ d who S h. h; turn = λ d who S h. h }
+pub later : (cut : Bool) (n budget : ℕ) → IsLater (λ d who S. SearchedBy cut d who S n budget)
+later false n budget = record { many = λ d who S line h. h; none = λ d who S h. h; turn = λ d who S h. h }
+later true n budget = record { many = λ d who S line h. h; none = λ d who S h. h; turn = λ d who S h. h }

@@ -1,5 +1,5 @@
 -- What a run shows, where more is known of what seats make of a text.
-use Rattle.std.proofs.Common.{ℕ, List, map, Option, Some, None, Result, Ok, Err, ap, inl, inr}
+use Rattle.std.proofs.Common.{◌≡◌, ℕ, List, map, Option, Some, None, Result, Ok, Err, ap, subst, inl, inr}
 use Rattle.krieg_board.specs.Pos.{Pos}
 use Rattle.krieg_text.specs.Lines.{lines}
 use Rattle.krieg_text.specs.Reading.{whole}
@@ -49,6 +49,10 @@ ends_as t u f _ c before after h = h
 runs_as : (t u : LiveOutcome) → Follows t u → (e : Ending) (asked : Option Command) (before after : World) → Runs t e asked before after → Runs u e asked before after
 runs_as t u f e None before after h = h
 runs_as t u f e (Some c) before after h = ends_as t u f e c before after h
+
+-- the words are those of this command
+pub runs_of : (t : LiveOutcome) (e : Ending) (asked words : Option Command) (before after : World) → asked ≡ words → Runs t e asked before after → Runs t e words before after
+runs_of t e asked words before after same runs = subst (λ x. Runs t e x before after) same runs
 
 -- ---- the bench by what its seats mean
 

@@ -29,7 +29,7 @@ use Rattle.krieg_play.specs.Teams.{Team}
 use Rattle.krieg_play.specs.Played.{Sides}
 use Rattle.krieg_args.specs.Command.{takes_input}
 use Rattle.krieg_args.specs.declared.command.Command.{Command}
-use Rattle.krieg_args.specs.declared.command.Command.TheVariants.{Solve, Check, Refute, Deny, Believe, Why, Umpire, San, Unsan, Play, Lead, Next, Make, Job}
+use Rattle.krieg_args.specs.declared.command.Command.TheVariants.{Solve, Check, Refute, Deny, Believe, Why, Umpire, San, Unsan, Play, Lead, Next, Find, Make, Job}
 use Rattle.krieg_cli.specs.World.{Stream, World, FaultsRose}
 use Rattle.krieg_cli.specs.Asked.{Leaves, has_no_turn}
 use Rattle.krieg_cli.specs.Solve.{mates_all, fresh_units, NoneMates, IsBestFile, IsTooLarge}
@@ -106,6 +106,7 @@ pub record CanBeSummed (number : ℕ) : Type 0 where
 -- the input that a command must answer
 abbrev pub MustAnswer : Command → List ℕ → Type 0
 MustAnswer (Solve n budget limit) text = CanBeSolved n budget limit text
+MustAnswer (Find n budget limit) text = CanBeSolved n budget limit text
 MustAnswer (Check budget) text = CanBeChecked budget text
 MustAnswer (Refute n budget limit) text = CanBeRefuted n budget limit text
 MustAnswer (Deny budget) text = CanBeDenied budget text

@@ -1,4 +1,4 @@
--- The headline. Given the positions in which a game may have started and what one player has heard since, `solve` writes a
+-- The headline. Given the positions in which a game may have started and what one player has heard since, `solve` and `find` write a
 -- plan by which he mates wherever the hidden men are and whatever the opponent plays, within the number of own moves that the
 -- plan states; no plan needs fewer at worst; and it writes that there is none only where no plan mates within the number of
 -- moves that was asked for.
@@ -16,7 +16,7 @@ use Rattle.krieg_planfile.specs.PlanFiles.{PlanState}
 use Rattle.krieg_planfile.specs.PlanReading.{plan_at}
 use Rattle.krieg_planfile.specs.PlanText.{plan_text}
 use Rattle.krieg_args.specs.declared.command.Command.{Command}
-use Rattle.krieg_args.specs.declared.command.Command.TheVariants.{Solve}
+use Rattle.krieg_args.specs.declared.command.Command.TheVariants.{Solve, Find}
 use Rattle.krieg_cli.specs.World.{Stream, World}
 use Rattle.krieg_cli.specs.Input.{WasRead}
 use Rattle.krieg_cli.specs.Solve.{none_text, mates_all}
@@ -48,8 +48,19 @@ pub record WritesNone (n : ℕ) (s : SheetState) (S : List Pos) (before after : 
   pub none_mates : (plan : PlanTrees) → mates_all s.dialect s.side S plan n ≡ false
   pub written : Appends before.out.bytes after.out.bytes (none_text n)
 
--- with the words of `solve`, status 0 answers a sheet so, and err stays as it was
+-- a sheet was answered so, and err stays as it was
+abbrev pub AnswersSheet : ℕ → World → World → Stream → Stream → Type 0
+AnswersSheet n before after err err' =
+    (s : SheetState) × (S : List Pos) × HasSheet s S before after × (WritesPlan n s S before after ⊎ WritesNone n s S before after) × (err' ≡ err)
+
+-- status 0 is that answer, with the words of `solve`
+
 abbrev pub SolvesSheets : Option Command → ℕ → World → World → Stream → Stream → Type 0
 SolvesSheets asked code before after err err' =
-    (n budget limit : ℕ) → asked ≡ Some (Solve n budget limit) → code ≡ 0 →
-    (s : SheetState) × (S : List Pos) × HasSheet s S before after × (WritesPlan n s S before after ⊎ WritesNone n s S before after) × (err' ≡ err)
+    (n budget limit : ℕ) → asked ≡ Some (Solve n budget limit) → code ≡ 0 → AnswersSheet n before after err err'
+
+-- and with those of `find`
+
+abbrev pub FindsSheets : Option Command → ℕ → World → World → Stream → Stream → Type 0
+FindsSheets asked code before after err err' =
+    (n budget limit : ℕ) → asked ≡ Some (Find n budget limit) → code ≡ 0 → AnswersSheet n before after err err'

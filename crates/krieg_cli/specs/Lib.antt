@@ -4,6 +4,7 @@ pub mod Ending
 pub mod Input
 pub mod Asked
 pub mod Solve
+pub mod Find
 pub mod Check
 pub mod Refute
 pub mod Deny

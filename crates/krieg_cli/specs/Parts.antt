@@ -1,5 +1,6 @@
 -- What no public clause cites: the parts of the work answer a value, or the ending of a run that has none.
-use Rattle.std.specs.Prelude.{◌≡◌, ◌⊎◌, ℕ, false, List, Some, Result, Ok, Err}
+use Rattle.std.specs.Prelude.{◌≡◌, ◌⊎◌, ℕ, Bool, true, false, List, Some, Result, Ok, Err}
+use Rattle.krieg_board.specs.Pos.{Pos}
 use Rattle.krieg_text.specs.declared.fault.TextFault.{TextFault}
 use Rattle.krieg_text.specs.declared.fault.TextFault.TheVariants as fault
 use Rattle.krieg_ports.specs.declared.transfer.ReadEnd.{ReadEnd}
@@ -24,6 +25,16 @@ use Rattle.krieg_cli.specs.Play.{HasBegun}
 use Rattle.krieg_cli.specs.Lead.{HasLedText}
 use Rattle.krieg_cli.specs.Live.{calls_seats}
 use Rattle.krieg_board.specs.declared.men.Side.{Side}
+use Rattle.krieg_text.specs.Lines.{lines}
+use Rattle.krieg_text.specs.Reading.{whole}
+use Rattle.krieg_words.specs.declared.dialects.Dialect.{Dialect}
+use Rattle.krieg_sheet.specs.Sheets.{SheetState}
+use Rattle.krieg_sheet.specs.SheetReading.{sheet_at}
+use Rattle.krieg_sheet.specs.Turns.{is_over}
+use Rattle.krieg_cli.specs.Asked.{OfPossible}
+use Rattle.krieg_cli.specs.Solve.{Searched}
+use Rattle.krieg_cli.specs.Find.{Found}
+use Rattle.krieg_cli.specs.Refusal.{OfText}
 use Rattle.krieg_robot.specs.declared.led.LeadFault.{LeadFault}
 use Rattle.krieg_robot.specs.declared.led.LeadFault.TheVariants as led
 use Rattle.krieg_cli.specs.declared.refusal.Refusal.{Refusal}
@@ -97,6 +108,18 @@ Decides view (Ok x) Outcome = Outcome (Ok (view x))
 Decides view (Err (Refused refusal)) Outcome = Outcome (Err refusal)
 Decides view (Err NoMemory) Outcome = Unit {0}
 Decides view (Err _) Outcome = ⊥
+
+-- What a search makes of positions, of a sheet and of a text: that of `find`, which may cut tries, or that of `solve`.
+
+abbrev pub SearchedBy : Bool → Dialect → Side → List Pos → ℕ → ℕ → Result (List ℕ) Refusal → Type 0
+SearchedBy true d who S n budget outcome = Found d who S n budget outcome
+SearchedBy false d who S n budget outcome = Searched d who S n budget outcome
+
+abbrev pub SolvedBy : Bool → ℕ → ℕ → ℕ → SheetState → Result (List ℕ) Refusal → Type 0
+SolvedBy cut n budget limit s outcome = OfPossible limit s (is_over s) (λ S. SearchedBy cut s.dialect s.side S n budget) outcome
+
+abbrev pub SolvesBy : Bool → ℕ → ℕ → ℕ → List ℕ → Result (List ℕ) Refusal → Type 0
+SolvesBy cut n budget limit text outcome = OfText (whole sheet_at (lines text)) (SolvedBy cut n budget limit) outcome
 
 -- what becomes of the bench where a command made this of its text
 abbrev pub LeavesSeats : {X : Type 0} → (X → Account) → Command → Ending → List ℕ → Sides X → Sides X → Type 0

@@ -1,15 +1,16 @@
 -- What a run has read and written when it ends, and by what cause it ends so.
-use Rattle.std.specs.Prelude.{false, ℕ, Bool, ◌≡◌, ◌⊎◌, List, map, String, string_bytes, Option, Some, None, Result, Ok, Err}
+use Rattle.std.specs.Prelude.{false, ℕ, Bool, ◌≡◌, ◌⊎◌, List, [], map, String, string_bytes, Option, Some, None, Result, Ok, Err}
 use Rattle.std.specs.Io.KnownBytes.{Appends}
 use Rattle.krieg_ports.specs.Bytes.{AppendsPrefix}
-use Rattle.krieg_args.specs.Command.{command_of, takes_input}
+use Rattle.krieg_args.specs.Command.{command_of, find_of, takes_input}
 use Rattle.krieg_args.specs.declared.command.Command.{Command}
 use Rattle.krieg_args.specs.declared.command.Command.TheVariants.{Play, Lead}
 use Rattle.krieg_cli.specs.World.{Stream, World, FaultsRose, NoFault}
 use Rattle.krieg_cli.specs.Input.{WasRead, WasTaken, FailsToTake}
 use Rattle.krieg_cli.specs.Outcome.{LiveOutcome, HasOutcome}
 use Rattle.krieg_seats.specs.Accounts.{Account}
-use Rattle.krieg_play.specs.Played.{Sides}
+use Rattle.krieg_play.specs.Teams.{team}
+use Rattle.krieg_play.specs.Played.{Sides, sides}
 use Rattle.krieg_cli.specs.Play.{HasBegun}
 use Rattle.krieg_cli.specs.Lead.{HasLedText}
 use Rattle.krieg_cli.specs.Live.{LivesBy, calls_seats}
@@ -51,6 +52,10 @@ Runs live ending (Some c) before after = Ends live ending c before after
 abbrev pub asked_by : {Z : Type 0} → List (String Z) → Option Command
 asked_by words = command_of (map string_bytes words)
 
+-- and that of a run of `krieg_find`
+abbrev pub asked_to_find : {Z : Type 0} → List (String Z) → Option Command
+asked_to_find words = find_of (map string_bytes words)
+
 -- whether anything is read for the words
 abbrev pub reads : Option Command → Bool
 reads None = false
@@ -81,3 +86,11 @@ pub record IsRun {X : Type 0} (account : X → Account) (entry now : Sides X) (a
   pub runs : Runs (LivesBy account entry now) ending asked before after
   pub reports : Reports ending err err'
   pub bench : LeavesBench account asked ending before.input after.input entry now
+
+-- nobody sits on either side
+abbrev pub nobody : Sides Account
+nobody = sides (team [] []) (team [] [])
+
+-- the same of a run for which nobody sits
+abbrev pub RunsAlone : Option Command → ℕ → World → World → Stream → Stream → Type 0
+RunsAlone asked code before after err err' = IsRun (λ account. account) nobody nobody asked code before after err err'

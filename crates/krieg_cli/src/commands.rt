@@ -1,4 +1,4 @@
-//! What each command makes of its text, one file each. `asked`, `counted` and `recorded` have what several of them share.
+//! What each command makes of its text, one file each, and one for `solve` and `find`. `asked`, `counted` and `recorded` have what several of them share.
 
 pub(crate) mod asked;
 pub(crate) mod believe;

@@ -1,4 +1,4 @@
-//! The whole program as one call over streams: `run`.
+//! The whole program as one call over streams: `run`, and the program `krieg_find` as another: `run_find`.
 //!
 //! The commands are `umpire` and `san` on any session, `unsan` on any record, `believe`, `why`, `solve` and `refute` on any sheet,
 //! `check` and `lead` on any plan file, `deny` on any refutation file, `next` on a plan file and what its player heard, `play` from
@@ -7,7 +7,7 @@
 //! of its name; `Asked` of what a search is asked of a sheet, `Tally` of what `job` counts, and `Outcome` for all), and by what
 //! causes a run ends so (`Top`).
 //!
-//! `Headline` is the promise of `solve` on one page. `WholePlans` says that `check` finds what `solve` states, `WholeRefutations`
+//! `Headline` is the promise of `solve` and of `find` on one page. `WholePlans` says that `check` finds what `solve` states, `WholeRefutations`
 //! that `refute` writes a refutation and that `deny` finds that such a one holds, `WholeGames` that `believe` lists where a game
 //! stands, given what `umpire` writes of it, `WholeRecords` what comes back of a session by `san` and `unsan`, and `LedGames` that
 //! a plan that mates leads to a mate. `Complete` says when there must be an answer.
@@ -42,4 +42,4 @@ pub use krieg_args::{SeatFiles, lead_files, seat_files};
 pub use krieg_play::PlayFault;
 pub(crate) use krieg_play::{Turn, fault_of, relieved_turn};
 pub use live::{Bench, Played, play};
-pub use top::run;
+pub use top::{run, run_find};

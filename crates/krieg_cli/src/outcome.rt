@@ -31,7 +31,12 @@ pub(crate) fn outcome(
             moves,
             budget,
             limit,
-        } => { solve::answer(alloc, *moves, *budget, *limit, text) }
+        } => { solve::answer(alloc, false, *moves, *budget, *limit, text) }
+        Command::Find {
+            moves,
+            budget,
+            limit,
+        } => { solve::answer(alloc, true, *moves, *budget, *limit, text) }
         Command::Check { budget } => check::answer(alloc, *budget, text),
         Command::Refute {
             moves,

@@ -1,17 +1,18 @@
 ghost use Rattle.std.specs.Prelude.{◌≡◌, false, Some};
+ghost use Rattle.krieg_args.specs.declared.command.Command.{Command as Asked};
 ghost use Rattle.krieg_args.specs.Command.{takes_input};
 ghost use Rattle.krieg_cli.specs.World.{stream, world};
 ghost use Rattle.krieg_cli.specs.Outcome.{IsInRange};
 ghost use Rattle.krieg_cli.specs.Seated.{bench_sides};
 ghost use Rattle.krieg_cli.specs.Parts.{ending_of};
 ghost use Rattle.krieg_cli.specs.Live.{LivesBy};
-ghost use Rattle.krieg_cli.specs.Top.{Ends, Runs, IsRun, LeavesBench, asked_by, reads};
+ghost use Rattle.krieg_cli.specs.Top.{Ends, Runs, IsRun, RunsAlone, LeavesBench, nobody, asked_by, asked_to_find, reads};
 ghost use Rattle.krieg_cli.specs.WholeGames.{UmpiresGames, BelievesGames};
 ghost use Rattle.krieg_cli.specs.WholePlans.{ChecksSolutions};
 ghost use Rattle.krieg_cli.specs.WholeRefutations.{RefutesSheets, DeniesRefutations};
 ghost use Rattle.krieg_cli.specs.LedGames.{LeadsToMate};
 ghost use Rattle.krieg_cli.specs.WholeRecords.{ReturnsGames};
-ghost use Rattle.krieg_cli.specs.Headline.{SolvesSheets};
+ghost use Rattle.krieg_cli.specs.Headline.{SolvesSheets, FindsSheets};
 ghost use Rattle.krieg_cli.specs.Complete.{Completes};
 
 use crate::ending::Ending;
@@ -19,7 +20,7 @@ use crate::input::taken;
 use crate::live::Bench;
 use crate::outcome::outcome;
 use crate::report::report;
-use krieg_args::{Command, command_of};
+use krieg_args::{Command, command_of, find_of};
 use krieg_ports::{Sink, Source, write_all};
 use krieg_seats::Seat;
 use std::alloc::Global;
@@ -47,24 +48,24 @@ fn answer<S: Source, O: Sink>(
     Ok(())
 }
 
-/// Does what the words ask for.
-#[tactic(auto, using(crate::proofs::Ranges::in_range))]
+/// Does what was asked, if the words were a command.
 fn obey<S: Source, O: Sink>(
     alloc: Global,
-    words: &[String],
+    asked: Option<Command>,
     input: &mut S,
     out: &mut O,
     bench: &mut Bench,
 ) -> Ending
+    requires { (c : Asked) → asked ≡ Some c → IsInRange c }
     ensures runs { let live = LivesBy (λ b. account b) (bench_sides bench.old) (bench_sides bench.new) in
         let seen = world S.left S.faults O.got O.faults in
-        Runs live result (asked_by words.now) (seen input.old out.old) (seen input.new out.new) }
+        Runs live result asked (seen input.old out.old) (seen input.new out.new) }
     ensures bench { let seen = stream S.left S.faults in
-        LeavesBench (λ b. account b) (asked_by words.now) result (seen input.old) (seen input.new)
+        LeavesBench (λ b. account b) asked result (seen input.old) (seen input.new)
         (bench_sides bench.old) (bench_sides bench.new) }
-    ensures unread { reads (asked_by words.now) ≡ false → input.new ≡ input.old }
+    ensures unread { reads asked ≡ false → input.new ≡ input.old }
 {
-    let Some(command) = command_of(words) else {
+    let Some(command) = asked else {
         return Ending::Usage;
     };
     match answer(alloc, &command, input, out, bench) {
@@ -123,6 +124,7 @@ fn obey<S: Source, O: Sink>(
 /// 1 to 4, 9 and 20, and at 12 for want of a seat. At 11 it is as it was, or the input was read whole and its seats
 /// played from the start that it spells, or against the plan, until memory ran out or the game stopped. `lead` leaves
 /// every seat but White's first as it was.
+#[tactic(auto, using(crate::proofs::Ranges::in_range))]
 pub fn run<S: Source, O: Sink, E: Sink>(
     alloc: Global,
     words: &[String],
@@ -177,7 +179,61 @@ pub fn run<S: Source, O: Sink, E: Sink>(
     ensures returns { let seen = world S.left S.faults O.got O.faults in
         ReturnsGames (asked_by words.now) result (seen input.old out.old) (seen input.new out.new) }
 {
-    let ending = obey(alloc, words, input, out, bench);
+    let ending = obey(alloc, command_of(words), input, out, bench);
+    report(&ending, err);
+    ending.status()
+}
+
+/// Does all that the program `krieg_find` does, over streams, and gives the status with which it ends.
+///
+/// Its words are `MOVES BUDGET LIMIT`, in the ranges of `solve`. Of a sheet `out` gets what `solve` writes: the plan file of the
+/// canonical plan that mates from every position that is still possible within the fewest own moves, or the line `none MOVES`
+/// exactly where no plan mates within that number. Only the units differ: mostly far fewer are taken, and there is no least number
+/// of them that an answer takes.
+///
+/// The status tells how it ended, and is that of [`run`] by the same causes:
+///
+/// | Status | Where |
+/// | --- | --- |
+/// | 0 | exactly with the answer; no call of `input` or of `out` failed then |
+/// | 1 | exactly where the words are not three numbers in their ranges; nothing is read then |
+/// | 2 | exactly where one byte more came than the [`MOST_INPUT`](crate::MOST_INPUT) that an input may have, before an end or a fault |
+/// | 3, 4 | exactly where the input has a first bad line: 4 at a position that is not valid or not of the first one's hand |
+/// | 5 | exactly where no position is possible |
+/// | 6 | exactly where the game is over |
+/// | 7 | exactly where more positions are possible after some part of the sheet than the limit allows |
+/// | 8 | only where the budget is less than a search may take |
+/// | 14 | exactly where the best plan is too large for a text; the budget is not spent then |
+/// | 9 | where a read failed, with no more bytes read than an input may have |
+/// | 10 | where a write to `out` failed, which has got a front part of the answer then |
+/// | 11 | for want of memory |
+///
+/// At each status but 0 `err` gets one line, and at each but 0 and 10 `out` gets nothing.
+#[tactic(auto, using(crate::proofs::Ranges::find_in_range))]
+pub fn run_find<S: Source, O: Sink, E: Sink>(
+    alloc: Global,
+    words: &[String],
+    input: &mut S,
+    out: &mut O,
+    err: &mut E,
+) -> u8
+    ensures ends { let seen = world S.left S.faults O.got O.faults in let heard = stream E.got E.faults in
+        RunsAlone (asked_to_find words.now) result (seen input.old out.old) (seen input.new out.new) (heard err.old) (heard err.new) }
+
+    // Where the words are not those of a search, the input stays as it is.
+    ensures unread { reads (asked_to_find words.now) ≡ false → input.new ≡ input.old }
+
+    // The headline: what is written is the best plan for the sheet, or that there is none.
+    ensures finds { let seen = world S.left S.faults O.got O.faults in let heard = stream E.got E.faults in
+        FindsSheets (asked_to_find words.now) result
+        (seen input.old out.old) (seen input.new out.new) (heard err.old) (heard err.new) }
+
+    // Where the sheet asks for a plan and the budget is as much as a search may take, there is an answer, or memory ran out.
+    ensures completes { let seen = world S.left S.faults O.got O.faults in
+        Completes (λ account. account) nobody nobody (asked_to_find words.now) result
+        (seen input.old out.old) (seen input.new out.new) }
+{
+    let ending = obey(alloc, find_of(words), input, out, &mut Bench::new(alloc));
     report(&ending, err);
     ending.status()
 }

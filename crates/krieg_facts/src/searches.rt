@@ -6,7 +6,7 @@ use crate::stop::Stop;
 use crate::terms::{count_of, halves, number_of, side_of, small_of};
 use krieg_board::{MOST_MOVES, Side, Units};
 use krieg_pack::Belief;
-use krieg_search::{Answer as Solved, Stop2, has_one_turn, solve};
+use krieg_search::{Answer as Solved, Stop2, find, has_one_turn, solve};
 
 /// What a search comes to.
 #[derive(Clone, Copy, PartialEq, Eq)]
@@ -20,9 +20,17 @@ enum Came {
 /// What a search comes to, and the units that it takes.
 type Outcome = (Came, u64);
 
+/// Which call searches.
+#[derive(Clone, Copy)]
+enum Call {
+    Solve,
+    Find,
+}
+
 /// A search without the units.
 #[derive(Clone, Copy)]
 struct Task {
+    call: Call,
     who: Side,
     moves: u8,
     nodes: usize,
@@ -45,10 +53,19 @@ fn search(scene: &Scene, task: Task, b: &Belief, most: u64) -> Result<Outcome, S
     if !has_one_turn(b) {
         return Err(Stop::Unread);
     }
-    let Task { who, moves, nodes } = task;
+    let Scene { alloc, dialect, .. } = scene;
+    let Task {
+        who,
+        moves,
+        nodes,
+        ..
+    } = task;
     let mut units = Units::new(most);
-    let came = came_of(solve(scene.alloc, scene.dialect, who, b, moves, nodes, &mut units))?;
-    Ok((came, most.saturating_sub(units.left())))
+    let answer = match task.call {
+        Call::Solve => solve(*alloc, *dialect, who, b, moves, nodes, &mut units),
+        Call::Find => find(*alloc, *dialect, who, b, moves, nodes, &mut units),
+    };
+    Ok((came_of(answer)?, most.saturating_sub(units.left())))
 }
 
 /// What the search comes to with what is fresh, where it takes units from the floor on; with just so many comes to
@@ -67,12 +84,13 @@ fn came_between(scene: &Scene, task: Task, floor: u64, fresh: u64) -> Result<Cam
     }
 }
 
-/// The side, the moves and the nodes of a search, and what stands behind them.
-fn task_of(text: &str) -> Result<(Task, &str), Stop> {
+/// The side, the moves and the nodes of a search by that call, and what stands behind them.
+fn task_of(call: Call, text: &str) -> Result<(Task, &str), Stop> {
     let (who, rest) = halves(text, " ")?;
     let (moves, rest) = halves(rest, " ")?;
     let (nodes, rest) = halves(rest, " ")?;
     let task = Task {
+        call,
         who: side_of(who)?,
         moves: small_of(moves)?,
         nodes: count_of(nodes)? as usize,
@@ -108,9 +126,14 @@ fn say_between(scene: &Scene, task: Task, text: &str, answer: &mut Answer) -> Re
 
 /// Answers a question about a search.
 pub fn ask(scene: &Scene, mark: &str, given: &str, answer: &mut Answer) -> Result<(), Stop> {
-    let (task, rest) = task_of(given)?;
+    let call = if mark == "find" {
+        Call::Find
+    } else {
+        Call::Solve
+    };
+    let (task, rest) = task_of(call, given)?;
     match mark {
-        "search" => say_came(searched(scene, task, rest)?.0, answer),
+        "search" | "find" => say_came(searched(scene, task, rest)?.0, answer),
         "took" => answer.number(searched(scene, task, rest)?.1),
         "search-between" => say_between(scene, task, rest, answer),
         _ => Err(Stop::Unread),

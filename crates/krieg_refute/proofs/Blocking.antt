@@ -63,7 +63,7 @@ is_one zero = refl
 is_one (suc i) = false_from_ne_true (suc (suc i) == 1) (λ e. let q = eqb-true (suc (suc i)) 1 e in omega arith) ∙ sym (false_from_ne_true (suc i == 0) (λ e. let q = eqb-true (suc i) 0 e in omega arith))
 
 module _ (d : Dialect) where
-  module _ (T : Interned) (B : List Pos) (t : Move) (i : ℕ) (ready : IsReady d T) (lost : IsLost T B (suc i)) (legal : legal_in_some (chess d) B t ≡ true) where
+  module _ (T : Interned) (B : List Pos) (t : Move) (i : ℕ) (ready : IsReady d false T) (lost : IsLost T B (suc i)) (legal : legal_in_some (chess d) B t ≡ true) where
     says : (b : Block Key) → block (chess d) (suc i) B t ≡ b → BlockSays (chess d) (chess_is_game d) i B t b
     says b e = subst (BlockSays (chess d) (chess_is_game d) i B t) e (block_says (chess d) (chess_is_game d) i B t)
 
@@ -128,7 +128,7 @@ module _ (d : Dialect) where
     at_once_is f qs = ap (λ (b : Bool). if b then ByLife else ByStalemate) (is_one i) ∙ sym (at_once (chess d) (chess_is_game d) (entries T) ready.sound B i lost t legal qs f)
 
   -- the same at any number
-  module _ (T : Interned) (B B' : List Pos) (t : Move) (j : ℕ) (some : 0 < j) (is : B' ≡ B) (ready : IsReady d T) (lost : IsLost T B j) (legal : legal_in_some (chess d) B t ≡ true) where
+  module _ (T : Interned) (B B' : List Pos) (t : Move) (j : ℕ) (some : 0 < j) (is : B' ≡ B) (ready : IsReady d false T) (lost : IsLost T B j) (legal : legal_in_some (chess d) B t ≡ true) where
     before : suc (j - 1) ≡ j
     before = omega arith
 

@@ -13,9 +13,8 @@ use Rattle.krieg_claims.specs.InOrder.{claimed, add_all}
 use Rattle.krieg_claims.specs.Written as written
 use Rattle.krieg_claims.specs.Sizes.{AreMany}
 use Rattle.krieg_claims.proofs.Adding.{all_append}
-use Rattle.krieg_claims.specs.Walks.{behind_try}
+use Rattle.krieg_claims.specs.Walks.{behind_try, Walks, WalksTries}
 use Rattle.krieg_claims.proofs.Standing.{claimed_step}
-use Rattle.krieg_claims.specs.Walks.{Walks, WalksTries}
 use Rattle.krieg_claims.proofs.Walking.{many_behind, root_walks, root_is_new}
 use Rattle.krieg_game.specs.Chess.{chess}
 use Rattle.krieg_game.proofs.ChessLaws.{chess_is_game}

@@ -62,7 +62,7 @@ module _ (d : Dialect) (who : Side) (S : List Pos) (n : ℕ) where
     pub set : set_at T opening.set ≡ opening_set (chess d) (outset d who) S key
     pub lost : IsLost T (set_at T opening.set) n
 
-  module _ (w : Found) (had : ℕ) (a : decided.IsLost d who S n w had) (some : 0 < n) where
+  module _ (w : Found) (had : ℕ) (a : decided.IsLost d who S n false w had) (some : 0 < n) where
     no : List Pos → Bool
     no C = not (can (chess d) n C)
 
@@ -107,7 +107,7 @@ module _ (d : Dialect) (who : Side) (S : List Pos) (n : ℕ) where
               first = e;
               at =
                   find_agree (is_lost_opening w.table n) (λ o. not (can (chess d) n (set_at w.table o.set))) w.openings.items (Some o)
-                  (λ x l. not_from_false _ (result_can (chess d) (chess_is_game d) (entries w.table) a.found.ready.sound (set_at w.table x.set) n None (is_stored (stored position_lt (entries w.table) (set_at w.table x.set, n)) l))) f (ap is_loss (stored_at o f));
+                  (λ x l. not_from_false _ (result_can (chess d) (chess_is_game d) false (entries w.table) a.found.ready.sound (set_at w.table x.set) n None (is_stored (stored position_lt (entries w.table) (set_at w.table x.set, n)) l))) f (ap is_loss (stored_at o f));
               set = ap (λ (c : RootKey × List Pos). c.1) s;
               lost = stored_at o f;
             }
@@ -166,20 +166,20 @@ module _ (d : Dialect) (who : Side) (S : List Pos) (n : ℕ) where
           go search.NoMemory v = refl
 
   -- the search was stopped
-  pub search_stopped : (P : RefuteStop → Type 0) (r : Result Denied RefuteStop) (stop : Stop2) (had has : ℕ) → ((x : RefuteStop) → P x → refute_stop_of stop ≡ x) → IsErrAnd r P → IsDecided d who S n (Err stop) had has → IsDenied d who S n r
+  pub search_stopped : (P : RefuteStop → Type 0) (r : Result Denied RefuteStop) (stop : Stop2) (had has : ℕ) → ((x : RefuteStop) → P x → refute_stop_of stop ≡ x) → IsErrAnd r P → IsDecided d who S n false (Err stop) had has → IsDenied d who S n r
   search_stopped P (Ok x) stop had has same fails v = absurd fails
   search_stopped P (Err x) stop had has same fails v = subst (λ (y : RefuteStop). IsDenied d who S n (Err y)) (same x fails) (go stop v)
     where
-      go : (stop : Stop2) → IsDecided d who S n (Err stop) had has → IsDenied d who S n (Err (refute_stop_of stop))
+      go : (stop : Stop2) → IsDecided d who S n false (Err stop) had has → IsDenied d who S n (Err (refute_stop_of stop))
       go search.Spent v = tt
       go search.Large v = absurd v
       go search.NoMemory v = tt
 
-  pub search_stopped_taken : (P : RefuteStop → Type 0) (r : Result Denied RefuteStop) (stop : Stop2) (had has u : ℕ) → ((x : RefuteStop) → P x → refute_stop_of stop ≡ x) → IsErrAnd r P → had ≡ u → IsDecided d who S n (Err stop) had has → IsTaken d who S n r u u
+  pub search_stopped_taken : (P : RefuteStop → Type 0) (r : Result Denied RefuteStop) (stop : Stop2) (had has u : ℕ) → ((x : RefuteStop) → P x → refute_stop_of stop ≡ x) → IsErrAnd r P → had ≡ u → IsDecided d who S n false (Err stop) had has → IsTaken d who S n r u u
   search_stopped_taken P (Ok x) stop had has u same fails e v = absurd fails
   search_stopped_taken P (Err x) stop had has u same fails e v = subst (λ (y : RefuteStop). IsTaken d who S n (Err y) u u) (same x fails) (go stop v)
     where
-      go : (stop : Stop2) → IsDecided d who S n (Err stop) had has → IsTaken d who S n (Err (refute_stop_of stop)) u u
+      go : (stop : Stop2) → IsDecided d who S n false (Err stop) had has → IsTaken d who S n (Err (refute_stop_of stop)) u u
       go search.Spent v = ((omega arith), refl)
       go search.Large v = absurd v
       go search.NoMemory v = refl

@@ -11,11 +11,9 @@ use Rattle.krieg_costs.specs.Refutation.{Reason}
 use Rattle.krieg_claims.specs.InOrder.{add_all}
 use Rattle.krieg_claims.specs.Written.{reason_at}
 use Rattle.krieg_claims.proofs.Adding.{all_more}
-use Rattle.krieg_claims.specs.Walks.{behind_try}
-use Rattle.krieg_claims.specs.Standing.{Stands}
-use Rattle.krieg_claims.specs.Walks.{WalksTries}
+use Rattle.krieg_claims.specs.Walks.{behind_try, WalksTries}
+use Rattle.krieg_claims.specs.Standing.{Stands, HasTries}
 use Rattle.krieg_claims.proofs.Walking.{walks_try, reasons_keep}
-use Rattle.krieg_claims.specs.Standing.{HasTries}
 use Rattle.krieg_game.specs.Keys.{Key}
 use Rattle.krieg_game.specs.Chess.{chess}
 use Rattle.krieg_game.proofs.ChessLaws.{chess_is_game}

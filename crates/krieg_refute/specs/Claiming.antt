@@ -12,9 +12,8 @@ use Rattle.krieg_claims.specs.Losses.{is_loss}
 use Rattle.krieg_claims.specs.Sizes.{positions_in, reasons_in, AreFew, AreMany}
 use Rattle.krieg_costs.specs.Block.{block_pair}
 use Rattle.krieg_costs.specs.Refutation.{Reason, ByLife, ByStalemate}
-use Rattle.krieg_claims.specs.Walks.{behind_try}
+use Rattle.krieg_claims.specs.Walks.{behind_try, Walks, WalksTries}
 use Rattle.krieg_claims.specs.Standing.{IsLostPair, HasBlocks, Stands}
-use Rattle.krieg_claims.specs.Walks.{Walks, WalksTries}
 use Rattle.krieg_accounts.specs.Stored.{stored}
 use Rattle.krieg_game.specs.Keys.{Key}
 use Rattle.krieg_game.specs.Chess.{chess}

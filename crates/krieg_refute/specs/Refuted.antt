@@ -62,7 +62,7 @@ module _ (d : Dialect) (who : Side) (S : List Pos) (n : ℕ) where
   -- An answer takes what its account says, which is at least the floor and at most what is fresh. An error takes none, and
   -- Spent comes only where fewer units are left than are fresh.
   abbrev pub IsTaken : Result Denied RefuteStop → ℕ → ℕ → Type 0
-  IsTaken (Ok x) had has = IsAccount d who S n had has × IsBetween d who S n had has
+  IsTaken (Ok x) had has = IsAccount d who S n false had has × IsBetween d who S n had has
   IsTaken (Err Spent) had has = (had < fresh (chess d) (outset d who) n S) × (has ≡ had)
   IsTaken (Err Large) had has = has ≡ had
   IsTaken (Err NoMemory) had has = has ≡ had

@@ -128,7 +128,7 @@ fn block_of(
 ) -> Result<Option<Block>, NoMemory>
     requires some { 0 < moves }
     requires within { set < length table.old }
-    requires paid { IsPaidFor d table.old }
+    requires paid { IsPaidFor d false table.old }
     requires lost { IsLost table.old (set_at table.old set) moves }
     requires legal { legal_in_some (chess d) (set_at table.old set) mv ≡ true }
     ensures { IfOk result (HasBlock d table.old table.new (set_at table.old set) mv moves) }
@@ -269,7 +269,7 @@ pub(crate) fn claim(
     requires some { 0 < moves }
     requires within { set < length table.old }
     requires members { is_nil (set_at table.old set) ≡ false }
-    requires paid { IsPaidFor d table.old }
+    requires paid { IsPaidFor d false table.old }
     requires lost { IsLost table.old (set_at table.old set) moves }
     requires claimed { IsClaimed d table.old claimed.old }
     ensures { Claims d result (set_at table.old set) moves table.old table.new claimed.old claimed.new }
@@ -296,13 +296,13 @@ fn reasons_for(
 ) -> Result<Vec<Reason>, Stop2>
     requires some { 0 < moves }
     requires within { set < length table.old }
-    requires paid { IsPaidFor d table.old }
+    requires paid { IsPaidFor d false table.old }
     requires lost { IsLost table.old (set_at table.old set) moves }
     requires claimed { IsClaimed d table.old claimed.old }
     requires all { tries.now ≡ theory.tries (chess d) (set_at table.old set) }
     ensures { Reasons d result (set_at table.old set) moves tries.now table.old table.new claimed.old claimed.new }
 {
-    let mut reasons = Vec::new(alloc);
+    let mut reasons = Vec::with_capacity(alloc, tries.len())?;
     for mv in tries {
         let why = why(alloc, d, table, claimed, set, *mv, moves)?;
         reasons.push(Reason { mv: *mv, why })?;
@@ -323,7 +323,7 @@ fn why(
 ) -> Result<Why, Stop2>
     requires some { 0 < moves }
     requires within { set < length table.old }
-    requires paid { IsPaidFor d table.old }
+    requires paid { IsPaidFor d false table.old }
     requires lost { IsLost table.old (set_at table.old set) moves }
     requires claimed { IsClaimed d table.old claimed.old }
     requires legal { legal_in_some (chess d) (set_at table.old set) mv ≡ true }

@@ -63,7 +63,7 @@ fn claims_for(
     requires some { 0 < moves }
     requires within { set < length table }
     requires members { is_nil (set_at table set) ≡ false }
-    requires paid { IsPaidFor d table }
+    requires paid { IsPaidFor d false table }
     requires lost { IsLost table (set_at table set) moves }
     ensures { AreClaims d (set_at table set) moves result }
 {
@@ -105,7 +105,7 @@ pub fn refute(
 {
     let who = side_of(b);
     let mut left = Units::new(units.left());
-    match decide(alloc, d, who, b, moves, &mut left)? {
+    match decide(alloc, d, false, who, b, moves, &mut left)? {
         Decided::Over => unreachable!(),
         Decided::Lost(found) => {
             let Found { table, openings } = found;

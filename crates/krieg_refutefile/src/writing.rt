@@ -1,4 +1,4 @@
-ghost use Rattle.std.specs.Prelude.{◌≡◌, ◌∷◌, [], Ok, map};
+ghost use Rattle.std.specs.Prelude.{◌≡◌, ◌<◌, ◌∷◌, [], Ok, length, map};
 ghost use Rattle.std.specs.List.{All, flat_map};
 ghost use Rattle.krieg_text.specs.Lines.{lines};
 ghost use Rattle.krieg_text.specs.Reading.{whole};
@@ -175,13 +175,15 @@ fn put_refutation(f: &Refutation, text: &mut Text) -> Result<(), NoMemory>
 /// The refutation is within the limits of a text, its listed positions have one hand of its side, which is to move, and its
 /// words can be told in the dialect. Its claims cite those before them alone, and the moves of their reasons ascend. Whether
 /// the claims hold is not asked.
-#[tactic(auto, unfolding(crate::specs::RefutationText::refutation_text))]
+#[tactic(auto, using(crate::proofs::Sizes::text_short), unfolding(crate::specs::RefutationText::refutation_text))]
 pub fn write_refutation(f: &Refutation, text: &mut Vec<u8>) -> Result<(), NoMemory>
     requires { CanBeWritten (state_of f.now) }
     ensures value { Appends result text.old.items text.new.items (spec.refutation_text (state_of f.now)) }
     // The text spells the refutation, and is read as it again.
     ensures spelled { SpellsRefutation (state_of f.now) (lines (spec.refutation_text (state_of f.now))) }
     ensures again { whole refutation_at (lines (spec.refutation_text (state_of f.now))) ≡ Ok (state_of f.now) }
+    // It is shorter than 64 MiB, so that it fits an input.
+    ensures short { length (spec.refutation_text (state_of f.now)) < 67108864 }
 {
     let mut all = Text::after(text);
     let done = put_refutation(f, &mut all);

@@ -1,5 +1,5 @@
 -- The node of a set, and what it takes.
-use Rattle.std.proofs.Common.{◌≡◌, ℕ, suc, ◌+◌, ◌-◌, ◌≤◌, ◌<◌, ◌^◌, true, false, ◌⊎◌, inl, inr, List, [], ◌∷◌, map, Some, Result, Ok, Err, max, refl, sym, ap, subst, ◌∙◌, arith}
+use Rattle.std.proofs.Common.{Bool, ◌≡◌, ℕ, suc, ◌+◌, ◌-◌, ◌≤◌, ◌<◌, ◌^◌, true, false, ◌⊎◌, inl, inr, List, [], ◌∷◌, map, Some, Result, Ok, Err, max, refl, sym, ap, subst, ◌∙◌, arith}
 use Rattle.std.specs.Result.{IsErrAnd}
 use Rattle.std.proofs.Math.Nat.{le-max_left, le-max_right}
 use Rattle.krieg_board.specs.Pos.{Pos}
@@ -72,24 +72,24 @@ pub depth_some : (n : NodeTree) → 0 < depth n
 depth_some (Try t o es) = omega arith
 
 module _ (d : Dialect) where
-  pub still_paid : (T T' : Interned) → AddsSets T T' → IsPaidFor d T → IsPaidFor d T'
-  still_paid T T' a p = record {
-    ready = record { counted = a.counted; sound = subst (λ E. IsSound (chess d) E) (sym a.noted) p.ready.sound };
+  pub still_paid : {cut : Bool} (T T' : Interned) → AddsSets T T' → IsPaidFor d cut T → IsPaidFor d cut T'
+  still_paid {cut = cut} T T' a p = record {
+    ready = record { counted = a.counted; sound = subst (λ E. IsSound (chess d) cut E) (sym a.noted) p.ready.sound };
     paid = subst (λ E. charged (chess d) E < 2 ^ 64) (sym a.noted) p.paid;
   }
 
   -- a set that is stored as won has a canonical node
-  pub won_can : (T : Interned) (X : List Pos) (j : ℕ) → IsReady d T → WonBy T X j → can (chess d) j X ≡ true
-  won_can T X j r w = can_upto (chess d) (chess_is_game d) w.0 j X w.2 (result_can (chess d) (chess_is_game d) (entries T) r.sound X w.0 (Some w.3) w.4)
+  pub won_can : (T : Interned) (X : List Pos) (j : ℕ) → IsReady d true T → WonBy T X j → can (chess d) j X ≡ true
+  won_can T X j r w = can_upto (chess d) (chess_is_game d) w.0 j X w.2 (result_can (chess d) (chess_is_game d) true (entries T) r.sound X w.0 (Some w.3) w.4)
 
-  pub won_node : (T : Interned) (X : List Pos) (j : ℕ) → IsReady d T → WonBy T X j → (n : NodeTree) × (canon (chess d) j X ≡ Just n)
+  pub won_node : (T : Interned) (X : List Pos) (j : ℕ) → IsReady d true T → WonBy T X j → (n : NodeTree) × (canon (chess d) j X ≡ Just n)
   won_node T X j r w = let c = canon_wins (chess d) (chess_is_game d) j X (won_can T X j r w) in (c.0, c.1)
 
   -- so it takes some node, and some path
-  pub no_nodes : (T : Interned) (X : List Pos) (j left deep : ℕ) → IsReady d T → WonBy T X j → left ≡ 0 → (left < size_other (canon (chess d) j X)) ⊎ (deep < depth_other (canon (chess d) j X))
+  pub no_nodes : (T : Interned) (X : List Pos) (j left deep : ℕ) → IsReady d true T → WonBy T X j → left ≡ 0 → (left < size_other (canon (chess d) j X)) ⊎ (deep < depth_other (canon (chess d) j X))
   no_nodes T X j left deep r w e = let n = won_node T X j r w in let s = size_some n.0 in let q = ap size_other n.1 in inl (omega arith)
 
-  pub no_path : (T : Interned) (X : List Pos) (j left deep : ℕ) → IsReady d T → WonBy T X j → deep ≡ 0 → (left < size_other (canon (chess d) j X)) ⊎ (deep < depth_other (canon (chess d) j X))
+  pub no_path : (T : Interned) (X : List Pos) (j left deep : ℕ) → IsReady d true T → WonBy T X j → deep ≡ 0 → (left < size_other (canon (chess d) j X)) ⊎ (deep < depth_other (canon (chess d) j X))
   no_path T X j left deep r w e = let n = won_node T X j r w in let s = depth_some n.0 in let q = ap depth_other n.1 in inr (omega arith)
 
   list_is : (B : List Pos) (m : Move) (j : ℕ) (ks : List Key) → edges_for d j (map (λ key. (key, class (chess d) B m key)) ks) ≡ edges_of (chess d) ks (λ key. canon (chess d) j (class (chess d) B m key))
@@ -97,7 +97,7 @@ module _ (d : Dialect) where
   list_is B m j (k ∷ ks) = ap (edge_with (chess d) k (canon (chess d) j (class (chess d) B m k))) (list_is B m j ks)
 
   -- how the set is won that is built, and what its try makes of it
-  module _ (T : Interned) (B : List Pos) (j number : ℕ) (m : Move) (paid : IsPaidFor d T) (some : 0 < number) (within : number ≤ j) (stored : known (chess d) (entries T) (B, number) ≡ Some (Some m)) where
+  module _ (T : Interned) (B : List Pos) (j number : ℕ) (m : Move) (paid : IsPaidFor d true T) (some : 0 < number) (within : number ≤ j) (stored : known (chess d) (entries T) (B, number) ≡ Some (Some m)) where
     before : suc (number - 1) ≡ number
     before = omega arith
 
@@ -106,18 +106,18 @@ module _ (d : Dialect) where
 
     -- its split was paid for
     pub paid_by : made (chess d) B m < 2 ^ 64
-    paid_by = let a = split_paid (chess d) (chess_is_game d) (entries T) paid.ready.sound B (number - 1) m at_before in let b = paid.paid in omega arith
+    paid_by = let a = split_paid (chess d) (chess_is_game d) true (entries T) paid.ready.sound B (number - 1) m at_before in let b = paid.paid in omega arith
 
     module _ (p : Parted) (q : IsParted d B m p) where
       pub classes_won : (C : List Pos) → In C (sets_of p.classes.items) → WonBy T C (number - 1)
       classes_won C i =
           let k = map_in (λ (key : Key). class (chess d) B m key) (keys (chess d) B m) C (subst (In C) (sets_are d B m p.classes.items q.classes_part) i) in
-          subst (λ (X : List Pos). WonBy T X (number - 1)) k.2 (class_won (chess d) (chess_is_game d) (entries T) paid.ready.sound B (number - 1) m at_before k.0 k.1)
+          subst (λ (X : List Pos). WonBy T X (number - 1)) k.2 (class_won (chess d) (chess_is_game d) true (entries T) paid.ready.sound B (number - 1) m at_before k.0 k.1)
 
       pub refused_is_won : is_nil p.refused ≡ false → WonBy T p.refused number
       refused_is_won n =
           subst (λ (X : List Pos). WonBy T X number) (sym q.refused_part)
-          (subst (λ (i : ℕ). WonBy T (refused (chess d) B m) i) before (refused_won (chess d) (chess_is_game d) (entries T) paid.ready.sound B (number - 1) m at_before (ap is_nil (sym q.refused_part) ∙ n)))
+          (subst (λ (i : ℕ). WonBy T (refused (chess d) B m) i) before (refused_won (chess d) (chess_is_game d) true (entries T) paid.ready.sound B (number - 1) m at_before (ap is_nil (sym q.refused_part) ∙ n)))
 
       other : Maybe Move Key
       other = refused_canon (chess d) number p.refused
@@ -128,7 +128,7 @@ module _ (d : Dialect) where
       -- the canonical node, by the parts
       pub node_is : canon (chess d) j B ≡ Just (Try m (refused_canon (chess d) number p.refused) (edges_for d (number - 1) (map class_pair p.classes.items)))
       node_is =
-          stored_is_canon (chess d) (chess_is_game d) (entries T) B j (number - 1) m paid.ready.sound at_before (let x = before in omega arith)
+          stored_is_canon (chess d) (chess_is_game d) true (entries T) B j (number - 1) m paid.ready.sound at_before (let x = before in omega arith)
           ∙ ap (λ (i : ℕ). Just (Try m (refused_canon (chess d) i (refused (chess d) B m)) (edges_of (chess d) (keys (chess d) B m) (λ key. canon (chess d) (number - 1) (class (chess d) B m key))))) before
           ∙ ap (λ (X : List Pos). Just (Try m (refused_canon (chess d) number X) (edges_of (chess d) (keys (chess d) B m) (λ key. canon (chess d) (number - 1) (class (chess d) B m key))))) (sym q.refused_part)
           ∙ ap (λ es. Just (Try m (refused_canon (chess d) number p.refused) es)) (sym (ap (edges_for d (number - 1)) q.classes_part ∙ list_is B m (number - 1) (keys (chess d) B m)))

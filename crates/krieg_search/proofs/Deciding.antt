@@ -68,17 +68,17 @@ same_sets T T' os m n =
     ∙ ap (map (λ (c : RootKey × List Pos). c.1)) (same_openings T T' os m n)
     ∙ map-map (λ (c : RootKey × List Pos). c.1) (opening_in T) os
 
-module _ (d : Dialect) (who : Side) (S : List Pos) (n : ℕ) where
+module _ (d : Dialect) (cut : Bool) (who : Side) (S : List Pos) (n : ℕ) where
   first_within : first_made (chess d) (outset d who) S ≤ fresh (chess d) (outset d who) n S
   first_within = omega arith
 
   -- the openings were stopped
   pub openings_stopped : {A : Type 0} (P : Stop2 → Type 0) (r : Result Decided Stop2) (stop : SplitStop) (holds : A → Type 0) (u0 u1 u2 : ℕ)
-      → ((x : Stop2) → P x → stop_of stop ≡ x) → IsErrAnd r P → Charged {A = A} (Err stop) holds (first_made (chess d) (outset d who) S) u0 u1 → IsDecided d who S n r u0 u2
+      → ((x : Stop2) → P x → stop_of stop ≡ x) → IsErrAnd r P → Charged {A = A} (Err stop) holds (first_made (chess d) (outset d who) S) u0 u1 → IsDecided d who S n cut r u0 u2
   openings_stopped P (Ok x) stop holds u0 u1 u2 same fails k = absurd fails
-  openings_stopped {A = A} P (Err x) stop holds u0 u1 u2 same fails k = subst (λ (y : Stop2). IsDecided d who S n (Err y) u0 u2) (same x fails) (go stop k)
+  openings_stopped {A = A} P (Err x) stop holds u0 u1 u2 same fails k = subst (λ (y : Stop2). IsDecided d who S n cut (Err y) u0 u2) (same x fails) (go stop k)
     where
-      go : (stop : SplitStop) → Charged {A = A} (Err stop) holds (first_made (chess d) (outset d who) S) u0 u1 → IsDecided d who S n (Err (stop_of stop)) u0 u2
+      go : (stop : SplitStop) → Charged {A = A} (Err stop) holds (first_made (chess d) (outset d who) S) u0 u1 → IsDecided d who S n cut (Err (stop_of stop)) u0 u2
       go split.Spent v = let w = first_within in omega arith
       go split.NoMemory v = tt
 
@@ -87,14 +87,14 @@ module _ (d : Dialect) (who : Side) (S : List Pos) (n : ℕ) where
   are_opened T T1 r os e f o = subst (λ (T : Interned). IsOpened d who S T T1 (Some os)) e (subst (λ (r : Option (Vec Opening Global)). IsOpened d who S T T1 r) f o)
 
   -- some listed position is over
-  pub over : (u0 u1 : ℕ) → list_any (is_over (chess d) (outset d who)) S ≡ true → u1 + first_made (chess d) (outset d who) S ≡ u0 → IsDecided d who S n (Ok Over) u0 u1
+  pub over : (u0 u1 : ℕ) → list_any (is_over (chess d) (outset d who)) S ≡ true → u1 + first_made (chess d) (outset d who) S ≡ u0 → IsDecided d who S n cut (Ok Over) u0 u1
   over u0 u1 o e =
       let none : can_plan (chess d) (outset d who) n S ≡ false = ap (λ b. not b && list_all (λ key. can (chess d) n (opening_set (chess d) (outset d who) S key)) (openings (chess d) (outset d who) S)) o in (
         o,
         none,
         record {
           results = [];
-          sound = empty_sound (chess d);
+          sound = empty_sound (chess d) cut;
           answer = record { all_won = λ c. absurd (both_ways _ none c); one_lost = λ q. absurd (both_ways _ q o) };
           once = tt;
           reached = λ q i. absurd i;
@@ -104,8 +104,8 @@ module _ (d : Dialect) (who : Side) (S : List Pos) (n : ℕ) where
 
   -- the openings are there, and their sets are searched
   module _ (T1 : Interned) (os : List Opening) (a : AreAdded [] T1 os (game.opening_sets d who S)) where
-    pub opened_ready : IsReady d T1
-    opened_ready = record { counted = a.sets.counted; sound = subst (λ E. IsSound (chess d) E) (sym (a.sets.noted ∙ no_entries)) (empty_sound (chess d)) }
+    pub opened_ready : IsReady d cut T1
+    opened_ready = record { counted = a.sets.counted; sound = subst (λ E. IsSound (chess d) cut E) (sym (a.sets.noted ∙ no_entries)) (empty_sound (chess d) cut) }
 
     at_sets : sets_in T1 os ≡ opening_sets (chess d) (outset d who) S
     at_sets =
@@ -118,12 +118,12 @@ module _ (d : Dialect) (who : Side) (S : List Pos) (n : ℕ) where
 
     -- they were stopped
     pub search_stopped : {A : Type 0} (P : Stop2 → Type 0) (r : Result Decided Stop2) (e : Stop2) (holds : A → Type 0) (T2 : Interned) (u0 u1 u2 u3 : ℕ)
-        → ((x : Stop2) → P x → e ≡ x) → IsErrAnd r P → u1 + first_made (chess d) (outset d who) S ≡ u0 → Searches d {A = A} (Err e) holds (CoversSets (chess d) (sets_in T1 os) n) 0 T1 T2 u1 u2 → IsDecided d who S n r u0 u3
+        → ((x : Stop2) → P x → e ≡ x) → IsErrAnd r P → u1 + first_made (chess d) (outset d who) S ≡ u0 → Searches d cut {A = A} (Err e) holds (CoversSets (chess d) (sets_in T1 os) n) 0 T1 T2 u1 u2 → IsDecided d who S n cut r u0 u3
     search_stopped P (Ok x) e holds T2 u0 u1 u2 u3 same fails taken k = absurd fails
     search_stopped {A = A} P (Err x) e holds T2 u0 u1 u2 u3 same fails taken k =
-        go x (subst (λ (y : Stop2). Searches d {A = A} (Err y) holds (CoversSets (chess d) (sets_in T1 os) n) 0 T1 T2 u1 u2) (same x fails) k)
+        go x (subst (λ (y : Stop2). Searches d cut {A = A} (Err y) holds (CoversSets (chess d) (sets_in T1 os) n) 0 T1 T2 u1 u2) (same x fails) k)
       where
-        go : (y : Stop2) → Searches d {A = A} (Err y) holds (CoversSets (chess d) (sets_in T1 os) n) 0 T1 T2 u1 u2 → IsDecided d who S n (Err y) u0 u3
+        go : (y : Stop2) → Searches d cut {A = A} (Err y) holds (CoversSets (chess d) (sets_in T1 os) n) 0 T1 T2 u1 u2 → IsDecided d who S n cut (Err y) u0 u3
         go Spent v =
             let w = subst (λ E. FallsShort (chess d) (CoversSets (chess d) (opening_sets (chess d) (outset d who) S) n) 0 E u1) none_stored (subst (λ (Cs : List (List Pos)). FallsShort (chess d) (CoversSets (chess d) Cs n) 0 (entries T1) u1) at_sets v) in
             let f = short_is_below_fresh (chess d) (chess_is_game d) (outset d who) (outset_is_lawful d who) n S u1 w in
@@ -131,9 +131,9 @@ module _ (d : Dialect) (who : Side) (S : List Pos) (n : ℕ) where
         go Large v = absurd v
         go NoMemory v = tt
 
-    module _ (T2 : Interned) (yes : Bool) (u0 u1 u2 : ℕ) (none : list_any (is_over (chess d) (outset d who)) S ≡ false) (taken : u1 + first_made (chess d) (outset d who) S ≡ u0) (w : TellsSets d T2 (sets_in T1 os) n yes) (s : IsSearched d (CoversSets (chess d) (sets_in T1 os) n) 0 T1 T2 u1 u2) (o : IsOnce (pairs (entries T2))) where
-      stretch : IsStretch (chess d) (CoversSets (chess d) (opening_sets (chess d) (outset d who) S) n) 0 [] (entries T2) u1 u2
-      stretch = subst (λ E. IsStretch (chess d) (CoversSets (chess d) (opening_sets (chess d) (outset d who) S) n) 0 E (entries T2) u1 u2) none_stored (subst (λ (Cs : List (List Pos)). IsStretch (chess d) (CoversSets (chess d) Cs n) 0 (entries T1) (entries T2) u1 u2) at_sets s.stretch)
+    module _ (T2 : Interned) (yes : Bool) (u0 u1 u2 : ℕ) (none : list_any (is_over (chess d) (outset d who)) S ≡ false) (taken : u1 + first_made (chess d) (outset d who) S ≡ u0) (w : TellsSets d T2 (sets_in T1 os) n yes) (s : IsSearched d cut (CoversSets (chess d) (sets_in T1 os) n) 0 T1 T2 u1 u2) (o : IsOnce (pairs (entries T2))) where
+      stretch : IsStretch (chess d) cut (CoversSets (chess d) (opening_sets (chess d) (outset d who) S) n) 0 [] (entries T2) u1 u2
+      stretch = subst (λ E. IsStretch (chess d) cut (CoversSets (chess d) (opening_sets (chess d) (outset d who) S) n) 0 E (entries T2) u1 u2) none_stored (subst (λ (Cs : List (List Pos)). IsStretch (chess d) cut (CoversSets (chess d) Cs n) 0 (entries T1) (entries T2) u1 u2) at_sets s.stretch)
 
       tells : TellsSets d T2 (opening_sets (chess d) (outset d who) S) n yes
       tells = subst (λ (Cs : List (List Pos)). TellsSets d T2 Cs n yes) at_sets w
@@ -157,23 +157,23 @@ module _ (d : Dialect) (who : Side) (S : List Pos) (n : ℕ) where
           there x (inl k) = absurd (let e : ◌≡◌ {A = Option (Option Move)} None (Some x) = k in cc)
           there x (inr i) = once_in (chess d) (chess_is_game d) (reach_of (chess d) (outset d who) n S) q i
 
-      account : IsAccount d who S n u0 u2
+      account : IsAccount d who S n cut u0 u2
       account = record { results = entries T2; sound = stretch.sound; answer = plan; once = o; reached = reached; exact = (let x = stretch.exact in omega arith) }
 
-      ready : IsReady d T2
-      ready = ready_from d s
+      ready : IsReady d cut T2
+      ready = ready_from d cut s
 
       -- what the search leaves, whatever its answer
-      is_found : (w : Found) → w.table ≡ T2 → w.openings.items ≡ os → IsFound d who S n w u0
+      is_found : (w : Found) → w.table ≡ T2 → w.openings.items ≡ os → IsFound d who S n cut w u0
       is_found w t o = record {
-        ready = subst (IsReady d) (sym t) ready;
+        ready = subst (IsReady d cut) (sym t) ready;
         paid = subst (λ (T : Interned). charged (chess d) (entries T) ≤ u0) (sym t) (let x = stretch.exact in omega arith);
         numbered = subst (λ (T : Interned). AreNumbered T w.openings.items) (sym t) (subst (λ (xs : List Opening). AreNumbered T2 xs) (sym o) (numbered_more T1 T2 os s.more a.numbered));
         sets = subst (λ (T : Interned). map (opening_in T) w.openings.items ≡ game.opening_sets d who S) (sym t) (subst (λ (xs : List Opening). map (opening_in T2) xs ≡ game.opening_sets d who S) (sym o) (same_openings T1 T2 os s.more a.numbered ∙ a.are));
       }
 
       -- some opening set cannot be won
-      pub not_won : yes ≡ false → (lost : Found) → lost.table ≡ T2 → lost.openings.items ≡ os → IsLost d who S n lost u0 × IsAccount d who S n u0 u2
+      pub not_won : yes ≡ false → (lost : Found) → lost.table ≡ T2 → lost.openings.items ≡ os → IsLost d who S n cut lost u0 × IsAccount d who S n cut u0 u2
       not_won e lost t o = (
         record {
           cannot = sym answer ∙ e;
@@ -190,7 +190,7 @@ module _ (d : Dialect) (who : Side) (S : List Pos) (n : ℕ) where
           FirstIsLost T Cs = IfSome (find (λ C. not (can (chess d) n C)) Cs) (λ C. 0 < n → stored position_lt (entries T) (C, n) ≡ Some None)
 
       -- all can
-      pub all_are_won : yes ≡ true → (won : Found) → won.table ≡ T2 → won.openings.items ≡ os → IsWon d who S n won u0 × IsAccount d who S n u0 u2
+      pub all_are_won : yes ≡ true → (won : Found) → won.table ≡ T2 → won.openings.items ≡ os → IsWon d who S n cut won u0 × IsAccount d who S n cut u0 u2
       all_are_won e won t o = (
         record {
           can = sym answer ∙ e;
@@ -203,4 +203,4 @@ module _ (d : Dialect) (who : Side) (S : List Pos) (n : ℕ) where
           each : (C : List Pos) → In C (sets_in T2 os) → WonBy T2 C n
           each C i =
               let k = subst (In C) (same_sets T1 T2 os s.more a.numbered) i in
-              by_least (chess d) (chess_is_game d) (entries T2) ready.sound C n (w.stored.won e C k) (all_at (can (chess d) n) (sets_in T1 os) (sym w.right ∙ e) C k)
+              by_least (chess d) (chess_is_game d) cut (entries T2) ready.sound C n (w.stored.won e C k) (all_at (can (chess d) n) (sets_in T1 os) (sym w.right ∙ e) C k)

@@ -1,13 +1,18 @@
 -- What a try leaves to be won, by the theory's words.
-use Rattle.std.proofs.Common.{◌≡◌, ℕ, zero, suc, ◌<◌, true, false, List, [], map, Option, Some, None, refl, sym, ap, ◌∙◌, arith}
-use Rattle.std.specs.Prelude.{IfSome}
-use Rattle.std.proofs.lemmas.Bool.{cond-true}
+use Rattle.std.proofs.Common.{◌≡◌, ℕ, zero, suc, ◌-◌, ◌<◌, Bool, true, false, List, [], map, Option, Some, None, Result, Ok, Err, refl, sym, ap, subst, ◌∙◌, arith}
+use Rattle.std.specs.Prelude.{IfSome, IfOk}
+use Rattle.std.specs.List.{list_any}
+use Rattle.std.proofs.lemmas.Bool.{cond-true, both_ways}
 use Rattle.std.proofs.lemmas.Simd.{map-map}
 use Rattle.krieg_board.specs.Pos.{Pos}
 use Rattle.krieg_board.specs.declared.men.Move.{Move}
 use Rattle.krieg_words.specs.declared.dialects.Dialect.{Dialect}
 use Rattle.krieg_theory.specs.Split.{stale_in_some, keys, class}
+use Rattle.krieg_theory.specs.Can.{begins}
 use Rattle.krieg_costs.specs.Block.{block_pair, lives_in_some, pair_of}
+use Rattle.krieg_seeing.proofs.Seen.{escape_fails}
+use Rattle.krieg_sight.specs.Seen.{flees}
+use Rattle.krieg_sight.proofs.Theorems.{escapes_is_flees}
 use Rattle.krieg_accounts.specs.Answers.{classes}
 use Rattle.krieg_accounts.proofs.TryEnds.{begins_stale, blocked_stale}
 use Rattle.krieg_game.specs.Keys.{Key}
@@ -19,7 +24,7 @@ use Rattle.krieg_split.specs.Parted.{IsParted}
 use Rattle.krieg_split.specs.LastMove.{SomeLives, AllMate}
 use Rattle.krieg_parting.specs.declared.parts.Parted.{Parted}
 use Rattle.krieg_search.specs.Searched.{sets_of}
-use Rattle.krieg_search.specs.Leaving.{FailsAtOnce, Leaves}
+use Rattle.krieg_search.specs.Leaving.{FailsAtOnce, Leaves, IsLeft}
 use Rattle.krieg_search.specs.declared.left.Left.{Left}
 
 no_pair : {X : Type 0} (o : Option X) → IfSome o (λ x. ⊥) → o ≡ None
@@ -28,19 +33,32 @@ no_pair (Some x) h = absurd h
 
 module _ (d : Dialect) where
   -- a try that stalemates in some member
-  pub fails_by_stalemate : (B : List Pos) (t : Move) (j : ℕ) → 0 < j → stale_in_some (chess d) B t ≡ true → FailsAtOnce d B t j
+  pub fails_by_stalemate : (B : List Pos) (t : Move) (j : ℕ) → 0 < j → stale_in_some (chess d) B t ≡ true → FailsAtOnce d false B t j
   fails_by_stalemate B t zero pos s = absurd (omega arith)
   fails_by_stalemate B t (suc i) pos s = record {
     fails = begins_stale (chess d) (chess_is_game d) i B t s;
-    no_pair = no_pair (block_pair (chess d) (suc i) B t) (blocked_stale (chess d) (chess_is_game d) (λ q. ⊥) i B t s);
+    no_pair = λ c. no_pair (block_pair (chess d) (suc i) B t) (blocked_stale (chess d) (chess_is_game d) (λ q. ⊥) i B t s);
   }
 
   -- a try that does not mate with the last move
-  pub fails_by_life : (B : List Pos) (t : Move) → SomeLives d B t → FailsAtOnce d B t 1
+  pub fails_by_life : (B : List Pos) (t : Move) → SomeLives d B t → FailsAtOnce d false B t 1
   fails_by_life B t s = record {
     fails = s.fails;
-    no_pair = ap (pair_of (chess d) 0 B t) (cond-true (lives_in_some (chess d) B t) _ _ s.lives);
+    no_pair = λ c. ap (pair_of (chess d) 0 B t) (cond-true (lives_in_some (chess d) B t) _ _ s.lives);
   }
+
+  -- a try after which some reply leaves no mate, even for a player who sees the position
+  pub fails_by_flight : (cut : Bool) (B : List Pos) (t : Move) (j : ℕ) → cut ≡ true → 0 < j → list_any (flees (j - 1) t) B ≡ true → FailsAtOnce d cut B t j
+  fails_by_flight cut B t j may pos e = record {
+    fails = subst (λ (n : ℕ). begins (chess d) n B t ≡ false) (let n : suc (j - 1) ≡ j = omega arith in n) (escape_fails (chess d) (chess_is_game d) B (j - 1) t (escapes_is_flees d (j - 1) B t ∙ e));
+    no_pair = λ c. absurd (both_ways cut c may);
+  }
+
+  -- what is left where tries may not be cut is left where they may
+  pub left_more : {E : Type 0} (cut : Bool) (B : List Pos) (t : Move) (j : ℕ) (r : Result (Option Left) E) → IfOk r (IsLeft d false B t j) → IfOk r (IsLeft d cut B t j)
+  left_more cut B t j (Ok None) f = record { fails = f.fails; no_pair = λ c. f.no_pair refl }
+  left_more cut B t j (Ok (Some l)) a = a
+  left_more cut B t j (Err e) a = tt
 
   -- one that mates wherever it is legal
   pub leaves_refused : (B : List Pos) (t : Move) (l : Left) (rest : List Pos) → l.classes.items ≡ [] → l.refused ≡ rest → AllMate d B t rest → Leaves d B t 1 l

@@ -1,5 +1,5 @@
 -- What is known of a set once its result is stored.
-use Rattle.std.proofs.Common.{◌≡◌, ℕ, zero, suc, ◌≤◌, ◌<◌, ◌^◌, true, false, List, [], ◌∷◌, length, slice_index_or, Option, Some, None, Result, Ok, Err, is_some, refl, sym, ap, subst, ◌∙◌, arith}
+use Rattle.std.proofs.Common.{Bool, ◌≡◌, ℕ, zero, suc, ◌≤◌, ◌<◌, ◌^◌, true, false, List, [], ◌∷◌, length, slice_index_or, Option, Some, None, Result, Ok, Err, is_some, refl, sym, ap, subst, ◌∙◌, arith}
 use Rattle.std.specs.Prelude.{option_map}
 use Rattle.std.specs.Result.{IsErrAnd}
 use Rattle.std.proofs.lemmas.Bool.{both_ways}
@@ -36,23 +36,23 @@ length_sets : (T : Interned) → length (sets T) ≡ length T
 length_sets [] = refl
 length_sets (r ∷ T) = ap suc (length_sets T)
 
-module _ (d : Dialect) where
+module _ (d : Dialect) (cut : Bool) where
   -- the result that is stored for a pair answers
-  pub stored_tells : (T : Interned) (B : List Pos) (j : ℕ) (o : Option Move) → IsReady d T → known (chess d) (entries T) (B, j) ≡ Some o → TellsSet d T B j (is_some o)
+  pub stored_tells : (T : Interned) (B : List Pos) (j : ℕ) (o : Option Move) → IsReady d cut T → known (chess d) (entries T) (B, j) ≡ Some o → TellsSet d T B j (is_some o)
   stored_tells T B j (Some t) r h = record {
-    right = sym (result_can (chess d) (chess_is_game d) (entries T) r.sound B j (Some t) h);
+    right = sym (result_can (chess d) (chess_is_game d) cut (entries T) r.sound B j (Some t) h);
     stored = record { won = λ y. (j, t, h); lost = λ y. absurd (both_ways true y refl) };
   }
   stored_tells T B j None r h = record {
-    right = sym (result_can (chess d) (chess_is_game d) (entries T) r.sound B j None h);
+    right = sym (result_can (chess d) (chess_is_game d) cut (entries T) r.sound B j None h);
     stored = record { won = λ y. absurd (both_ways false refl y); lost = λ y p. h };
   }
 
-  pub found_tells : {T : Interned} {B : List Pos} {j : ℕ} (u : ℕ) {found : Option Known} {k : Known} → IsReady d T → found ≡ Some k → option_map try_of found ≡ stored position_lt (entries T) (B, j)
-      → TellsSet d T B j (is_some (try_of k)) × IsSearched d (CoversPair (chess d) B j) 0 T T u u
+  pub found_tells : {T : Interned} {B : List Pos} {j : ℕ} (u : ℕ) {found : Option Known} {k : Known} → IsReady d cut T → found ≡ Some k → option_map try_of found ≡ stored position_lt (entries T) (B, j)
+      → TellsSet d T B j (is_some (try_of k)) × IsSearched d cut (CoversPair (chess d) B j) 0 T T u u
   found_tells {T = T} {B = B} {j = j} u {k = k} r e h = (
     stored_tells T B j (try_of k) r (sym h ∙ ap (option_map try_of) e),
-    searched_nothing d (CoversPair (chess d) B j) T u r,
+    searched_nothing d cut (CoversPair (chess d) B j) T u r,
   )
 
   -- nothing is stored where nothing is found
@@ -61,7 +61,7 @@ module _ (d : Dialect) where
 
   -- a search of the pair was stopped at one of its tries
   pub pair_stopped : {A : Type 0} (P : Stop2 → Type 0) (r : Result A Stop2) (wanted : A → Type 0) (B : List Pos) (j : ℕ) (T0 T : Interned) (u0 u : ℕ) → IsErrAnd r P → known (chess d) (entries T0) (B, j) ≡ None
-      → Searches d r wanted (CoversTries (chess d) B j) (price (chess d) B) T0 T u0 u → Searches d r wanted (CoversPair (chess d) B j) 0 T0 T u0 u
+      → Searches d cut r wanted (CoversTries (chess d) B j) (price (chess d) B) T0 T u0 u → Searches d cut r wanted (CoversPair (chess d) B j) 0 T0 T u0 u
   pair_stopped P (Ok x) wanted B j T0 T u0 u fails none k = absurd fails
   pair_stopped P (Err Spent) wanted B j T0 T u0 u fails none k = short_noted (chess d) (chess_is_game d) (entries T0) B j u0 none k
   pair_stopped P (Err Large) wanted B j T0 T u0 u fails none k = absurd k
@@ -69,9 +69,9 @@ module _ (d : Dialect) where
 
   -- the tries are through, and the result is noted
   pub noted : (T0 T1 T2 : Interned) (set j : ℕ) (k : Known) (o : Option Move) (u0 u1 : ℕ) → 0 < j → set < length T0
-      → IsSearched d (CoversTries (chess d) (set_at T0 set) j) (floor_price (chess d) (set_at T0 set, j)) T0 T1 u0 u1
-      → known (chess d) (entries T0) (set_at T0 set, j) ≡ None → IsNoted T1 T2 set j k → try_of k ≡ o → o ≡ first_try (chess d) j (set_at T0 set) → IsBacked (chess d) (entries T1) (set_at T0 set) j o
-      → TellsSet d T2 (set_at T0 set) j (is_some o) × IsSearched d (CoversPair (chess d) (set_at T0 set) j) 0 T0 T2 u0 u1
+      → IsSearched d cut (CoversTries (chess d) (set_at T0 set) j) (floor_price (chess d) (set_at T0 set, j)) T0 T1 u0 u1
+      → known (chess d) (entries T0) (set_at T0 set, j) ≡ None → IsNoted T1 T2 set j k → try_of k ≡ o → o ≡ first_try (chess d) j (set_at T0 set) → IsBacked (chess d) cut (entries T1) (set_at T0 set) j o
+      → TellsSet d T2 (set_at T0 set) j (is_some o) × IsSearched d cut (CoversPair (chess d) (set_at T0 set) j) 0 T0 T2 u0 u1
   noted T0 T1 T2 set j k o u0 u1 pos w s none n is f b = (
     stored_tells T2 B j o (record { counted = counted; sound = sound.sound }) adds.here,
     record { counted = counted; more = more; stretch = sound },
@@ -84,7 +84,7 @@ module _ (d : Dialect) where
       same = s.more.same set w
 
       still : stored position_lt (entries T1) (set_at T1 set, j) ≡ None
-      still = subst (λ (X : List Pos). stored position_lt (entries T1) (X, j) ≡ None) (sym same) (still_unknown (chess d) (chess_is_game d) (entries T0) (entries T1) B j (floor_price (chess d) (B, j)) u0 u1 pos s.stretch none)
+      still = subst (λ (X : List Pos). stored position_lt (entries T1) (X, j) ≡ None) (sym same) (still_unknown (chess d) (chess_is_game d) cut (entries T0) (entries T1) B j (floor_price (chess d) (B, j)) u0 u1 pos s.stretch none)
 
       adds : AddsResult position_lt (entries T1) (entries T2) (B, j) o
       adds = subst (λ (X : List Pos). AddsResult position_lt (entries T1) (entries T2) (X, j) o) same (subst (λ (y : Option Move). AddsResult position_lt (entries T1) (entries T2) (set_at T1 set, j) y) is (n.added still))
@@ -101,5 +101,5 @@ module _ (d : Dialect) where
       more : IsMore T0 T2
       more = more_then T0 T1 T2 s.more (record { longer = longer; same = λ m h. same_set m })
 
-      sound : Rattle.krieg_accounts.specs.Stretch.IsStretch (chess d) (CoversPair (chess d) B j) 0 (entries T0) (entries T2) u0 u1
-      sound = stretch_noted (chess d) (chess_is_game d) (entries T0) (entries T1) (entries T2) B j o u0 u1 s.stretch f b none adds
+      sound : Rattle.krieg_accounts.specs.Stretch.IsStretch (chess d) cut (CoversPair (chess d) B j) 0 (entries T0) (entries T2) u0 u1
+      sound = stretch_noted (chess d) (chess_is_game d) cut (entries T0) (entries T1) (entries T2) B j o u0 u1 s.stretch f b none adds

@@ -1,5 +1,5 @@
 -- The roots of a plan, one after another.
-use Rattle.std.proofs.Common.{◌≡◌, ℕ, ◌+◌, ◌≤◌, ◌<◌, ◌⊎◌, inl, inr, cond, List, [], ◌∷◌, ◌++◌, max, refl, sym, ap, ◌∙◌, arith, Some, length, subst}
+use Rattle.std.proofs.Common.{true, ◌≡◌, ℕ, ◌+◌, ◌≤◌, ◌<◌, ◌⊎◌, inl, inr, cond, List, [], ◌∷◌, ◌++◌, max, refl, sym, ap, ◌∙◌, arith, Some, length, subst}
 use Rattle.std.specs.Ordering.{is_lt, nat_cmp, ord_max}
 use Rattle.std.proofs.lemmas.Bool.{cases_lt}
 use Rattle.std.proofs.lemmas.List.{append_assoc}
@@ -102,7 +102,7 @@ module _ (d : Dialect) (j : ℕ) where
     }
 
 -- the opening whose root comes next
-module _ (d : Dialect) (j : ℕ) (T0 T1 : Interned) (os ahead rest : List Opening) (x : Opening) (e : ahead ≡ x ∷ rest) (inside : (o : Opening) → In o ahead → In o os) (s : AddsSets T0 T1) (paid : IsPaidFor d T0) (n : AreNumbered T0 os) (won : (C : List Pos) → In C (sets_in T0 os) → WonBy T0 C j) where
+module _ (d : Dialect) (j : ℕ) (T0 T1 : Interned) (os ahead rest : List Opening) (x : Opening) (e : ahead ≡ x ∷ rest) (inside : (o : Opening) → In o ahead → In o os) (s : AddsSets T0 T1) (paid : IsPaidFor d true T0) (n : AreNumbered T0 os) (won : (C : List Pos) → In C (sets_in T0 os) → WonBy T0 C j) where
   here : In x os
   here = inside x (subst (λ (ys : List Opening). In x ys) (sym e) (inl refl))
 
@@ -122,4 +122,4 @@ module _ (d : Dialect) (j : ℕ) (T0 T1 : Interned) (os ahead rest : List Openin
   pub root_least : (w : Win) → stored position_lt (entries T1) (set_at T1 x.set, w.moves) ≡ Some (Some w.mv) → least (chess d) j (set_at T0 x.set) ≡ w.moves
   root_least w k =
       let ready = (still_paid d T0 T1 s paid).ready in
-      ap (least (chess d) j) (sym root_same) ∙ wins_least (chess d) (chess_is_game d) (entries T1) ready.sound j (set_at T1 x.set) (w.moves, w.mv, k) (won_can d T1 (set_at T1 x.set) j ready root_won)
+      ap (least (chess d) j) (sym root_same) ∙ wins_least (chess d) (chess_is_game d) true (entries T1) ready.sound j (set_at T1 x.set) (w.moves, w.mv, k) (won_can d T1 (set_at T1 x.set) j ready root_won)

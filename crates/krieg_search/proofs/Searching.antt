@@ -1,5 +1,5 @@
 -- One stretch of the search behind another, over the table in which sets have numbers.
-use Rattle.std.proofs.Common.{◌≡◌, ℕ, ◌+◌, ◌≤◌, List, Result, Ok, Err, refl, sym, subst, ◌∙◌, arith}
+use Rattle.std.proofs.Common.{Bool, ◌≡◌, ℕ, ◌+◌, ◌≤◌, List, Result, Ok, Err, refl, sym, subst, ◌∙◌, arith}
 use Rattle.std.specs.Result.{IsErrAnd}
 use Rattle.krieg_board.specs.Pos.{Pos}
 use Rattle.krieg_board.specs.declared.men.Move.{Move}
@@ -25,49 +25,49 @@ more_itself T = record { longer = omega arith; same = λ k h. refl }
 pub more_then : (T0 T1 T2 : Interned) → IsMore T0 T1 → IsMore T1 T2 → IsMore T0 T2
 more_then T0 T1 T2 a b = record { longer = (let x = a.longer in let y = b.longer in omega arith); same = λ k h. (let x = a.longer in b.same k (omega arith) ∙ a.same k h) }
 
-module _ (d : Dialect) where
-  pub ready_from : {Q : List (List Pos × ℕ) → Type 0} {a : ℕ} {T T' : Interned} {u0 u1 : ℕ} → IsSearched d Q a T T' u0 u1 → IsReady d T'
+module _ (d : Dialect) (cut : Bool) where
+  pub ready_from : {Q : List (List Pos × ℕ) → Type 0} {a : ℕ} {T T' : Interned} {u0 u1 : ℕ} → IsSearched d cut Q a T T' u0 u1 → IsReady d cut T'
   ready_from s = record { counted = s.counted; sound = s.stretch.sound }
 
-  pub searched_nothing : (Q : List (List Pos × ℕ) → Type 0) (T : Interned) (u : ℕ) → IsReady d T → IsSearched d Q 0 T T u u
-  searched_nothing Q T u r = record { counted = r.counted; more = more_itself T; stretch = stretch_of_nothing (chess d) Q (entries T) u r.sound }
+  pub searched_nothing : (Q : List (List Pos × ℕ) → Type 0) (T : Interned) (u : ℕ) → IsReady d cut T → IsSearched d cut Q 0 T T u u
+  searched_nothing Q T u r = record { counted = r.counted; more = more_itself T; stretch = stretch_of_nothing (chess d) cut Q (entries T) u r.sound }
 
-  pub searched_split : (Q : List (List Pos × ℕ) → Type 0) (T : Interned) (m had has : ℕ) → IsReady d T → has + m ≡ had → IsSearched d Q m T T had has
-  searched_split Q T m had has r e = record { counted = r.counted; more = more_itself T; stretch = stretch_of_split (chess d) Q (entries T) m had has r.sound e }
+  pub searched_split : (Q : List (List Pos × ℕ) → Type 0) (T : Interned) (m had has : ℕ) → IsReady d cut T → has + m ≡ had → IsSearched d cut Q m T T had has
+  searched_split Q T m had has r e = record { counted = r.counted; more = more_itself T; stretch = stretch_of_split (chess d) cut Q (entries T) m had has r.sound e }
 
-  pub searched_then : (Q Q' : List (List Pos × ℕ) → Type 0) (a b all : ℕ) (T0 T1 T2 : Interned) (u0 u1 u2 : ℕ) → ((R : List (List Pos × ℕ)) → Q R → Q' R) → IsSearched d Q a T0 T1 u0 u1 → a + b ≡ all → IsSearched d Q' b T1 T2 u1 u2 → IsSearched d Q all T0 T2 u0 u2
+  pub searched_then : (Q Q' : List (List Pos × ℕ) → Type 0) (a b all : ℕ) (T0 T1 T2 : Interned) (u0 u1 u2 : ℕ) → ((R : List (List Pos × ℕ)) → Q R → Q' R) → IsSearched d cut Q a T0 T1 u0 u1 → a + b ≡ all → IsSearched d cut Q' b T1 T2 u1 u2 → IsSearched d cut Q all T0 T2 u0 u2
   searched_then Q Q' a b all T0 T1 T2 u0 u1 u2 f s e t = record {
     counted = t.counted;
     more = more_then T0 T1 T2 s.more t.more;
-    stretch = stretch_cost (chess d) Q (a + b) all (entries T0) (entries T2) u0 u2 e (stretch_then (chess d) Q Q' a b (entries T0) (entries T1) (entries T2) u0 u1 u2 f s.stretch t.stretch);
+    stretch = stretch_cost (chess d) cut Q (a + b) all (entries T0) (entries T2) u0 u2 e (stretch_then (chess d) cut Q Q' a b (entries T0) (entries T1) (entries T2) u0 u1 u2 f s.stretch t.stretch);
   }
 
   -- a set is given its number
-  pub searched_number : {Q : List (List Pos × ℕ) → Type 0} {a : ℕ} {T0 T1 T2 : Interned} {B : List Pos} {set u0 u1 : ℕ} → IsSearched d Q a T0 T1 u0 u1 → IsNumbered T1 T2 B set → IsSearched d Q a T0 T2 u0 u1
+  pub searched_number : {Q : List (List Pos × ℕ) → Type 0} {a : ℕ} {T0 T1 T2 : Interned} {B : List Pos} {set u0 u1 : ℕ} → IsSearched d cut Q a T0 T1 u0 u1 → IsNumbered T1 T2 B set → IsSearched d cut Q a T0 T2 u0 u1
   searched_number {Q = Q} {a = a} {T0 = T0} {T1 = T1} {T2 = T2} {u0 = u0} {u1 = u1} s n = record {
     counted = n.counted;
     more = more_then T0 T1 T2 s.more n.interned.more;
-    stretch = subst (λ (E : Entries Pos Move). IsStretch (chess d) Q a (entries T0) E u0 u1) (sym n.interned.noted) s.stretch;
+    stretch = subst (λ (E : Entries Pos Move). IsStretch (chess d) cut Q a (entries T0) E u0 u1) (sym n.interned.noted) s.stretch;
   }
 
-  pub short_behind : (Q Q' : List (List Pos × ℕ) → Type 0) (a b all : ℕ) (T0 T1 : Interned) (u0 u1 : ℕ) → ((R : List (List Pos × ℕ)) → Q R → Q' R) → IsSearched d Q a T0 T1 u0 u1 → a + b ≤ all → FallsShort (chess d) Q' b (entries T1) u1 → FallsShort (chess d) Q all (entries T0) u0
-  short_behind Q Q' a b all T0 T1 u0 u1 f s h v = short_cost (chess d) Q (a + b) all (entries T0) u0 h (short_then (chess d) Q Q' a b (entries T0) (entries T1) u0 u1 f s.stretch v)
+  pub short_behind : (Q Q' : List (List Pos × ℕ) → Type 0) (a b all : ℕ) (T0 T1 : Interned) (u0 u1 : ℕ) → ((R : List (List Pos × ℕ)) → Q R → Q' R) → IsSearched d cut Q a T0 T1 u0 u1 → a + b ≤ all → FallsShort (chess d) Q' b (entries T1) u1 → FallsShort (chess d) Q all (entries T0) u0
+  short_behind Q Q' a b all T0 T1 u0 u1 f s h v = short_cost (chess d) Q (a + b) all (entries T0) u0 h (short_then (chess d) cut Q Q' a b (entries T0) (entries T1) u0 u1 f s.stretch v)
 
   -- a step was stopped, behind others
   pub stopped : {A B : Type 0} {P : Stop2 → Type 0} (r : Result B Stop2) (e : Stop2) (holds : A → Type 0) (wanted : B → Type 0) {Q Q' : List (List Pos × ℕ) → Type 0} {a : ℕ} (b : ℕ) {all : ℕ} {T0 T1 : Interned} (T2 T3 : Interned) {u0 u1 : ℕ} (u2 u3 : ℕ)
-      → ((x : Stop2) → P x → e ≡ x) → IsErrAnd r P → ((R : List (List Pos × ℕ)) → Q R → Q' R) → IsSearched d Q a T0 T1 u0 u1 → a + b ≤ all → Searches d (Err e) holds Q' b T1 T2 u1 u2 → Searches d r wanted Q all T0 T3 u0 u3
+      → ((x : Stop2) → P x → e ≡ x) → IsErrAnd r P → ((R : List (List Pos × ℕ)) → Q R → Q' R) → IsSearched d cut Q a T0 T1 u0 u1 → a + b ≤ all → Searches d cut (Err e) holds Q' b T1 T2 u1 u2 → Searches d cut r wanted Q all T0 T3 u0 u3
   stopped (Ok x) e holds wanted b T2 T3 u2 u3 same fails f s h k = absurd fails
   stopped {A = A} {B = B} (Err x) e holds wanted {Q = Q} {Q' = Q'} {a = a} b {all = all} {T0 = T0} {T1 = T1} T2 T3 {u0 = u0} {u1 = u1} u2 u3 same fails f s h k =
-      go x (subst (λ (y : Stop2). Searches d {A = A} (Err y) holds Q' b T1 T2 u1 u2) (same x fails) k)
+      go x (subst (λ (y : Stop2). Searches d cut {A = A} (Err y) holds Q' b T1 T2 u1 u2) (same x fails) k)
     where
-      go : (y : Stop2) → Searches d {A = A} (Err y) holds Q' b T1 T2 u1 u2 → Searches d {A = B} (Err y) wanted Q all T0 T3 u0 u3
+      go : (y : Stop2) → Searches d cut {A = A} (Err y) holds Q' b T1 T2 u1 u2 → Searches d cut {A = B} (Err y) wanted Q all T0 T3 u0 u3
       go Spent v = short_behind Q Q' a b all T0 T1 u0 u1 f s h v
       go Large v = absurd v
       go NoMemory v = tt
 
   -- the answer of a last step, behind others
   pub answered : {A : Type 0} (r : Result A Stop2) (holds wanted : A → Type 0) (Q Q' : List (List Pos × ℕ) → Type 0) (a b all : ℕ) (T0 T1 T2 : Interned) (u0 u1 u2 : ℕ)
-      → ((R : List (List Pos × ℕ)) → Q R → Q' R) → IsSearched d Q a T0 T1 u0 u1 → a + b ≡ all → ((x : A) → holds x → IsSearched d Q' b T1 T2 u1 u2 → wanted x) → Searches d r holds Q' b T1 T2 u1 u2 → Searches d r wanted Q all T0 T2 u0 u2
+      → ((R : List (List Pos × ℕ)) → Q R → Q' R) → IsSearched d cut Q a T0 T1 u0 u1 → a + b ≡ all → ((x : A) → holds x → IsSearched d cut Q' b T1 T2 u1 u2 → wanted x) → Searches d cut r holds Q' b T1 T2 u1 u2 → Searches d cut r wanted Q all T0 T2 u0 u2
   answered (Ok x) holds wanted Q Q' a b all T0 T1 T2 u0 u1 u2 f s e w k = (w x k.0 k.1, searched_then Q Q' a b all T0 T1 T2 u0 u1 u2 f s e k.1)
   answered (Err Spent) holds wanted Q Q' a b all T0 T1 T2 u0 u1 u2 f s e w k = short_behind Q Q' a b all T0 T1 u0 u1 f s (omega arith) k
   answered (Err Large) holds wanted Q Q' a b all T0 T1 T2 u0 u1 u2 f s e w k = absurd k
@@ -75,11 +75,11 @@ module _ (d : Dialect) where
 
   -- a first split was stopped
   pub unpaid : (A : Type 0) {B : Type 0} (P : Stop2 → Type 0) (r : Result B Stop2) (stop : SplitStop) (wanted : B → Type 0) (Q : List (List Pos × ℕ) → Type 0) (m : ℕ) (T0 T3 : Interned) (u0 u1 u3 : ℕ)
-      → ((x : Stop2) → P x → stop_of stop ≡ x) → IsErrAnd r P → IsPaid {A = A} (Err stop) m u0 u1 → Searches d r wanted Q m T0 T3 u0 u3
+      → ((x : Stop2) → P x → stop_of stop ≡ x) → IsErrAnd r P → IsPaid {A = A} (Err stop) m u0 u1 → Searches d cut r wanted Q m T0 T3 u0 u3
   unpaid A P (Ok x) stop wanted Q m T0 T3 u0 u1 u3 same fails k = absurd fails
   unpaid A {B = B} P (Err x) stop wanted Q m T0 T3 u0 u1 u3 same fails k =
-      subst (λ (y : Stop2). Searches d {A = B} (Err y) wanted Q m T0 T3 u0 u3) (same x fails) (go stop k)
+      subst (λ (y : Stop2). Searches d cut {A = B} (Err y) wanted Q m T0 T3 u0 u3) (same x fails) (go stop k)
     where
-      go : (stop : SplitStop) → IsPaid {A = A} (Err stop) m u0 u1 → Searches d {A = B} (Err (stop_of stop)) wanted Q m T0 T3 u0 u3
+      go : (stop : SplitStop) → IsPaid {A = A} (Err stop) m u0 u1 → Searches d cut {A = B} (Err (stop_of stop)) wanted Q m T0 T3 u0 u3
       go split.Spent v = λ R q. (let h = v.0 in omega arith)
       go split.NoMemory v = tt

@@ -1,6 +1,5 @@
 -- The plan of the opening sets is the best one.
-use Rattle.std.proofs.Common.{◌≡◌, ℕ, ◌<◌, ◌^◌, true, false, max, List, [], ◌∷◌, map, Result, Ok, Err, refl, sym, ap, subst, ◌∙◌, arith}
-use Rattle.std.specs.Result.{IsErrAnd}
+use Rattle.std.proofs.Common.{Bool, ◌≡◌, ℕ, ◌<◌, ◌^◌, true, false, max, List, [], ◌∷◌, map, Ok, refl, sym, ap, subst, ◌∙◌, arith}
 use Rattle.std.proofs.lemmas.Bool.{both_ways, false_from_ne_true}
 use Rattle.krieg_board.specs.Pos.{Pos}
 use Rattle.krieg_board.specs.declared.men.Move.{Move}
@@ -11,8 +10,7 @@ use Rattle.krieg_theory.specs.Can.{least}
 use Rattle.krieg_theory.specs.Computed.{canon}
 use Rattle.krieg_theory.specs.Plans.{greatest, openings, opening_set, roots_of, root_with, can_plan, canon_plan, canon_worst}
 use Rattle.krieg_theory.proofs.Planned.{mates_shows, canon_plan_is, canon_plan_worst, worst_enough, worst_least}
-use Rattle.krieg_costs.specs.Cost.{cost_of}
-use Rattle.krieg_costs.proofs.Costs.{fresh_is_at_most_cost}
+use Rattle.krieg_accounts.proofs.Stretches.{weaker}
 use Rattle.krieg_game.specs.Keys.{Key, RootKey}
 use Rattle.krieg_game.specs.Chess.{chess}
 use Rattle.krieg_game.specs.Outset.{outset}
@@ -23,10 +21,9 @@ use Rattle.krieg_plan.specs.Ordered.{is_ordered_plan}
 use Rattle.krieg_search.specs.declared.best_plan.Answer.{Answer}
 use Rattle.krieg_search.specs.declared.best_plan.Answer.TheVariants.{Mates, None}
 use Rattle.krieg_search.specs.declared.decide.Found.{Found}
-use Rattle.krieg_search.specs.declared.stop.Stop2.{Stop2}
-use Rattle.krieg_search.specs.declared.stop.Stop2.TheVariants.{Spent, Large, NoMemory}
+use Rattle.krieg_table.specs.Entries.{entries}
 use Rattle.krieg_search.specs.Opened.{opening_in}
-use Rattle.krieg_search.specs.Decided.{IsWon, IsDecided}
+use Rattle.krieg_search.specs.Decided.{IsWon}
 use Rattle.krieg_search.specs.Built.{IsPaidFor, with_root, roots_for}
 use Rattle.krieg_search.specs.Planned.{IsUnfit, IsPlan, IsPlanned}
 use Rattle.krieg_search.specs.Solved.{IsBest, NoneMates, IsLarge, IsAnswer}
@@ -62,7 +59,7 @@ module _ (d : Dialect) (who : Side) (S : List Pos) (n : ℕ) where
     cannot = c;
   }
 
-  module _ (w : Found) (had : ℕ) (a : IsWon d who S n w had) where
+  module _ (cut : Bool) (w : Found) (had : ℕ) (a : IsWon d who S n cut w had) where
     pairs : List (RootKey × List Pos)
     pairs = map (opening_in w.table) w.openings.items
 
@@ -72,8 +69,8 @@ module _ (d : Dialect) (who : Side) (S : List Pos) (n : ℕ) where
     worst_is : greatest (λ (c : RootKey × List Pos). least (chess d) n c.1) (map (opening_in w.table) w.openings.items) ≡ canon_worst (chess d) (outset d who) n S
     worst_is = ap (greatest (λ (c : RootKey × List Pos). least (chess d) n c.1)) a.found.sets ∙ greatest_is (openings (chess d) (outset d who) S)
 
-    pub is_paid : had < 2 ^ 64 → IsPaidFor d w.table
-    is_paid h = record { ready = a.found.ready; paid = (let p = a.found.paid in omega arith) }
+    pub is_paid : had < 2 ^ 64 → IsPaidFor d true w.table
+    is_paid h = record { ready = record { counted = a.found.ready.counted; sound = weaker (chess d) cut (entries w.table) a.found.ready.sound }; paid = (let p = a.found.paid in omega arith) }
 
     pub is_ordered : is_ordered_plan (roots_for d n (map (opening_in w.table) w.openings.items)) ≡ true
     is_ordered = ap is_ordered_plan plan_is ∙ plan_ordered d who (canon_plan (chess d) (outset d who) n S) S (best a.can).canonical
@@ -94,18 +91,7 @@ module _ (d : Dialect) (who : Side) (S : List Pos) (n : ℕ) where
     }
 
 module _ (d : Dialect) (who : Side) (S : List Pos) (n : ℕ) where
-  -- the search was stopped
-  pub stopped_below_cost : (P : Stop2 → Type 0) (r : Result Answer Stop2) (e : Stop2) (had has : ℕ)
-      → ((x : Stop2) → P x → e ≡ x) → IsErrAnd r P → IsDecided d who S n (Err e) had has → r ≡ Err Spent → had < cost_of (chess d) (outset d who) n S
-  stopped_below_cost P (Ok x) e had has same fails k eq = absurd fails
-  stopped_below_cost P (Err x) e had has same fails k eq = go x (cc) (subst (λ (y : Stop2). IsDecided d who S n (Err y) had has) (same x fails) k)
-    where
-      go : (y : Stop2) → y ≡ Spent → IsDecided d who S n (Err y) had has → had < cost_of (chess d) (outset d who) n S
-      go Spent q v = let c = fresh_is_at_most_cost (chess d) (chess_is_game d) (outset d who) n S in omega arith
-      go Large q v = absurd v
-      go NoMemory q v = absurd (cc)
-
   -- the plan was built
-  pub built : (w : Found) (had nodes : ℕ) (a : Answer) → IsWon d who S n w had → IsPlanned d n (map (opening_in w.table) w.openings.items) nodes (Ok a) → IsAnswer d who S n nodes (Ok a)
-  built w had nodes (Mates worst plan) k p = (is_best d who S n w had k nodes worst (plan_of plan) p, p.fit)
-  built w had nodes None k p = absurd p
+  pub built : (cut : Bool) (w : Found) (had nodes : ℕ) (a : Answer) → IsWon d who S n cut w had → IsPlanned d n (map (opening_in w.table) w.openings.items) nodes (Ok a) → IsAnswer d who S n nodes (Ok a)
+  built cut w had nodes (Mates worst plan) k p = (is_best d who S n cut w had k nodes worst (plan_of plan) p, p.fit)
+  built cut w had nodes None k p = absurd p

@@ -1,5 +1,5 @@
 -- The tries of a set, one after another.
-use Rattle.std.proofs.Common.{◌≡◌, ℕ, ◌+◌, ◌≤◌, ◌<◌, true, false, List, length, take, get_or, Option, Some, None, sym, subst}
+use Rattle.std.proofs.Common.{Bool, ◌≡◌, ℕ, ◌+◌, ◌≤◌, ◌<◌, true, false, List, length, take, get_or, Option, Some, None, sym, subst}
 use Rattle.krieg_board.specs.Pos.{Pos}
 use Rattle.krieg_board.specs.declared.men.Move.{Move}
 use Rattle.krieg_words.specs.declared.dialects.Dialect.{Dialect}
@@ -20,14 +20,14 @@ use Rattle.krieg_table.specs.Entries.{entries}
 use Rattle.krieg_search.specs.Searched.{IsReady, IsSearched, TellsTry}
 use Rattle.krieg_search.proofs.Searching.{searched_nothing, searched_then}
 
-module _ (d : Dialect) where
+module _ (d : Dialect) (cut : Bool) where
   -- the first k tries have failed, and were split since the first of the two tables
   pub record IsTrying (T0 T : Interned) (B : List Pos) (j : ℕ) (ts : List Move) (k u0 u : ℕ) : Type 0 where
-    pub failed : FailedTo (chess d) (chess_is_game d) (entries T) B j ts k
-    pub searched : IsSearched d (CoversTries (chess d) B j) (total (made (chess d) B) (take k ts)) T0 T u0 u
+    pub failed : FailedTo (chess d) (chess_is_game d) cut (entries T) B j ts k
+    pub searched : IsSearched d cut (CoversTries (chess d) B j) (total (made (chess d) B) (take k ts)) T0 T u0 u
 
-  pub none_tried : (T : Interned) (B : List Pos) (j : ℕ) (ts : List Move) (u : ℕ) → IsReady d T → IsTrying T T B j ts 0 u u
-  none_tried T B j ts u r = record { failed = λ t i. absurd i; searched = searched_nothing d (CoversTries (chess d) B j) T u r }
+  pub none_tried : (T : Interned) (B : List Pos) (j : ℕ) (ts : List Move) (u : ℕ) → IsReady d cut T → IsTrying T T B j ts 0 u u
+  none_tried T B j ts u r = record { failed = λ t i. absurd i; searched = searched_nothing d cut (CoversTries (chess d) B j) T u r }
 
   module _ {B : List Pos} {j : ℕ} {ts : List Move} (are : ts ≡ tries (chess d) B) {T0 T1 : Interned} {k : ℕ} {t : Move} {u0 u1 : ℕ} (l : k < length ts) (e : t ≡ get_or ts k t) (a : IsTrying T0 T1 B j ts k u0 u1) where
     pub next_legal : legal_in_some (chess d) B t ≡ true
@@ -40,35 +40,35 @@ module _ (d : Dialect) where
     pub next_within : total (made (chess d) B) (take k ts) + made (chess d) B t ≤ price (chess d) B
     next_within = price_within (chess d) (chess_is_game d) B j ts are k t l e
 
-    module _ {T2 : Interned} {u2 : ℕ} (s : IsSearched d (CoversTry (chess d) B j t) (made (chess d) B t) T1 T2 u1 u2) where
-      after : (all : ℕ) → total (made (chess d) B) (take k ts) + made (chess d) B t ≡ all → IsSearched d (CoversTries (chess d) B j) all T0 T2 u0 u2
-      after all p = searched_then d (CoversTries (chess d) B j) (CoversTry (chess d) B j t) (total (made (chess d) B) (take k ts)) (made (chess d) B t) all T0 T1 T2 u0 u1 u2 next_covers a.searched p s
+    module _ {T2 : Interned} {u2 : ℕ} (s : IsSearched d cut (CoversTry (chess d) B j t) (made (chess d) B t) T1 T2 u1 u2) where
+      after : (all : ℕ) → total (made (chess d) B) (take k ts) + made (chess d) B t ≡ all → IsSearched d cut (CoversTries (chess d) B j) all T0 T2 u0 u2
+      after all p = searched_then d cut (CoversTries (chess d) B j) (CoversTry (chess d) B j t) (total (made (chess d) B) (take k ts)) (made (chess d) B t) all T0 T1 T2 u0 u1 u2 next_covers a.searched p s
 
       -- this one does not begin to win
-      pub fails : TellsTry d T2 B j t false → IsTrying T0 T2 B j ts (k + 1) u0 u2
+      pub fails : TellsTry d cut T2 B j t false → IsTrying T0 T2 B j ts (k + 1) u0 u2
       fails w = record {
-        failed = failed_more (chess d) (chess_is_game d) B j ts are (entries T1) (entries T2) k t l e s.stretch.kept a.failed (sym w.right) w.stored;
+        failed = failed_more (chess d) (chess_is_game d) B j ts are cut (entries T1) (entries T2) k t l e s.stretch.kept a.failed (sym w.right) w.stored;
         searched = after (total (made (chess d) B) (take (k + 1) ts)) (price_more (chess d) (chess_is_game d) B j ts are k t l e);
       }
 
       -- it does: it is the first
-      module _ (w : TellsTry d T2 B j t true) where
+      module _ (w : TellsTry d cut T2 B j t true) where
         pub win_first : ◌≡◌ {A = Option Move} (Some t) (first_try (chess d) j B)
-        win_first = first_here (chess d) (chess_is_game d) B j ts are (entries T1) k t l e a.failed (sym w.right)
+        win_first = first_here (chess d) (chess_is_game d) B j ts are cut (entries T1) k t l e a.failed (sym w.right)
 
-        pub win_searched : IsSearched d (CoversTries (chess d) B j) (floor_price (chess d) (B, j)) T0 T2 u0 u2
-        win_searched = after (floor_price (chess d) (B, j)) (price_here (chess d) (chess_is_game d) B j ts are (entries T1) k t l e a.failed (sym w.right))
+        pub win_searched : IsSearched d cut (CoversTries (chess d) B j) (floor_price (chess d) (B, j)) T0 T2 u0 u2
+        win_searched = after (floor_price (chess d) (B, j)) (price_here (chess d) (chess_is_game d) B j ts are cut (entries T1) k t l e a.failed (sym w.right))
 
-        pub win_backed : 0 < j → LostBelow (chess d) (entries T0) B j → IsBacked (chess d) (entries T2) B j (Some t)
-        win_backed some below = backed_here (chess d) (chess_is_game d) B j ts are (entries T1) (entries T2) k t some l e s.stretch.kept (λ i p q. win_searched.stretch.kept (B, i) None (below i p q)) a.failed w.stored
+        pub win_backed : 0 < j → LostBelow (chess d) (entries T0) B j → IsBacked (chess d) cut (entries T2) B j (Some t)
+        win_backed some below = backed_here (chess d) (chess_is_game d) B j ts are cut (entries T1) (entries T2) k t some l e s.stretch.kept (λ i p q. win_searched.stretch.kept (B, i) None (below i p q)) a.failed w.stored
 
   -- no try is left: the set cannot be won
   module _ {B : List Pos} {j : ℕ} {ts : List Move} (are : ts ≡ tries (chess d) B) {T0 T : Interned} {k u0 u : ℕ} (l : length ts ≤ k) (a : IsTrying T0 T B j ts k u0 u) where
     pub loss_first : ◌≡◌ {A = Option Move} None (first_try (chess d) j B)
-    loss_first = first_none (chess d) (chess_is_game d) B j ts are (entries T) k l a.failed
+    loss_first = first_none (chess d) (chess_is_game d) B j ts are cut (entries T) k l a.failed
 
-    pub loss_searched : IsSearched d (CoversTries (chess d) B j) (floor_price (chess d) (B, j)) T0 T u0 u
-    loss_searched = subst (λ (n : ℕ). IsSearched d (CoversTries (chess d) B j) n T0 T u0 u) (price_none (chess d) (chess_is_game d) B j ts are (entries T) k l a.failed) a.searched
+    pub loss_searched : IsSearched d cut (CoversTries (chess d) B j) (floor_price (chess d) (B, j)) T0 T u0 u
+    loss_searched = subst (λ (n : ℕ). IsSearched d cut (CoversTries (chess d) B j) n T0 T u0 u) (price_none (chess d) (chess_is_game d) B j ts are cut (entries T) k l a.failed) a.searched
 
-    pub loss_backed : 0 < j → LostBelow (chess d) (entries T0) B j → IsBacked (chess d) (entries T) B j None
-    loss_backed some below = backed_none (chess d) (chess_is_game d) B j ts are (entries T) k some l (λ i p q. a.searched.stretch.kept (B, i) None (below i p q)) a.failed
+    pub loss_backed : 0 < j → LostBelow (chess d) (entries T0) B j → IsBacked (chess d) cut (entries T) B j None
+    loss_backed some below = backed_none (chess d) (chess_is_game d) B j ts are cut (entries T) k some l (λ i p q. a.searched.stretch.kept (B, i) None (below i p q)) a.failed

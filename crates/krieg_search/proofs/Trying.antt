@@ -34,36 +34,36 @@ pub some_is : (X : List Pos) (b : Bool) → (IsTrue b ↔ (X ≡ [])) → b ≡ 
 some_is [] b h e = absurd (both_ways b e (h.1 refl))
 some_is (x ∷ X) b h e = refl
 
-module _ (d : Dialect) where
+module _ (d : Dialect) (cut : Bool) where
   -- a try that fails at once
-  pub failed : (T : Interned) (B : List Pos) (t : Move) (j u0 u1 : ℕ) → IsReady d T → FailsAtOnce d B t j → u1 + made (chess d) B t ≡ u0
-      → TellsTry d T B j t false × IsSearched d (CoversTry (chess d) B j t) (made (chess d) B t) T T u0 u1
+  pub failed : (T : Interned) (B : List Pos) (t : Move) (j u0 u1 : ℕ) → IsReady d cut T → FailsAtOnce d cut B t j → u1 + made (chess d) B t ≡ u0
+      → TellsTry d cut T B j t false × IsSearched d cut (CoversTry (chess d) B j t) (made (chess d) B t) T T u0 u1
   failed T B t j u0 u1 r f e = (
     record {
       right = sym f.fails;
       stored = record {
         classes = λ y. absurd (both_ways false refl y);
         refused_part = λ y. absurd (both_ways false refl y);
-        blocked = λ y. subst (λ o. IfSome o (λ q. StoredLost (chess d) (entries T) q)) (sym f.no_pair) tt;
+        blocked = λ c y. subst (λ o. IfSome o (λ q. StoredLost (chess d) (entries T) q)) (sym (f.no_pair c)) tt;
       };
     },
-    searched_split d (CoversTry (chess d) B j t) T (made (chess d) B t) u0 u1 r e,
+    searched_split d cut (CoversTry (chess d) B j t) T (made (chess d) B t) u0 u1 r e,
   )
 
   -- what is at hand where the try does not fail at once
   pub record IsTried (T : Interned) (B : List Pos) (t : Move) (j : ℕ) (l : Left) (u0 u1 : ℕ) : Type 0 where
     pub some : 0 < j
-    pub ready : IsReady d T
+    pub ready : IsReady d cut T
     pub legal : legal_in_some (chess d) B t ≡ true
     pub leaves : Leaves d B t j l
     pub taken : u1 + made (chess d) B t ≡ u0
 
-  pub tried_at : {T : Interned} {B0 B : List Pos} {found : Option Left} {l : Left} (t : Move) (j u0 u1 : ℕ) → B0 ≡ B → found ≡ Some l → 0 < j → IsReady d T → legal_in_some (chess d) B t ≡ true → IsLeft d B0 t j found → u1 + made (chess d) B0 t ≡ u0 → IsTried T B t j l u0 u1
+  pub tried_at : {T : Interned} {B0 B : List Pos} {found : Option Left} {l : Left} (t : Move) (j u0 u1 : ℕ) → B0 ≡ B → found ≡ Some l → 0 < j → IsReady d cut T → legal_in_some (chess d) B t ≡ true → IsLeft d cut B0 t j found → u1 + made (chess d) B0 t ≡ u0 → IsTried T B t j l u0 u1
   tried_at {B0 = B0} {l = l} t j u0 u1 same is some ready legal left taken = record {
     some = some;
     ready = ready;
     legal = legal;
-    leaves = subst (λ (X : List Pos). Leaves d X t j l) same (subst (λ (o : Option Left). IsLeft d B0 t j o) is left);
+    leaves = subst (λ (X : List Pos). Leaves d X t j l) same (subst (λ (o : Option Left). IsLeft d cut B0 t j o) is left);
     taken = subst (λ (X : List Pos). u1 + made (chess d) X t ≡ u0) same taken;
   }
 
@@ -80,22 +80,22 @@ module _ (d : Dialect) where
         subst (λ (Cs : List (List Pos)). CoversSets (chess d) Cs (j - 1) R) (sym at_sets)
         (covering.covers_classes (chess d) B (j - 1) t R (subst (λ (n : ℕ). CoversTry (chess d) B n t R) (sym one_less) h))
 
-    pub after_split : IsSearched d (CoversTry (chess d) B j t) (made (chess d) B t) T0 T0 u0 u1
-    after_split = searched_split d (CoversTry (chess d) B j t) T0 (made (chess d) B t) u0 u1 a.ready a.taken
+    pub after_split : IsSearched d cut (CoversTry (chess d) B j t) (made (chess d) B t) T0 T0 u0 u1
+    after_split = searched_split d cut (CoversTry (chess d) B j t) T0 (made (chess d) B t) u0 u1 a.ready a.taken
 
-    pub after_classes : {T1 : Interned} {u2 : ℕ} → IsSearched d (CoversSets (chess d) (sets_of l.classes.items) (j - 1)) 0 T0 T1 u1 u2 → IsSearched d (CoversTry (chess d) B j t) (made (chess d) B t) T0 T1 u0 u2
-    after_classes {T1 = T1} {u2 = u2} w = searched_then d (CoversTry (chess d) B j t) (CoversSets (chess d) (sets_of l.classes.items) (j - 1)) (made (chess d) B t) 0 (made (chess d) B t) T0 T0 T1 u0 u1 u2 covers_classes after_split (omega arith) w
+    pub after_classes : {T1 : Interned} {u2 : ℕ} → IsSearched d cut (CoversSets (chess d) (sets_of l.classes.items) (j - 1)) 0 T0 T1 u1 u2 → IsSearched d cut (CoversTry (chess d) B j t) (made (chess d) B t) T0 T1 u0 u2
+    after_classes {T1 = T1} {u2 = u2} w = searched_then d cut (CoversTry (chess d) B j t) (CoversSets (chess d) (sets_of l.classes.items) (j - 1)) (made (chess d) B t) 0 (made (chess d) B t) T0 T0 T1 u0 u1 u2 covers_classes after_split (omega arith) w
 
     in_game : (T : Interned) (won : Bool) → TellsSets d T (sets_of l.classes.items) (j - 1) won → TellsSets d T (classes (chess d) B t) (j - 1) won
     in_game T won w = subst (λ (Cs : List (List Pos)). TellsSets d T Cs (j - 1) won) at_sets w
 
     -- some class cannot be won
-    pub class_lost : {T1 : Interned} → TellsSets d T1 (sets_of l.classes.items) (j - 1) false → TellsTry d T1 B j t false
+    pub class_lost : {T1 : Interned} → TellsSets d T1 (sets_of l.classes.items) (j - 1) false → TellsTry d cut T1 B j t false
     class_lost {T1 = T1} w =
         let v = in_game T1 false w in
-        subst (λ (n : ℕ). TellsTry d T1 B n t false) one_less (record {
+        subst (λ (n : ℕ). TellsTry d cut T1 B n t false) one_less (record {
           right = sym (begins_class (chess d) (chess_is_game d) (j - 1) B t (sym v.right));
-          stored = answered_class (chess d) (chess_is_game d) (entries T1) B (j - 1) t a.leaves.none_stale (sym v.right) v.stored;
+          stored = answered_class (chess d) (chess_is_game d) cut (entries T1) B (j - 1) t a.leaves.none_stale (sym v.right) v.stored;
         })
 
     -- all classes can be won
@@ -110,16 +110,16 @@ module _ (d : Dialect) where
       rest_decides = begins_rest (chess d) (chess_is_game d) (j - 1) B t a.legal a.leaves.none_stale all_won
 
       -- and no member refuses the try
-      pub none_refuses : is_nil l.refused ≡ true → TellsTry d T1 B j t true
+      pub none_refuses : is_nil l.refused ≡ true → TellsTry d cut T1 B j t true
       none_refuses n =
           let nil : is_nil (refused (chess d) B t) ≡ true = ap is_nil (sym a.leaves.refused_part) ∙ n in
-          subst (λ (n : ℕ). TellsTry d T1 B n t true) one_less (record {
+          subst (λ (n : ℕ). TellsTry d cut T1 B n t true) one_less (record {
             right = sym (rest_decides ∙ or_left _ _ nil);
-            stored = answered_all (chess d) (chess_is_game d) (entries T1) B (j - 1) t all_stored nil;
+            stored = answered_all (chess d) (chess_is_game d) cut (entries T1) B (j - 1) t all_stored nil;
           })
 
       -- or those that do are searched last
-      module _ {T2 : Interned} {rest u2 : ℕ} (s : IsSearched d (CoversSets (chess d) (sets_of l.classes.items) (j - 1)) 0 T0 T1 u1 u2) (n : is_nil l.refused ≡ false) (i : IsNumbered T1 T2 l.refused rest) where
+      module _ {T2 : Interned} {rest u2 : ℕ} (s : IsSearched d cut (CoversSets (chess d) (sets_of l.classes.items) (j - 1)) 0 T0 T1 u1 u2) (n : is_nil l.refused ≡ false) (i : IsNumbered T1 T2 l.refused rest) where
         abbrev X : List Pos
         X = set_at T2 rest
 
@@ -132,22 +132,22 @@ module _ (d : Dialect) where
         pub rest_smaller : length X < length B
         rest_smaller = subst (λ (Y : List Pos). length Y < length B) (sym is_rest) (refused_lt (chess d) (chess_is_game d) B t a.legal)
 
-        pub before_rest : IsSearched d (CoversTry (chess d) B j t) (made (chess d) B t) T0 T2 u0 u2
-        before_rest = searched_number d (after_classes s) i
+        pub before_rest : IsSearched d cut (CoversTry (chess d) B j t) (made (chess d) B t) T0 T2 u0 u2
+        before_rest = searched_number d cut (after_classes s) i
 
         covers_rest : (R : List (List Pos × ℕ)) → CoversTry (chess d) B j t R → CoversSet (chess d) X j R
         covers_rest R h = subst (λ (Y : List Pos). CoversSet (chess d) Y j R) (sym is_rest) (covering.covers_refused (chess d) B j t some_rest R h)
 
-        rest_tells : (T3 : Interned) (u3 : ℕ) (won : Bool) → TellsSet d T3 X j won → IsSearched d (CoversSet (chess d) X j) 0 T2 T3 u2 u3 → TellsTry d T3 B j t won
+        rest_tells : (T3 : Interned) (u3 : ℕ) (won : Bool) → TellsSet d T3 X j won → IsSearched d cut (CoversSet (chess d) X j) 0 T2 T3 u2 u3 → TellsTry d cut T3 B j t won
         rest_tells T3 u3 won v r =
             let w : TellsSet d T3 (refused (chess d) B t) (suc (j - 1)) won = subst (λ (k : ℕ). TellsSet d T3 (refused (chess d) B t) k won) (sym one_less) (subst (λ (Y : List Pos). TellsSet d T3 Y j won) is_rest v) in
-            subst (λ (n : ℕ). TellsTry d T3 B n t won) one_less (record {
+            subst (λ (n : ℕ). TellsTry d cut T3 B n t won) one_less (record {
               right = w.right ∙ sym (rest_decides ∙ ap (λ b. b || can (chess d) (suc (j - 1)) (refused (chess d) B t)) some_rest);
-              stored = answered_rest (chess d) (chess_is_game d) (entries T3) B (j - 1) t won a.leaves.none_stale all_won (λ C m. kept C (all_stored C m)) some_rest w.right w.stored;
+              stored = answered_rest (chess d) (chess_is_game d) cut (entries T3) B (j - 1) t won a.leaves.none_stale all_won (λ C m. kept C (all_stored C m)) some_rest w.right w.stored;
             })
           where
             kept : (C : List Pos) → StoredWon (chess d) (entries T1) C → StoredWon (chess d) (entries T3) C
             kept C m = (m.0, m.1, r.stretch.kept (C, m.0) (Some m.1) (subst (λ E. known (chess d) E (C, m.0) ≡ Some (Some m.1)) (sym i.interned.noted) m.2))
 
-        pub rest_answers : (T3 : Interned) (u3 : ℕ) (r : Result Bool Stop2) → Searches d r (TellsSet d T3 X j) (CoversSet (chess d) X j) 0 T2 T3 u2 u3 → Searches d r (TellsTry d T3 B j t) (CoversTry (chess d) B j t) (made (chess d) B t) T0 T3 u0 u3
-        rest_answers T3 u3 r k = answered d r (TellsSet d T3 X j) (TellsTry d T3 B j t) (CoversTry (chess d) B j t) (CoversSet (chess d) X j) (made (chess d) B t) 0 (made (chess d) B t) T0 T2 T3 u0 u2 u3 covers_rest before_rest (omega arith) (λ won v s. rest_tells T3 u3 won v s) k
+        pub rest_answers : (T3 : Interned) (u3 : ℕ) (r : Result Bool Stop2) → Searches d cut r (TellsSet d T3 X j) (CoversSet (chess d) X j) 0 T2 T3 u2 u3 → Searches d cut r (TellsTry d cut T3 B j t) (CoversTry (chess d) B j t) (made (chess d) B t) T0 T3 u0 u3
+        rest_answers T3 u3 r k = answered d cut r (TellsSet d T3 X j) (TellsTry d cut T3 B j t) (CoversTry (chess d) B j t) (CoversSet (chess d) X j) (made (chess d) B t) 0 (made (chess d) B t) T0 T2 T3 u0 u2 u3 covers_rest before_rest (omega arith) (λ won v s. rest_tells T3 u3 won v s) k

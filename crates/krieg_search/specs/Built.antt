@@ -1,5 +1,5 @@
 -- Nodes that are built of stored results.
-use Rattle.std.specs.Prelude.{◌≡◌, ℕ, ◌+◌, ◌<◌, ◌≤◌, ◌^◌, List, [], ◌∷◌, Option, Some, None, Result, Ok, Err, ◌⊎◌, ⊤}
+use Rattle.std.specs.Prelude.{◌≡◌, ℕ, Bool, ◌+◌, ◌<◌, ◌≤◌, ◌^◌, List, [], ◌∷◌, Option, Some, None, Result, Ok, Err, ◌⊎◌, ⊤}
 use Rattle.krieg_board.specs.Pos.{Pos}
 use Rattle.krieg_board.specs.declared.men.Move.{Move}
 use Rattle.krieg_words.specs.declared.dialects.Dialect.{Dialect}
@@ -41,9 +41,10 @@ with_root key Nothing rs = rs
 with_root key (Just n) rs = (key, n) ∷ rs
 
 module _ (d : Dialect) where
-  -- what building needs of a table: right results, and that 64 bits count the units of each split that they stand for
-  pub record IsPaidFor (T : Interned) : Type 0 where
-    pub ready : IsReady d T
+  -- What building needs of a table, where tries may be cut or not: right results, and that 64 bits count the units of each
+  -- split that they stand for.
+  pub record IsPaidFor (cut : Bool) (T : Interned) : Type 0 where
+    pub ready : IsReady d cut T
     pub paid : charged (chess d) (entries T) < 2 ^ 64
 
   -- an edge to the canonical node of each class that has one

@@ -1,5 +1,5 @@
 -- Whether some plan mates, as the search finds it.
-use Rattle.std.specs.Prelude.{◌≡◌, ℕ, ◌+◌, ◌<◌, ◌≤◌, true, false, not, List, map, find, Some, None, IfSome, Result, Ok, Err, ⊤}
+use Rattle.std.specs.Prelude.{◌≡◌, ℕ, ◌+◌, ◌<◌, ◌≤◌, Bool, true, false, not, List, map, find, Some, None, IfSome, Result, Ok, Err, ⊤}
 use Rattle.std.specs.List.{list_any}
 use Rattle.krieg_board.specs.Pos.{Pos}
 use Rattle.krieg_board.specs.declared.men.Side.{Side}
@@ -35,13 +35,14 @@ use Rattle.krieg_search.specs.Built.{WonBy}
 abbrev pub sets_in : Interned → List Opening → List (List Pos)
 sets_in T os = map (λ o. set_at T o.set) os
 
+-- where the search may cut tries, no block of a try is stored for certain, and what was taken has no floor
 module _ (d : Dialect) (who : Side) (S : List Pos) (n : ℕ) where
   -- What was taken, result by result. Each result is of a set with a number of moves, no two are of the same, and all of
   -- these are reached. The results are right, and tell whether some plan mates. What was taken is what the first replies
   -- take, and for each result the splits of its tries up to the first that wins.
-  pub record IsAccount (had has : ℕ) : Type 0 where
+  pub record IsAccount (cut : Bool) (had has : ℕ) : Type 0 where
     pub results : Table (chess d)
-    pub sound : IsSound (chess d) results
+    pub sound : IsSound (chess d) cut results
     pub answer : AnswersPlan (chess d) (outset d who) results n S
     pub once : IsOnce (pairs results)
     pub reached : (q : List Pos × ℕ) → In q (pairs results) → In q (reach_of (chess d) (outset d who) n S)
@@ -53,29 +54,29 @@ module _ (d : Dialect) (who : Side) (S : List Pos) (n : ℕ) where
     pub at_most : had ≤ has + fresh (chess d) (outset d who) n S
 
   -- the results are right and paid for, and each opening that occurs has its set in the table
-  pub record IsFound (w : Found) (had : ℕ) : Type 0 where
-    pub ready : IsReady d w.table
+  pub record IsFound (cut : Bool) (w : Found) (had : ℕ) : Type 0 where
+    pub ready : IsReady d cut w.table
     pub paid : charged (chess d) (entries w.table) ≤ had
     pub numbered : AreNumbered w.table w.openings.items
     pub sets : map (opening_in w.table) w.openings.items ≡ opening_sets d who S
 
   -- no listed position is over, and the first opening set that cannot be won within n is stored as such
-  pub record IsLost (w : Found) (had : ℕ) : Type 0 where
+  pub record IsLost (cut : Bool) (w : Found) (had : ℕ) : Type 0 where
     pub cannot : can_plan (chess d) (outset d who) n S ≡ false
     pub none_over : list_any (is_over (chess d) (outset d who)) S ≡ false
-    pub found : IsFound w had
+    pub found : IsFound cut w had
     pub lost : IfSome (find (λ C. not (can (chess d) n C)) (sets_in w.table w.openings.items)) (λ C. 0 < n → stored position_lt (entries w.table) (C, n) ≡ Some None)
 
   -- each opening set is stored as won
-  pub record IsWon (w : Found) (had : ℕ) : Type 0 where
+  pub record IsWon (cut : Bool) (w : Found) (had : ℕ) : Type 0 where
     pub can : can_plan (chess d) (outset d who) n S ≡ true
-    pub found : IsFound w had
+    pub found : IsFound cut w had
     pub won : (C : List Pos) → In C (sets_in w.table w.openings.items) → WonBy w.table C n
 
-  abbrev pub IsDecided : Result Decided Stop2 → ℕ → ℕ → Type 0
-  IsDecided (Ok Over) had has = (list_any (is_over (chess d) (outset d who)) S ≡ true) × (can_plan (chess d) (outset d who) n S ≡ false) × IsAccount had has
-  IsDecided (Ok (Lost w)) had has = IsLost w had × IsAccount had has
-  IsDecided (Ok (Won w)) had has = IsWon w had × IsAccount had has
-  IsDecided (Err Spent) had has = had < fresh (chess d) (outset d who) n S
-  IsDecided (Err Large) had has = ⊥
-  IsDecided (Err NoMemory) had has = ⊤
+  abbrev pub IsDecided : Bool → Result Decided Stop2 → ℕ → ℕ → Type 0
+  IsDecided cut (Ok Over) had has = (list_any (is_over (chess d) (outset d who)) S ≡ true) × (can_plan (chess d) (outset d who) n S ≡ false) × IsAccount cut had has
+  IsDecided cut (Ok (Lost w)) had has = IsLost cut w had × IsAccount cut had has
+  IsDecided cut (Ok (Won w)) had has = IsWon cut w had × IsAccount cut had has
+  IsDecided cut (Err Spent) had has = had < fresh (chess d) (outset d who) n S
+  IsDecided cut (Err Large) had has = ⊥
+  IsDecided cut (Err NoMemory) had has = ⊤

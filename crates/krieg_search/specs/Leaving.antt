@@ -1,5 +1,5 @@
 -- What a try leaves to be won.
-use Rattle.std.specs.Prelude.{◌≡◌, ℕ, false, List, map, Option, Some, None}
+use Rattle.std.specs.Prelude.{◌≡◌, ℕ, Bool, false, List, map, Option, Some, None}
 use Rattle.krieg_board.specs.Pos.{Pos}
 use Rattle.krieg_board.specs.declared.men.Move.{Move}
 use Rattle.krieg_words.specs.declared.dialects.Dialect.{Dialect}
@@ -11,10 +11,10 @@ use Rattle.krieg_game.specs.Classes.{class_pair}
 use Rattle.krieg_search.specs.declared.left.Left.{Left}
 
 module _ (d : Dialect) where
-  -- the try fails at once: it begins no win, and no pair of a set and a number is to blame
-  pub record FailsAtOnce (B : List Pos) (t : Move) (j : ℕ) : Type 0 where
+  -- the try fails at once: it begins no win, and where tries may not be cut no pair of a set and a number is to blame
+  pub record FailsAtOnce (cut : Bool) (B : List Pos) (t : Move) (j : ℕ) : Type 0 where
     pub fails : begins (chess d) j B t ≡ false
-    pub no_pair : block_pair (chess d) j B t ≡ None
+    pub no_pair : cut ≡ false → block_pair (chess d) j B t ≡ None
 
   -- it stalemates in no member and, where one move is left, lives in none; these are the class of each key that occurs, and
   -- the members that refuse it
@@ -24,6 +24,6 @@ module _ (d : Dialect) where
     pub classes_part : map class_pair l.classes.items ≡ map (λ key. (key, class (chess d) B t key)) (keys (chess d) B t)
     pub refused_part : l.refused ≡ refused (chess d) B t
 
-  abbrev pub IsLeft : List Pos → Move → ℕ → Option Left → Type 0
-  IsLeft B t j None = FailsAtOnce B t j
-  IsLeft B t j (Some l) = Leaves B t j l
+  abbrev pub IsLeft : Bool → List Pos → Move → ℕ → Option Left → Type 0
+  IsLeft cut B t j None = FailsAtOnce cut B t j
+  IsLeft cut B t j (Some l) = Leaves B t j l

@@ -29,18 +29,19 @@ pub record IsNumbered (T T' : Interned) (B : List Pos) (set : ℕ) : Type 0 wher
 abbrev pub sets_of : List Class → List (List Pos)
 sets_of cs = map (λ c. c.belief) cs
 
-module _ (d : Dialect) where
+-- where the search may cut tries, no block of a try is stored for certain
+module _ (d : Dialect) (cut : Bool) where
   -- what the search needs of a table, and leaves of it: the results are right and stand on others
   pub record IsReady (T : Interned) : Type 0 where
     pub counted : AreCounted T
-    pub sound : IsSound (chess d) (entries T)
+    pub sound : IsSound (chess d) cut (entries T)
 
   -- From one table and number of units to others. No set has lost its number, and the results and the units are those
   -- of a stretch.
   pub record IsSearched (Q : List (List Pos × ℕ) → Type 0) (cost : ℕ) (T T' : Interned) (had has : ℕ) : Type 0 where
     pub counted : AreCounted T'
     pub more : IsMore T T'
-    pub stretch : IsStretch (chess d) Q cost (entries T) (entries T') had has
+    pub stretch : IsStretch (chess d) cut Q cost (entries T) (entries T') had has
 
   -- an answer that holds, with the stretch that led to it; or too few units for it
   abbrev pub Searches : {A : Type 0} → Result A Stop2 → (A → Type 0) → (List (List Pos × ℕ) → Type 0) → ℕ → Interned → Interned → ℕ → ℕ → Type 0
@@ -49,15 +50,16 @@ module _ (d : Dialect) where
   Searches (Err Large) holds Q cost T T' had has = ⊥
   Searches (Err NoMemory) holds Q cost T T' had has = ⊤
 
+  -- whether the try begins to win the set within j, and that the table has it
+  pub record TellsTry (T : Interned) (B : List Pos) (j : ℕ) (t : Move) (yes : Bool) : Type 0 where
+    pub right : yes ≡ begins (chess d) j B t
+    pub stored : AnswersTry (chess d) cut (entries T) B j t yes
+
+module _ (d : Dialect) where
   -- whether the set can be won within j, and that the table has it
   pub record TellsSet (T : Interned) (B : List Pos) (j : ℕ) (yes : Bool) : Type 0 where
     pub right : yes ≡ can (chess d) j B
     pub stored : AnswersSet (chess d) (entries T) B j yes
-
-  -- whether the try begins to win the set within j, and that the table has it
-  pub record TellsTry (T : Interned) (B : List Pos) (j : ℕ) (t : Move) (yes : Bool) : Type 0 where
-    pub right : yes ≡ begins (chess d) j B t
-    pub stored : AnswersTry (chess d) (entries T) B j t yes
 
   -- whether all of the sets can be won within j, and that the table has it
   pub record TellsSets (T : Interned) (Cs : List (List Pos)) (j : ℕ) (yes : Bool) : Type 0 where

@@ -1,5 +1,5 @@
 -- What a search for a plan answers, and what it takes.
-use Rattle.std.specs.Prelude.{◌≡◌, ℕ, ◌<◌, ◌≤◌, true, false, List, Result, Ok, Err, ⊤}
+use Rattle.std.specs.Prelude.{◌≡◌, ℕ, ◌+◌, ◌<◌, ◌≤◌, Bool, true, false, List, Result, Ok, Err, ⊤}
 use Rattle.krieg_board.specs.Pos.{Pos}
 use Rattle.krieg_board.specs.declared.men.Side.{Side}
 use Rattle.krieg_words.specs.declared.dialects.Dialect.{Dialect}
@@ -55,7 +55,22 @@ module _ (d : Dialect) (who : Side) (S : List Pos) (n : ℕ) where
 
   -- and there is an account of it: each set that was searched with some number of moves stands there once, with what it took
   abbrev pub HasAccount : Result Answer Stop2 → ℕ → ℕ → Type 0
-  HasAccount (Ok a) had has = IsAccount d who S n had has
-  HasAccount (Err Large) had has = IsAccount d who S n had has
+  HasAccount (Ok a) had has = IsAccount d who S n false had has
+  HasAccount (Err Large) had has = IsAccount d who S n false had has
   HasAccount (Err Spent) had has = ⊤
   HasAccount (Err NoMemory) had has = ⊤
+
+  -- What a search takes that may cut tries: what its account says, so at most what is fresh, and there is no floor. Spent
+  -- comes only where fewer units are left than are fresh. Spent and want of memory take none.
+  abbrev pub IsChargedAtMost : Result Answer Stop2 → ℕ → ℕ → Type 0
+  IsChargedAtMost (Ok a) had has = (has ≤ had) × (had ≤ has + fresh (chess d) (outset d who) n S)
+  IsChargedAtMost (Err Large) had has = (has ≤ had) × (had ≤ has + fresh (chess d) (outset d who) n S)
+  IsChargedAtMost (Err Spent) had has = (had < fresh (chess d) (outset d who) n S) × (has ≡ had)
+  IsChargedAtMost (Err NoMemory) had has = has ≡ had
+
+  -- what a search takes, whether it may cut tries or not: both of the above follow
+  abbrev pub Takes : Bool → Result Answer Stop2 → ℕ → ℕ → Type 0
+  Takes cut (Ok a) had has = IsAccount d who S n cut had has
+  Takes cut (Err Large) had has = IsAccount d who S n cut had has
+  Takes cut (Err Spent) had has = (had < fresh (chess d) (outset d who) n S) × (has ≡ had)
+  Takes cut (Err NoMemory) had has = has ≡ had

@@ -11,7 +11,7 @@ ghost use Rattle.krieg_search.specs.Opened.{AreNumbered, opening_in};
 ghost use Rattle.krieg_search.specs.Decided.{sets_in};
 ghost use Rattle.krieg_search.specs.Built.{WonBy, IsPaidFor, roots_for};
 ghost use Rattle.krieg_search.specs.Planned.{IsPlanned};
-ghost use Rattle.krieg_search.specs.Solved.{IsAnswer, IsCharged, HasAccount};
+ghost use Rattle.krieg_search.specs.Solved.{IsAnswer, IsCharged, HasAccount, IsChargedAtMost, Takes};
 
 use crate::decide::{Decided, Found, decide};
 use crate::roots::{Roots, build_roots};
@@ -40,7 +40,7 @@ fn build_plan(
     moves: u8,
     nodes: usize,
 ) -> Result<Answer, Stop2>
-    requires paid { IsPaidFor d won.table }
+    requires paid { IsPaidFor d true won.table }
     requires numbered { AreNumbered won.table won.openings.items }
     requires won { (C : List Pos) → In C (sets_in won.table won.openings.items) → WonBy won.table C moves }
     requires ordered { is_ordered_plan (roots_for d moves (map (opening_in won.table) won.openings.items)) ≡ true }
@@ -56,6 +56,47 @@ fn build_plan(
         worst,
         plan: Plan::make(roots),
     })
+}
+
+/// The answer of a search, which may cut tries or not.
+fn answer_for(
+    alloc: Global,
+    d: Dialect,
+    cut: bool,
+    who: Side,
+    b: &Belief,
+    moves: u8,
+    nodes: usize,
+    units: &mut Units,
+) -> Result<Answer, Stop2>
+    requires most { moves ≤ MOST_MOVES }
+    requires turn { IsOwnTurn who b.now ⊎ IsOthersTurn who b.now }
+    ensures answer { IsAnswer d who b.now moves nodes result }
+    ensures units { Takes d who b.now moves cut result units.old units.new }
+{
+    let mut left = Units::new(units.left());
+    let won = match decide(alloc, d, cut, who, b, moves, &mut left)? {
+        Decided::Over => {
+            *units = left;
+            return Ok(Answer::None);
+        }
+        Decided::Lost(_found) => {
+            *units = left;
+            return Ok(Answer::None);
+        }
+        Decided::Won(won) => won,
+    };
+    match build_plan(alloc, d, won, moves, nodes) {
+        Ok(answer) => {
+            *units = left;
+            Ok(answer)
+        }
+        Err(Stop2::Large) => {
+            *units = left;
+            Err(Stop2::Large)
+        }
+        Err(stop) => Err(stop),
+    }
 }
 
 /// The best plan of the side `who` for the listed positions, as the umpire tells games in the dialect, or that none
@@ -90,27 +131,35 @@ pub fn solve(
     ensures account { HasAccount d who b.now moves result units.old units.new }
     ensures cost { result ≡ Err Spent → units.old < cost_of (chess d) (outset d who) moves b.now }
 {
-    let mut left = Units::new(units.left());
-    let won = match decide(alloc, d, who, b, moves, &mut left)? {
-        Decided::Over => {
-            *units = left;
-            return Ok(Answer::None);
-        }
-        Decided::Lost(_found) => {
-            *units = left;
-            return Ok(Answer::None);
-        }
-        Decided::Won(won) => won,
-    };
-    match build_plan(alloc, d, won, moves, nodes) {
-        Ok(answer) => {
-            *units = left;
-            Ok(answer)
-        }
-        Err(Stop2::Large) => {
-            *units = left;
-            Err(Stop2::Large)
-        }
-        Err(stop) => Err(stop),
-    }
+    answer_for(alloc, d, false, who, b, moves, nodes, units)
+}
+
+/// The same answer as `solve`, mostly for far fewer units: a try fails at once where some reply is found to leave a
+/// position that is no mate in time even for a player who sees it.
+///
+/// The units are those of `solve`, but there is no floor: an answer, and `Large`, take what the account says, which is at
+/// most what is fresh. A try that fails at once takes as much as if it were split, and nothing for what lies below it.
+/// `Spent` comes only where fewer units are left than are fresh. It takes none, and neither does `NoMemory`.
+///
+/// To find such replies at most as many positions are looked at as there are units at the call, and these take none. Where
+/// they are used up, or memory for what is found of them is wanting, the search goes on without: so with just the units that
+/// an answer took it may come to `Spent`.
+///
+/// No other moves, positions and sides may be asked for than by `solve`.
+pub fn find(
+    alloc: Global,
+    d: Dialect,
+    who: Side,
+    b: &Belief,
+    moves: u8,
+    nodes: usize,
+    units: &mut Units,
+) -> Result<Answer, Stop2>
+    requires most { moves ≤ MOST_MOVES }
+    requires turn { IsOwnTurn who b.now ⊎ IsOthersTurn who b.now }
+    ensures answer { IsAnswer d who b.now moves nodes result }
+    ensures units { IsChargedAtMost d who b.now moves result units.old units.new }
+    ensures account { Takes d who b.now moves true result units.old units.new }
+{
+    answer_for(alloc, d, true, who, b, moves, nodes, units)
 }

@@ -1,4 +1,4 @@
-ghost use Rattle.std.specs.Prelude.{◌≡◌, ◌<◌, ◌≤◌, ◌^◌, ◌++◌, ◌∷◌, [], IfOk, OnOk, Some, false, length, List, map, option_map};
+ghost use Rattle.std.specs.Prelude.{◌≡◌, ◌<◌, ◌≤◌, ◌^◌, ◌++◌, ◌∷◌, [], IfOk, OnOk, Some, false, length, List, map, option_map, true};
 ghost use Rattle.krieg_board.specs.Pos.{Pos};
 ghost use Rattle.krieg_pack.specs.Order.{position_lt};
 ghost use Rattle.krieg_theory.specs.Sets.{In, is_nil};
@@ -93,7 +93,7 @@ pub(crate) fn build(
     deep: usize,
 ) -> Result<Box<Node>, Stop2>
     requires within { set < length table.old }
-    requires paid { IsPaidFor d table.old }
+    requires paid { IsPaidFor d true table.old }
     requires won { WonBy table.old (set_at table.old set) moves }
     ensures { Builds result (λ n. canon (chess d) moves (set_at table.old set) ≡ Just (tree_of n.value)) (size_other (canon (chess d) moves (set_at table.old set))) (depth_other (canon (chess d) moves (set_at table.old set))) table.old table.new left.old left.new deep }
 {
@@ -126,7 +126,7 @@ fn build_edges(
     left: &mut usize,
     deep: usize,
 ) -> Result<Vec<Edge>, Stop2>
-    requires paid { IsPaidFor d table.old }
+    requires paid { IsPaidFor d true table.old }
     requires won { (C : List Pos) → In C (sets_of classes.items) → WonBy table.old C moves }
     ensures { Builds result (λ es. as_edges (map edge_of es.items) ≡ edges_for d moves (map class_pair classes.items)) (size_edges (edges_for d moves (map class_pair classes.items))) (depth_edges (edges_for d moves (map class_pair classes.items))) table.old table.new left.old left.new deep }
 {
@@ -154,7 +154,7 @@ fn build_other(
     left: &mut usize,
     deep: usize,
 ) -> Result<Option<Box<Node>>, Stop2>
-    requires paid { IsPaidFor d table.old }
+    requires paid { IsPaidFor d true table.old }
     requires won { is_nil refused ≡ false → WonBy table.old refused moves }
     ensures { Builds result (λ o. as_other (option_map (λ b. tree_of b.value) o) ≡ refused_canon (chess d) moves refused) (size_other (refused_canon (chess d) moves refused)) (depth_other (refused_canon (chess d) moves refused)) table.old table.new left.old left.new deep }
 {

@@ -11,6 +11,7 @@ use crate::search::can_win;
 use crate::stop::Stop2;
 use krieg_board::{MOST_MOVES, Side, Units};
 use krieg_pack::Belief;
+use krieg_sight::Sight;
 use krieg_table::Table;
 use krieg_words::Dialect;
 use std::alloc::Global;
@@ -37,18 +38,20 @@ pub enum Decided {
 fn all_openings_win(
     alloc: Global,
     d: Dialect,
+    cut: bool,
+    sight: &mut Sight,
     table: &mut Table,
     openings: &[Opening],
     moves: u8,
     units: &mut Units,
 ) -> Result<bool, Stop2>
     requires most { moves ≤ MOST_MOVES }
-    requires ready { IsReady d table.old }
+    requires ready { IsReady d cut table.old }
     requires numbered { AreNumbered table.old openings.now }
-    ensures { Searches d result (TellsSets d table.new (sets_in table.old openings.now) moves) (CoversSets (chess d) (sets_in table.old openings.now) moves) 0 table.old table.new units.old units.new }
+    ensures { Searches d cut result (TellsSets d table.new (sets_in table.old openings.now) moves) (CoversSets (chess d) (sets_in table.old openings.now) moves) 0 table.old table.new units.old units.new }
 {
     for o in openings {
-        if !can_win(alloc, d, table, o.set, moves, units)? {
+        if !can_win(alloc, d, cut, sight, table, o.set, moves, units)? {
             return Ok(false);
         }
     }
@@ -56,9 +59,13 @@ fn all_openings_win(
 }
 
 /// Whether some plan mates every listed position within `moves`, and by which results.
+///
+/// With `cut` it looks into no part of a try that is found to fail even for a player who sees the position: the answer is
+/// the same, but of such tries the table has no block. At most as many positions are looked at for it as there are units.
 pub fn decide(
     alloc: Global,
     d: Dialect,
+    cut: bool,
     who: Side,
     b: &Belief,
     moves: u8,
@@ -66,13 +73,16 @@ pub fn decide(
 ) -> Result<Decided, Stop2>
     requires most { moves ≤ MOST_MOVES }
     requires turn { IsOwnTurn who b.now ⊎ IsOthersTurn who b.now }
-    ensures { IsDecided d who b.now moves result units.old units.new }
+    ensures { IsDecided d who b.now moves cut result units.old units.new }
 {
     let mut table = Table::new(alloc);
+    let mut sight = Sight::new(alloc, if cut { units.left() } else { 0 });
     let Some(openings) = find_openings(alloc, d, who, b, &mut table, units)? else {
         return Ok(Decided::Over);
     };
-    let all_win = all_openings_win(alloc, d, &mut table, &openings, moves, units)?;
+    let all_win = all_openings_win(
+        alloc, d, cut, &mut sight, &mut table, &openings, moves, units,
+    )?;
     table.know_once();
     if !all_win {
         return Ok(Decided::Lost(Found { table, openings }));

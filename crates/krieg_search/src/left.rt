@@ -1,4 +1,4 @@
-ghost use Rattle.std.specs.Prelude.{IfOk, ◌≡◌, true, ◌<◌};
+ghost use Rattle.std.specs.Prelude.{IfOk, ◌≡◌, true, false, ◌<◌};
 ghost use Rattle.krieg_theory.specs.Split.{legal_in_some};
 ghost use Rattle.krieg_costs.specs.Cost.{made};
 ghost use Rattle.krieg_game.specs.Chess.{chess};
@@ -8,7 +8,8 @@ ghost use Rattle.krieg_search.specs.Leaving.{IsLeft};
 use krieg_board::{Move, Units};
 use krieg_game::Class;
 use krieg_pack::Belief;
-use krieg_split::{SplitStop, split_to_mate, split_unless_stale};
+use krieg_sight::{Sight, some_flees};
+use krieg_split::{SplitStop, pay_split, split_to_mate, split_unless_stale};
 use krieg_words::Dialect;
 use std::alloc::Global;
 
@@ -28,7 +29,7 @@ fn left_by_last(
     mv: Move,
     units: &mut Units,
 ) -> Result<Option<Left>, SplitStop>
-    ensures left { IfOk result (IsLeft d b.now mv 1) }
+    ensures left { IfOk result (IsLeft d false b.now mv 1) }
     ensures units { IsPaid result (made (chess d) b.now mv) units.old units.new }
 {
     match split_to_mate(alloc, d, b, mv, units)? {
@@ -54,7 +55,7 @@ pub fn left_by(
     units: &mut Units,
 ) -> Result<Option<Left>, SplitStop>
     requires { 0 < moves }
-    ensures left { IfOk result (IsLeft d b.now mv moves) }
+    ensures left { IfOk result (IsLeft d false b.now mv moves) }
     ensures units { IsPaid result (made (chess d) b.now mv) units.old units.new }
 {
     if moves == 1 {
@@ -67,4 +68,28 @@ pub fn left_by(
         })),
         None => Ok(None),
     }
+}
+
+/// The same, where tries may be cut: then a try also fails at once where in some member a reply is found to leave a position
+/// that is no mate in time even for a player who sees it.
+#[inline(never)]
+pub(crate) fn left_unless_cut(
+    alloc: Global,
+    d: Dialect,
+    cut: bool,
+    sight: &mut Sight,
+    b: &Belief,
+    mv: Move,
+    moves: u8,
+    units: &mut Units,
+) -> Result<Option<Left>, SplitStop>
+    requires { 0 < moves }
+    ensures left { IfOk result (IsLeft d cut b.now mv moves) }
+    ensures units { IsPaid result (made (chess d) b.now mv) units.old units.new }
+{
+    if cut && 1 < moves && some_flees(alloc, sight, b, &mv, moves - 1) {
+        pay_split(alloc, b, mv, units)?;
+        return Ok(None);
+    }
+    left_by(alloc, d, b, mv, moves, units)
 }

@@ -1,10 +1,11 @@
-//! The search for the best plan: `solve`.
+//! The search for the best plan: `solve` and `find`.
 //!
 //! It tells how a side mates every listed position, whichever of them is on the board, within a number of own moves;
-//! or that no plan does. What stands in a clause of `solve` is in the terms of krieg_theory and krieg_costs: read
-//! `Solved` in `specs/` (what each answer says, and what it takes), then `Decided` and `Planned` (the two halves:
-//! whether some plan mates, with the account of what that took, and the plan that is built), then `Searched` and `Built`
-//! (a stretch of the search, and a node of the plan). `laws` has the theorems of krieg_theory and krieg_costs for chess.
+//! or that no plan does. Both give the same answers, at other prices. What stands in their clauses is in the terms of
+//! krieg_theory and krieg_costs: read `Solved` in `specs/` (what each answer says, and what it takes), then `Decided` and
+//! `Planned` (the two halves: whether some plan mates, with the account of what that took, and the plan that is built),
+//! then `Searched` and `Built` (a stretch of the search, and a node of the plan). `laws` has the theorems of krieg_theory
+//! and krieg_costs for chess.
 //!
 //! `openings` has what may be heard before the first own turn, with the set of what is possible then. `decide` asks
 //! for one opening after the other whether its set can be won, by `search`: one number of moves after the other; for
@@ -12,6 +13,11 @@
 //! (`left`), then what is possible after each thing that may be heard, and then the members that refuse it, up to
 //! the first part that cannot be won. Each set has a number in a table (`number`), which holds what is found
 //! for each number of moves, so that no set is searched twice for the same number of moves.
+//!
+//! `find` may cut tries (`cut`): there a try also fails at once where some reply to it leaves a position that is no mate
+//! in time even for a player who sees it. krieg_sight finds that out, and krieg_seeing has the law. Nothing is stored then
+//! of what lies below the try, so the floor of what a search takes does not hold for `find`. It holds for `solve`, which
+//! cuts none. The table that `decide` gives has a block of each try of a lost set only where none was cut.
 //!
 //! `roots` and `build` make the plan of the stored results. Each node is taken from the number that is allowed before
 //! anything below it is built. They split the sets once more, each by the one try that wins it, by units that are made
@@ -21,9 +27,8 @@
 //! whatever the answer. `left_by` makes one split of it again, and `number_of` finds the number of a part.
 //!
 //! The search calls itself for each part of a set, and building for each node below a node. Where one try after another
-//! is refused, they go a level deeper for each, some 2,490 levels at most. A level of the search takes less than 400
-//! bytes of the stack, or less than 1,500 in a program that Rattle's own compiler builds, and a level of building less
-//! than 600.
+//! is refused, they go a level deeper for each, some 2,490 levels at most. A level of the search takes some 400 bytes of
+//! the stack, or less than 1,500 in a program that Rattle's own compiler builds, and a level of building less than 600.
 //!
 //! ```
 //! let mut units = Units::new(5_000_000);
@@ -35,6 +40,7 @@
 //!     Err(Stop2::Spent) => .., // the units are too few, and all are left
 //!     Err(Stop2::NoMemory) => ..,
 //! }
+//! // `find` takes the same arguments and comes to the same
 //! ```
 #![tactic(auto)]
 
@@ -50,7 +56,7 @@ mod search;
 mod stop;
 mod turn;
 
-pub use best_plan::{Answer, solve};
+pub use best_plan::{Answer, find, solve};
 pub use left::{Left, left_by};
 pub use number::number_of;
 pub use openings::Opening;

@@ -1,4 +1,4 @@
-ghost use Rattle.std.specs.Prelude.{List, map};
+ghost use Rattle.std.specs.Prelude.{List, map, true};
 ghost use Rattle.krieg_board.specs.Pos.{Pos};
 ghost use Rattle.krieg_theory.specs.Sets.{In};
 ghost use Rattle.krieg_plan.specs.Trees.{plan_size, plan_depth};
@@ -33,7 +33,7 @@ pub(crate) fn build_roots(
     moves: u8,
     left: &mut usize,
 ) -> Result<Roots, Stop2>
-    requires paid { IsPaidFor d table.old }
+    requires paid { IsPaidFor d true table.old }
     requires numbered { AreNumbered table.old openings.items }
     requires won { (C : List Pos) → In C (sets_in table.old openings.items) → WonBy table.old C moves }
     ensures { Builds result (AreRoots d moves (map (opening_in table.old) openings.items)) (plan_size (roots_for d moves (map (opening_in table.old) openings.items))) (plan_depth (roots_for d moves (map (opening_in table.old) openings.items))) table.old table.new left.old left.new MOST_ON_PATH }

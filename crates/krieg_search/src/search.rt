@@ -8,11 +8,12 @@ ghost use Rattle.krieg_table.specs.Interned.{set_at};
 ghost use Rattle.krieg_table.specs.Entries.{entries};
 ghost use Rattle.krieg_search.specs.Searched.{IsReady, Searches, TellsSet, TellsTry, TellsSets, sets_of};
 
-use crate::left::{Left, left_by};
+use crate::left::{Left, left_unless_cut};
 use crate::number::number_of;
 use crate::stop::Stop2;
 use krieg_board::{MOST_MOVES, Move, Units};
 use krieg_game::Class;
+use krieg_sight::Sight;
 use krieg_split::tries;
 use krieg_table::{Known, Table};
 use krieg_words::Dialect;
@@ -23,6 +24,8 @@ use std::alloc::Global;
 pub(crate) fn can_win(
     alloc: Global,
     d: Dialect,
+    cut: bool,
+    sight: &mut Sight,
     table: &mut Table,
     set: u32,
     moves: u8,
@@ -30,11 +33,11 @@ pub(crate) fn can_win(
 ) -> Result<bool, Stop2>
     requires within { set < length table.old }
     requires most { moves ≤ MOST_MOVES }
-    requires ready { IsReady d table.old }
-    ensures { Searches d result (TellsSet d table.new (set_at table.old set) moves) (CoversSet (chess d) (set_at table.old set) moves) 0 table.old table.new units.old units.new }
+    requires ready { IsReady d cut table.old }
+    ensures { Searches d cut result (TellsSet d table.new (set_at table.old set) moves) (CoversSet (chess d) (set_at table.old set) moves) 0 table.old table.new units.old units.new }
 {
     for fewer in 0..moves {
-        if can_win_in(alloc, d, table, set, fewer + 1, units)? {
+        if can_win_in(alloc, d, cut, sight, table, set, fewer + 1, units)? {
             return Ok(true);
         }
     }
@@ -47,6 +50,8 @@ pub(crate) fn can_win(
 fn can_win_in(
     alloc: Global,
     d: Dialect,
+    cut: bool,
+    sight: &mut Sight,
     table: &mut Table,
     set: u32,
     moves: u8,
@@ -55,9 +60,9 @@ fn can_win_in(
     requires some { 0 < moves }
     requires within { set < length table.old }
     requires most { moves ≤ MOST_MOVES }
-    requires ready { IsReady d table.old }
+    requires ready { IsReady d cut table.old }
     requires below { LostBelow (chess d) (entries table.old) (set_at table.old set) moves }
-    ensures { Searches d result (TellsSet d table.new (set_at table.old set) moves) (CoversPair (chess d) (set_at table.old set) moves) 0 table.old table.new units.old units.new }
+    ensures { Searches d cut result (TellsSet d table.new (set_at table.old set) moves) (CoversPair (chess d) (set_at table.old set) moves) 0 table.old table.new units.old units.new }
 {
     match table.result(set, moves) {
         Some(Known::Wins(_)) => return Ok(true),
@@ -66,7 +71,7 @@ fn can_win_in(
     }
     let tries = tries(alloc, table.belief(set))?;
     for mv in &tries {
-        if begins(alloc, d, table, set, *mv, moves, units)? {
+        if begins(alloc, d, cut, sight, table, set, *mv, moves, units)? {
             table.note(set, moves, Known::Wins(*mv));
             return Ok(true);
         }
@@ -83,6 +88,8 @@ fn can_win_in(
 fn begins(
     alloc: Global,
     d: Dialect,
+    cut: bool,
+    sight: &mut Sight,
     table: &mut Table,
     set: u32,
     mv: Move,
@@ -92,22 +99,31 @@ fn begins(
     requires some { 0 < moves }
     requires within { set < length table.old }
     requires most { moves ≤ MOST_MOVES }
-    requires ready { IsReady d table.old }
+    requires ready { IsReady d cut table.old }
     requires legal { legal_in_some (chess d) (set_at table.old set) mv ≡ true }
-    ensures { Searches d result (TellsTry d table.new (set_at table.old set) moves mv) (CoversTry (chess d) (set_at table.old set) moves mv) (made (chess d) (set_at table.old set) mv) table.old table.new units.old units.new }
+    ensures { Searches d cut result (TellsTry d cut table.new (set_at table.old set) moves mv) (CoversTry (chess d) (set_at table.old set) moves mv) (made (chess d) (set_at table.old set) mv) table.old table.new units.old units.new }
 {
-    let Some(Left { classes, refused }) = left_by(alloc, d, table.belief(set), mv, moves, units)?
+    let Some(Left { classes, refused }) = left_unless_cut(
+        alloc,
+        d,
+        cut,
+        sight,
+        table.belief(set),
+        mv,
+        moves,
+        units,
+    )?
     else {
         return Ok(false);
     };
-    if !all_can_win(alloc, d, table, classes, moves - 1, units)? {
+    if !all_can_win(alloc, d, cut, sight, table, classes, moves - 1, units)? {
         return Ok(false);
     }
     if refused.is_empty() {
         return Ok(true);
     }
     let rest = number_of(table, refused)?;
-    can_win(alloc, d, table, rest, moves, units)
+    can_win(alloc, d, cut, sight, table, rest, moves, units)
 }
 
 /// Whether each of the classes can be won within `moves`, up to the first that cannot. Each is let go into the table.
@@ -115,18 +131,20 @@ fn begins(
 fn all_can_win(
     alloc: Global,
     d: Dialect,
+    cut: bool,
+    sight: &mut Sight,
     table: &mut Table,
     classes: Vec<Class>,
     moves: u8,
     units: &mut Units,
 ) -> Result<bool, Stop2>
     requires most { moves ≤ MOST_MOVES }
-    requires ready { IsReady d table.old }
-    ensures { Searches d result (TellsSets d table.new (sets_of classes.items) moves) (CoversSets (chess d) (sets_of classes.items) moves) 0 table.old table.new units.old units.new }
+    requires ready { IsReady d cut table.old }
+    ensures { Searches d cut result (TellsSets d table.new (sets_of classes.items) moves) (CoversSets (chess d) (sets_of classes.items) moves) 0 table.old table.new units.old units.new }
 {
     for class in classes {
         let set = number_of(table, class.belief)?;
-        if !can_win(alloc, d, table, set, moves, units)? {
+        if !can_win(alloc, d, cut, sight, table, set, moves, units)? {
             return Ok(false);
         }
     }

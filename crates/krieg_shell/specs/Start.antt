@@ -3,10 +3,10 @@ use Rattle.std.specs.Prelude.{ℕ, ◌≡◌, ◌⊎◌, List, [], ◌∷◌, Op
 use Rattle.krieg_seats.specs.Accounts.{Account, new_account}
 use Rattle.krieg_play.specs.Teams.{team}
 use Rattle.krieg_play.specs.Played.{Sides, sides}
-use Rattle.krieg_args.specs.Command.{command_of}
+use Rattle.krieg_args.specs.Command.{command_of, find_of}
 use Rattle.krieg_args.specs.Files.{Files, seat_files, lead_files}
 use Rattle.krieg_cli.specs.World.{Stream, World}
-use Rattle.krieg_cli.specs.Top.{IsRun, Gets}
+use Rattle.krieg_cli.specs.Top.{IsRun, RunsAlone, Gets}
 
 -- what a player is, by the names of the two files that he is made of: where his tries come from, and where he is told
 abbrev pub Made : Type 0
@@ -46,3 +46,8 @@ StartsWith made words = StartsAt (seated made (seat_files words) (lead_files wor
 abbrev pub Starts : ℕ → World → World → Stream → Stream → Type 0
 Starts code before after err err' =
     ((words : List (List ℕ)) × StartsWith (λ tries told. new_account) words code before after err err') ⊎ HasNoMemory code before after err err'
+
+-- a start of `krieg_find` with some words, for which nobody sits
+abbrev pub StartsFind : ℕ → World → World → Stream → Stream → Type 0
+StartsFind code before after err err' =
+    ((words : List (List ℕ)) × RunsAlone (find_of words) code before after err err') ⊎ HasNoMemory code before after err err'

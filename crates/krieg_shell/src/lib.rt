@@ -1,5 +1,5 @@
-//! The edge of the program: the words that the system gives, and the call `krieg_cli::run` over them and
-//! over the streams that main makes.
+//! The edge of the programs: the words that the system gives, and the call `krieg_cli::run` over them and over the streams
+//! that main makes, or `krieg_cli::run_find` for the program `krieg_find`.
 //!
 //! `specs/Start` says what holds of every start, whatever the words are: no clause of the system's says
 //! which they are.
@@ -15,4 +15,4 @@
 
 mod shell;
 
-pub use shell::start;
+pub use shell::{start, start_find};

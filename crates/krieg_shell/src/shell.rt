@@ -5,9 +5,9 @@ ghost use Rattle.krieg_seats.specs.Accounts.{Account, new_account};
 ghost use Rattle.krieg_seats.specs.Streams.{stream_account};
 ghost use Rattle.krieg_play.specs.Teams.{team};
 ghost use Rattle.krieg_play.specs.Played.{sides};
-ghost use Rattle.krieg_shell.specs.Start.{both_at, one_at, StartsAt, StartsWith, Starts};
+ghost use Rattle.krieg_shell.specs.Start.{both_at, one_at, StartsAt, StartsWith, Starts, StartsFind};
 
-use krieg_cli::{Bench, SeatFiles, lead_files, run, seat_files};
+use krieg_cli::{Bench, SeatFiles, lead_files, run, run_find, seat_files};
 use krieg_ports::{Sink, Source, write_all};
 use krieg_seats::{Seat, StreamSeat};
 use std::alloc::Global;
@@ -196,4 +196,26 @@ pub fn start<R: Env + AllocGlobal + Files<File = File>, S: Source, O: Sink, E: S
         return tell_memory(err);
     };
     start_with(&FilePlayers { rt }, rt.alloc(), &words, input, out, err)
+}
+
+/// Does all that the program `krieg_find` does with the words that the system gives, over these streams, and gives the status
+/// with which it ends.
+///
+/// It is the status of `krieg_cli::run_find`; where memory is not found for the words, it is 11, with the same line on `err`, and
+/// nothing was read or written to `out`.
+pub fn start_find<R: Env + AllocGlobal, S: Source, O: Sink, E: Sink>(
+    rt: &R,
+    input: &mut S,
+    out: &mut O,
+    err: &mut E,
+) -> u8
+    ensures { let seen = world S.left S.faults O.got O.faults in
+        let heard = stream E.got E.faults in
+        StartsFind result (seen input.old out.old) (seen input.new out.new)
+        (heard err.old) (heard err.new) }
+{
+    let Ok(words) = words(rt) else {
+        return tell_memory(err);
+    };
+    run_find(rt.alloc(), &words, input, out, err)
 }

@@ -1,4 +1,4 @@
-//! Runs cases of data through `krieg_cli::run`, over streams and seats in memory, and tells of each file how many runs
+//! Runs cases of data through `krieg_cli::run`, or `krieg_cli::run_find`, over streams and seats in memory, and tells of each file how many runs
 //! hold.
 //!
 //! A case says line by line what a run is given and what must come of it. `docs/CASES.md` has the marks with which

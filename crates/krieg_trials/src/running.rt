@@ -4,7 +4,7 @@ use crate::came::Came;
 use crate::given::Given;
 use crate::player::{Manner, following, forgetful, scripted, sending};
 use krieg_board::{NoMemory, Side};
-use krieg_cli::{Bench, run};
+use krieg_cli::{Bench, run, run_find};
 use krieg_fen::write_move;
 use krieg_seats::Seat;
 use krieg_words::write_line;
@@ -52,7 +52,7 @@ fn seats_of(alloc: Global, bench: &Bench) -> Result<Vec<u8>, NoMemory> {
     Ok(text)
 }
 
-/// Runs the words with what is given.
+/// Runs the words with what is given. Those behind the word `find` are words of the program `krieg_find`.
 pub fn come(alloc: Global, words: &[String], given: Given) -> Result<Came, NoMemory> {
     let Given {
         text,
@@ -83,7 +83,12 @@ pub fn come(alloc: Global, words: &[String], given: Given) -> Result<Came, NoMem
             Manner::Forgets => seats.push(forgetful(alloc)?)?,
         }
     }
-    let status = run(alloc, words, &mut input, &mut out, &mut err, &mut bench);
+    let status = match words.split_first() {
+        Some((first, words)) if first.as_str() == "find" => {
+            run_find(alloc, words, &mut input, &mut out, &mut err)
+        }
+        _ => run(alloc, words, &mut input, &mut out, &mut err, &mut bench),
+    };
     if dismisses {
         bench.dismiss();
     }

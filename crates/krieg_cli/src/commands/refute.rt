@@ -36,32 +36,47 @@ impl From<RefuteStop> for Ending {
     }
 }
 
+/// About how many bytes the text of a refutation takes: the line of a position has mostly some 32, that of a reason some 16.
+fn rough_size(listed: usize, claims: &[Claim]) -> usize {
+    let mut size = listed.saturating_mul(32);
+    for claim in claims {
+        let positions = claim.set.len().saturating_mul(32);
+        let reasons = claim.reasons.len().saturating_mul(16);
+        size = size.saturating_add(positions.saturating_add(reasons));
+    }
+    size
+}
+
 /// The text of the refutation with these claims, that no plan mates the members of the set within so many moves.
+///
+/// It gets its room at once, so that it fits where the table of the search was.
 fn file_text(
     alloc: Global,
     dialect: Dialect,
     side: Side,
     moves: u8,
-    set: &Belief,
+    set: Belief,
     claims: Vec<Claim>,
 ) -> Result<Vec<u8>, NoMemory>
     requires least { 1 ≤ moves }
     requires most { moves ≤ MOST_MOVES }
-    requires some { is_nil set.now ≡ false }
-    requires few { length set.now ≤ MOST_LISTED }
-    requires hand { HaveOneHand side set.now }
-    requires turn { IsOwnTurn side set.now }
-    requires denial { IsDenial dialect side set.now moves claims.items }
-    ensures { IfOk result (λ text. spec.IsDenialText dialect side set.now moves text.items) }
+    requires some { is_nil set ≡ false }
+    requires few { length set ≤ MOST_LISTED }
+    requires hand { HaveOneHand side set }
+    requires turn { IsOwnTurn side set }
+    requires denial { IsDenial dialect side set moves claims.items }
+    ensures { IfOk result (λ text. spec.IsDenialText dialect side set moves text.items) }
 {
+    let list = listed(alloc, &set)?;
+    drop(set);
     let file = Refutation {
         dialect,
         side,
         moves,
-        list: listed(alloc, set)?,
+        list,
         claims,
     };
-    let mut text = Vec::new(alloc);
+    let mut text = Vec::with_capacity(alloc, rough_size(file.list.len(), &file.claims))?;
     write_refutation(&file, &mut text)?;
     Ok(text)
 }
@@ -71,21 +86,21 @@ fn searched(
     alloc: Global,
     d: Dialect,
     who: Side,
-    set: &Belief,
+    set: Belief,
     moves: u64,
     budget: u64,
 ) -> Result<Vec<u8>, Ending>
     requires least { 1 ≤ moves }
     requires most { moves ≤ MOST_MOVES }
-    requires some { is_nil set.now ≡ false }
-    requires few { length set.now ≤ MOST_LISTED }
-    requires hand { HaveOneHand who set.now }
-    requires turn { IsOwnTurn who set.now }
-    ensures { Decides (λ answer. answer.items) result (spec.Claimed d who set.now moves budget) }
+    requires some { is_nil set ≡ false }
+    requires few { length set ≤ MOST_LISTED }
+    requires hand { HaveOneHand who set }
+    requires turn { IsOwnTurn who set }
+    ensures { Decides (λ answer. answer.items) result (spec.Claimed d who set moves budget) }
 {
     let moves = moves as u8;
     let mut units = Units::new(budget);
-    match refute(alloc, d, set, moves, &mut units)? {
+    match refute(alloc, d, &set, moves, &mut units)? {
         Denied::Denial(claims) => Ok(file_text(alloc, d, who, moves, set, claims)?),
         Denied::Exists => Err(Ending::Refused(Refusal::PlanExists)),
     }
@@ -99,10 +114,10 @@ fn has_no_turn(sheet: &Sheet) -> bool
     sheet.is_over() || !sheet.my_turn()
 }
 
-/// What `refute` answers to a sheet.
+/// What `refute` answers to a sheet, which is let go before the search.
 fn refuted(
     alloc: Global,
-    sheet: &Sheet,
+    sheet: Sheet,
     moves: u64,
     budget: u64,
     limit: u64,
@@ -110,10 +125,12 @@ fn refuted(
     requires least { 1 ≤ moves }
     requires most { moves ≤ MOST_MOVES }
     requires few { limit ≤ MOST_LISTED }
-    ensures { Decides (λ answer. answer.items) result (spec.Refuted moves budget limit sheet.now) }
+    ensures { Decides (λ answer. answer.items) result (spec.Refuted moves budget limit sheet) }
 {
-    let set = asked(alloc, sheet, limit, has_no_turn(sheet))?;
-    searched(alloc, sheet.dialect(), sheet.side(), &set, moves, budget)
+    let set = asked(alloc, &sheet, limit, has_no_turn(&sheet))?;
+    let (dialect, side) = (sheet.dialect(), sheet.side());
+    drop(sheet);
+    searched(alloc, dialect, side, set, moves, budget)
 }
 
 /// What `refute` answers to the text of a sheet.
@@ -131,5 +148,5 @@ pub(crate) fn answer(
 {
     let sheet = read_sheet(alloc, &text)?;
     drop(text);
-    refuted(alloc, &sheet, moves, budget, limit)
+    refuted(alloc, sheet, moves, budget, limit)
 }

@@ -1,13 +1,15 @@
-ghost use Rattle.std.specs.Prelude.{◌≡◌, ◌≤◌, false, length, Ok, IfOk};
+ghost use Rattle.std.specs.Prelude.{◌≡◌, ◌≤◌, ◌⊎◌, false, length, Ok, IfOk, MatchBool};
 ghost use Rattle.krieg_text.specs.Lines.{lines};
 ghost use Rattle.krieg_text.specs.Reading.{whole};
+ghost use Rattle.krieg_split.specs.Turns.{IsOwnTurn, IsOthersTurn};
+ghost use Rattle.krieg_search.specs.Solved.{IsAnswer, IsCharged, IsChargedAtMost};
 ghost use Rattle.krieg_theory.specs.Sets.{is_nil};
 ghost use Rattle.krieg_belief.specs.Possible.{HaveOneHand};
 ghost use Rattle.krieg_plan.specs.Plans.{plan_of};
 ghost use Rattle.krieg_planfile.specs.PlanFiles.{CanBeWritten};
 ghost use Rattle.krieg_planfile.specs.PlanReading.{plan_at};
 ghost use Rattle.krieg_planfile.specs.PlanText.{plan_text};
-ghost use Rattle.krieg_cli.specs.Parts.{Decides};
+ghost use Rattle.krieg_cli.specs.Parts.{Decides, SearchedBy, SolvedBy, SolvesBy};
 ghost use Rattle.krieg_cli.specs.Solve as spec;
 
 use crate::commands::asked::{asked, listed};
@@ -19,7 +21,7 @@ use krieg_fen::MOST_LISTED;
 use krieg_pack::Belief;
 use krieg_plan::{MOST_NODES, Plan, PlanFile};
 use krieg_planfile::write_plan;
-use krieg_search::{Answer, Stop2, solve};
+use krieg_search::{Answer, Stop2, find, solve};
 use krieg_sheet::{Sheet, read_sheet};
 use krieg_words::Dialect;
 use std::alloc::Global;
@@ -71,9 +73,57 @@ fn none_text(alloc: Global, moves: u64) -> Result<Vec<u8>, NoMemory>
     counted(alloc, b"none ", moves as usize)
 }
 
+/// The text of an answer of a search: that of the plan file, or the line that none mates.
+fn told(
+    alloc: Global,
+    d: Dialect,
+    who: Side,
+    set: &Belief,
+    moves: u64,
+    answer: Answer,
+) -> Result<Vec<u8>, NoMemory>
+    requires most { moves ≤ MOST_MOVES }
+    requires some { is_nil set.now ≡ false }
+    requires few { length set.now ≤ MOST_LISTED }
+    requires hand { HaveOneHand who set.now }
+    requires answer { IsAnswer d who set.now moves MOST_NODES (Ok answer) }
+    ensures { IfOk result (λ text. spec.Tells d who set.now moves text.items) }
+{
+    match answer {
+        Answer::Mates { worst, plan } => {
+            let list = listed(alloc, set)?;
+            file_text(alloc, d, who, list, worst, plan)
+        }
+        Answer::None => none_text(alloc, moves),
+    }
+}
+
+/// What the search for the best plan finds that may cut tries, or the one that cuts none.
+fn search(
+    alloc: Global,
+    cut: bool,
+    d: Dialect,
+    who: Side,
+    set: &Belief,
+    moves: u8,
+    units: &mut Units,
+) -> Result<Answer, Stop2>
+    requires most { moves ≤ MOST_MOVES }
+    requires turn { IsOwnTurn who set.now ⊎ IsOthersTurn who set.now }
+    ensures answer { IsAnswer d who set.now moves MOST_NODES result }
+    ensures units { MatchBool cut (IsChargedAtMost d who set.now moves result units.old units.new) (IsCharged d who set.now moves result units.old units.new) }
+{
+    if cut {
+        find(alloc, d, who, set, moves, MOST_NODES, units)
+    } else {
+        solve(alloc, d, who, set, moves, MOST_NODES, units)
+    }
+}
+
 /// What a search for the best plan for the set comes to, within so many moves and units.
 fn searched(
     alloc: Global,
+    cut: bool,
     d: Dialect,
     who: Side,
     set: &Belief,
@@ -84,21 +134,17 @@ fn searched(
     requires some { is_nil set.now ≡ false }
     requires few { length set.now ≤ MOST_LISTED }
     requires hand { HaveOneHand who set.now }
-    ensures { Decides (λ answer. answer.items) result (spec.Searched d who set.now moves budget) }
+    ensures { Decides (λ answer. answer.items) result (SearchedBy cut d who set.now moves budget) }
 {
     let mut units = Units::new(budget);
-    match solve(alloc, d, who, set, moves as u8, MOST_NODES, &mut units)? {
-        Answer::Mates { worst, plan } => {
-            let list = listed(alloc, set)?;
-            Ok(file_text(alloc, d, who, list, worst, plan)?)
-        }
-        Answer::None => Ok(none_text(alloc, moves)?),
-    }
+    let answer = search(alloc, cut, d, who, set, moves as u8, &mut units)?;
+    Ok(told(alloc, d, who, set, moves, answer)?)
 }
 
-/// What `solve` answers to a sheet.
+/// What `solve` answers to a sheet, or `find`, whose search may cut tries.
 fn solved(
     alloc: Global,
+    cut: bool,
     sheet: &Sheet,
     moves: u64,
     budget: u64,
@@ -106,15 +152,24 @@ fn solved(
 ) -> Result<Vec<u8>, Ending>
     requires most { moves ≤ MOST_MOVES }
     requires few { limit ≤ MOST_LISTED }
-    ensures { Decides (λ answer. answer.items) result (spec.Solved moves budget limit sheet.now) }
+    ensures { Decides (λ answer. answer.items) result (SolvedBy cut moves budget limit sheet.now) }
 {
     let set = asked(alloc, sheet, limit, sheet.is_over())?;
-    searched(alloc, sheet.dialect(), sheet.side(), &set, moves, budget)
+    searched(
+        alloc,
+        cut,
+        sheet.dialect(),
+        sheet.side(),
+        &set,
+        moves,
+        budget,
+    )
 }
 
-/// What `solve` answers to the text of a sheet.
+/// What `solve` answers to the text of a sheet, or `find`, whose search may cut tries.
 pub(crate) fn answer(
     alloc: Global,
+    cut: bool,
     moves: u64,
     budget: u64,
     limit: u64,
@@ -122,9 +177,9 @@ pub(crate) fn answer(
 ) -> Result<Vec<u8>, Ending>
     requires most { moves ≤ MOST_MOVES }
     requires few { limit ≤ MOST_LISTED }
-    ensures { Decides (λ answer. answer.items) result (spec.Solves moves budget limit text.items) }
+    ensures { Decides (λ answer. answer.items) result (SolvesBy cut moves budget limit text.items) }
 {
     let sheet = read_sheet(alloc, &text)?;
     drop(text);
-    solved(alloc, &sheet, moves, budget, limit)
+    solved(alloc, cut, &sheet, moves, budget, limit)
 }

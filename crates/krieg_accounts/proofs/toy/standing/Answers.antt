@@ -1,7 +1,7 @@
 use Rattle.std.proofs.Common.{◌≡◌, ℕ, suc, [], ◌∷◌, inl, inr, Option, Some, None, refl, arith}
 use Rattle.krieg_costs.specs.Sums.{total}
 use Rattle.krieg_accounts.specs.Toy.{lost_within, won_within}
-use Rattle.krieg_accounts.proofs.ToyTables.{not_won, two_sound, five_sound}
+use Rattle.krieg_accounts.proofs.ToyTables.{not_won, two_sound, five_sound, cut_sound}
 use Rattle.krieg_accounts.proofs.toy.standing.Goals as goal
 
 pub returns-clause-won : goal.returns-clause-won
@@ -29,5 +29,11 @@ returns-clause-class_is_missing c = λ s.
 pub returns-clause-refused_part_is_missing : goal.returns-clause-refused_part_is_missing
 returns-clause-refused_part_is_missing c = λ s. not_won (λ X. total (λ n. suc n) X) (won_within (0 ∷ 1 ∷ []) 1 0 ∷ []) (1 ∷ []) refl ((s.backed (0 ∷ 1 ∷ []) 1 (Some 0) refl).refused_part 0 refl refl)
 
+pub returns-clause-block_is_cut : goal.returns-clause-block_is_cut
+returns-clause-block_is_cut c = cut_sound
+
+pub returns-clause-smaller_number_is_cut : goal.returns-clause-smaller_number_is_cut
+returns-clause-smaller_number_is_cut c = λ s. (let q : ◌≡◌ {A = Option (Option ℕ)} None (Some None) = (s.backed (0 ∷ 5 ∷ []) 2 None refl).below 1 (omega arith) (omega arith) in absurd (cc))
+
 pub returns-clause-block_is_missing : goal.returns-clause-block_is_missing
-returns-clause-block_is_missing c = λ s. (let q : ◌≡◌ {A = Option (Option ℕ)} None (Some None) = (s.backed (0 ∷ 5 ∷ []) 2 None refl).earlier 0 refl tt in absurd (cc))
+returns-clause-block_is_missing c = λ s. (let q : ◌≡◌ {A = Option (Option ℕ)} None (Some None) = (s.backed (0 ∷ 5 ∷ []) 2 None refl).earlier refl 0 refl tt in absurd (cc))

@@ -1,5 +1,11 @@
 use Rattle.krieg_cli.proofs.outcome.outcome.Goals as goal
 
+pub returns-in-Solve-clause-outcome : goal.returns-in-Solve-clause-outcome
+returns-in-Solve-clause-outcome g c = rw c.in-Solve.is c.answer.ensures
+
+pub returns-in-Find-clause-outcome : goal.returns-in-Find-clause-outcome
+returns-in-Find-clause-outcome g c = rw c.in-Find.is c.answer-in-Find.ensures
+
 pub returns-in-Lead-clause-outcome : goal.returns-in-Lead-clause-outcome
 returns-in-Lead-clause-outcome g c = rw c.in-Lead.is c.answer-in-Lead.ensures.outcome
 

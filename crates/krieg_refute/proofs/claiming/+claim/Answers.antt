@@ -1,4 +1,4 @@
-use Rattle.std.proofs.Common.{◌≡◌, ℕ, ◌+◌, ◌-◌, ◌<◌, ◌^◌, ◌∷◌, ◌++◌, List, length, map, None, Option, sym, ap, subst, ◌∙◌, arith, refl}
+use Rattle.std.proofs.Common.{false, ◌≡◌, ◌+◌, ◌*◌, ◌-◌, ◌<◌, ◌^◌, ◌∷◌, ◌++◌, List, length, map, None, Ok, Err, is_some, sym, ap, subst, ◌∙◌, arith, refl}
 use Rattle.std.specs.Prelude.{IfSome}
 use Rattle.krieg_board.specs.Pos.{Pos}
 use Rattle.krieg_pack.specs.Order.{position_lt}
@@ -9,28 +9,23 @@ use Rattle.krieg_accounts.specs.Stored.{stored}
 use Rattle.krieg_accounts.proofs.TryWalk.{legal_at}
 use Rattle.krieg_claims.specs.InOrder.{add_all}
 use Rattle.krieg_claims.specs.Written as written
-use Rattle.krieg_claims.specs.Walks.{behind_try}
+use Rattle.krieg_claims.specs.Walks.{behind_try, WalksTries}
 use Rattle.krieg_game.specs.Chess.{chess}
 use Rattle.krieg_game.proofs.ChessLaws.{chess_is_game}
 use Rattle.krieg_table.specs.Interned.{Interned, set_at}
 use Rattle.krieg_search.proofs.Building.{adds_nothing, adds_then, still_paid}
 use Rattle.krieg_refute.specs.Refutations.{why_of, reason_of}
 use Rattle.krieg_refute.specs.declared.refutation.Reason.{Reason}
-use Rattle.krieg_refute.specs.Claiming.{pairs_in}
+use Rattle.krieg_refute.specs.Claiming.{pairs_in, Claims, Reasons, Blocks}
 use Rattle.krieg_refute.proofs.Reasoning.{walked_more, reasons_more}
-use Rattle.krieg_claims.specs.Walks.{WalksTries}
 use Rattle.krieg_claims.proofs.Walking.{walks_there}
 use Rattle.krieg_refute.specs.declared.claiming.Asked.{Asked}
 use Rattle.krieg_refute.specs.contracts.claiming.AskedPartialEq.TheImpl as derived_eq
 use Rattle.krieg_refute.proofs.Places.{absent, place_at, same_asked}
 use Rattle.krieg_refute.proofs.Carrying.{carried, set_large, tries_large, pushed, next_is}
-use Rattle.krieg_refute.specs.Claiming.{Claims, Reasons, Blocks}
 use Rattle.krieg_accounts.proofs.Tables.{result_can}
 use Rattle.krieg_table.specs.Entries.{entries}
-use Rattle.std.proofs.Common.{Ok, Err, is_some}
 use Rattle.std.proofs.lemmas.Bool.{and_from, eq-eqb}
-use Rattle.std.proofs.Common.{◌*◌}
-use Rattle.krieg_theory.specs.Split.{refused}
 use Rattle.krieg_refute.specs.Blocking.{reason_by}
 use Rattle.krieg_refute.proofs.Blocking.{fails_blocks, still_claimed, blocked, blocked_large}
 use Rattle.krieg_refute.proofs.claiming.+claim.Goals as goal
@@ -73,7 +68,7 @@ claim-push-requires-clause-next t c =
     let ts = c.as_slice.result.now in
     let are = c.as_slice.ensures.value ∙ c.in_ok-tries.ensures d ∙ ap (Rattle.krieg_theory.specs.Split.tries (chess d)) c.belief.ensures in
     let same = r.0.more.same c.args.set c.requires.within in
-    let cannot = result_can (chess d) (chess_is_game d) (entries T0) c.requires.paid.ready.sound B j None c.requires.lost in
+    let cannot = result_can (chess d) (chess_is_game d) false (entries T0) c.requires.paid.ready.sound B j None c.requires.lost in
     let a : Asked = record { set = c.args.set; moves = c.args.moves } in
     let new : In (B, j) (pairs_in T0 w0.places.keys) → ⊥ = (let f = c.get_index_of.ensures.found in let i = c.in_default.is in absent T0 w0.places.keys a ((derived_eq.ghosts).eq a) c.know_once.ensures.sets c.requires.within c.requires.claimed.numbered (and_from _ _ (eq-eqb c.args.set c.args.set refl) (eq-eqb c.args.moves c.args.moves refl)) (sym f ∙ ap is_some i)) in
     next_is d T1 w1.places.keys (pairs_in T0 w0.places.keys) B (set_at T1 c.args.set) j ts (map reason_of c.in_ok-reasons.reasons.items) same c.requires.some c.requires.members cannot new are r.2 r.3
@@ -91,7 +86,7 @@ claim-returns t c =
     let ts = c.as_slice.result.now in
     let are = c.as_slice.ensures.value ∙ c.in_ok-tries.ensures d ∙ ap (Rattle.krieg_theory.specs.Split.tries (chess d)) c.belief.ensures in
     let same = r.0.more.same c.args.set c.requires.within in
-    let cannot = result_can (chess d) (chess_is_game d) (entries T0) c.requires.paid.ready.sound B j None c.requires.lost in
+    let cannot = result_can (chess d) (chess_is_game d) false (entries T0) c.requires.paid.ready.sound B j None c.requires.lost in
     let a : Asked = record { set = c.args.set; moves = c.args.moves } in
     let new : In (B, j) (pairs_in T0 w0.places.keys) → ⊥ = (let f = c.get_index_of.ensures.found in let i = c.in_default.is in absent T0 w0.places.keys a ((derived_eq.ghosts).eq a) c.know_once.ensures.sets c.requires.within c.requires.claimed.numbered (and_from _ _ (eq-eqb c.args.set c.args.set refl) (eq-eqb c.args.moves c.args.moves refl)) (sym f ∙ ap is_some i)) in
     pushed d T0 T1 B (set_at T1 c.args.set) j w0 w1 c.push.new.claimed c.push.result same c.requires.some c.requires.members cannot new r.0 (subst (WalksTries (chess d) (pairs_in T0 w0.places.keys) (pairs_in T1 w1.places.keys) B (j - 1)) are r.2) c.push.ensures
@@ -124,8 +119,8 @@ reasons_for-returns-in_err-why t c =
     let w0 = c.args.claimed.now in
     let w1 = c.loop-mv.claimed in
     let w2 = c.why.new.claimed in
-    carried _ c.from_residual.result c.in_err-why.field-0.0 (λ e. Blocks d (Err e) B j m T1 T2 w1 w2) (λ r. Reasons d r B j c.args.tries.now T0 T2 w0 w2)
-    (λ x h. cc) c.from_residual.ensures.1 (λ v. v) (tries_large d (pairs_in T0 w0.places.keys) (pairs_in T1 w1.places.keys) B (j - 1) c.args.tries.now c.loop-mv.mv-index m c.loop-mv-test.true c.mv-item.is inv.walked.all) tt
+    carried _ c.from_residual-in_err-why.result c.in_err-why.field-0.0 (λ e. Blocks d (Err e) B j m T1 T2 w1 w2) (λ r. Reasons d r B j c.args.tries.now T0 T2 w0 w2)
+    (λ x h. cc) c.from_residual-in_err-why.ensures.1 (λ v. v) (tries_large d (pairs_in T0 w0.places.keys) (pairs_in T1 w1.places.keys) B (j - 1) c.args.tries.now c.loop-mv.mv-index m c.loop-mv-test.true c.mv-item.is inv.walked.all) tt
     (subst (λ (X : List Pos). Blocks d (Err c.in_err-why.field-0.0) X j m T1 T2 w1 w2) same c.in_err-why.ensures)
 
 pub reasons_for-loop-mv-preserved : goal.reasons_for-loop-mv-preserved

@@ -1,4 +1,4 @@
-use Rattle.std.proofs.Common.{◌≡◌, ℕ, Err, subst, ◌∙◌, arith}
+use Rattle.std.proofs.Common.{false, ◌≡◌, ℕ, Err, subst, ◌∙◌, arith}
 use Rattle.std.proofs.lemmas.Bool.{both_ways}
 use Rattle.krieg_search.specs.Decided.{IsAccount, IsDecided}
 use Rattle.krieg_search.proofs.OpenedSets.{none_over}
@@ -52,12 +52,12 @@ claims_for-requires-clause-paid c =
 pub returns-in_err-decide-clause-answer : goal.returns-in_err-decide-clause-answer
 returns-in_err-decide-clause-answer c =
     search_stopped c.args.d _ c.args.b.now c.args.moves _ c.from_residual.result c.in_err-decide.field-0.0 c.new-left.result c.decide.new.units (λ x h. cc) c.from_residual.ensures.1
-    (subst (λ who. IsDecided c.args.d who c.args.b.now c.args.moves (Err c.in_err-decide.field-0.0) c.new-left.result c.decide.new.units) c.side_of-who.ensures c.in_err-decide.ensures)
+    (subst (λ who. IsDecided c.args.d who c.args.b.now c.args.moves false (Err c.in_err-decide.field-0.0) c.new-left.result c.decide.new.units) c.side_of-who.ensures c.in_err-decide.ensures)
 
 pub returns-in_err-decide-clause-units : goal.returns-in_err-decide-clause-units
 returns-in_err-decide-clause-units c =
     search_stopped_taken c.args.d _ c.args.b.now c.args.moves _ c.from_residual.result c.in_err-decide.field-0.0 c.new-left.result c.decide.new.units c.args.units.now (λ x h. cc) c.from_residual.ensures.1
-    (c.new-left.ensures ∙ c.left.ensures) (subst (λ who. IsDecided c.args.d who c.args.b.now c.args.moves (Err c.in_err-decide.field-0.0) c.new-left.result c.decide.new.units) c.side_of-who.ensures c.in_err-decide.ensures)
+    (c.new-left.ensures ∙ c.left.ensures) (subst (λ who. IsDecided c.args.d who c.args.b.now c.args.moves false (Err c.in_err-decide.field-0.0) c.new-left.result c.decide.new.units) c.side_of-who.ensures c.in_err-decide.ensures)
 
 pub returns-in_err-claims-in-Lost-clause-answer : goal.returns-in_err-claims-in-Lost-clause-answer
 returns-in_err-claims-in-Lost-clause-answer c =
@@ -84,7 +84,7 @@ pub returns-in_ok-claims-in-Lost-clause-units : goal.returns-in_ok-claims-in-Los
 returns-in_ok-claims-in-Lost-clause-units c =
     let k = rw (c.in-Lost.is, c.side_of-who.ensures) at c.in_ok-decide.ensures in
     let had : c.new-left.result ≡ c.args.units.now = c.new-left.ensures ∙ c.left.ensures in
-    (subst (λ (m : ℕ). IsAccount c.args.d (side_of c.args.b.now) c.args.b.now c.args.moves m c.decide.new.units) had k.1, taken_between c.args.d _ c.args.b.now c.args.moves c.new-left.result c.args.units.now c.decide.new.units had k.1)
+    (subst (λ (m : ℕ). IsAccount c.args.d (side_of c.args.b.now) c.args.b.now c.args.moves false m c.decide.new.units) had k.1, taken_between c.args.d _ c.args.b.now c.args.moves c.new-left.result c.args.units.now c.decide.new.units had k.1)
 
 pub returns-in-Won-clause-answer : goal.returns-in-Won-clause-answer
 returns-in-Won-clause-answer c =
@@ -95,4 +95,4 @@ pub returns-in-Won-clause-units : goal.returns-in-Won-clause-units
 returns-in-Won-clause-units c =
     let k = rw (c.in-Won.is, c.side_of-who.ensures) at c.in_ok-decide.ensures in
     let had : c.new-left.result ≡ c.args.units.now = c.new-left.ensures ∙ c.left.ensures in
-    (subst (λ (m : ℕ). IsAccount c.args.d (side_of c.args.b.now) c.args.b.now c.args.moves m c.decide.new.units) had k.1, taken_between c.args.d _ c.args.b.now c.args.moves c.new-left.result c.args.units.now c.decide.new.units had k.1)
+    (subst (λ (m : ℕ). IsAccount c.args.d (side_of c.args.b.now) c.args.b.now c.args.moves false m c.decide.new.units) had k.1, taken_between c.args.d _ c.args.b.now c.args.moves c.new-left.result c.args.units.now c.decide.new.units had k.1)

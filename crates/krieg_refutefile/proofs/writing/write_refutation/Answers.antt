@@ -1,4 +1,5 @@
 use Rattle.krieg_refutefile.specs.Refutations.{state_of}
+use Rattle.krieg_refutefile.proofs.Sizes.{text_short}
 use Rattle.krieg_refutefile.proofs.RefutationTexts.{spelled, again}
 use Rattle.krieg_refutefile.proofs.WrittenClaims.{are_told}
 use Rattle.krieg_refutefile.proofs.writing.write_refutation.Goals as goal
@@ -11,3 +12,6 @@ returns-clause-spelled c = spelled (state_of c.args.f.now) c.requires
 
 pub returns-clause-again : goal.returns-clause-again
 returns-clause-again c = again (state_of c.args.f.now) c.requires
+
+pub returns-clause-short : goal.returns-clause-short
+returns-clause-short c = text_short (state_of c.args.f.now) c.requires

@@ -20,7 +20,7 @@ returns-in_err-openings c =
     let S = c.args.b.now in
     let u0 = c.args.units.now in
     let u1 = c.find_openings.new.units in
-    openings_stopped d who S c.args.moves _ c.from_residual.result c.in_err-openings.field-0.0 (IsOpened d who S c.new-table.result c.find_openings.new.table) u0 u1 u1 (λ x h. cc) c.from_residual.ensures.1 c.in_err-openings.ensures
+    openings_stopped d c.args.cut who S c.args.moves _ c.from_residual.result c.in_err-openings.field-0.0 (IsOpened d who S c.new-table.result c.find_openings.new.table) u0 u1 u1 (λ x h. cc) c.from_residual.ensures.1 c.in_err-openings.ensures
 
 pub returns-in_default : goal.returns-in_default
 returns-in_default c =
@@ -28,7 +28,7 @@ returns-in_default c =
     let who = c.args.who in
     let S = c.args.b.now in
     let o = subst (λ (x : Option (Vec Opening Global)). IsOpened d who S c.new-table.result c.find_openings.new.table x) c.in_default.is c.in_ok-openings.ensures.0 in
-    over d who S c.args.moves c.args.units.now c.find_openings.new.units o c.in_ok-openings.ensures.1
+    over d c.args.cut who S c.args.moves c.args.units.now c.find_openings.new.units o c.in_ok-openings.ensures.1
 
 pub all_openings_win-requires-clause-ready : goal.all_openings_win-requires-clause-ready
 all_openings_win-requires-clause-ready c =
@@ -38,8 +38,8 @@ all_openings_win-requires-clause-ready c =
     let n = c.args.moves in
     let T1 = c.find_openings.new.table in
     let os = c.in-Some.openings in
-    let o = are_opened d who S n c.new-table.result T1 c.in_ok-openings.field-0 os c.new-table.ensures c.in-Some.is c.in_ok-openings.ensures.0 in
-    opened_ready d who S n T1 os.items o.1
+    let o = are_opened d c.args.cut who S n c.new-table.result T1 c.in_ok-openings.field-0 os c.new-table.ensures c.in-Some.is c.in_ok-openings.ensures.0 in
+    opened_ready d c.args.cut who S n T1 os.items o.1
 
 pub all_openings_win-requires-clause-numbered : goal.all_openings_win-requires-clause-numbered
 all_openings_win-requires-clause-numbered c =
@@ -49,7 +49,7 @@ all_openings_win-requires-clause-numbered c =
     let n = c.args.moves in
     let T1 = c.find_openings.new.table in
     let os = c.in-Some.openings in
-    let o = are_opened d who S n c.new-table.result T1 c.in_ok-openings.field-0 os c.new-table.ensures c.in-Some.is c.in_ok-openings.ensures.0 in
+    let o = are_opened d c.args.cut who S n c.new-table.result T1 c.in_ok-openings.field-0 os c.new-table.ensures c.in-Some.is c.in_ok-openings.ensures.0 in
     subst (λ (xs : List Opening). AreNumbered T1 xs) (sym c.deref.ensures.value) o.1.numbered
 
 pub returns-in_err-all_win : goal.returns-in_err-all_win
@@ -64,10 +64,10 @@ returns-in_err-all_win c =
     let u1 = c.find_openings.new.units in
     let u2 = c.all_openings_win.new.units in
     let os = c.in-Some.openings in
-    let o = are_opened d who S n c.new-table.result T1 c.in_ok-openings.field-0 os c.new-table.ensures c.in-Some.is c.in_ok-openings.ensures.0 in
-    search_stopped d who S n T1 os.items o.1 _ c.from_residual-in_err-all_win.result c.in_err-all_win.field-0.0 (TellsSets d T2 (sets_in T1 os.items) n) T2 u0 u1 u2 u2 (λ x h. cc) c.from_residual-in_err-all_win.ensures.1
+    let o = are_opened d c.args.cut who S n c.new-table.result T1 c.in_ok-openings.field-0 os c.new-table.ensures c.in-Some.is c.in_ok-openings.ensures.0 in
+    search_stopped d c.args.cut who S n T1 os.items o.1 _ c.from_residual-in_err-all_win.result c.in_err-all_win.field-0.0 (TellsSets d T2 (sets_in T1 os.items) n) T2 u0 u1 u2 u2 (λ x h. cc) c.from_residual-in_err-all_win.ensures.1
     c.in_ok-openings.ensures.1
-    (subst (λ (xs : List Opening). Searches d {A = Bool} (Err c.in_err-all_win.field-0.0) (TellsSets d T2 (sets_in T1 xs) n) (CoversSets (chess d) (sets_in T1 xs) n) 0 T1 T2 u1 u2) c.deref.ensures.value c.in_err-all_win.ensures)
+    (subst (λ (xs : List Opening). Searches d c.args.cut {A = Bool} (Err c.in_err-all_win.field-0.0) (TellsSets d T2 (sets_in T1 xs) n) (CoversSets (chess d) (sets_in T1 xs) n) 0 T1 T2 u1 u2) c.deref.ensures.value c.in_err-all_win.ensures)
 
 pub returns-then-not-all_win : goal.returns-then-not-all_win
 returns-then-not-all_win c =
@@ -81,10 +81,10 @@ returns-then-not-all_win c =
     let u1 = c.find_openings.new.units in
     let u2 = c.all_openings_win.new.units in
     let os = c.in-Some.openings in
-    let o = are_opened d who S n c.new-table.result T1 c.in_ok-openings.field-0 os c.new-table.ensures c.in-Some.is c.in_ok-openings.ensures.0 in
+    let o = are_opened d c.args.cut who S n c.new-table.result T1 c.in_ok-openings.field-0 os c.new-table.ensures c.in-Some.is c.in_ok-openings.ensures.0 in
     let lost : Found = record { table = T2; openings = os } in
-    let w = subst (λ (xs : List Opening). TellsSets d T2 (sets_in T1 xs) n c.in_ok-all_win.all_win × IsSearched d (CoversSets (chess d) (sets_in T1 xs) n) 0 T1 T2 u1 u2) c.deref.ensures.value c.in_ok-all_win.ensures in
-    not_won d who S n T1 os.items o.1 T2 c.in_ok-all_win.all_win u0 u1 u2 o.0 c.in_ok-openings.ensures.1 w.0 w.1 c.know_once.ensures.results c.if-not-all_win.true lost refl refl
+    let w = subst (λ (xs : List Opening). TellsSets d T2 (sets_in T1 xs) n c.in_ok-all_win.all_win × IsSearched d c.args.cut (CoversSets (chess d) (sets_in T1 xs) n) 0 T1 T2 u1 u2) c.deref.ensures.value c.in_ok-all_win.ensures in
+    not_won d c.args.cut who S n T1 os.items o.1 T2 c.in_ok-all_win.all_win u0 u1 u2 o.0 c.in_ok-openings.ensures.1 w.0 w.1 c.know_once.ensures.results c.if-not-all_win.true lost refl refl
 
 pub returns : goal.returns
 returns c =
@@ -98,7 +98,7 @@ returns c =
     let u1 = c.find_openings.new.units in
     let u2 = c.all_openings_win.new.units in
     let os = c.in-Some.openings in
-    let o = are_opened d who S n c.new-table.result T1 c.in_ok-openings.field-0 os c.new-table.ensures c.in-Some.is c.in_ok-openings.ensures.0 in
+    let o = are_opened d c.args.cut who S n c.new-table.result T1 c.in_ok-openings.field-0 os c.new-table.ensures c.in-Some.is c.in_ok-openings.ensures.0 in
     let won : Found = record { table = T2; openings = os } in
-    let w = subst (λ (xs : List Opening). TellsSets d T2 (sets_in T1 xs) n c.in_ok-all_win.all_win × IsSearched d (CoversSets (chess d) (sets_in T1 xs) n) 0 T1 T2 u1 u2) c.deref.ensures.value c.in_ok-all_win.ensures in
-    all_are_won d who S n T1 os.items o.1 T2 c.in_ok-all_win.all_win u0 u1 u2 o.0 c.in_ok-openings.ensures.1 w.0 w.1 c.know_once.ensures.results c.if-not-all_win.false won refl refl
+    let w = subst (λ (xs : List Opening). TellsSets d T2 (sets_in T1 xs) n c.in_ok-all_win.all_win × IsSearched d c.args.cut (CoversSets (chess d) (sets_in T1 xs) n) 0 T1 T2 u1 u2) c.deref.ensures.value c.in_ok-all_win.ensures in
+    all_are_won d c.args.cut who S n T1 os.items o.1 T2 c.in_ok-all_win.all_win u0 u1 u2 o.0 c.in_ok-openings.ensures.1 w.0 w.1 c.know_once.ensures.results c.if-not-all_win.false won refl refl

@@ -21,13 +21,13 @@ abbrev pub decreases-can_win : goal.decreases-can_win
 decreases-can_win l = 8 * (l.moves * 2 ^ 64 + length (set_at l.table.now l.set)) + 3
 
 abbrev pub invariant-can_win-loop-fewer : goal.invariant-can_win-loop-fewer
-invariant-can_win-loop-fewer l = IsCounting l.d l.initial.table l.table (set_at l.initial.table l.set) l.moves l.fewer l.initial.units l.units
+invariant-can_win-loop-fewer l = IsCounting l.d l.cut l.initial.table l.table (set_at l.initial.table l.set) l.moves l.fewer l.initial.units l.units
 
 abbrev pub invariant-can_win_in-loop-mv : goal.invariant-can_win_in-loop-mv
-invariant-can_win_in-loop-mv l = IsTrying l.d l.initial.table l.table (set_at l.initial.table l.set) l.moves l.mv-items l.mv-index l.initial.units l.units
+invariant-can_win_in-loop-mv l = IsTrying l.d l.cut l.initial.table l.table (set_at l.initial.table l.set) l.moves l.mv-items l.mv-index l.initial.units l.units
 
 abbrev pub invariant-all_can_win-loop-class : goal.invariant-all_can_win-loop-class
 invariant-all_can_win-loop-class l = record {
-  checking : IsChecking l.d l.initial.table l.table (sets_of l.fn.classes.items) (sets_of (into_iter_items l.class-iterator)) l.moves l.initial.units l.units;
+  checking : IsChecking l.d l.cut l.initial.table l.table (sets_of l.fn.classes.items) (sets_of (into_iter_items l.class-iterator)) l.moves l.initial.units l.units;
   counted : into_iter_len l.class-iterator ≡ length (into_iter_items l.class-iterator);
 }

@@ -7,11 +7,11 @@ use Rattle.krieg_cli.proofs.commands.refute.file_text.Goals as goal
 
 pub write_refutation-requires : goal.write_refutation-requires
 write_refutation-requires c =
-    subst CanBeWritten (sym (file_is c.args.dialect c.args.side c.args.set.now c.args.moves c.args.claims.items c.requires.denial c.in_ok-listed.field-0.items c.in_ok-listed.ensures.same))
-    (can_be_written c.args.dialect c.args.side c.args.set.now c.args.moves c.args.claims.items c.requires.denial c.requires.some c.requires.few c.requires.hand
-    (subst (All IsValid) c.in_ok-listed.ensures.same c.in_ok-listed.ensures.valid) c.requires.turn c.requires.least c.requires.most)
+    subst CanBeWritten (sym (file_is c.args.dialect c.args.side c.args.set c.args.moves c.args.claims.items c.requires.denial c.in_ok-list.list.items c.in_ok-list.ensures.same))
+    (can_be_written c.args.dialect c.args.side c.args.set c.args.moves c.args.claims.items c.requires.denial c.requires.some c.requires.few c.requires.hand
+    (subst (All IsValid) c.in_ok-list.ensures.same c.in_ok-list.ensures.valid) c.requires.turn c.requires.least c.requires.most)
 
 pub returns : goal.returns
 returns c =
-    text_told c.args.dialect c.args.side c.args.set.now c.args.moves c.args.claims.items c.requires.denial c.in_ok-listed.field-0.items c.new-text.result.items c.write_refutation.new.text.items
-    c.in_ok-listed.ensures.same c.requires.turn c.new-text.ensures.items c.in_ok-write_refutation.ensures.value c.in_ok-write_refutation.ensures.again
+    text_told c.args.dialect c.args.side c.args.set c.args.moves c.args.claims.items c.requires.denial c.in_ok-list.list.items c.in_ok-text.text.items c.write_refutation.new.text.items
+    c.in_ok-list.ensures.same c.requires.turn c.in_ok-text.ensures.items c.in_ok-write_refutation.ensures.value c.in_ok-write_refutation.ensures.again

@@ -1,6 +1,6 @@
 use Rattle.std.proofs.Common.{sym, ◌∙◌, arith}
 use Rattle.krieg_sheet.specs.Turns.{is_over}
-use Rattle.krieg_cli.specs.Solve.{Searched}
+use Rattle.krieg_cli.specs.Parts.{SearchedBy}
 use Rattle.krieg_cli.proofs.Asking.{given, asked}
 use Rattle.krieg_cli.proofs.Searching.{few_possible, later}
 use Rattle.krieg_cli.proofs.commands.solve.solved.Goals as goal
@@ -13,5 +13,5 @@ searched-requires-clause-few c =
 pub returns : goal.returns
 returns c =
     let is = given c.args.limit c.args.sheet.now c.is_over.result c.in_ok-set.set c.in_ok-set.ensures.set in
-    asked c.args.limit c.args.sheet.now (is_over c.args.sheet.now) (λ d who S. Searched d who S c.args.moves c.args.budget) (later c.args.moves c.args.budget) c.in_ok-set.set is.0 (sym c.is_over.ensures.value ∙ is.1)
+    asked c.args.limit c.args.sheet.now (is_over c.args.sheet.now) (λ d who S. SearchedBy c.args.cut d who S c.args.moves c.args.budget) (later c.args.cut c.args.moves c.args.budget) c.in_ok-set.set is.0 (sym c.is_over.ensures.value ∙ is.1)
     (λ answer. answer.items) c.searched.result c.dialect.result c.side.result c.dialect.ensures.value c.side.ensures.value c.searched.ensures

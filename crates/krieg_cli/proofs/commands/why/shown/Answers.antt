@@ -1,4 +1,4 @@
-use Rattle.std.proofs.Common.{rules, ◌≡◌, ℕ, ◌<◌, ◌≤◌, length, List, ◌++◌, sym, ap, ◌∙◌}
+use Rattle.std.proofs.Common.{rules, ℕ, ◌<◌, ◌≤◌, length, List, ◌++◌, sym, ap, ◌∙◌}
 use Rattle.krieg_why.specs.GamesText.{games_text}
 use Rattle.krieg_cli.proofs.Showing.{none_shown, too_long, answered}
 use Rattle.krieg_cli.specs.declared.input.TheConstants.{MOST_INPUT}

@@ -1,0 +1,19 @@
+//! The program `krieg_find`: a start of `find` over the standard streams. It reads a sheet, and writes what `krieg solve` writes with
+//! the same words, mostly for far fewer units.
+//!
+//! ```
+//! ./krieg find 1 64 1 < examples/rook.sheet   # a plan that plays h1h8, and status 0
+//! ./krieg find 0 64 1                         # `krieg: usage` on standard error, and status 1
+//! ```
+#![tactic(auto)]
+
+use krieg_ports::{Adapter, AdapterOut};
+use krieg_shell::start_find;
+use std::process::ExitCode;
+
+fn main(rt: HostRuntime) -> ExitCode {
+    let mut input = Adapter::new(rt.stdin());
+    let mut out = AdapterOut::new(rt.stdout());
+    let mut err = AdapterOut::new(rt.stderr());
+    ExitCode::from(start_find(&rt, &mut input, &mut out, &mut err))
+}

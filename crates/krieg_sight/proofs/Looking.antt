@@ -1,0 +1,54 @@
+-- The moves of a position, one after another, and how the opponent's turn ends.
+use Rattle.std.proofs.Common.{◌≡◌, ℕ, zero, suc, ◌<◌, Bool, true, false, not, ◌&&◌, List, [], ◌∷◌, length, get_or, inl, inr, refl, sym, ap, subst, ◌∙◌, arith}
+use Rattle.std.specs.Prelude.{◌==◌}
+use Rattle.std.specs.List.{list_all, list_any}
+use Rattle.std.proofs.lemmas.Bool.{both_ways, eqb-true}
+use Rattle.krieg_board.specs.Pos.{Pos}
+use Rattle.krieg_board.specs.declared.men.Move.{Move}
+use Rattle.krieg_moves.specs.Legal.{is_legal}
+use Rattle.krieg_moves.specs.After.{after}
+use Rattle.krieg_moves.specs.Moves.{moves, all_moves, in_check, is_ended, is_mate, is_stalemate, is_nil}
+use Rattle.krieg_theory.specs.Sets.{In}
+use Rattle.krieg_theory.proofs.Lists.{filter_in}
+use Rattle.krieg_sight.specs.Seen.{is_met, mates_within}
+
+item_in : {X : Type 0} (xs : List X) (k : ℕ) (x : X) → k < length xs → x ≡ get_or xs k x → In x xs
+item_in [] k x l e = absurd (omega arith)
+item_in (y ∷ xs) zero x l e = inl (sym e)
+item_in (y ∷ xs) (suc k) x l e = inr (item_in xs k x (omega arith) e)
+
+listed_legal : (p : Pos) (t : Move) → In t (moves p) → is_legal p t ≡ true
+unfolding moves
+listed_legal p t i = (filter_in (is_legal p) all_moves t i).1
+
+-- a listed move is legal
+pub item_legal : (p : Pos) (ts : List Move) (k : ℕ) (t : Move) → ts ≡ moves p → k < length ts → t ≡ get_or ts k t → is_legal p t ≡ true
+item_legal p ts k t are l e = listed_legal p t (subst (λ (xs : List Move). In t xs) are (item_in ts k t l e))
+
+last_end : (check : Bool) (rs : List Move) → (check && is_nil rs) ≡ false → (not (not check && is_nil rs) && list_all (λ r. false) rs) ≡ false
+last_end true [] h = absurd (both_ways true h refl)
+last_end false [] h = refl
+last_end true (r ∷ rs) h = refl
+last_end false (r ∷ rs) h = refl
+
+pub no_moves : (q : Pos) (rs : List Move) → rs ≡ moves q → (length rs == 0) ≡ true → moves q ≡ []
+no_moves q [] are e = sym are
+no_moves q (r ∷ rs) are e = let n : length (r ∷ rs) ≡ 0 = eqb-true (length (r ∷ rs)) 0 e in absurd (omega arith)
+
+-- with the last move only mate will do
+pub not_met_at_last : (j : ℕ) (q : Pos) → j ≡ 0 → is_mate q ≡ false → is_met (mates_within j) q ≡ false
+unfolding is_mate is_stalemate is_ended
+not_met_at_last j q z e = subst (λ n. is_met (mates_within n) q ≡ false) (sym z) (last_end (in_check q) (moves q) e)
+
+-- and where no reply is left, only a check
+pub not_met_at_end : (less : Pos → Bool) (q : Pos) → moves q ≡ [] → in_check q ≡ false → is_met less q ≡ false
+unfolding is_stalemate is_ended
+not_met_at_end less q n e =
+    ap (λ b. not (not b && is_nil (moves q)) && list_all (λ r. less (after q r)) (moves q)) e
+    ∙ ap (λ (rs : List Move). not (is_nil rs) && list_all (λ r. less (after q r)) rs) n
+
+-- no move mates
+pub none_mates : (i j : ℕ) (p key : Pos) (ts : List Move) → suc i ≡ j → key ≡ p → ts ≡ moves p → list_any (λ t. is_met (mates_within i) (after p t)) ts ≡ false → mates_within j key ≡ false
+none_mates i j p key ts n k are e =
+    subst (λ m. mates_within m key ≡ false) n
+    (subst (λ (q : Pos). mates_within (suc i) q ≡ false) (sym k) (subst (λ (xs : List Move). list_any (λ t. is_met (mates_within i) (after p t)) xs ≡ false) are e))

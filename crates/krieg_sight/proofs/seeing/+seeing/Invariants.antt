@@ -1,0 +1,27 @@
+use Rattle.std.proofs.Common.{◌≡◌, ◌+◌, ◌*◌, drop}
+use Rattle.std.specs.Prelude.{⊤}
+use Rattle.std.specs.List.{list_any}
+use Rattle.krieg_moves.specs.After as change
+use Rattle.krieg_sight.specs.Seen.{is_met, mates_within}
+use Rattle.krieg_sight.proofs.seeing.+seeing.Given as goal
+
+abbrev pub decreases-all_may_mate : goal.decreases-all_may_mate
+decreases-all_may_mate l = 5 * l.moves + 2
+
+abbrev pub decreases-may_follow : goal.decreases-may_follow
+decreases-may_follow l = 5 * l.moves + 3
+
+abbrev pub decreases-may_mate : goal.decreases-may_mate
+decreases-may_mate l = 5 * l.moves + 1
+
+abbrev pub decreases-may_mate_anew : goal.decreases-may_mate_anew
+decreases-may_mate_anew l = 5 * l.moves
+
+abbrev pub decreases-one_may_mate : goal.decreases-one_may_mate
+decreases-one_may_mate l = 5 * l.fewer + 4
+
+abbrev pub invariant-all_may_mate-loop-mv : goal.invariant-all_may_mate-loop-mv
+invariant-all_may_mate-loop-mv l = ⊤
+
+abbrev pub invariant-one_may_mate-loop-mv : goal.invariant-one_may_mate-loop-mv
+invariant-one_may_mate-loop-mv l = list_any (λ t. is_met (mates_within l.fewer) (change.after l.p t)) l.tries ≡ list_any (λ t. is_met (mates_within l.fewer) (change.after l.p t)) (drop l.mv-index l.tries)

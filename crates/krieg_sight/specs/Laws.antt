@@ -1,0 +1,15 @@
+-- The same as in the theory, whatever the dialect.
+use Rattle.std.specs.Prelude.{◌≡◌, ℕ, List}
+use Rattle.std.specs.List.{list_any}
+use Rattle.krieg_board.specs.Pos.{Pos}
+use Rattle.krieg_board.specs.declared.men.Move.{Move}
+use Rattle.krieg_words.specs.declared.dialects.Dialect.{Dialect}
+use Rattle.krieg_seeing.specs.Seen.{sees, escapes_in_some}
+use Rattle.krieg_game.specs.Chess.{chess}
+use Rattle.krieg_sight.specs.Seen.{mates_within, flees}
+
+abbrev pub SeesIsMates : Type 0
+SeesIsMates = (d : Dialect) (j : ℕ) (p : Pos) → sees (chess d) j p ≡ mates_within j p
+
+abbrev pub EscapesIsFlees : Type 0
+EscapesIsFlees = (d : Dialect) (j : ℕ) (B : List Pos) (t : Move) → escapes_in_some (chess d) j B t ≡ list_any (flees j t) B

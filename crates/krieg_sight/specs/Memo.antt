@@ -1,0 +1,17 @@
+-- What is known of positions.
+use Rattle.std.specs.Prelude.{◌≡◌, false, List}
+use Rattle.krieg_board.specs.Pos.{Pos}
+use Rattle.krieg_theory.specs.Sets.{In}
+use Rattle.krieg_sight.specs.declared.memo.Told.{Told}
+use Rattle.krieg_sight.specs.Seen.{mates_within}
+
+-- each position with what is told of it
+abbrev pub Memo : Type 0
+Memo = List (Pos × Told)
+
+-- a number within which it is told that there is no mate is right; nothing is claimed of the other one
+abbrev pub IsRight : Pos → Told → Type 0
+IsRight p told = mates_within told.none p ≡ false
+
+abbrev pub AreRight : Memo → Type 0
+AreRight m = (e : Pos × Told) → In e m → IsRight e.0 e.1

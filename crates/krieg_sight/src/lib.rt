@@ -1,0 +1,27 @@
+//! Mate by a player who sees the position, as far as it is found out.
+//!
+//! `some_flees` tells that a try fails in a set whatever is heard: in some member a reply leads to a position that is no
+//! mate in time even for a player who sees it. What is found of a position is kept by a `Sight`, which looks at no more
+//! positions than it was given. Where it does not find out, it tells nothing: only the answer `true` is claimed.
+//!
+//! `Seen` in `specs/` says what such a mate is, and `laws` that it is that of `krieg_seeing`, whatever the dialect.
+//! `seeing` looks for it move by move, and `memo` has what is known: of a position the greatest number of moves within
+//! which it was found to be no mate, and the least within which it may be one. `flight` asks it of the replies to a try.
+//!
+//! It calls itself for each move: that takes less than 1,400 bytes of the stack, or less than 1,900 in a program that
+//! Rattle's own compiler builds.
+//!
+//! ```
+//! let mut sight = Sight::new(alloc, 1_000_000);
+//! // `b` has White's king on b6, his rook on h1 and Black's king on c8, and `h1h8` is the move of the rook
+//! let fails = some_flees(alloc, &mut sight, &b, &h1h8, 1); // true: after Black's king goes to d7 no move mates
+//! ```
+#![tactic(auto)]
+
+mod flight;
+pub mod laws;
+mod memo;
+mod seeing;
+
+pub use flight::some_flees;
+pub use memo::Sight;

@@ -1,0 +1,114 @@
+ghost use Rattle.std.specs.Prelude.{◌≡◌, [], false, Some};
+ghost use Rattle.krieg_sight.specs.Seen.{mates_within};
+ghost use Rattle.krieg_sight.specs.Memo.{IsRight};
+
+use indexmap::IndexMap;
+use krieg_pack::Packed;
+use std::alloc::Global;
+use std::marker::Model;
+
+/// What is known of a position: the greatest number of moves within which it was found to be no mate, and the least within
+/// which it may be one. A 0 says nothing.
+#[derive(Clone, Copy)]
+pub(crate) struct Told {
+    pub none: u8,
+    pub some: u8,
+}
+
+/// What was found of positions, and how many may be looked at yet.
+#[derive(Drop)]
+pub struct Sight {
+    told: IndexMap<Packed, Told>,
+    left: u64,
+}
+
+impl Model for Sight {
+    ghost use Rattle.krieg_sight.specs.Memo.{Memo, AreRight};
+
+    ghost Value = { Memo };
+
+    ghost view = { λ s. s.told.entries };
+
+    ghost invariant = { λ s. AreRight s.told.entries };
+}
+
+impl Sight {
+    /// Nothing is known, and so many positions may be looked at. It takes no memory.
+    pub fn new(alloc: Global, positions: u64) -> Sight
+        ensures { result ≡ [] }
+    {
+        Sight {
+            told: IndexMap::new(alloc),
+            left: positions,
+        }
+    }
+
+    /// One position less may be looked at; `false` where none may.
+    pub(crate) fn look(&mut self) -> bool {
+        if self.left == 0 {
+            return false;
+        }
+        self.left -= 1;
+        true
+    }
+
+    /// What is known of the position.
+    fn of(&self, p: &Packed) -> Told
+        ensures { IsRight p.now result }
+    {
+        match self.told.get(p) {
+            Some(told) => *told,
+            None => Told { none: 0, some: 0 },
+        }
+    }
+
+    /// Whether there may be a mate within so many moves, where it is known.
+    pub(crate) fn told(&self, p: &Packed, moves: u8) -> Option<bool>
+        ensures { result ≡ Some false → mates_within moves p.now ≡ false }
+    {
+        let told = self.of(p);
+        if moves <= told.none {
+            return Some(false);
+        }
+        if 0 < told.some && told.some <= moves {
+            return Some(true);
+        }
+        None
+    }
+
+    /// Keeps what is known of the position, where there is memory for it.
+    fn keep(&mut self, p: &Packed, told: Told)
+        requires { IsRight p.now told }
+    {
+        match self.told.insert(*p, told) {
+            Ok(_) => {}
+            Err(_) => {}
+        }
+    }
+
+    /// Notes that there is no mate within so many moves.
+    pub(crate) fn note_none(&mut self, p: &Packed, moves: u8)
+        requires { mates_within moves p.now ≡ false }
+    {
+        let told = self.of(p);
+        self.keep(
+            p,
+            Told {
+                none: moves,
+                some: told.some,
+            },
+        );
+    }
+
+    /// Notes that there may be one.
+    pub(crate) fn note_some(&mut self, p: &Packed, moves: u8) {
+        let told = self.of(p);
+        self.keep(
+            p,
+            Told {
+                none: told.none,
+                some: moves,
+            },
+        );
+    }
+}

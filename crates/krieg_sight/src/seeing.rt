@@ -1,0 +1,97 @@
+ghost use Rattle.std.specs.Prelude.{◌≡◌, ◌-◌, ◌<◌, false};
+ghost use Rattle.std.specs.List.{list_any, list_all};
+ghost use Rattle.krieg_moves.specs.After as change;
+ghost use Rattle.krieg_moves.specs.Moves as list;
+ghost use Rattle.krieg_sight.specs.Seen.{is_met, mates_within};
+
+use crate::memo::Sight;
+use krieg_board::{Move, Position};
+use krieg_moves::{after, in_check, is_mate, legal_moves};
+use krieg_pack::pack;
+use std::alloc::Global;
+
+/// Whether some move may mate within so many, if the player sees the position: `false` only where none does.
+///
+/// What is found is kept from two moves on. A last move is looked for anew: most positions that are met have one move left,
+/// and to keep them would take more than it saves.
+#[cycle(seeing)]
+pub(crate) fn may_mate(alloc: Global, sight: &mut Sight, p: &Position, moves: u8) -> bool
+    ensures { result ≡ false → mates_within moves p.now ≡ false }
+{
+    if moves < 2 {
+        return may_mate_anew(alloc, sight, p, moves);
+    }
+    let key = pack(p);
+    if let Some(told) = sight.told(&key, moves) {
+        return told;
+    }
+    if may_mate_anew(alloc, sight, p, moves) {
+        sight.note_some(&key, moves);
+        return true;
+    }
+    sight.note_none(&key, moves);
+    false
+}
+
+/// The same, whatever is known.
+#[cycle(seeing)]
+fn may_mate_anew(alloc: Global, sight: &mut Sight, p: &Position, moves: u8) -> bool
+    ensures { result ≡ false → mates_within moves p.now ≡ false }
+{
+    if moves == 0 {
+        return false;
+    }
+    let Ok(tries) = legal_moves(alloc, p) else {
+        return true;
+    };
+    if !sight.look() {
+        return true;
+    }
+    one_may_mate(alloc, sight, p, tries.as_slice(), moves - 1)
+}
+
+/// Whether one of the legal moves may mate, where so many more are left.
+#[cycle(seeing)]
+fn one_may_mate(alloc: Global, sight: &mut Sight, p: &Position, tries: &[Move], fewer: u8) -> bool
+    requires { tries.now ≡ list.moves p.now }
+    ensures { result ≡ false → list_any (λ t. is_met (mates_within fewer) (change.after p.now t)) tries.now ≡ false }
+{
+    for mv in tries {
+        if may_follow(alloc, sight, &after(p, *mv), fewer) {
+            return true;
+        }
+    }
+    false
+}
+
+/// Whether the opponent, who is to move, is mated, or may be mated within so many moves after each of his.
+#[cycle(seeing)]
+fn may_follow(alloc: Global, sight: &mut Sight, q: &Position, moves: u8) -> bool
+    ensures { result ≡ false → is_met (mates_within moves) q.now ≡ false }
+{
+    if moves == 0 {
+        return is_mate(q);
+    }
+    let Ok(replies) = legal_moves(alloc, q) else {
+        return true;
+    };
+    if replies.is_empty() {
+        return in_check(q);
+    }
+    all_may_mate(alloc, sight, q, replies.as_slice(), moves)
+}
+
+/// Whether after each of the replies there may be a mate within so many moves.
+#[cycle(seeing)]
+fn all_may_mate(alloc: Global, sight: &mut Sight, q: &Position, replies: &[Move], moves: u8) -> bool
+    requires some { 0 < moves }
+    requires listed { replies.now ≡ list.moves q.now }
+    ensures { result ≡ false → list_all (λ r. mates_within moves (change.after q.now r)) replies.now ≡ false }
+{
+    for mv in replies {
+        if !may_mate(alloc, sight, &after(q, *mv), moves) {
+            return false;
+        }
+    }
+    true
+}
