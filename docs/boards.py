@@ -8,6 +8,8 @@ SQUARE = 26
 BOARD = 8 * SQUARE
 MARGIN, GAP, RANKS = 22, 58, 16
 LINE, CAPTION = 16, 40
+# So wide are the letters of a heading.
+LETTER = 9
 
 INK = "#2b2b2b"
 
@@ -44,19 +46,25 @@ def all_boards(nodes):
 
 
 def places(nodes):
-    """A column and a row for each board by its identity: a row for each last one, and the others in the middle before those behind them."""
-    spots, rows = {}, 0
+    """A column and a row for each board by its identity. The first board behind another stands beside it, and each other one lower, where
+    there is room for it and for what stands beside it."""
+    spots, free = {}, collections.Counter()
 
-    def place(node, column):
-        nonlocal rows
-        below = [place(child, column + 1) for child in behind(node)]
-        row = (below[0] + below[-1]) / 2 if below else rows
-        rows += not below
-        spots[id(node)] = column, row
+    def room(node, column):
+        row = free[column]
+        while behind(node):
+            node, column = behind(node)[0], column + 1
+            row = max(row, free[column])
         return row
 
+    def place(node, column, row):
+        spots[id(node)] = column, row
+        free[column] = row + 1
+        for index, child in enumerate(behind(node)):
+            place(child, column + 1, room(child, column + 1) if index else row)
+
     for node in nodes:
-        place(node, 0)
+        place(node, 0, room(node, 0))
     return spots
 
 
@@ -74,27 +82,36 @@ def men(position):
     return placed
 
 
-def man(letter, x, y, size, sure):
-    """A man in a box, pale where he may also stand elsewhere."""
-    fill = "#ffffff" if letter.isupper() else INK
-    return (f'<use href="#{letter.lower()}" fill="{fill}" opacity="{1 if sure else 0.5}" '
-            f'transform="translate({x:g} {y:g}) scale({size / 45:.3f})"/>')
+def standing(boards):
+    """What may stand on each square in these positions, the letters in order; and in how many of them a man does."""
+    counts, letters, held = collections.Counter(item for placed in boards for item in placed.items()), {}, collections.Counter()
+    for (square, letter), count in sorted(counts.items()):
+        letters.setdefault(square, []).append(letter)
+        held[square] += count
+    return letters, held
 
 
-def square_men(boards, file, rank, x, y, shares=False):
-    """What may stand on one square in these positions: a tint where that is not certain, and each man that may stand there; with shares
-    also in how many of a hundred positions one does."""
-    letters = sorted({board[file, rank] for board in boards if (file, rank) in board})
-    sure = len(letters) == 1 and all((file, rank) in board for board in boards)
-    drawn = []
-    if letters and not sure:
-        drawn.append(f'<rect x="{x:g}" y="{y:g}" width="{SQUARE}" height="{SQUARE}" fill="#7048e8" opacity=".3"/>')
-    size = SQUARE if len(letters) < 2 else SQUARE / 2
-    for index, letter in enumerate(letters[:4]):
-        drawn.append(man(letter, x + size * (index % 2), y + size * (index // 2), size, sure))
-    if shares and letters and not sure:
-        held = sum((file, rank) in board for board in boards)
-        drawn.append(words(str(max(1, 100 * held // len(boards))), x + SQUARE - 1, y + SQUARE - 1, "share"))
+def corner_of(square, x, y):
+    """The corner of a square of the board whose corner is at (x, y)."""
+    return x + SQUARE * square[0], y + SQUARE * (7 - square[1])
+
+
+def tints(squares, x, y):
+    """The squares where what stands there is not certain."""
+    path = "".join(f"M{left:g} {top:g}h{SQUARE}v{SQUARE}h-{SQUARE}z" for left, top in (corner_of(square, x, y) for square in squares))
+    return [f'<path d="{path}" fill="#7048e8" opacity=".3"/>'] if squares else []
+
+
+def square_men(letters, x, y, sure, most):
+    """The men that may stand on a square, pale where that is not certain. Several, at most six, are small: two in a row if they are no more
+    than `most`, and else three."""
+    across = 1 if len(letters) == 1 else 2 if len(letters) <= most else 3
+    small, drawn = SQUARE / across, []
+    for index, letter in enumerate(letters):
+        left, top = x + small * (index % across), y + small * (index // across)
+        spot = f'x="{left:g}" y="{top:g}"' if across == 1 else f'transform="translate({left:.1f} {top:.1f})scale({1 / across:.2f})"'
+        look = "" if sure else ' opacity=".5"'
+        drawn.append(f'<use href="#{letter.lower()}" class="{"white" if letter.isupper() else "black"}" {spot}{look}/>')
     return drawn
 
 
@@ -110,29 +127,39 @@ def arrow(move, x, y):
             f'stroke-width="5" stroke-linecap="round"/><polygon points="{tip}" stroke="none"/></g>')
 
 
-def shapes():
-    """What is drawn many times: the empty board with the names of files and ranks, and each kind of man."""
+def shapes(drawn):
+    """What is drawn many times: the empty board with the names of files and ranks, and each kind of man that is drawn."""
     dark = "".join(f"M{SQUARE * file} {SQUARE * (7 - rank)}h{SQUARE}v{SQUARE}h{-SQUARE}z"
                    for rank in range(8) for file in range(8) if (file + rank) % 2 == 0)
-    drawn = ['<defs>', '<g id="board">', f'<rect width="{BOARD}" height="{BOARD}" fill="#e9edf2"/>',
-             f'<path d="{dark}" fill="#bcc8d6"/>',
-             f'<rect width="{BOARD}" height="{BOARD}" fill="none" stroke="#5c6773"/>']
+    made = ['<defs>', '<g id="board">', f'<rect width="{BOARD}" height="{BOARD}" fill="#e9edf2"/>',
+            f'<path d="{dark}" fill="#bcc8d6"/>',
+            f'<rect width="{BOARD}" height="{BOARD}" fill="none" stroke="#5c6773"/>']
     for i in range(8):
         middle = SQUARE * (i + 0.5)
-        drawn += [words("abcdefgh"[i], middle, BOARD + 12, "name"), words(str(8 - i), -8, middle + 3.5, "name")]
-    drawn.append("</g>")
-    drawn += [f'<path id="{kind}" d="{shape}" stroke="{INK}" stroke-width="1.8" stroke-linejoin="round"/>'
-              for kind, shape in SHAPES.items()]
-    return drawn + ["</defs>"]
+        made += [words("abcdefgh"[i], middle, BOARD + 12, "name"), words(str(8 - i), -8, middle + 3.5, "name")]
+    made.append("</g>")
+    made += [f'<path id="{kind}" d="{shape}" stroke="{INK}" stroke-width="1.8" stroke-linejoin="round" '
+             f'transform="scale({SQUARE / 45:.3f})"/>'
+             for kind, shape in SHAPES.items() if any(f'"#{kind}"' in line for line in drawn)]
+    return made + ["</defs>"]
 
 
 def board(boards, move, shares, x, y):
-    """A board with its men, perhaps a try, and perhaps shares."""
-    drawn = [f'<use href="#board" x="{x:g}" y="{y:g}"/>']
-    for rank in range(8):
-        for file in range(8):
-            drawn += square_men(boards, file, rank, x + SQUARE * file, y + SQUARE * (7 - rank), shares)
-    return drawn + ([arrow(move, x, y)] if move else [])
+    """A board with its men, perhaps a try, and perhaps shares, below which small men leave room."""
+    letters, held = standing(boards)
+    sure = [square for square in letters if len(letters[square]) == 1 and held[square] == len(boards)]
+    unsure = [square for square in letters if square not in sure]
+    known = [line for square in sure for line in square_men(letters[square], *corner_of(square, x, y), True, 4)]
+    hidden = [line for square in unsure for line in square_men(letters[square], *corner_of(square, x, y), False, 3 if shares else 4)]
+    numbers = [share(held[square], len(boards), *corner_of(square, x, y)) for square in unsure if shares]
+    # Pale men are seen over the arrow, and the arrow over the man that it takes.
+    arrows = [arrow(move, x, y)] if move else []
+    return [f'<use href="#board" x="{x:g}" y="{y:g}"/>', *tints(unsure, x, y), *known, *arrows, *hidden, *numbers]
+
+
+def share(held, count, x, y):
+    """In how many of a hundred positions a man stands on a square."""
+    return words(str(max(1, 100 * held // count)), x + SQUARE - 1, y + SQUARE - 1, "share")
 
 
 def words(text, x, y, style):
@@ -147,9 +174,10 @@ def framed(width, height, title, drawn, style=""):
         f"<title>{title}</title>",
         "<style>text{font-family:'DejaVu Sans',Verdana,Arial,sans-serif;fill:#212529}.name{font-size:9px;fill:#868e96;"
         "text-anchor:middle}.key{font-size:12px}.no{font-size:12px;fill:#c92a2a}.try{font-size:13px;font-weight:bold;fill:#d9480f}"
-        f".note{{font-size:11px;fill:#5c6773}}{style}</style>",
+        ".note{font-size:11px;fill:#5c6773}.head{font-size:14px;font-weight:bold}"
+        f".white{{fill:#fff}}.black{{fill:{INK}}}{style}</style>",
         f'<rect width="{width:.0f}" height="{height:.0f}" fill="#ffffff"/>',
-        *shapes(),
+        *shapes(drawn),
         *drawn,
         "</svg>",
     ]
@@ -171,12 +199,9 @@ def drawn_board(node, is_refused, shares, x, y):
     return drawn + [words(line, x, y + BOARD + RANKS + 32 + LINE * i, "note") for i, line in enumerate(node.notes)]
 
 
-def drawn_lines(roots, nodes, corner):
-    """The lines to the roots, and from each board to those behind it."""
+def drawn_lines(nodes, corner):
+    """The lines from each board to those behind it."""
     drawn, middle = [], BOARD / 2
-    for root in roots:
-        x, y = corner[id(root)]
-        drawn.append(curve(x - RANKS - GAP / 2, y + middle, x - RANKS, y + middle, False))
     for node in nodes:
         x, y = corner[id(node)]
         for i, child in enumerate(behind(node)):
@@ -185,19 +210,20 @@ def drawn_lines(roots, nodes, corner):
     return drawn
 
 
-def tree(title, roots):
-    """The picture of a tree of boards."""
+def tree(title, heading, roots):
+    """The picture of a tree of boards, below the lines of a heading."""
     nodes, spots = list(all_boards(roots)), places(roots)
     refused = {id(child) for node in nodes for child in node.refused}
     above = LINE * max(len(node.above) for node in nodes)
     below = LINE * (max(len(node.notes) for node in nodes) - 1)
     high, wide = above + 8 + BOARD + RANKS + CAPTION + below + 14, BOARD + RANKS + GAP
-    corner = {spot: (MARGIN + GAP / 2 + RANKS + wide * column, MARGIN + above + 4 + high * row)
-              for spot, (column, row) in spots.items()}
-    width = 2 * MARGIN + GAP / 2 + wide * (1 + max(column for column, _ in spots.values())) - GAP
-    height = MARGIN + high * (1 + max(row for _, row in spots.values()))
-    return framed(width, height, title, [
-        *drawn_lines(roots, nodes, corner),
+    top = MARGIN + (LINE * len(heading) + 14 if heading else 0)
+    corner = {spot: (MARGIN + RANKS + wide * column, top + above + 4 + high * row) for spot, (column, row) in spots.items()}
+    width = 2 * MARGIN + wide * (1 + max(column for column, _ in spots.values())) - GAP
+    height = top + high * (1 + max(row for _, row in spots.values()))
+    return framed(max([width, *(2 * MARGIN + RANKS + LETTER * len(line) for line in heading)]), height, title, [
+        *(words(line, MARGIN + RANKS, MARGIN + 6 + LINE * i, "note" if i else "head") for i, line in enumerate(heading)),
+        *drawn_lines(nodes, corner),
         *(line for node in nodes for line in drawn_board(node, id(node) in refused, False, *corner[id(node)])),
     ])
 

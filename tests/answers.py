@@ -3,6 +3,7 @@
 The scripts beside this file use it; it does nothing by itself."""
 
 import collections
+import os
 import pathlib
 import re
 import shutil
@@ -87,16 +88,26 @@ def program(argument):
     return str(TOP / "crates/krieg/out/krieg")
 
 
+def finder(krieg, argument=None):
+    """The program krieg_find that is tried: the one that is named, here or as KRIEG_FIND in the environment, or else the one that stands
+    beside krieg in its checkout."""
+    named = argument or os.environ.get("KRIEG_FIND")
+    beside = pathlib.Path(krieg).resolve().parent.parent.parent / "krieg_find/out/krieg_find"
+    return str(pathlib.Path(named).resolve() if named else beside)
+
+
 def checkout(folder, krieg):
-    """Makes a folder look as the top of this checkout does to one who has built it, with that program; without the sources."""
+    """Makes a folder look as the top of this checkout does to one who has built it, with that program and its krieg_find; without the
+    sources."""
     for name in ["krieg", "crates.txt", "README.md"]:
         shutil.copy2(TOP / name, folder)
     for name in ["examples", "docs", "bench", "tests"]:
         shutil.copytree(TOP / name, folder / name)
-    home = folder / "crates/krieg/out"
-    home.mkdir(parents=True)
-    (home / "krieg").symlink_to(krieg)
-    (home / "built").touch()
+    for name, program in [("krieg", krieg), ("krieg_find", finder(krieg))]:
+        home = folder / "crates" / name / "out"
+        home.mkdir(parents=True)
+        (home / name).symlink_to(program)
+    (folder / "crates/krieg/out/built").touch()
 
 
 def run(krieg, words, text, folder=None):
