@@ -1,7 +1,7 @@
 -- What is counted and looked for on a board by its sets, where a fault is told.
 use Rattle.std.proofs.Common.{◌≡◌, ℕ, ◌<◌, ◌^◌, Bool, true, false, not, ◌&&◌, ◌||◌, ◌==◌, refl, sym, ◌∙◌, ap, arith, length, bit_and, count_ones}
 use Rattle.std.specs.Prelude.{Option, Some, None}
-use Rattle.std.proofs.lemmas.Bool.{and_parts, both_ways, eqb-true, false_from_ne_true, not-true}
+use Rattle.std.proofs.lemmas.Bool.{and_parts, eqb-true}
 use Rattle.std.proofs.lemmas.Nat.{and_le_r}
 use Rattle.krieg_board.specs.declared.men.Side.{Side}
 use Rattle.krieg_board.specs.declared.men.Side.TheVariants.{White, Black}
@@ -9,7 +9,7 @@ use Rattle.krieg_board.specs.declared.men.Kind.{Kind}
 use Rattle.krieg_board.specs.declared.men.Kind.TheVariants.{Pawn, King}
 use Rattle.krieg_board.specs.declared.men.Man.{Man}
 use Rattle.krieg_board.specs.Men.{is_same_bool, is_same_kind, is_same_side}
-use Rattle.krieg_board.specs.Squares.{squares, every_square, some_square, rank_of}
+use Rattle.krieg_board.specs.Squares.{squares, every_square, rank_of}
 use Rattle.krieg_board.specs.Board.{Board, man_at, is_of, is_man}
 use Rattle.krieg_board.specs.Boards.{is_kind}
 use Rattle.krieg_board.specs.Sets.{has}
@@ -17,9 +17,9 @@ use Rattle.krieg_board.specs.Validity.{count_kind, has_kings, has_pawns_inside, 
 use Rattle.krieg_board.proofs.MenLemmas.{kind_side}
 use Rattle.krieg_board.proofs.OneKing.{set_empty}
 use Rattle.krieg_board.proofs.Ones.{counted_set}
-use Rattle.krieg_board.proofs.SameTests.{same_bool_eq, same_tests}
+use Rattle.krieg_board.proofs.SameTests.{same_bool_eq, no_square}
 use Rattle.krieg_board.proofs.SetLemmas.{has_and}
-use Rattle.krieg_board.proofs.SquareTests.{every_square_at, every_square_all, some_square_none, some_square_at}
+use Rattle.krieg_board.proofs.SquareTests.{every_square_at}
 
 -- the men of a kind that are of a side, by the set of that kind and that of that side
 pub counted_kind : (which : Kind) (b : Board) (side : Side) (kind own : ℕ) → length b ≡ 64 → own < 2 ^ 64 →
@@ -50,7 +50,7 @@ unfolding has_pawns_inside
 pawns_inside b pawns e =
     sym (not_not (bit_and pawns 18374686479671623935 == 0))
     ∙ ap not (sym (set_empty (bit_and pawns 18374686479671623935) outside (omega (arith, and_le_r pawns 18374686479671623935)) each))
-    ∙ none_outside
+    ∙ no_square outside
   where
     outside : ℕ → Bool
     outside s = is_pawn (man_at b s) && (rank_of s == 0 || rank_of s == 7)
@@ -64,12 +64,6 @@ pawns_inside b pawns e =
     not_not : (t : Bool) → not (not t) ≡ t
     not_not true = refl
     not_not false = refl
-
-    none_outside : not (some_square outside) ≡ every_square (λ s. not (outside s))
-    none_outside =
-        same_tests (not (some_square outside)) (every_square (λ s. not (outside s)))
-        (λ h. every_square_all (λ s. not (outside s)) (λ k l. ap not (false_from_ne_true (outside k) (λ t. both_ways (some_square outside) (not-true (some_square outside) h) (some_square_at outside k l t)))))
-        (λ h. ap not (some_square_none outside (λ k l. not-true (outside k) (every_square_at (λ s. not (outside s)) h k l))))
 
 -- where each side has one king, a side has one
 pub one_king_each : (b : Board) → has_kings b ≡ true → (side : Side) → count_kind b side King ≡ 1

@@ -13,3 +13,5 @@ pub mod Picked
 pub mod MoveOrder
 pub mod Ones
 pub mod Faults
+pub mod Searching
+pub mod Joining

@@ -1,9 +1,9 @@
 -- Tests over the 64 squares that agree at each square agree.
-use Rattle.std.proofs.Common.{◌≡◌, ℕ, ◌<◌, Bool, true, false, ◌&&◌, refl, sym, ◌∙◌}
-use Rattle.std.proofs.lemmas.Bool.{and_from, and_parts}
+use Rattle.std.proofs.Common.{◌≡◌, ℕ, ◌<◌, Bool, true, false, not, ◌&&◌, refl, sym, ◌∙◌, ap}
+use Rattle.std.proofs.lemmas.Bool.{and_from, and_parts, both_ways, false_from_ne_true, not-true}
 use Rattle.krieg_board.specs.Men.{is_same_bool}
 use Rattle.krieg_board.specs.Squares.{some_square, every_square}
-use Rattle.krieg_board.proofs.SquareTests.{some_square_at, some_square_tells, every_square_all, every_square_at}
+use Rattle.krieg_board.proofs.SquareTests.{some_square_at, some_square_none, some_square_tells, every_square_all, every_square_at}
 
 -- tests that lead to each other are one
 pub same_tests : (a b : Bool) → (a ≡ true → b ≡ true) → (b ≡ true → a ≡ true) → a ≡ b
@@ -37,3 +37,10 @@ some_square_same p q e =
     same_tests (some_square p) (some_square q)
     (λ h. let (k, l, t) = some_square_tells p h in some_square_at q k l (sym (e k l) ∙ t))
     (λ h. let (k, l, t) = some_square_tells q h in some_square_at p k l (e k l ∙ t))
+
+-- no square passes where each fails
+pub no_square : (test : ℕ → Bool) → not (some_square test) ≡ every_square (λ k. not (test k))
+no_square test =
+    same_tests (not (some_square test)) (every_square (λ k. not (test k)))
+    (λ h. every_square_all (λ k. not (test k)) (λ k l. ap not (false_from_ne_true (test k) (λ t. both_ways (some_square test) (not-true (some_square test) h) (some_square_at test k l t)))))
+    (λ h. ap not (some_square_none test (λ k l. not-true (test k) (every_square_at (λ k. not (test k)) h k l))))

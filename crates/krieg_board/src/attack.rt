@@ -50,7 +50,7 @@ fn is_on_diagonal_between(from: u8, to: u8, s: u8) -> bool
 }
 
 #[tactic(auto, unfolding(crate::specs::Attacks::is_between))]
-fn is_between(from: u8, to: u8, s: u8) -> bool
+pub(crate) fn is_between(from: u8, to: u8, s: u8) -> bool
     ensures { result ≡ spec.is_between from to s }
 {
     is_on_file_between(from, to, s)
@@ -96,7 +96,7 @@ fn is_adjacent(from: u8, to: u8) -> bool
     apart(file_of(from), file_of(to)) <= 1 && apart(rank_of(from), rank_of(to)) <= 1
 }
 
-fn can_reach(man: Man, from: u8, to: u8) -> bool
+pub(crate) fn can_reach(man: Man, from: u8, to: u8) -> bool
     ensures { result ≡ spec.can_reach man.kind man.side from to }
 {
     match man.kind {
@@ -109,7 +109,7 @@ fn can_reach(man: Man, from: u8, to: u8) -> bool
     }
 }
 
-fn slides(kind: Kind) -> bool
+pub(crate) fn slides(kind: Kind) -> bool
     ensures { result ≡ spec.slides kind }
 {
     matches!(kind, Kind::Bishop | Kind::Rook | Kind::Queen)

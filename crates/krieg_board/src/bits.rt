@@ -1,4 +1,4 @@
-ghost use Rattle.std.specs.Prelude.{◌≡◌, ◌<◌, ◌==◌, ℕ, cond, true, false, is_some, slice_set, Some, None};
+ghost use Rattle.std.specs.Prelude.{◌≡◌, ◌<◌, ◌==◌, ℕ, cond, true, false, is_some, slice_set, Some, None, length};
 ghost use Rattle.krieg_board.specs.Board.{man_at, is_of, is_man};
 ghost use Rattle.krieg_board.specs.Boards as boards;
 ghost use Rattle.krieg_board.specs.Boards.{AreExact, Show, board_of};
@@ -67,7 +67,7 @@ impl Bits {
     }
 
     /// A board without men.
-    fn empty() -> Bits
+    pub fn empty() -> Bits
         ensures { result ≡ boards.empty_board }
     {
         Bits::from_sets(Sets {
@@ -88,8 +88,8 @@ impl Bits {
     {
         let mut bits = Bits::empty();
         for s in 0..64u8 {
-            if board[s as usize].is_some() {
-                bits = bits.with(s, board[s as usize]);
+            if let Some(man) = board[s as usize] {
+                bits.put(s, man);
             }
         }
         bits
@@ -160,6 +160,30 @@ impl Bits {
                 kings: written(self.sets.kings, s, is_kind(Kind::King, man)),
             },
         }
+    }
+
+    /// Puts a man on an empty square: two sets change.
+    #[inline]
+    pub fn put(&mut self, s: u8, man: Man)
+        requires below { s < 64 }
+        requires free { man_at self.old s ≡ None }
+        ensures { self.new ≡ slice_set self.old s (Some man) }
+    {
+        let place = only(s);
+        let mut sets = self.sets;
+        match man.side {
+            Side::White => sets.white |= place,
+            Side::Black => sets.black |= place,
+        }
+        match man.kind {
+            Kind::Pawn => sets.pawns |= place,
+            Kind::Knight => sets.knights |= place,
+            Kind::Bishop => sets.bishops |= place,
+            Kind::Rook => sets.rooks |= place,
+            Kind::Queen => sets.queens |= place,
+            Kind::King => sets.kings |= place,
+        }
+        *self = Bits { sets };
     }
 
     /// The board after that nothing stands on the one square, and then that man on the other: each set is
@@ -269,4 +293,12 @@ pub fn king_of(b: &Bits, side: Side) -> u8
     ensures king { is_man side King (man_at b.now result) ≡ true }
 {
     (b.sets.kings & b.men_of(side)).trailing_zeros() as u8
+}
+
+/// Tells a proof that the board has 64 squares.
+#[inline]
+pub(crate) fn know_size(b: &Bits)
+    ensures { length b.now ≡ 64 }
+{
+    let _sets = b.sets;
 }

@@ -1,18 +1,10 @@
-ghost use Rattle.std.specs.Prelude.{◌≡◌, ◌<◌};
+ghost use Rattle.std.specs.Prelude.{◌≡◌};
 ghost use Rattle.krieg_board.specs.Board as spec;
 
 use crate::men::{Kind, Man, Side};
 
 /// What stands on each of the 64 squares, a1 first.
 pub type Board = [Option<Man>; 64];
-
-/// Whether nothing stands on the square.
-pub(crate) fn is_empty(board: &Board, s: u8) -> bool
-    requires { s < 64 }
-    ensures { result ≡ spec.is_empty board.now s }
-{
-    board[s as usize].is_none()
-}
 
 /// Whether this is a man of that side.
 pub fn is_of(side: Side, man: Option<Man>) -> bool

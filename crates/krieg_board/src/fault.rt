@@ -4,14 +4,14 @@ ghost use Rattle.krieg_board.specs.Validity as spec;
 ghost use Rattle.krieg_board.specs.Validity.{first_fault};
 ghost use Rattle.krieg_board.specs.declared.men.Kind.TheVariants.{Pawn, King};
 
-use crate::attack::is_attacked;
-use crate::bits::{Bits, king_of};
-use crate::board::{Board, is_empty, is_man};
+use crate::bits::{Bits, king_of, know_size};
+use crate::board::is_man;
 use crate::men::{Kind, Rights, Side};
 use crate::position::BadPosition;
 use crate::square::{
     Square, crossed_rank, file_of, home_rank, landing_rank, pawn_rank, rank_of, square_at,
 };
+use crate::threat::is_threatened;
 
 /// The squares of the first and of the last rank.
 const END_RANKS: u64 = 0xFF00_0000_0000_00FF;
@@ -58,52 +58,51 @@ fn is_small(b: &Bits, side: Side) -> bool
 }
 
 /// Whether the king of that side is attacked, where each side has one.
-fn is_king_attacked(b: &Bits, board: &Board, side: Side) -> bool
-    requires same { b.now ≡ board.now }
-    requires kings { spec.has_kings board.now ≡ true }
-    ensures { result ≡ attack.is_king_attacked board.now side }
+fn is_king_attacked(b: &Bits, side: Side) -> bool
+    requires squares { length b.now ≡ 64 }
+    requires kings { spec.has_kings b.now ≡ true }
+    ensures { result ≡ attack.is_king_attacked b.now side }
 {
     let king = king_of(b, side);
-    is_attacked(board, king, side.other())
+    is_threatened(b, king, side.other())
 }
 
-fn has_castle(board: &Board, held: bool, side: Side, rook_file: u8) -> bool
+fn has_castle(b: &Bits, held: bool, side: Side, rook_file: u8) -> bool
     requires { rook_file < 8 }
-    ensures { result ≡ spec.has_castle board.now held side rook_file }
+    ensures { result ≡ spec.has_castle b.now held side rook_file }
 {
     let king = square_at(4, home_rank(side));
     let rook = square_at(rook_file, home_rank(side));
-    !held
-        || is_man(side, Kind::King, board[king as usize])
-            && is_man(side, Kind::Rook, board[rook as usize])
+    !held || is_man(side, Kind::King, b.man_at(king)) && is_man(side, Kind::Rook, b.man_at(rook))
 }
 
-fn has_castles(board: &Board, rights: Rights) -> bool
-    ensures { result ≡ spec.has_castles board.now rights }
+fn has_castles(b: &Bits, rights: Rights) -> bool
+    ensures { result ≡ spec.has_castles b.now rights }
 {
-    has_castle(board, rights.white_short, Side::White, 7)
-        && has_castle(board, rights.white_long, Side::White, 0)
-        && has_castle(board, rights.black_short, Side::Black, 7)
-        && has_castle(board, rights.black_long, Side::Black, 0)
+    has_castle(b, rights.white_short, Side::White, 7)
+        && has_castle(b, rights.white_long, Side::White, 0)
+        && has_castle(b, rights.black_short, Side::Black, 7)
+        && has_castle(b, rights.black_long, Side::Black, 0)
 }
 
-fn is_crossed(board: &Board, pawn_side: Side, s: u8) -> bool
+fn is_crossed(b: &Bits, pawn_side: Side, s: u8) -> bool
     requires { s < 64 }
-    ensures { result ≡ spec.is_crossed board.now pawn_side s }
+    ensures { result ≡ spec.is_crossed b.now pawn_side s }
 {
     let landing = square_at(file_of(s), landing_rank(pawn_side));
+    let start = square_at(file_of(s), pawn_rank(pawn_side));
     rank_of(s) == crossed_rank(pawn_side)
-        && is_man(pawn_side, Kind::Pawn, board[landing as usize])
-        && is_empty(board, s)
-        && is_empty(board, square_at(file_of(s), pawn_rank(pawn_side)))
+        && is_man(pawn_side, Kind::Pawn, b.man_at(landing))
+        && b.man_at(s).is_none()
+        && b.man_at(start).is_none()
 }
 
-fn has_mark(board: &Board, to_move: Side, mark: &Option<Square>) -> bool
-    ensures { result ≡ spec.has_mark board.now to_move mark.now }
+fn has_mark(b: &Bits, to_move: Side, mark: &Option<Square>) -> bool
+    ensures { result ≡ spec.has_mark b.now to_move mark.now }
 {
     match mark {
         None => true,
-        Some(mark) => is_crossed(board, to_move.other(), mark.number()),
+        Some(mark) => is_crossed(b, to_move.other(), mark.number()),
     }
 }
 
@@ -111,25 +110,24 @@ fn has_mark(board: &Board, to_move: Side, mark: &Option<Square>) -> bool
 #[tactic(auto, unfolding(crate::specs::Validity::first_fault))]
 pub(crate) fn fault_of(
     b: &Bits,
-    board: &Board,
     side: Side,
     rights: Rights,
     mark: &Option<Square>,
 ) -> Option<BadPosition>
-    requires { b.now ≡ board.now }
-    ensures { result ≡ first_fault (record { board = board.now; side = side; rights = rights; mark = mark.now }) }
+    ensures { result ≡ first_fault (record { board = b.now; side = side; rights = rights; mark = mark.now }) }
 {
+    know_size(b);
     if !has_kings(b) {
         Some(BadPosition::Kings)
     } else if !has_pawns_inside(b) {
         Some(BadPosition::PawnRank)
     } else if !(is_small(b, Side::White) && is_small(b, Side::Black)) {
         Some(BadPosition::TooManyMen)
-    } else if is_king_attacked(b, board, side.other()) {
+    } else if is_king_attacked(b, side.other()) {
         Some(BadPosition::IdleInCheck)
-    } else if !has_castles(board, rights) {
+    } else if !has_castles(b, rights) {
         Some(BadPosition::Rights)
-    } else if !has_mark(board, side, mark) {
+    } else if !has_mark(b, side, mark) {
         Some(BadPosition::Mark)
     } else {
         None

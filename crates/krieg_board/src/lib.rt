@@ -26,6 +26,7 @@ mod men;
 mod position;
 mod set;
 mod square;
+mod threat;
 mod units;
 
 pub use attack::{apart, attacks, is_attacked};

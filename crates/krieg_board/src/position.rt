@@ -2,7 +2,7 @@ ghost use Rattle.std.specs.Prelude.{◌≡◌, ◌<◌, IfOk, IfErr, Some, None,
 ghost use Rattle.krieg_board.specs.Board.{man_at};
 ghost use Rattle.krieg_board.specs.Validity.{IsValid, first_fault};
 
-use crate::bits::Bits;
+use crate::bits::{Bits, know_size};
 use crate::fault::fault_of;
 use crate::men::{Man, Rights, Side};
 use crate::square::Square;
@@ -67,15 +67,24 @@ impl Position {
         ensures valid { IfOk result (λ p. IsValid p) }
         ensures fault { IfErr result (λ e. first_fault (record { board = board; side = side; rights = rights; mark = mark }) ≡ Some e) }
     {
-        let bits = Bits::from_board(&board);
-        match fault_of(&bits, &board, side, rights, &mark) {
+        Position::of_bits(&Bits::from_board(&board), side, rights, mark)
+    }
+
+    /// The position with these parts, or the first fault that it would have.
+    pub fn of_bits(
+        bits: &Bits,
+        side: Side,
+        rights: Rights,
+        mark: Option<Square>,
+    ) -> Result<Position, BadPosition>
+        ensures value { IfOk result (λ p. p ≡ record { board = bits.now; side = side; rights = rights; mark = mark }) }
+        ensures valid { IfOk result (λ p. IsValid p) }
+        ensures fault { IfErr result (λ e. first_fault (record { board = bits.now; side = side; rights = rights; mark = mark }) ≡ Some e) }
+    {
+        know_size(bits);
+        match fault_of(bits, side, rights, &mark) {
             Some(fault) => Err(fault),
-            None => Ok(Position {
-                bits,
-                side,
-                rights,
-                mark,
-            }),
+            None => Ok(Position::from_valid(bits, side, rights, mark)),
         }
     }
 

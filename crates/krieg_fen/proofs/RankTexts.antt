@@ -1,13 +1,13 @@
 -- A rank and a board that were written are read again.
 use Rattle.std.proofs.Common.{◌≡◌, ℕ, zero, suc, ◌+◌, ◌-◌, ◌*◌, ◌<◌, ◌≤◌, Bool, true, cond, ◌&&◌, leb, eq-eqb, List, [], ◌∷◌, ◌++◌, length, take, drop, replicate, Option, Some, None, refl, sym, ap, ◌∙◌, arith, append_assoc, take-add}
 use Rattle.std.proofs.lemmas.Bool.{le-leb, and_from}
-use Rattle.std.proofs.lemmas.List.{append-nil, length-take-le, length-drop, take_all}
+use Rattle.std.proofs.lemmas.List.{append-nil, length-take-le, length-drop, take_all, get_or-take, get_or-drop}
 use Rattle.krieg_board.specs.declared.men.Man.{Man}
 use Rattle.krieg_board.specs.declared.men.Side.{Side}
 use Rattle.krieg_board.specs.declared.men.Side.TheVariants.{White, Black}
 use Rattle.krieg_board.specs.declared.men.Kind.{Kind}
 use Rattle.krieg_board.specs.declared.men.Kind.TheVariants.{Pawn, Knight, Bishop, Rook, Queen, King}
-use Rattle.krieg_board.specs.Board.{Board}
+use Rattle.krieg_board.specs.Board.{Board, man_at}
 use Rattle.krieg_text.specs.Pieces.{pieces}
 use Rattle.krieg_fen.specs.Letters.{letter}
 use Rattle.krieg_fen.specs.Ranks.{Row, squares_at, row_of, onto_row, eight, ranks_of, board_of}
@@ -99,6 +99,9 @@ ranks_above (suc zero) board = above_less 32 47 (rank_text (rank_at board 0)) (o
 ranks_above (suc (suc n)) board =
     above_append 32 (rank_text (rank_at board (suc n))) (47 ∷ ranks_text (suc n) board)
     (above_less 32 47 (rank_text (rank_at board (suc n))) (omega arith) (row_above (rank_at board (suc n)) 0)) (omega arith, ranks_above (suc n) board)
+
+pub rank_man : (b : Board) (r k : ℕ) → k < 8 → man_at (rank_at b r) k ≡ man_at b (8 * r + k)
+rank_man b r k lt = get_or-take 8 (drop (8 * r) b) k None lt ∙ get_or-drop (8 * r) b k None
 
 pub rank_long : (n : ℕ) (board : Board) → 8 * n + 8 ≤ length board → length (rank_at board n) ≡ 8
 rank_long n board le = length-take-le 8 (drop (8 * n) board) (omega (arith, length-drop (8 * n) board))

@@ -1,5 +1,6 @@
 -- The first field of a position: eight ranks, joined by `/`. Digit `1` is byte 49 and `8` is 56; `/` is byte 47.
-use Rattle.std.specs.Prelude.{◌≡◌, ℕ, zero, suc, ◌-◌, ◌<◌, ◌==◌, ◌&&◌, List, [], ◌∷◌, ◌++◌, length, Option, Some, None, nat_le, is_some, if◌then◌else◌, replicate}
+use Rattle.std.specs.Prelude.{◌≡◌, ℕ, zero, suc, ◌+◌, ◌-◌, ◌*◌, ◌<◌, ◌==◌, ◌&&◌, List, [], ◌∷◌, ◌++◌, length, Option, Some, None, nat_le, is_some, if◌then◌else◌, replicate, take, drop}
+use Rattle.krieg_board.specs.Board.{Board}
 use Rattle.krieg_board.specs.declared.men.Man.{Man}
 use Rattle.krieg_text.specs.Pieces.{pieces}
 use Rattle.krieg_fen.specs.Letters.{man_of}
@@ -49,3 +50,9 @@ AddsSquares (Some more) old new = new ≡ old ++ more
 abbrev pub FailsAbove : ℕ → Option Row → Type 0
 FailsAbove room None = Unit {0}
 FailsAbove room (Some more) = room < length more
+
+-- a board of as many squares, of which only those of one rank may hold other men
+pub record KeepsOthers (old new : Board) (rank : ℕ) : Type 0 where
+  pub size : length new ≡ length old
+  pub below : take (8 * rank) new ≡ take (8 * rank) old
+  pub above : drop (8 * rank + 8) new ≡ drop (8 * rank + 8) old

@@ -9,7 +9,7 @@ ghost use Rattle.krieg_text.specs.Pieces.{pieces, pieces_left};
 
 use crate::fields::{is_clock, mark_of, rights_of, side_of};
 use crate::ranks::board_of;
-use krieg_board::{BadPosition, Man, Position, Rights, Side, Square};
+use krieg_board::{BadPosition, Bits, Position, Rights, Side, Square};
 use krieg_text::cut;
 use std::marker::Model;
 
@@ -27,7 +27,7 @@ pub enum FenFault {
 /// What the first four fields say, valid or not.
 #[derive(Drop)]
 struct Parts {
-    board: [Option<Man>; 64],
+    board: Bits,
     side: Side,
     rights: Rights,
     mark: Option<Square>,
@@ -72,7 +72,7 @@ fn parts_of(board: &[u8], side: &[u8], rights: &[u8], mark: &[u8]) -> Result<Par
 fn checked(parts: &Parts) -> Result<Position, FenFault>
     ensures { result ≡ spec.checked parts.now }
 {
-    match Position::make(parts.board, parts.side, parts.rights, parts.mark) {
+    match Position::of_bits(&parts.board, parts.side, parts.rights, parts.mark) {
         Ok(position) => Ok(position),
         Err(fault) => Err(FenFault::Bad(fault)),
     }

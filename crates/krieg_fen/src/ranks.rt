@@ -1,12 +1,10 @@
-ghost use Rattle.std.specs.Prelude.{◌≡◌, ◌<◌, ◌≤◌, ◌-◌, ◌+◌, take, drop, replicate, ◌++◌, IfSome, IfNone, None, Some};
+ghost use Rattle.std.specs.Prelude.{◌≡◌, ◌<◌, ◌≤◌, ◌-◌, take, drop, replicate, IfSome, IfNone, None, Some};
+ghost use Rattle.krieg_fen.specs.FenText.{rank_at};
 ghost use Rattle.krieg_fen.specs.Letters as letters;
 ghost use Rattle.krieg_fen.specs.Ranks as spec;
+ghost use Rattle.krieg_fen.specs.Ranks.{KeepsOthers};
 
-use krieg_board::{Board, Kind, Man, Side};
-use krieg_text::cut;
-
-/// What stands on the eight squares of a rank, from the a-file on.
-type Row = [Option<Man>; 8];
+use krieg_board::{Bits, Kind, Man, Side};
 
 fn man(side: Side, kind: Kind) -> Option<Man>
     ensures { result ≡ letters.man_as side (Some kind) }
@@ -35,61 +33,50 @@ fn man_of(letter: u8) -> Option<Man>
     }
 }
 
-/// Puts what the byte stands for after the first `file` squares, where there is room, and says how many
-/// squares are filled then.
+/// Puts what the byte stands for after the first `file` squares of the rank, where there is room, and says
+/// how many squares are filled then.
 #[tactic(auto, using(crate::proofs::RankReading::puts))]
-fn put(row: &mut Row, file: usize, b: u8) -> Option<usize>
+fn put(bits: &mut Bits, rank: u8, file: u8, b: u8) -> Option<u8>
+    requires rank { rank < 8 }
     requires file { file ≤ 8 }
-    requires free { drop file row.old ≡ replicate (8 - file) None }
-    ensures some { IfSome result (λ next. (next ≤ 8) × (drop next row.new ≡ replicate (8 - next) None)
-        × spec.AddsSquares (spec.squares_at b) (take file row.old) (take next row.new)) }
+    requires free { drop file (rank_at bits.old rank) ≡ replicate (8 - file) None }
+    ensures others { KeepsOthers bits.old bits.new rank }
+    ensures some { IfSome result (λ next. (next ≤ 8) × (drop next (rank_at bits.new rank) ≡ replicate (8 - next) None)
+        × spec.AddsSquares (spec.squares_at b) (take file (rank_at bits.old rank)) (take next (rank_at bits.new rank))) }
     ensures none { IfNone result (spec.FailsAbove (8 - file) (spec.squares_at b)) }
 {
     if (b'1'..=b'8').contains(&b) {
-        let next = file + (b - b'0') as usize;
+        let next = file + (b - b'0');
         if next > 8 { None } else { Some(next) }
     } else if file < 8 {
         let man = man_of(b)?;
-        row[file] = Some(man);
+        bits.put(8 * rank + file, man);
         Some(file + 1)
     } else {
         None
     }
 }
 
-/// The squares of a rank, where there are eight.
-#[tactic(auto, using(crate::proofs::RankReading::rows))]
-fn row_of(text: &[u8]) -> Option<Row>
-    ensures { result ≡ spec.eight (spec.row_of text.now) }
-{
-    let mut row = [None; 8];
-    let mut file = 0;
-    for b in text {
-        file = put(&mut row, file, *b)?;
-    }
-    if file == 8 { Some(row) } else { None }
-}
-
-/// Puts the squares of a rank on the board.
-fn place(board: &mut Board, start: usize, row: &Row)
-    requires { start + 8 ≤ 64 }
-    ensures { drop start board.new ≡ row.now ++ drop (start + 8) board.old }
-{
-    board[start..start + 8].copy_from_slice(row);
-}
-
 /// The board that the first field of a position spells.
-#[tactic(auto, using(crate::proofs::RankReading::boards))]
-pub(crate) fn board_of(field: &[u8]) -> Option<Board>
+pub(crate) fn board_of(field: &[u8]) -> Option<Bits>
     ensures { result ≡ spec.board_of field.now }
 {
-    let mut board = [None; 64];
-    let mut rest = Some(field);
-    for rank in 0..8usize {
-        let (text, after) = cut(b'/', rest?);
-        let row = row_of(text)?;
-        place(&mut board, 56 - 8 * rank, &row);
-        rest = after;
+    let mut bits = Bits::empty();
+    let mut rank = 7;
+    let mut file = 0;
+    for b in field {
+        if *b != b'/' {
+            file = put(&mut bits, rank, file, *b)?;
+        } else if file == 8 && rank > 0 {
+            rank -= 1;
+            file = 0;
+        } else {
+            return None;
+        }
     }
-    if rest.is_none() { Some(board) } else { None }
+    if rank == 0 && file == 8 {
+        Some(bits)
+    } else {
+        None
+    }
 }

@@ -4,7 +4,7 @@ use Rattle.std.proofs.Math.Nat.{mod-one}
 use Rattle.std.proofs.Math.Bool.{and-false}
 use Rattle.std.proofs.lemmas.Bool.{eq-eqb, ne_eqb, cases_lt}
 use Rattle.std.proofs.lemmas.Nat.Bits.{bit_at-zero, bit_at_ones, bit_at_ones_above, bit_at_cat_low, bit_at_cat_high}
-use Rattle.krieg_board.proofs.SetLemmas.{has_zero, has_bit, has_no_bit}
+use Rattle.krieg_board.proofs.SetLemmas.{has_zero, has_bit, has_no_bit, has_place}
 use Rattle.std.proofs.lemmas.List.Filters.{length-filter_both}
 use Rattle.std.specs.List.{filter}
 use Rattle.std.specs.Int.{bit_at}
@@ -18,6 +18,7 @@ use Rattle.krieg_board.specs.Validity.{IsValid}
 use Rattle.krieg_board.proofs.Ones.{ones_zero, ones_suc, bit_by}
 use Rattle.krieg_board.proofs.Picked.{picked, picked_zero, picked_step}
 use Rattle.krieg_moves.specs.Legal.{is_legal}
+use Rattle.krieg_moves.specs.Targets.{IsAlone}
 use Rattle.krieg_moves.specs.Moves.{moves_between, moves_from, all_moves, moves_of, moves, promotes, can_go}
 use Rattle.krieg_moves.proofs.Listing.{listed_promotions, listed_plain, picked_from, picked_men}
 use Rattle.krieg_moves.specs.declared.count.TheConstants.{MOST_LEGAL_MOVES}
@@ -135,6 +136,26 @@ counted_taken g set t rest l others = ap length (picked_step g set t rest l othe
 
 pub counted_ended : {A : Type 0} (g : ℕ → List A) (rest : ℕ) → rest ≡ 0 → length (picked rest g) ≡ 0
 counted_ended g rest z = ap (λ n. length (picked n g)) z ∙ ap length (picked_zero g)
+
+-- a king who is alone has all moves of his side
+never : (b : Bool) → false ≡ (b && not b)
+never true = refl
+never false = refl
+
+pub lone_counted : (p : Pos) (king : ℕ) → king < 64 → IsAlone p king → length (filter (is_legal p) (moves_from king)) ≡ length (moves p)
+unfolding moves_of picked
+lone_counted p king inside alone =
+    let men = 1 * 2 ^ king % 18446744073709551616 in
+    let has_men = λ (k : ℕ) (h : k < 64). has_place king k inside h in
+    let first : IsLowest men king = record {
+      below = inside;
+      member = has_men king inside ∙ eq-eqb king king refl;
+      first = λ k h. has_men k (omega arith) ∙ ne_eqb k king (λ e. omega arith);
+    } in
+    let moves_from_king = λ (k : ℕ). filter (is_legal p) (moves_from k) in
+    let one = counted_taken moves_from_king men king 0 first (λ k h. has_zero k ∙ never (k == king) ∙ ap (λ b. b && not (k == king)) (sym (has_men k h))) in
+    let all : length (picked men moves_from_king) ≡ length (moves p) = all_counted p men (λ k h. has_men k h ∙ sym (alone.alone k h)) in
+    omega (arith, one, counted_ended moves_from_king 0 refl, all)
 
 -- a rank as a set
 pub eighth_rank : (t : ℕ) → t < 64 → has 18374686479671623680 t ≡ (t / 8 == 7)

@@ -1,5 +1,5 @@
 -- Where a king steps, and which men have but one way to go.
-use Rattle.std.specs.Prelude.{ℕ, Bool, ◌≡◌, true, false, Option, Some, None, ◌&&◌, ◌||◌, not, slice_set}
+use Rattle.std.specs.Prelude.{ℕ, Bool, ◌≡◌, ◌<◌, ◌==◌, true, false, Option, Some, None, ◌&&◌, ◌||◌, not, slice_set}
 use Rattle.krieg_board.specs.Men.{other, is_same_side}
 use Rattle.krieg_board.specs.Pos.{Pos}
 use Rattle.krieg_board.specs.Board.{man_at, is_of, is_man}
@@ -48,3 +48,8 @@ pub record IsFreePawn (p : Pos) (k : ℕ) : Type 0 where
   pub pawn : is_man p.side Pawn (man_at p.board k) ≡ true
   pub free : is_pinned p.board p.side k ≡ false
   pub unmarked : p.mark ≡ None
+
+-- the king of the side to move stands there, and is its only man
+pub record IsAlone (p : Pos) (king : ℕ) : Type 0 where
+  pub stands : is_man p.side King (man_at p.board king) ≡ true
+  pub alone : (k : ℕ) → k < 64 → is_of p.side (man_at p.board k) ≡ (k == king)

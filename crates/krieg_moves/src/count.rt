@@ -1,4 +1,4 @@
-ghost use Rattle.std.specs.Prelude.{◌≡◌, ◌<◌, ◌≤◌, ◌&&◌, ◌==◌, ℕ, true, false, bit_and, filter, length, Some};
+ghost use Rattle.std.specs.Prelude.{◌≡◌, ◌<◌, ◌≤◌, ◌&&◌, ◌==◌, ℕ, true, false, bit_and, filter, length, Some, IfSome};
 ghost use Rattle.krieg_board.specs.Board.{man_at, is_man};
 ghost use Rattle.krieg_board.specs.Boards.{is_kind};
 ghost use Rattle.krieg_board.specs.Sets as sets;
@@ -8,12 +8,14 @@ ghost use Rattle.krieg_rays.specs.Pinned.{is_pinned};
 ghost use Rattle.krieg_moves.specs.Guarding.{IsGuard};
 ghost use Rattle.krieg_moves.specs.Legal as spec;
 ghost use Rattle.krieg_moves.specs.Moves as list;
-ghost use Rattle.krieg_moves.specs.Targets.{IsFreePawn, is_free_officer, is_officer};
+ghost use Rattle.krieg_moves.specs.Targets.{IsAlone, IsFreePawn, is_free_officer, is_officer};
 
 use crate::guard::Guard;
 use crate::target::{own_pawns, targets, targets_of_free_officer, targets_of_king};
 use crate::ways::count_ways;
-use krieg_board::{Kind, Man, Position, Side, Square, has, know_valid, lowest, without_lowest};
+use krieg_board::{
+    Kind, Man, Position, Side, Square, has, king_of, know_valid, lowest, only, without_lowest,
+};
 
 /// The squares of the rank on which a side's pawns are promoted.
 fn last_rank_squares(side: Side) -> u64
@@ -188,13 +190,13 @@ fn count_one_by_one(p: &Position, guard: &Guard, men: u64) -> usize
 /// No position has more legal moves than 64 times 64 times 5.
 pub const MOST_LEGAL_MOVES: usize = 20_480;
 
-/// The number of the legal moves of the side to move, without their list. Free pawns are counted together, and men who
-/// are not pinned kind by kind. It takes no memory.
-pub fn count_moves(p: &Position) -> usize
-    ensures value { result ≡ length (list.moves p.now) }
-    ensures few { result ≤ MOST_LEGAL_MOVES }
+/// The number of the legal moves of a side by its guard. Free pawns are counted together, and men who are not pinned kind
+/// by kind.
+fn count_by_guard(p: &Position, guard: &Guard) -> usize
+    requires { IsGuard p.now guard.now }
+    ensures { result ≡ length (list.moves p.now) }
 {
-    let guard = &Guard::of(p);
+    know_valid(p);
     let men = p.bits().men_of(p.side());
     let free = free_pawns(p, guard);
     let officers = free_officers(p, guard.pinned);
@@ -202,4 +204,30 @@ pub fn count_moves(p: &Position) -> usize
     count_of_free_pawns(p, guard, free)
         + count_of_officers(p, guard, officers)
         + count_one_by_one(p, guard, others)
+}
+
+/// The king of the side to move, where he is its only man.
+fn lone_king(p: &Position) -> Option<Square>
+    ensures { IfSome result (IsAlone p.now) }
+{
+    know_valid(p);
+    let bits = p.bits();
+    let side = p.side();
+    let king = king_of(bits, side);
+    if bits.men_of(side) == only(king) {
+        return Square::new(king);
+    }
+    None
+}
+
+/// The number of the legal moves of the side to move, without their list. It takes no memory. A king who is alone needs no
+/// guard.
+pub fn count_moves(p: &Position) -> usize
+    ensures value { result ≡ length (list.moves p.now) }
+    ensures few { result ≤ MOST_LEGAL_MOVES }
+{
+    match lone_king(p) {
+        Some(king) => count_of_king(p, king),
+        None => count_by_guard(p, &Guard::of(p)),
+    }
 }

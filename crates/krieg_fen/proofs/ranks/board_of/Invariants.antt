@@ -1,8 +1,8 @@
-use Rattle.std.proofs.Common.{◌≡◌, ◌-◌, ◌*◌, drop, Some}
-use Rattle.std.specs.Option.{option_copied}
-use Rattle.krieg_fen.specs.Ranks.{ranks_of, onto_row}
-use Rattle.krieg_text.specs.Pieces.{pieces, pieces_left}
+use Rattle.std.proofs.Common.{drop}
+use Rattle.krieg_fen.specs.Ranks.{ranks_of}
+use Rattle.krieg_text.specs.Pieces.{pieces}
+use Rattle.krieg_fen.proofs.RankReading.{Reads}
 use Rattle.krieg_fen.proofs.ranks.board_of.Given as goal
 
-abbrev pub invariant-loop-rank : goal.invariant-loop-rank
-invariant-loop-rank l = onto_row (ranks_of (8 - l.rank) (pieces_left 47 (option_copied l.rest))) (Some (drop (64 - 8 * l.rank) l.board)) ≡ ranks_of 8 (pieces 47 l.field)
+abbrev pub invariant-loop-b : goal.invariant-loop-b
+invariant-loop-b l = Reads l.bits l.rank l.file (drop l.b-index l.field) (ranks_of 8 (pieces 47 l.field))

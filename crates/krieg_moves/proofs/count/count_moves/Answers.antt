@@ -1,52 +1,16 @@
-use Rattle.std.proofs.Common.{◌-◌, ◌+◌, ◌<◌, ◌≡◌, ◌∙◌, ℕ, arith, bit_and, bit_or, length}
-use Rattle.krieg_board.specs.Board.{man_at, is_of}
-use Rattle.krieg_board.specs.Sets.{has}
+use Rattle.std.proofs.Common.{rules, ◌≡◌, ◌∙◌, length, arith}
 use Rattle.krieg_moves.specs.Moves.{moves}
-use Rattle.krieg_moves.proofs.Counting.{few_moves, few_moves_of, all_counted}
-use Rattle.krieg_moves.proofs.Officers.{counted_in_three}
+use Rattle.krieg_moves.proofs.Counting.{few_moves, lone_counted}
 use Rattle.krieg_moves.proofs.count.count_moves.Goals as goal
 
-pub overflow_add-result : goal.overflow_add-result
-overflow_add-result c =
-    omega (
-      arith,
-      c.count_of_free_pawns.ensures,
-      c.count_of_officers.ensures,
-      few_moves_of c.args.p.now c.free_pawns-free.result,
-      few_moves_of c.args.p.now c.free_officers-officers.result,
-    )
+alone : (c : goal.After-count_of_king) → c.count_of_king.result ≡ length (moves c.args.p.now)
+alone c = c.count_of_king.ensures ∙ lone_counted c.args.p.now c.in-Some.king (search rules) c.in-Some.ensures
 
-pub overflow_add-result-2 : goal.overflow_add-result-2
-overflow_add-result-2 c =
-    omega (
-      arith,
-      c.count_of_free_pawns.ensures,
-      c.count_of_officers.ensures,
-      c.count_one_by_one.ensures,
-      few_moves_of c.args.p.now c.free_pawns-free.result,
-      few_moves_of c.args.p.now c.free_officers-officers.result,
-      few_moves_of c.args.p.now (bit_and c.men_of-men.result (18446744073709551615 - bit_or c.free_pawns-free.result c.free_officers-officers.result)),
-    )
+pub returns-in-Some-clause-value : goal.returns-in-Some-clause-value
+returns-in-Some-clause-value c = alone c
 
-own : (c : goal.After-count_one_by_one) (k : ℕ) → k < 64 → has c.men_of-men.result k ≡ is_of c.args.p.now.side (man_at c.args.p.now.board k)
-own c k h = c.men_of-men.ensures k h ∙ (λ i. is_of (c.side.ensures.value i) (man_at (c.bits.ensures.value i) k))
+pub returns-in-Some-clause-few : goal.returns-in-Some-clause-few
+returns-in-Some-clause-few c = omega (arith, alone c, few_moves c.args.p.now)
 
-counted : (c : goal.After-count_one_by_one) → c.count_of_free_pawns.result + c.count_of_officers.result + c.count_one_by_one.result ≡ length (moves c.args.p.now)
-counted c =
-    let p = c.args.p.now in
-    let men = c.men_of-men.result in
-    omega (
-      arith,
-      c.count_of_free_pawns.ensures,
-      c.count_of_officers.ensures,
-      c.count_one_by_one.ensures,
-      counted_in_three p men c.free_pawns-free.result c.free_officers-officers.result c.free_pawns-free.type_inv c.free_officers-officers.type_inv (own c)
-          (λ k h here. (c.free_pawns-free.ensures k h here).pawn) c.free_officers-officers.ensures,
-      all_counted p men (own c),
-    )
-
-pub returns-clause-value : goal.returns-clause-value
-returns-clause-value c = counted c
-
-pub returns-clause-few : goal.returns-clause-few
-returns-clause-few c = omega (arith, counted c, few_moves c.args.p.now)
+pub returns-in-None-clause-few : goal.returns-in-None-clause-few
+returns-in-None-clause-few c = omega (arith, c.count_by_guard.ensures, few_moves c.args.p.now)
