@@ -64,9 +64,9 @@ impl Game {
         Ok(())
     }
 
-    /// Judges a try, and makes its move where it is done.
+    /// Judges a try, and makes its move where it is done. It is not put into the log: who tells each try at once needs none.
     #[tactic(auto, using(crate::proofs::Ends::ends), unfolding(crate::specs::Verdicts::verdict))]
-    fn judge(&mut self, e: &Event) -> Verdict
+    pub fn judge(&mut self, e: &Event) -> Verdict
         ensures verdict { result ≡ verdict self.old.position e.now.who e.now.mv }
         ensures state { self.new ≡ record self.old { position = next self.old.position e.now.who e.now.mv } }
     {

@@ -16,6 +16,8 @@ use Rattle.krieg_words.specs.declared.line.Line.{Line}
 use Rattle.krieg_words.proofs.ToldLaws.{told_line_fits}
 use Rattle.krieg_referee.specs.declared.verdict.Event.{Event}
 use Rattle.krieg_referee.specs.declared.verdict.Judged.{Judged}
+use Rattle.krieg_referee.specs.Verdicts.{next}
+use Rattle.krieg_referee.specs.Games.{judge, judged, last}
 use Rattle.krieg_referee.specs.Hearing.{line_for, lines_for, strip}
 use Rattle.krieg_referee.proofs.Stripping.{lines_strip}
 use Rattle.krieg_sheet.specs.SheetText.{entry_line, sheet_text}
@@ -41,7 +43,16 @@ told_more d log j =
     ap (map (marked_line d)) (flat_map-append (both_lines d) log (j ∷ []) ∙ ap (λ (ls : List (Side × Line)). flat_map (both_lines d) log ++ ls) (append-nil (both_lines d j)))
     ∙ map-append (marked_line d) (flat_map (both_lines d) log) (both_lines d j)
 
-pub ruleset logs = (heard_more, heard_is, told_more, map-append)
+-- one try more
+pub judge_more : (p : Pos) (es : List Event) (e : Event) → judge p (es ++ e ∷ []) ≡ judge p es ++ judged (last p es) e ∷ []
+judge_more p [] e = refl
+judge_more p (x ∷ es) e = ap (λ (log : List Judged). judged p x ∷ log) (judge_more (next p x.who x.mv) es e)
+
+pub last_more : (p : Pos) (es : List Event) (e : Event) → last p (es ++ e ∷ []) ≡ next (last p es) e.who e.mv
+last_more p [] e = refl
+last_more p (x ∷ es) e = last_more (next p x.who x.mv) es e
+
+pub ruleset logs = (heard_more, heard_is, told_more, judge_more, last_more, map-append)
 
 -- the sheet of the tries without the other player's that are not done
 pub writes_stripped : {E : Type 0} (r : Result (Unit {0}) E) (old new : List ℕ) (d : Dialect) (p : Pos) (events : List Event) (who : Option Side) → Appends r old new (umpire_text d p events who) →

@@ -1,4 +1,5 @@
 ghost use Rattle.std.specs.Prelude.{◌∷◌, [], IfSome, map};
+ghost use Rattle.std.specs.List.{flat_map};
 ghost use Rattle.krieg_text.specs.Writing.{PutsText, PutsLines, Appends};
 ghost use Rattle.krieg_words.specs.Line.{told_line};
 ghost use Rattle.krieg_words.specs.WordsOfMoves.{opening};
@@ -11,7 +12,7 @@ ghost use Rattle.krieg_session.specs.Telling as spec;
 use crate::session::Session;
 use krieg_board::{NoMemory, Position, Side};
 use krieg_fen::{put_listed, side_mark};
-use krieg_referee::{Judged, judge, line_for};
+use krieg_referee::{Event, Game, Judged, line_for};
 use krieg_sheet::{put_end, put_entry, put_head};
 use krieg_text::Text;
 use krieg_words::{Dialect, Line, opening, put_line_in, told_line};
@@ -36,23 +37,40 @@ fn put_heard(d: Dialect, who: Side, judged: &Judged, text: &mut Text) -> Result<
     }
 }
 
-/// Adds the lines of the player's sheet of a game that was judged.
+/// Adds the player's lines of the tries, each of which is told once it is judged.
 #[tactic(auto, using(krieg_text::proofs::Writings::writings, crate::proofs::Tellings::logs))]
-fn put_player(
+fn put_tries(
     d: Dialect,
-    start: &Position,
-    log: &[Judged],
+    mut game: Game,
+    events: &[Event],
     who: Side,
     text: &mut Text,
 ) -> Result<(), NoMemory>
-    ensures { PutsLines result text.old text.new (sheet_lines (spec.sheet_of_log d start.now log.now who)) }
+    ensures { PutsLines result text.old text.new (spec.heard_lines d who (judge game.position events.now)) }
+{
+    for event in events {
+        let verdict = game.judge(event);
+        let event = *event;
+        put_heard(d, who, &Judged { event, verdict }, text)?;
+    }
+    Ok(())
+}
+
+/// Adds the lines of the player's sheet of a game that begins so.
+#[tactic(auto, using(krieg_text::proofs::Writings::writings, crate::proofs::Tellings::logs))]
+fn put_player(
+    d: Dialect,
+    game: Game,
+    events: &[Event],
+    who: Side,
+    text: &mut Text,
+) -> Result<(), NoMemory>
+    ensures { PutsLines result text.old text.new (sheet_lines (spec.sheet_of d game.position events.now who)) }
 {
     put_head(d, who, 1, text)?;
-    put_listed(start, text)?;
-    put_told(d, Line::Opens(opening(start)), text)?;
-    for judged in log {
-        put_heard(d, who, judged, text)?;
-    }
+    put_listed(game.position(), text)?;
+    put_told(d, Line::Opens(opening(game.position())), text)?;
+    put_tries(d, game, events, who, text)?;
     put_end(text)
 }
 
@@ -85,20 +103,35 @@ fn put_both(d: Dialect, judged: &Judged, text: &mut Text) -> Result<(), NoMemory
     put_players(d, Side::Black, judged, text)
 }
 
-/// Adds the lines of both players of a game that was judged.
-#[tactic(auto, using(krieg_text::proofs::Writings::writings, crate::proofs::Tellings::logs), unfolding(crate::specs::Telling::marked_lines))]
-fn put_all(d: Dialect, start: &Position, log: &[Judged], text: &mut Text) -> Result<(), NoMemory>
-    ensures { PutsLines result text.old text.new (spec.marked_lines d start.now log.now) }
+/// Adds both players' lines of the tries, each of which is told once it is judged.
+#[tactic(auto, using(krieg_text::proofs::Writings::writings, crate::proofs::Tellings::logs))]
+fn put_all_tries(
+    d: Dialect,
+    mut game: Game,
+    events: &[Event],
+    text: &mut Text,
+) -> Result<(), NoMemory>
+    ensures { PutsLines result text.old text.new (map (spec.marked_line d) (flat_map (spec.both_lines d) (judge game.position events.now))) }
 {
-    put_marked(d, Side::White, Line::Opens(opening(start)), text)?;
-    put_marked(d, Side::Black, Line::Opens(opening(start)), text)?;
-    for judged in log {
-        put_both(d, judged, text)?;
+    for event in events {
+        let verdict = game.judge(event);
+        let event = *event;
+        put_both(d, &Judged { event, verdict }, text)?;
     }
     Ok(())
 }
 
-/// Judges the tries and adds what is told of them.
+/// Adds the lines of both players of a game that begins so.
+#[tactic(auto, using(krieg_text::proofs::Writings::writings, crate::proofs::Tellings::logs), unfolding(crate::specs::Telling::marked_lines))]
+fn put_all(d: Dialect, game: Game, events: &[Event], text: &mut Text) -> Result<(), NoMemory>
+    ensures { PutsLines result text.old text.new (spec.marked_lines d game.position (judge game.position events.now)) }
+{
+    put_marked(d, Side::White, Line::Opens(opening(game.position())), text)?;
+    put_marked(d, Side::Black, Line::Opens(opening(game.position())), text)?;
+    put_all_tries(d, game, events, text)
+}
+
+/// Adds what is told of a session, try by try: no log of it is kept.
 #[tactic(auto, using(krieg_text::proofs::Writings::lines_after), unfolding(krieg_sheet::specs::SheetText::sheet_text, crate::specs::Telling::all_text))]
 fn put_telling(
     alloc: Global,
@@ -108,10 +141,10 @@ fn put_telling(
 ) -> Result<(), NoMemory>
     ensures { PutsText result text.old text.new (spec.umpire_text s.now.dialect s.now.start s.now.events.items who) }
 {
-    let game = judge(alloc, &s.start, &s.events)?;
+    let game = Game::start(alloc, s.start);
     match who {
-        Some(side) => put_player(s.dialect, &s.start, game.log(), side, text),
-        None => put_all(s.dialect, &s.start, game.log(), text),
+        Some(side) => put_player(s.dialect, game, &s.events, side, text),
+        None => put_all(s.dialect, game, &s.events, text),
     }
 }
 
@@ -119,8 +152,7 @@ fn put_telling(
 /// player, which lists the start, has the opening words and then the player's lines, and with `None` all
 /// lines of both players. The session's stop is not told.
 ///
-/// The places for all tries are taken before the first one is judged. Where memory runs out, nothing is
-/// appended.
+/// Each try is told once it is judged, so beside the text no memory is taken. Where it runs out, nothing is appended.
 #[tactic(auto, using(crate::proofs::Tellings::stripping))]
 pub fn umpire(
     alloc: Global,
