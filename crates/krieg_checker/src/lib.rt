@@ -35,4 +35,4 @@ mod tried;
 mod walk;
 
 pub use krieg_parting::PartStop as CheckStop;
-pub use plan_check::{Checked, check, has_one_turn};
+pub use plan_check::{Checked, check, check_owned, has_one_turn};

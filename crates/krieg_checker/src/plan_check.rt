@@ -3,15 +3,17 @@ ghost use Rattle.std.specs.List.{list_all};
 ghost use Rattle.krieg_board.specs.Men.{is_same_side};
 ghost use Rattle.krieg_parting.specs.Charged.{Charged};
 ghost use Rattle.krieg_plan.specs.Listed.{IsOneTurn};
+ghost use Rattle.krieg_plan.specs.declared.plan.PlanFile.{PlanFile};
 ghost use Rattle.krieg_checker.specs.Verdict as spec;
-ghost use Rattle.krieg_checker.specs.Verdict.{IsVerdict, check_cost};
+ghost use Rattle.krieg_checker.specs.Verdict.{IsVerdict, AreParts, check_cost};
 
 use crate::roots::walk_roots;
 use crate::start::start;
 use krieg_board::{Position, Side, Units};
 use krieg_pack::Belief;
 use krieg_parting::PartStop as CheckStop;
-use krieg_plan::PlanFile;
+use krieg_plan::{Plan, PlanFile};
+use krieg_words::Dialect;
 use std::alloc::Global;
 
 /// What a check finds.
@@ -56,6 +58,24 @@ pub fn has_one_turn(f: &PlanFile) -> bool
     }
 }
 
+/// The same as `check`, by the parts of the file with the set of its listed positions.
+fn check_set(
+    alloc: Global,
+    d: Dialect,
+    side: Side,
+    set: Belief,
+    worst: u16,
+    plan: &Plan,
+    units: &mut Units,
+) -> Result<Checked, CheckStop>
+    requires { IsOneTurn set }
+    ensures { (f : PlanFile) → AreParts f d side set worst plan.now → Charged result (IsVerdict f) (check_cost f) units.old units.new }
+{
+    let started = start(alloc, d, side, set, units)?;
+    let need = walk_roots(alloc, d, plan, started.own, started.classes, units)?;
+    Ok(verdict(worst, started.over, need))
+}
+
 /// Whether the plan mates every listed position within the number that the file claims, and its worst case.
 ///
 /// It takes one unit for each pair of a node and a position that reaches it, and one for each legal reply there; and
@@ -66,15 +86,23 @@ pub fn check(alloc: Global, f: &PlanFile, units: &mut Units) -> Result<Checked, 
     requires { IsOneTurn f.now.list.items }
     ensures { Charged result (IsVerdict f.now) (check_cost f.now) units.old units.new }
 {
-    let list = Belief::from_positions(alloc, f.list.as_slice())?;
-    let started = start(alloc, f.dialect, f.side, list, units)?;
-    let need = walk_roots(
-        alloc,
-        f.dialect,
-        &f.plan,
-        started.own,
-        started.classes,
-        units,
-    )?;
-    Ok(verdict(f.worst, started.over, need))
+    let set = Belief::from_positions(alloc, f.list.as_slice())?;
+    check_set(alloc, f.dialect, f.side, set, f.worst, &f.plan, units)
+}
+
+/// The same of a file that is let go: its list goes once it is a set, so that no more than one of both is kept.
+pub fn check_owned(alloc: Global, f: PlanFile, units: &mut Units) -> Result<Checked, CheckStop>
+    requires { IsOneTurn f.list.items }
+    ensures { Charged result (IsVerdict f) (check_cost f) units.old units.new }
+{
+    let PlanFile {
+        dialect,
+        side,
+        list,
+        worst,
+        plan,
+    } = f;
+    let set = Belief::from_positions(alloc, list.as_slice())?;
+    drop(list);
+    check_set(alloc, dialect, side, set, worst, &plan, units)
 }

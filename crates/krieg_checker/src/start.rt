@@ -14,7 +14,7 @@ ghost use Rattle.krieg_plan.specs.Listed.{IsOneTurn};
 ghost use Rattle.krieg_checker.specs.Starting.{IsStarted};
 
 use krieg_board::{Side, Units};
-use krieg_game::{Class, classes_of};
+use krieg_game::Class;
 use krieg_pack::Belief;
 use krieg_parting::{FirstMoves, PartStop as CheckStop, first_moves, with_openings};
 use krieg_words::Dialect;
@@ -44,9 +44,9 @@ fn is_own_turn(b: &Belief, who: Side) -> bool
 fn at_own_turn(alloc: Global, d: Dialect, b: Belief) -> Result<Started, CheckStop>
     ensures { Charged result (λ r. (who : Side) → IsOwnTurn who b → IsStarted d who b r) 0 0 0 }
 {
-    let outcomes = with_openings(alloc, d, b.members())?;
+    let pool = with_openings(alloc, d, b.members())?;
     drop(b);
-    let classes = classes_of(alloc, outcomes)?;
+    let classes = pool.into_classes(alloc)?;
     Ok(Started {
         own: true,
         over: false,

@@ -33,7 +33,7 @@ use Rattle.krieg_refute.specs.declared.stop.RefuteStop.{RefuteStop}
 use Rattle.krieg_refute.specs.declared.stop.RefuteStop.TheVariants as stop
 use Rattle.krieg_refute.specs.declared.refuting.Denied.TheVariants.{Denial, Exists}
 use Rattle.krieg_refute.specs.Refutations.{most_claims, most_claimed}
-use Rattle.krieg_refutefile.specs.Refutations.{RefutationState, claim_state_of, is_refutation, claim_from}
+use Rattle.krieg_refutefile.specs.Refutations.{RefutationState, state_from, is_refutation, claim_from}
 use Rattle.krieg_refutefile.specs.Writable.{CanBeWritten, IsTurnOf}
 use Rattle.krieg_refutefile.specs.RefutationFormat.{refutation_at}
 use Rattle.krieg_refutefile.specs.RefutationText.{refutation_text}
@@ -78,12 +78,12 @@ module _ (d : Dialect) (who : Side) (S : List Pos) (n : ℕ) (cs : List Claim) (
   abbrev claims : List (theory.Claim (chess d))
   claims = denial (chess d) (outset d who) n S
 
-  abbrev found_file : List Pos → RefutationState
-  found_file L = record { dialect = d; side = who; moves = n; list = L; claims = map claim_state_of cs }
+  abbrev found_file : RefutationState
+  found_file = state_from d who n S cs
 
   -- a file of the claims that were found is the file of the sheet
-  pub file_is : (L : List Pos) → L ≡ S → found_file L ≡ denial_file d who S n
-  file_is L e = λ i. record { dialect = d; side = who; moves = n; list = e i; claims = (sym (states_from d cs) ∙ ap (λ (xs : List (theory.Claim (chess d))). map (claim_from d) xs) found.claims_part) i }
+  pub file_is : found_file ≡ denial_file d who S n
+  file_is = λ i. record { dialect = d; side = who; moves = n; list = S; claims = (sym (states_from d cs) ∙ ap (λ (xs : List (theory.Claim (chess d))). map (claim_from d) xs) found.claims_part) i }
 
   holds : theory.refutes (chess d) (outset d who) n S claims ≡ true
   holds = subst (λ (xs : List (theory.Claim (chess d))). theory.refutes (chess d) (outset d who) n S xs ≡ true) found.claims_part found.refute
@@ -98,13 +98,12 @@ module _ (d : Dialect) (who : Side) (S : List Pos) (n : ℕ) (cs : List Claim) (
       (subst (λ (xs : List (theory.Claim (chess d))). theory.refutes (chess d) (outset d who) n S xs ≡ true) (sym (claims_again d claims)) holds)
 
   -- its text is the answer
-  pub text_told : (L : List Pos) (old answer : List ℕ) → L ≡ S → IsOwnTurn who S → old ≡ [] → answer ≡ old ++ refutation_text (found_file L) → whole refutation_at (lines (refutation_text (found_file L))) ≡ Ok (found_file L) → IsDenialText d who S n answer
-  text_told L old answer same own empty is again =
-      let e = file_is L same in
-      let text : answer ≡ refutation_text (denial_file d who S n) = is ∙ ap (λ (t : List ℕ). t ++ refutation_text (found_file L)) empty ∙ ap refutation_text e in
+  pub text_told : (old answer : List ℕ) → IsOwnTurn who S → old ≡ [] → answer ≡ old ++ refutation_text found_file → whole refutation_at (lines (refutation_text found_file)) ≡ Ok found_file → IsDenialText d who S n answer
+  text_told old answer own empty is again =
+      let text : answer ≡ refutation_text (denial_file d who S n) = is ∙ ap (λ (t : List ℕ). t ++ refutation_text found_file) empty ∙ ap refutation_text file_is in
       record {
         text = text;
-        again = ap (λ (t : List ℕ). whole refutation_at (lines t)) text ∙ subst (λ (f : RefutationState). whole refutation_at (lines (refutation_text f)) ≡ Ok f) e again;
+        again = ap (λ (t : List ℕ). whole refutation_at (lines t)) text ∙ subst (λ (f : RefutationState). whole refutation_at (lines (refutation_text f)) ≡ Ok f) file_is again;
         refutes = file_refutes own;
         none_mates = found.no_plan;
       }

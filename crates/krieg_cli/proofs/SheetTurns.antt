@@ -1,12 +1,14 @@
--- In each position that is consistent with a sheet it is the turn of the side whose turn it is by the sheet.
+-- Each position that is consistent with a sheet is valid, and it is the turn of the side whose turn it is by the sheet.
 use Rattle.std.proofs.Common.{◌≡◌, true, List, [], ◌∷◌, None, refl, sym, ap, subst, ◌∙◌, arith}
-use Rattle.std.specs.List.{Contains}
-use Rattle.std.proofs.lemmas.List.Elements.{All-nil}
+use Rattle.std.specs.List.{All, Contains}
+use Rattle.std.proofs.lemmas.List.Elements.{All-nil, All-contains}
 use Rattle.krieg_board.specs.Men.{is_same_side}
 use Rattle.krieg_board.specs.Pos.{Pos}
+use Rattle.krieg_board.specs.Validity.{IsValid}
 use Rattle.krieg_board.specs.declared.men.Side.{Side}
 use Rattle.krieg_board.specs.declared.men.Move.{Move}
 use Rattle.krieg_moves.proofs.Hands.{same_hand_alike}
+use Rattle.krieg_moves.proofs.KeepsValid.{valid_after}
 use Rattle.krieg_moves.proofs.Turns.{side_after}
 use Rattle.krieg_words.specs.declared.dialects.Dialect.{Dialect}
 use Rattle.krieg_words.specs.declared.line.Line.{Line}
@@ -19,6 +21,7 @@ use Rattle.krieg_sheet.specs.Turns.{first_turn, turn_behind, turn_of, is_my_turn
 use Rattle.krieg_sheet.proofs.OneHand.{one_hand}
 use Rattle.krieg_belief.specs.Possible.{IsPossible}
 use Rattle.krieg_split.specs.Turns.{IsOwnTurn}
+use Rattle.krieg_cli.proofs.BestFiles.{all_of}
 
 -- each done move passes the turn
 turn_given : (d : Dialect) (ls : List Line) (who : Side) (p : Pos) (rs : List Move) (q : Pos) → Gives d p ls who rs q → q.side ≡ turn_behind p.side ls
@@ -56,3 +59,19 @@ turn_possible s S sheet possible p at =
 -- at the player's turn by the sheet he is to move in all that is possible
 pub own_turn : (s : SheetState) (S : List Pos) → IsSheet s → IsPossible s S → is_my_turn s ≡ true → IsOwnTurn s.side S
 own_turn s S sheet possible mine p at = ap (λ (t : Side). is_same_side t s.side) (turn_possible s S sheet possible p at) ∙ mine
+
+-- each done move keeps positions valid
+valid_given : (d : Dialect) (ls : List Line) (who : Side) (p : Pos) (rs : List Move) (q : Pos) → IsValid p → Gives d p ls who rs q → IsValid q
+valid_given d [] who p rs q v g = subst IsValid (sym g.1) v
+valid_given d (Illegal m ∷ ls) who p rs q v g = valid_given d ls who p rs q v g.3
+valid_given d (Done m w ∷ ls) who p rs q v g = valid_given d ls who _ rs q (valid_after p m v g.1) g.3
+valid_given d (Early m ∷ ls) who p rs q v g = valid_given d ls who p rs q v g.2
+valid_given d (Over m ∷ ls) who p rs q v g = valid_given d ls who p rs q v g.1
+valid_given d (Heard w ∷ ls) who p [] q v g = absurd g
+valid_given d (Heard w ∷ ls) who p (r ∷ rs) q v g = valid_given d ls who _ rs q (valid_after p r v g.1) g.3
+valid_given d (Opens w ∷ ls) who p rs q v g = absurd g
+
+pub valid_possible : (s : SheetState) (S : List Pos) → IsSheet s → IsPossible s S → All IsValid S
+valid_possible s S sheet possible =
+    all_of IsValid S
+    (λ p at. let c = (possible.exact p).0 at in valid_given s.dialect s.entries s.side c.start c.replies p (All-contains IsValid s.list c.start sheet.valid c.is_listed) c.gives)

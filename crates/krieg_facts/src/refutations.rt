@@ -105,7 +105,8 @@ fn say_why(scene: &Scene, why: Why, answer: &mut Answer) -> Result<(), Stop> {
     match why {
         Why::Lives => answer.put(b"lives"),
         Why::Stale => answer.put(b"stale"),
-        Why::Class(own, reply, place) => {
+        Why::Class(heard, place) => {
+            let (own, reply) = heard.words();
             answer.put(b"class ")?;
             say_heard(scene, own, reply, answer)?;
             answer.number(u64::from(place))

@@ -5,16 +5,14 @@ use crate::moves::say_moves;
 use crate::scene::Scene;
 use crate::sets::say_members;
 use crate::stop::Stop;
-use crate::terms::{count_of, halves, move_of};
+use crate::terms::move_of;
 use crate::words::say_told;
-use krieg_board::{Move, NoMemory, Position, Units};
-use krieg_game::{Outcome, push_outcomes, trim_outcomes};
-use krieg_moves::{after, is_legal, legal_moves};
+use krieg_board::{Move, Units};
 use krieg_pack::Belief;
 use krieg_split::{
     Firsts, Parted, first_replies, openings, split, split_to_mate, split_unless_stale, tries,
 };
-use krieg_words::{Words, told, words_of};
+use krieg_words::{Words, told};
 
 /// Units for every split here.
 const PLENTY: u64 = 10_000_000;
@@ -175,36 +173,6 @@ fn say_openings(scene: &Scene, answer: &mut Answer) -> Result<(), Stop> {
     Ok(())
 }
 
-/// Adds what comes of the move in the position.
-fn add_outcomes(
-    scene: &Scene,
-    p: &Position,
-    mv: &Move,
-    outcomes: &mut Vec<Outcome>,
-) -> Result<(), NoMemory> {
-    if !is_legal(p, *mv) {
-        return Ok(());
-    }
-    let next = after(p, *mv);
-    let replies = legal_moves(scene.alloc, &next)?;
-    let own = words_of(p, *mv);
-    push_outcomes(scene.dialect, &own, &next, replies.as_slice(), outcomes)
-}
-
-/// After each position of the list: how many outcomes a buffer with this limit keeps, and its next limit.
-fn say_trims(scene: &Scene, text: &str, answer: &mut Answer) -> Result<(), Stop> {
-    let (mv, limit) = halves(text, " ")?;
-    let (mv, mut limit) = (move_of(mv)?, count_of(limit)? as usize);
-    let mut outcomes = Vec::new(scene.alloc);
-    for p in &scene.list {
-        add_outcomes(scene, p, &mv, &mut outcomes)?;
-        limit = trim_outcomes(&mut outcomes, limit);
-        answer.number(outcomes.len() as u64)?;
-        answer.number(limit as u64)?;
-    }
-    Ok(())
-}
-
 /// Answers a question about tries in the set.
 pub fn ask(scene: &Scene, mark: &str, given: &str, answer: &mut Answer) -> Result<(), Stop> {
     match mark {
@@ -212,7 +180,6 @@ pub fn ask(scene: &Scene, mark: &str, given: &str, answer: &mut Answer) -> Resul
         "all-splits" => answer.number(price_of(scene, false)?),
         "all-splits-to-mate" => answer.number(price_of(scene, true)?),
         "openings" => say_openings(scene, answer),
-        "outcome-trims" => say_trims(scene, given, answer),
         _ => say_work(scene, &work_of(mark, given)?, answer),
     }
 }

@@ -6,8 +6,9 @@ pub mod Splitting
 pub mod Starting
 pub mod Theorems
 pub mod KeyNumbers
-pub mod PackedOutcomes
-pub mod Popping
-pub mod Cutting
-pub mod Classed
+pub mod PackedKeys
 pub mod OutcomeSets
+pub mod Pools
+mod Between
+mod Buckets
+pub mod Classed

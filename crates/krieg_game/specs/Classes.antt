@@ -1,6 +1,6 @@
 -- Outcomes by their keys.
 use Rattle.std.specs.Ordering.{is_lt}
-use Rattle.std.specs.Prelude.{◌≡◌, ℕ, ◌*◌, max, nat_lt, length, if◌then◌else◌, Bool, List, ◌++◌, map, take}
+use Rattle.std.specs.Prelude.{Bool, List, map}
 use Rattle.krieg_board.specs.Pos.{Pos}
 use Rattle.krieg_theory.specs.Sets.{as_set, at_key, keys_in}
 use Rattle.krieg_pack.specs.Members.{set_of}
@@ -15,18 +15,6 @@ outcome_lt o p = is_lt (outcome_cmp o p)
 -- the outcomes of a list, each once, in order
 unfoldable pub outcome_set : List KeyedPosition → List KeyedPosition
 outcome_set os = as_set outcome_lt os
-
--- a list with the first n of some more at its end
-abbrev pub AddsFront : List KeyedPosition → List KeyedPosition → List KeyedPosition → Type 0
-AddsFront more old new = (n : ℕ) × (new ≡ old ++ take n more)
-
--- where there are more than a limit, each is kept once
-abbrev pub trimmed : List KeyedPosition → ℕ → List KeyedPosition
-trimmed os limit = if nat_lt limit (length os) then outcome_set os else os
-
--- the limit for the next time: where repeats were dropped, at least twice as many as are left
-abbrev pub next_limit : List KeyedPosition → ℕ → ℕ
-next_limit os limit = if nat_lt limit (length os) then max limit (2 * length (outcome_set os)) else limit
 
 -- the positions of one key, as a set
 abbrev pub class_at : List KeyedPosition → Key → Key × List Pos

@@ -7,5 +7,5 @@ pub mod Outcomes
 pub mod Classes
 pub mod ClassLaws
 pub mod KeyNumbers
-pub mod PackedOutcome
-pub mod Runs
+pub mod PackedKey
+pub mod Buckets

@@ -1,8 +1,8 @@
 //! The umpire's game as a value of the theory of plans, and the grouping of what comes of a try by what is told.
 //!
-//! `outcome` keeps what comes of a try in few bytes: what is told of it and of the reply, and the position after the
-//! reply. `classes` gathers outcomes and groups them: for each key that occurs the set of its positions. `laws` has
-//! theorems: each function there does nothing, and its contract is one.
+//! `heard` keeps what is told of a try and of the reply as one number, and `bucket` the positions that come about with
+//! it. `pool` gathers what comes of a try in such buckets, and makes their `classes`: for each key that occurs the set
+//! of its positions. `laws` has theorems: each function there does nothing, and its contract is one.
 //!
 //! The rules are the definitions of `specs/`: what a player hears between two own turns, and its order (`Keys`);
 //! chess under an umpire, in each dialect, as a game of `krieg_theory` (`Chess`); how it comes to the player's first
@@ -10,9 +10,11 @@
 //! `OutsetLaws` and `ClassLaws` say what winning, plans and classes are in the words of chess.
 #![tactic(auto)]
 
+mod bucket;
 mod classes;
+mod heard;
 pub mod laws;
-mod outcome;
+mod pool;
 
-pub use classes::{Class, classes_of, push_opening, push_outcomes, trim_outcomes};
-pub use outcome::Outcome;
+pub use classes::Class;
+pub use pool::Pool;

@@ -16,10 +16,10 @@ use Rattle.krieg_game.specs.Classes.{outcome_set}
 use Rattle.krieg_game.specs.ClassLaws.{first_outcomes}
 use Rattle.krieg_game.proofs.Starting.{first_moves, over_is_ended}
 use Rattle.krieg_parting.specs.Turns.{IsOthersTurn}
-use Rattle.krieg_parting.specs.Pools.{Holds}
+use Rattle.krieg_game.specs.Buckets.{Holds}
 use Rattle.krieg_parting.specs.FirstMoves.{IsAdvanced, AreFirstMoves}
 use Rattle.krieg_parting.specs.declared.firsts.FirstMoves.{FirstMoves}
-use Rattle.krieg_parting.proofs.Pools.{holds_grown, holds_all}
+use Rattle.krieg_game.proofs.Pools.{holds_grown, holds_all}
 
 -- what was found, and what the rest adds, is all
 pub record IsLeft (d : Dialect) (found : FirstMoves) (rest B : List Pos) : Type 0 where

@@ -10,14 +10,14 @@ use Rattle.krieg_words.specs.declared.dialects.Dialect.{Dialect}
 use Rattle.krieg_theory.specs.Split.{refused, stale_in_some, given, all_outcomes}
 use Rattle.krieg_game.specs.Chess.{chess, stalemates}
 use Rattle.krieg_game.specs.Classes.{outcome_set}
-use Rattle.krieg_parting.specs.Pools.{Holds}
+use Rattle.krieg_game.specs.Buckets.{Holds}
 use Rattle.krieg_parting.specs.Charged.{Charged}
 use Rattle.krieg_parting.specs.Mating.{replies}
 use Rattle.krieg_parting.specs.declared.stop.PartStop.{PartStop}
 use Rattle.krieg_parting.specs.Wanted.{is_wanted}
 use Rattle.krieg_parting.specs.Gathering.{IsAdded, IsGathered}
 use Rattle.krieg_parting.specs.declared.parts.Gathered.{Gathered}
-use Rattle.krieg_parting.proofs.Pools.{holds_grown, holds_all}
+use Rattle.krieg_game.proofs.Pools.{holds_grown, holds_all}
 use Rattle.krieg_parting.proofs.Charges.{said}
 use Rattle.krieg_parting.proofs.LastMoves.{given_length}
 use Rattle.krieg_parting.proofs.Wanted.{wanted_before}

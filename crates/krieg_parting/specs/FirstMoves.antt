@@ -7,7 +7,7 @@ use Rattle.krieg_words.specs.WordsOfMoves.{opening}
 use Rattle.krieg_words.specs.declared.dialects.Dialect.{Dialect}
 use Rattle.krieg_game.specs.Chess.{outcome}
 use Rattle.krieg_game.specs.ClassLaws.{first_outcomes}
-use Rattle.krieg_parting.specs.Pools.{Holds}
+use Rattle.krieg_game.specs.Buckets.{Holds}
 use Rattle.krieg_parting.specs.declared.firsts.FirstMoves.{FirstMoves}
 
 -- what those in one member add

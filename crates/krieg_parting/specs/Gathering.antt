@@ -6,7 +6,7 @@ use Rattle.krieg_moves.specs.Legal.{is_legal}
 use Rattle.krieg_words.specs.declared.dialects.Dialect.{Dialect}
 use Rattle.krieg_theory.specs.Split.{refused, stale_in_some, given, all_outcomes}
 use Rattle.krieg_game.specs.Chess.{chess, stalemates}
-use Rattle.krieg_parting.specs.Pools.{Holds}
+use Rattle.krieg_game.specs.Buckets.{Holds}
 use Rattle.krieg_parting.specs.Wanted.{is_wanted}
 use Rattle.krieg_parting.specs.declared.parts.Gathered.{Gathered}
 

@@ -1,7 +1,6 @@
 pub mod Parted
 pub mod Wanted
 pub mod Gathering
-pub mod Pools
 pub mod Mating
 pub mod FirstMoves
 pub mod Turns

@@ -4,9 +4,9 @@ ghost use Rattle.krieg_costs.specs.Sums.{total};
 ghost use Rattle.krieg_parting.specs.Charged.{Charged};
 ghost use Rattle.krieg_parting.specs.FirstMoves.{IsAdvanced, AreFirstMoves};
 
-use crate::pool::Pool;
 use crate::stop::{PartStop, take};
 use krieg_board::Units;
+use krieg_game::Pool;
 use krieg_moves::legal_moves;
 use krieg_pack::{Packed, unpack};
 use krieg_words::{Dialect, opening};
@@ -36,7 +36,9 @@ fn add_first_moves(
     let moves = legal_moves(alloc, &p)?;
     take(units, moves.len() as u64)?;
     found.ended = found.ended || moves.is_empty();
-    found.pool.add(d, &opening(&p), &p, moves.as_slice())?;
+    found
+        .pool
+        .add(alloc, d, &opening(&p), &p, moves.as_slice())?;
     Ok(())
 }
 

@@ -7,11 +7,11 @@
 //! they are taken before anything is stored, and before repeats are dropped.
 //!
 //! The rules are the definitions of `specs/`: what the parts are, by the theory of plans (`Parted`), and the same member
-//! by member (`Gathering`, `Pools`); a try that must mate (`Mating`); first moves (`FirstMoves`) and turns (`Turns`); and
+//! by member (`Gathering`); a try that must mate (`Mating`); first moves (`FirstMoves`) and turns (`Turns`); and
 //! units (`Charged`).
 //!
-//! `pool` gathers what comes of a try and drops repeats whenever they have become many: it takes about as much memory as
-//! twice the outcomes that differ.
+//! What comes of a try is gathered in a `Pool`, with a bucket for each thing that may be heard. Repeats are dropped whenever
+//! it has grown to twice what was left of it, or to four times where hardly any came before.
 //!
 //! ```
 //! let mut units = Units::new(1_000);
@@ -25,12 +25,10 @@ mod firsts;
 mod last_move;
 mod opened;
 mod parts;
-mod pool;
 mod stop;
 
 pub use firsts::{FirstMoves, first_moves};
 pub use last_move::{Mating, try_to_mate};
 pub use opened::with_openings;
 pub use parts::{Gathered, Parted, gather, parts_of};
-pub use pool::Pool;
 pub use stop::{PartStop, take};

@@ -11,10 +11,9 @@ ghost use Rattle.krieg_parting.specs.Gathering.{IsAdded, IsGathered};
 ghost use Rattle.krieg_parting.specs.Mating.{replies};
 ghost use Rattle.krieg_parting.specs.Parted.{IsPartedOf};
 
-use crate::pool::Pool;
 use crate::stop::{PartStop, take};
 use krieg_board::{Move, NoMemory, Position, Units};
-use krieg_game::Class;
+use krieg_game::{Class, Pool};
 use krieg_moves::{MOST_LEGAL_MOVES, after_if_legal, count_moves, is_stalemate_by, legal_moves_by};
 use krieg_pack::{Belief, Packed, unpack};
 use krieg_words::{Dialect, Made, make_if_legal};
@@ -63,7 +62,7 @@ fn add_legal(
     if always || !parts.stale {
         parts
             .pool
-            .add(d, &made.words, &made.position, replies.as_slice())?;
+            .add(alloc, d, &made.words, &made.position, replies.as_slice())?;
     }
     Ok(())
 }

@@ -1,3 +1,4 @@
+mod PackedHeards
 pub mod Membership
 pub mod ClassesAt
 pub mod SameMoves

@@ -6,3 +6,4 @@ pub mod Tried
 pub mod Reasons
 pub mod Claiming
 pub mod Blocking
+pub mod PackedHeard

@@ -21,7 +21,7 @@ use Rattle.krieg_refute.specs.declared.refutation.Refutation.{Refutation}
 abbrev pub why_of : Why → theory.Reason Key
 why_of Lives = ByLife
 why_of Stale = ByStalemate
-why_of (Class own reply place) = ByClass (own, reply) place
+why_of (Class heard place) = ByClass heard place
 why_of (Refused place) = ByRefused place
 
 -- a try with its reason

@@ -18,6 +18,7 @@ ghost use Rattle.krieg_refute.specs.Claiming.{at_once_reason, IsLost, IsFirstLos
 ghost use Rattle.krieg_refute.specs.Refutations.{why_of, reason_of, most_claims, most_claimed};
 ghost use Rattle.krieg_search.specs.Searched.{AreCounted};
 
+use crate::heard::Heard;
 use crate::refutation::{Claim, MOST_CLAIMED, MOST_CLAIMS, Reason, Why};
 use indexmap::IndexSet;
 use krieg_board::{Move, NoMemory, Units};
@@ -151,11 +152,11 @@ fn block_of(
 }
 
 /// The reason that cites the claim of what blocks a try.
-fn reason_by(heard: Option<(Words, Words)>, place: u32) -> Why
+fn reason_by(heard: Option<(Words, Words)>, place: u16) -> Why
     ensures { why_of result ≡ reason_by heard place }
 {
     match heard {
-        Some((own, reply)) => Why::Class(own, reply, place),
+        Some((own, reply)) => Why::Class(Heard::new(&own, &reply), place),
         None => Why::Refused(place),
     }
 }
@@ -236,7 +237,7 @@ fn push(
     set: u32,
     moves: u8,
     reasons: Vec<Reason>,
-) -> Result<u32, Stop2>
+) -> Result<u16, Stop2>
     requires within { set < length table.now }
     requires claimed { IsClaimed d table.now claimed.old }
     requires next { IsNext d table.now claimed.old.places.keys (set_at table.now set) moves (map reason_of reasons.items) }
@@ -252,7 +253,7 @@ fn push(
     add_place(&mut claimed.places, Asked { set, moves })?;
     claimed.positions = positions;
     claimed.reasons = count;
-    Ok(claimed.claims.len() as u32)
+    Ok(claimed.claims.len() as u16)
 }
 
 /// The place of the claim that the set cannot be won within `moves`, as it is stored. A claim that is not there yet is put
@@ -265,7 +266,7 @@ pub(crate) fn claim(
     claimed: &mut Claimed,
     set: u32,
     moves: u8,
-) -> Result<u32, Stop2>
+) -> Result<u16, Stop2>
     requires some { 0 < moves }
     requires within { set < length table.old }
     requires members { is_nil (set_at table.old set) ≡ false }
@@ -276,7 +277,7 @@ pub(crate) fn claim(
 {
     table.know_once();
     if let Some(index) = claimed.places.get_index_of(&Asked { set, moves }) {
-        return Ok(index as u32 + 1);
+        return Ok(index as u16 + 1);
     }
     let tries = tries(alloc, table.belief(set))?;
     let reasons = reasons_for(alloc, d, table, claimed, set, moves, tries.as_slice())?;

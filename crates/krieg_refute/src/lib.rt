@@ -6,8 +6,8 @@
 //! what is possible after something that may be heard, or denies the members that refuse the try.
 //!
 //! What makes a refutation hold stands in `Refutations` of `specs/`, in the terms of krieg_costs, and what `refute` answers
-//! and takes in `Refuted`; which claims it writes says krieg_claims. `Tried`, `Reasons`, `Claiming` and `Blocking` are parts of the
-//! work.
+//! and takes in `Refuted`; which claims it writes says krieg_claims. `Tried`, `Reasons`, `Claiming`, `Blocking` and `PackedHeard`
+//! are parts of the work.
 //!
 //! `refute` searches by krieg_search and reads its table, in which each lost set has what blocks its tries: the splits are
 //! made again, and nothing is searched twice. `claiming` walks that table, each set behind those that it stands on.
@@ -29,6 +29,7 @@
 
 mod claiming;
 mod denial;
+mod heard;
 mod reasons;
 mod refutation;
 mod refuting;
@@ -36,6 +37,7 @@ mod stop;
 mod tried;
 
 pub use denial::deny;
+pub use heard::Heard;
 pub use refutation::{Claim, MOST_CLAIMED, MOST_CLAIMS, Reason, Refutation, Why};
 pub use refuting::{Denied, refute};
 pub use stop::{DenyStop, RefuteStop};

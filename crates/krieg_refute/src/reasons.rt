@@ -54,7 +54,7 @@ pub(crate) fn is_within(small: &Belief, set: &Belief) -> bool
 }
 
 /// The claim at a place, counted from 1.
-fn cited(claims: &[Claim], place: u32) -> Option<&Claim>
+fn cited(claims: &[Claim], place: u16) -> Option<&Claim>
     ensures { MatchOption result ((d : Dialect) → theory.cited (claims_of d claims.now) place ≡ None) (λ c. (d : Dialect) → theory.cited (claims_of d claims.now) place ≡ Some (claim_of d c.now)) }
 {
     if place == 0 {
@@ -67,7 +67,7 @@ fn cited(claims: &[Claim], place: u32) -> Option<&Claim>
 }
 
 /// Whether the claim at a place denies the set within `moves`.
-fn is_shown(before: &[Claim], place: u32, moves: u8, set: &Belief) -> bool
+fn is_shown(before: &[Claim], place: u16, moves: u8, set: &Belief) -> bool
     ensures { (d : Dialect) → result ≡ theory.is_shown (chess d) (theory.cited (claims_of d before.now) place) moves set.now }
 {
     match cited(before, place) {
@@ -99,7 +99,7 @@ fn heard<'a>(classes: &'a [Class], own: &Words, reply: &Words) -> Option<&'a Bel
 fn is_class_shown(
     alloc: Global,
     before: &[Claim],
-    place: u32,
+    place: u16,
     moves: u8,
     classes: &[Class],
     own: &Words,
@@ -128,9 +128,10 @@ fn holds_by_parts(alloc: Global, before: &[Claim], fewer: u8, parted: &Parted, w
     match why {
         Why::Lives => fewer == 0 && lives(parted),
         Why::Stale => parted.stale,
-        Why::Class(own, reply, place) => {
+        Why::Class(heard, place) => {
             let classes = parted.classes.as_slice();
-            fewer > 0 && is_class_shown(alloc, before, *place, fewer, classes, own, reply)
+            let (own, reply) = heard.words();
+            fewer > 0 && is_class_shown(alloc, before, *place, fewer, classes, &own, &reply)
         }
         Why::Refused(place) => is_shown(before, *place, fewer + 1, &parted.refused),
     }
@@ -143,7 +144,7 @@ fn holds_at_last(before: &[Claim], last: &LastTry, why: &Why) -> bool
     match why {
         Why::Lives => last.lives,
         Why::Stale => stalemates_in_some(last.members, &last.mv),
-        Why::Class(_, _, _) => false,
+        Why::Class(_, _) => false,
         Why::Refused(place) => is_shown(before, *place, 1, &last.refused),
     }
 }

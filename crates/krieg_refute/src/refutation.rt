@@ -1,6 +1,7 @@
+use crate::heard::Heard;
 use krieg_board::{Move, Position, Side};
 use krieg_pack::Belief;
-use krieg_words::{Dialect, Words};
+use krieg_words::Dialect;
 
 /// The most claims that are written.
 pub const MOST_CLAIMS: usize = 20_000;
@@ -16,17 +17,20 @@ pub enum Why {
     /// It stalemates in some member.
     Stale,
     /// These words may be heard of it and of a reply, and the cited claim denies what is possible then, with one move less.
-    Class(Words, Words, u32),
+    Class(Heard, u16),
     /// The cited claim denies the members that refuse it, with the same number of moves.
-    Refused(u32),
+    Refused(u16),
 }
 
-/// A try with the reason why it does not win.
+/// A try with the reason why it does not win. 12 bytes in memory.
 #[derive(Clone, Copy, Debug, PartialEq, Eq)]
 pub struct Reason {
     pub mv: Move,
     pub why: Why,
 }
+
+// The claims of a refutation have up to 200,000 of them.
+const _: () = prove!(size_of::<Reason>() <= 12);
 
 /// The set cannot be won within so many own moves, for a reason at each try that is legal in some member.
 #[derive(Drop)]

@@ -57,7 +57,7 @@ excludes s refuted plan =
 why_back : (y : Why) → why_from (why_of y) ≡ y
 why_back Lives = refl
 why_back Stale = refl
-why_back (Class own reply place) = refl
+why_back (Class heard place) = refl
 why_back (Refused place) = refl
 
 reasons_back : (rs : List Reason) → map reason_from (map reason_of rs) ≡ rs

@@ -75,7 +75,7 @@ by_place d text class front back (Some key) (Ok i) y named cut k p e =
     let w = words_text d key.1 in
     let low : 1 ≤ i = b.0 in
     let high : i < MOST_CLAIMS + 1 = omega (arith, b.1) in
-    let same : Class key.0 key.1 i ≡ y = cc in
+    let same : Class key i ≡ y = cc in
     let whole : class ≡ v ++ (codes " / " ++ (w ++ (codes " " ++ number_text i))) =
     cut ∙ ap (λ (x : List ℕ). x ++ (32 ∷ back)) a.0 ∙ ap (λ (x : List ℕ). (v ++ (codes " / " ++ w)) ++ (32 ∷ x)) b.2 ∙ append_assoc v (codes " / " ++ w) (32 ∷ number_text i) in
     subst (IsWhy d text) same (ap (λ (x : List ℕ). 32 ∷ x) (named ∙ ap (λ (x : List ℕ). codes "class " ++ x) whole), a.1, (low, high))
@@ -138,7 +138,7 @@ why_again d text (Refused i) s =
     ∙ ap (λ (o : Option (List ℕ)). citing_form d o (behind (codes "refused ") t)) (no_class (number_text i))
     ∙ ap (citing_form d None) (behind_again (codes "refused ") (number_text i))
     ∙ ap (λ (r : Result ℕ TextKind). r >>= λ i. Ok (Refused i)) (place_again i s.2.0 s.2.1)
-why_again d text (Class own reply i) s =
+why_again d text (Class (own, reply) i) s =
     let v = words_text d own in
     let w = words_text d reply in
     let rest : List ℕ = v ++ (codes " / " ++ (w ++ (32 ∷ number_text i))) in
@@ -159,14 +159,14 @@ why_again d text (Class own reply i) s =
 why_joined : (d : Dialect) (m : Move) (y : Why) → joined (move_text m ∷ why_pieces d y) ≡ move_text m ++ joined (why_pieces d y)
 why_joined d m Lives = refl
 why_joined d m Stale = refl
-why_joined d m (Class own reply i) = refl
+why_joined d m (Class heard i) = refl
 why_joined d m (Refused i) = refl
 
 -- there is a space before it
 why_spaced : (d : Dialect) (y : Why) → (text : List ℕ) × (32 ∷ text ≡ joined (why_pieces d y))
 why_spaced d Lives = (codes "lives", refl)
 why_spaced d Stale = (codes "stale", refl)
-why_spaced d (Class own reply i) = (codes "class " ++ (words_text d own ++ (codes " / " ++ (words_text d reply ++ (32 ∷ number_text i)))), refl)
+why_spaced d (Class heard i) = (codes "class " ++ (words_text d heard.0 ++ (codes " / " ++ (words_text d heard.1 ++ (32 ∷ number_text i)))), refl)
 why_spaced d (Refused i) = (codes "refused " ++ number_text i, refl)
 
 abbrev SaysReason : Dialect → List ℕ → Reason → Type 0
@@ -221,7 +221,7 @@ is_why d Stale told cites = refl
 is_why d (Refused i) told cites =
     let high : i < MOST_CLAIMS + 1 = cites.1 in
     line_append (codes " refused ") (number_text i) refl (number_line i (omega (arith, high)))
-is_why d (Class own reply i) told cites =
+is_why d (Class (own, reply) i) told cites =
     let v = words_text d own in
     let w = words_text d reply in
     let high : i < MOST_CLAIMS + 1 = cites.1 in

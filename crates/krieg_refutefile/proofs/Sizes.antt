@@ -195,7 +195,7 @@ why_short d m Lives told cites = append_short (move_text m) (codes " lives") 5 1
 why_short d m Stale told cites = append_short (move_text m) (codes " stale") 5 154 (move_short m) (lit≤ tt)
 why_short d m (Refused i) told cites =
     append_short (move_text m) (codes " refused " ++ number_text i) 5 154 (move_short m) (append_short (codes " refused ") (number_text i) 149 5 (lit≤ tt) (place_short i cites.1))
-why_short d m (Class own reply i) told cites =
+why_short d m (Class (own, reply) i) told cites =
     let n : List ℕ = codes " " ++ number_text i in
     let w : List ℕ = words_text d reply ++ n in
     let v : List ℕ = words_text d own ++ (codes " / " ++ w) in
@@ -259,7 +259,7 @@ side_line_short : (who : Side) → length (side_line who) ≤ 6
 side_line_short White = lit≤ tt
 side_line_short Black = lit≤ tt
 
-head_short : (s : RefutationState) → CanBeWritten s → size (head_lines s) ≤ 90
+head_short : (s : RefutationState) → CanBeWritten s → size (head_lines s.dialect s.side s.moves (length s.list)) ≤ 90
 head_short s w =
     let version = numbered_short (codes "krieg refutation ") 1 1 (omega arith) (omega arith) (omega arith) in
     let dialect = dialect_short s.dialect in
@@ -296,7 +296,7 @@ text_short s w =
       some,
       positions,
       reasons,
-      size_append (head_lines s) (map position_line s.list ++ (count ∷ (claims ++ end))),
+      size_append (head_lines s.dialect s.side s.moves (length s.list)) (map position_line s.list ++ (count ∷ (claims ++ end))),
       size_append (map position_line s.list) (count ∷ (claims ++ end)),
       size_append claims end,
     )

@@ -95,19 +95,19 @@ set_from n ps h =
 cites_to : (own : ℕ) (y : Why) → CitesBelow own y → cites_below own y ≡ true
 cites_to own Lives c = refl
 cites_to own Stale c = refl
-cites_to own (Class v w i) c = lt-ltb i own c.1
+cites_to own (Class heard i) c = lt-ltb i own c.1
 cites_to own (Refused i) c = lt-ltb i own c.1
 
 pub cites_any : (own : ℕ) (y : Why) → own ≤ MOST_CLAIMS + 1 → CitesBelow own y → CitesBelow (MOST_CLAIMS + 1) y
 cites_any own Lives few c = tt
 cites_any own Stale few c = tt
-cites_any own (Class v w i) few c = let low : i < own = c.1 in (c.0, omega arith)
+cites_any own (Class heard i) few c = let low : i < own = c.1 in (c.0, omega arith)
 cites_any own (Refused i) few c = let low : i < own = c.1 in (c.0, omega arith)
 
 cites_from : (own : ℕ) (y : Why) → CitesBelow (MOST_CLAIMS + 1) y → cites_below own y ≡ true → CitesBelow own y
 cites_from own Lives c below = tt
 cites_from own Stale c below = tt
-cites_from own (Class v w i) c below = (c.0, ltb-true i own below)
+cites_from own (Class heard i) c below = (c.0, ltb-true i own below)
 cites_from own (Refused i) c below = (c.0, ltb-true i own below)
 
 abbrev key : Reason → Move

@@ -32,7 +32,8 @@ claim_are d s c =
 pub lines_are : (s : RefutationState) → written refutation_format s ≡ refutation_lines s
 lines_are s =
     let d = s.dialect in
+    let head = head_lines d s.side s.moves (length s.list) in
     let end : List Pieces = alone (codes "end") ∷ [] in
-    ap (λ (t : List Pieces). head_lines s ++ (t ++ (numbered (codes "claims ") (length s.claims) ∷ (each_text (λ t c. written (claim_format d t) c) with_claim none_yet s.claims ++ end)))) (each_line position_line (λ (first : Option Pos) (p : Pos). Some (unwrap_or first p)) None s.list)
-    ∙ ap (λ (t : List Pieces). head_lines s ++ (map position_line s.list ++ (numbered (codes "claims ") (length s.claims) ∷ (t ++ end))))
+    ap (λ (t : List Pieces). head ++ (t ++ (numbered (codes "claims ") (length s.claims) ∷ (each_text (λ t c. written (claim_format d t) c) with_claim none_yet s.claims ++ end)))) (each_line position_line (λ (first : Option Pos) (p : Pos). Some (unwrap_or first p)) None s.list)
+    ∙ ap (λ (t : List Pieces). head ++ (map position_line s.list ++ (numbered (codes "claims ") (length s.claims) ∷ (t ++ end))))
     (each_is (λ t c. written (claim_format d t) c) (claim_lines d) with_claim (claim_are d) none_yet s.claims)

@@ -67,7 +67,7 @@ cut_last separator (b ∷ text) = onto_front b (cut_last separator text) text (b
 -- the words of both, and the place
 abbrev pub class_with : Option Key → Result ℕ TextKind → Result Why TextKind
 class_with None place = Err Syntax
-class_with (Some key) place = place >>= λ i. Ok (Class key.0 key.1 i)
+class_with (Some key) place = place >>= λ i. Ok (Class key i)
 
 -- the words end before the last space
 abbrev pub class_form : Dialect → Option (List ℕ × List ℕ) → Result Why TextKind

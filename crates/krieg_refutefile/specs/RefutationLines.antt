@@ -116,7 +116,7 @@ in_all before n = where_not Large (nat_le (before + n) MOST_CLAIMED)
 abbrev pub cites_below : ℕ → Why → Bool
 cites_below own Lives = true
 cites_below own Stale = true
-cites_below own (Class w reply place) = nat_lt place own
+cites_below own (Class heard place) = nat_lt place own
 cites_below own (Refused place) = nat_lt place own
 
 -- a reason of the claim with the number: it cites a claim before that one, and its move comes after the last one

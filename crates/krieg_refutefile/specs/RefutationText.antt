@@ -1,6 +1,7 @@
 -- The one written form of a refutation.
 use Rattle.std.specs.Prelude.{ℕ, List, [], ◌∷◌, ◌++◌, codes, map, length}
 use Rattle.std.specs.List.{flat_map}
+use Rattle.krieg_board.specs.declared.men.Side.{Side}
 use Rattle.krieg_text.specs.Decimals.{number_text}
 use Rattle.krieg_text.specs.Writing.{Pieces, alone, put_lines}
 use Rattle.krieg_fen.specs.Forms.{side_line}
@@ -22,7 +23,7 @@ numbered name n = name ∷ number_text n ∷ []
 abbrev pub why_pieces : Dialect → Why → Pieces
 why_pieces d Lives = codes " lives" ∷ []
 why_pieces d Stale = codes " stale" ∷ []
-why_pieces d (Class own reply place) = codes " class " ∷ words_text d own ∷ codes " / " ∷ words_text d reply ∷ codes " " ∷ number_text place ∷ []
+why_pieces d (Class heard place) = codes " class " ∷ words_text d heard.0 ∷ codes " / " ∷ words_text d heard.1 ∷ codes " " ∷ number_text place ∷ []
 why_pieces d (Refused place) = codes " refused " ∷ number_text place ∷ []
 
 -- a move, and why it does not win
@@ -38,14 +39,17 @@ abbrev pub claim_lines : Dialect → ClaimState → List Pieces
 claim_lines d c = claim_line c.moves (length c.set) ∷ (map position_line c.set ++ (numbered (codes "tries ") (length c.reasons) ∷ map (reason_line d) c.reasons))
 
 -- what stands before the listed positions
-abbrev pub head_lines : RefutationState → List Pieces
-head_lines s =
-    numbered (codes "krieg refutation ") 1 ∷ alone (dialect_line s.dialect) ∷ alone (side_line s.side) ∷ numbered (codes "moves ") s.moves ∷ numbered (codes "list ") (length s.list) ∷ []
+abbrev pub head_lines : Dialect → Side → ℕ → ℕ → List Pieces
+head_lines d who moves listed =
+    numbered (codes "krieg refutation ") 1 ∷ alone (dialect_line d) ∷ alone (side_line who) ∷ numbered (codes "moves ") moves ∷ numbered (codes "list ") listed ∷ []
+
+-- what stands behind them
+abbrev pub rest_lines : Dialect → List ClaimState → List Pieces
+rest_lines d cs = numbered (codes "claims ") (length cs) ∷ (flat_map (claim_lines d) cs ++ (alone (codes "end") ∷ []))
 
 -- version and dialect, side, number of moves and listed positions, and the claims
 abbrev pub refutation_lines : RefutationState → List Pieces
-refutation_lines s =
-    head_lines s ++ (map position_line s.list ++ (numbered (codes "claims ") (length s.claims) ∷ (flat_map (claim_lines s.dialect) s.claims ++ (alone (codes "end") ∷ []))))
+refutation_lines s = head_lines s.dialect s.side s.moves (length s.list) ++ (map position_line s.list ++ rest_lines s.dialect s.claims)
 
 -- a line feed stands after every line
 unfoldable pub refutation_text : RefutationState → List ℕ

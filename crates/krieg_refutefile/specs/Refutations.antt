@@ -39,9 +39,13 @@ pub record RefutationState : Type 0 where
 abbrev pub claim_state_of : Claim → ClaimState
 claim_state_of c = record { moves = c.moves; set = c.set; reasons = c.reasons.items }
 
+-- what these parts of a refutation are to contracts
+abbrev pub state_from : Dialect → Side → ℕ → List Pos → List Claim → RefutationState
+state_from d who n L cs = record { dialect = d; side = who; moves = n; list = L; claims = map claim_state_of cs }
+
 -- what a refutation is to contracts
 abbrev pub state_of : Refutation → RefutationState
-state_of f = record { dialect = f.dialect; side = f.side; moves = f.moves; list = f.list.items; claims = map claim_state_of f.claims.items }
+state_of f = state_from f.dialect f.side f.moves f.list.items f.claims.items
 
 -- ---- in the words of the theory
 
@@ -72,7 +76,7 @@ refutation_price s = total (λ (c : ClaimState). price (chess s.dialect) c.set) 
 abbrev pub why_from : theory.Reason Key → Why
 why_from ByLife = Lives
 why_from ByStalemate = Stale
-why_from (ByClass key place) = Class key.0 key.1 place
+why_from (ByClass key place) = Class key place
 why_from (ByRefused place) = Refused place
 
 abbrev pub reason_from : Move × theory.Reason Key → Reason

@@ -27,14 +27,14 @@ use Rattle.krieg_refutefile.specs.Refutations.{ClaimState, RefutationState}
 abbrev pub CitesBelow : ℕ → Why → Type 0
 CitesBelow own Lives = Unit {0}
 CitesBelow own Stale = Unit {0}
-CitesBelow own (Class w reply place) = (1 ≤ place) × (place < own)
+CitesBelow own (Class heard place) = (1 ≤ place) × (place < own)
 CitesBelow own (Refused place) = (1 ≤ place) × (place < own)
 
 -- its words can be said, and the dialect can tell them
 abbrev pub IsToldWhy : Dialect → Why → Type 0
 IsToldWhy d Lives = Unit {0}
 IsToldWhy d Stale = Unit {0}
-IsToldWhy d (Class w reply place) = IsToldIn d w × IsToldIn d reply
+IsToldWhy d (Class heard place) = IsToldIn d heard.0 × IsToldIn d heard.1
 IsToldWhy d (Refused place) = Unit {0}
 
 -- a reason that can be written in the claim with that number

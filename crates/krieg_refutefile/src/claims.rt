@@ -89,7 +89,7 @@ fn cites_below(own: usize, why: &Why) -> bool
 {
     match why {
         Why::Lives | Why::Stale => true,
-        Why::Class(_, _, place) | Why::Refused(place) => (*place as usize) < own,
+        Why::Class(_, place) | Why::Refused(place) => usize::from(*place) < own,
     }
 }
 

@@ -6,7 +6,7 @@ ghost use Rattle.krieg_refutefile.specs.LineForms as spec;
 use krieg_board::{MOST_MOVES, Move};
 use krieg_fen::read_move;
 use krieg_planfile::key_in;
-use krieg_refute::{MOST_CLAIMED, MOST_CLAIMS, Reason, Why};
+use krieg_refute::{Heard, MOST_CLAIMED, MOST_CLAIMS, Reason, Why};
 use krieg_text::{NumberFault, TextKind, behind, cut, is_name, read_number_between};
 use krieg_words::{Dialect, Words};
 
@@ -78,7 +78,7 @@ fn class_with(key: Option<(Words, Words)>, place: Result<u64, TextKind>) -> Resu
 {
     match key {
         None => Err(TextKind::Syntax),
-        Some((own, reply)) => Ok(Why::Class(own, reply, place? as u32)),
+        Some((own, reply)) => Ok(Why::Class(Heard::new(&own, &reply), place? as u16)),
     }
 }
 
@@ -94,7 +94,7 @@ fn class_form(d: Dialect, text: &[u8]) -> Result<Why, TextKind>
 fn refused_form(text: &[u8]) -> Result<Why, TextKind>
     ensures { result ≡ spec.refused_form text.now }
 {
-    Ok(Why::Refused(place_form(text)? as u32))
+    Ok(Why::Refused(place_form(text)? as u16))
 }
 
 fn citing_form(d: Dialect, text: &[u8]) -> Result<Why, TextKind>

@@ -17,6 +17,8 @@
 //! let held = deny(alloc, &file, &mut units)?; // true: a king alone does not mate
 //! let mut written = Vec::new(alloc);
 //! write_refutation(&file, &mut written)?; // the same bytes
+//! let set = Belief::from_positions(alloc, &file.list)?;
+//! write_denial(file.dialect, file.side, file.moves, &set, &file.claims, &mut written)?; // once more, from a set
 //! let cut = read_refutation(alloc, b"krieg refutation 1\nside w\n");
 //! // Err(TextFault::At { line: 2, kind: TextKind::Syntax }): the dialect has a line
 //! ```
@@ -28,4 +30,4 @@ mod reading;
 mod writing;
 
 pub use reading::read_refutation;
-pub use writing::write_refutation;
+pub use writing::{write_denial, write_refutation};

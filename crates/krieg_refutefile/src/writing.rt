@@ -9,16 +9,16 @@ ghost use Rattle.krieg_words.specs.Versions.{dialect_line};
 ghost use Rattle.krieg_refute.specs.declared.refutation.Why.TheVariants.{Class};
 ghost use Rattle.krieg_refutefile.specs.RefutationFormat.{refutation_at, SpellsRefutation};
 ghost use Rattle.krieg_refutefile.specs.RefutationText as spec;
-ghost use Rattle.krieg_refutefile.specs.Refutations.{state_of, claim_state_of};
+ghost use Rattle.krieg_refutefile.specs.Refutations.{state_of, state_from, claim_state_of};
 ghost use Rattle.krieg_refutefile.specs.Writable.{IsToldWhy, CanBeWritten};
 ghost use Rattle.krieg_refutefile.specs.Parts.{IsTold, AreTold};
 
-use krieg_board::NoMemory;
+use krieg_board::{NoMemory, Side};
 use krieg_fen::{put_list, put_listed, put_move, put_side_line};
 use krieg_pack::{Belief, unpack};
-use krieg_refute::{Claim, Reason, Refutation, Why};
+use krieg_refute::{Claim, Heard, Reason, Refutation, Why};
 use krieg_text::{Text, put_number};
-use krieg_words::{Dialect, Words, dialect_name, put_words_in};
+use krieg_words::{Dialect, dialect_name, put_words_in};
 
 /// Adds the line of a name and a number.
 fn put_numbered(name: &[u8], n: usize, text: &mut Text) -> Result<(), NoMemory>
@@ -63,17 +63,12 @@ fn put_set(set: &Belief, text: &mut Text) -> Result<(), NoMemory>
 }
 
 /// Adds what a reason says of the claim that denies a class.
-fn put_class(
-    d: Dialect,
-    own: Words,
-    reply: Words,
-    place: u32,
-    text: &mut Text,
-) -> Result<(), NoMemory>
-    requires own { Fits d own }
-    requires reply { Fits d reply }
-    ensures { PutsPieces result text.old text.new (spec.why_pieces d (Class own reply place)) }
+fn put_class(d: Dialect, heard: &Heard, place: u16, text: &mut Text) -> Result<(), NoMemory>
+    requires own { Fits d heard.now.0 }
+    requires reply { Fits d heard.now.1 }
+    ensures { PutsPieces result text.old text.new (spec.why_pieces d (Class heard.now place)) }
 {
+    let (own, reply) = heard.words();
     text.put(b" class ")?;
     put_words_in(d, own, text)?;
     text.put(b" / ")?;
@@ -90,7 +85,7 @@ fn put_why(d: Dialect, why: &Why, text: &mut Text) -> Result<(), NoMemory>
     match why {
         Why::Lives => text.put(b" lives"),
         Why::Stale => text.put(b" stale"),
-        Why::Class(own, reply, place) => put_class(d, *own, *reply, *place, text),
+        Why::Class(heard, place) => put_class(d, heard, *place, text),
         Why::Refused(place) => {
             text.put(b" refused ")?;
             put_number(u64::from(*place), text)
@@ -146,28 +141,61 @@ fn put_claims(d: Dialect, claims: &[Claim], text: &mut Text) -> Result<(), NoMem
 
 // ---- the file
 
-/// Adds what stands before the listed positions.
-fn put_head(f: &Refutation, text: &mut Text) -> Result<(), NoMemory>
-    ensures { PutsLines result text.old text.new (spec.head_lines (state_of f.now)) }
+/// Adds what stands before so many listed positions.
+fn put_head(
+    d: Dialect,
+    side: Side,
+    moves: u8,
+    listed: usize,
+    text: &mut Text,
+) -> Result<(), NoMemory>
+    ensures { PutsLines result text.old text.new (spec.head_lines d side moves listed) }
 {
     put_numbered(b"krieg refutation ", 1, text)?;
-    put_dialect(f.dialect, text)?;
-    put_side_line(f.side, text)?;
-    put_numbered(b"moves ", usize::from(f.moves), text)?;
-    put_numbered(b"list ", f.list.len(), text)
+    put_dialect(d, text)?;
+    put_side_line(side, text)?;
+    put_numbered(b"moves ", usize::from(moves), text)?;
+    put_numbered(b"list ", listed, text)
+}
+
+/// Adds what stands behind the listed positions.
+#[tactic(auto, using(krieg_text::proofs::Writings::writings, crate::proofs::WrittenClaims::states))]
+fn put_rest(d: Dialect, claims: &[Claim], text: &mut Text) -> Result<(), NoMemory>
+    requires { All (λ c. AreTold d (claim_state_of c)) claims.now }
+    ensures { PutsLines result text.old text.new (spec.rest_lines d (map claim_state_of claims.now)) }
+{
+    put_numbered(b"claims ", claims.len(), text)?;
+    put_claims(d, claims, text)?;
+    text.line(b"end")
 }
 
 /// Adds the lines of the refutation.
-#[tactic(auto, using(krieg_text::proofs::Writings::writings, crate::proofs::WrittenClaims::states))]
+#[tactic(auto, using(krieg_text::proofs::Writings::writings))]
 fn put_refutation(f: &Refutation, text: &mut Text) -> Result<(), NoMemory>
     requires { All (λ c. AreTold f.now.dialect (claim_state_of c)) f.now.claims.items }
     ensures { PutsLines result text.old text.new (spec.refutation_lines (state_of f.now)) }
 {
-    put_head(f, text)?;
+    put_head(f.dialect, f.side, f.moves, f.list.len(), text)?;
     put_list(&f.list, text)?;
-    put_numbered(b"claims ", f.claims.len(), text)?;
-    put_claims(f.dialect, &f.claims, text)?;
-    text.line(b"end")
+    put_rest(f.dialect, &f.claims, text)
+}
+
+/// Adds the lines of the refutation that lists the members of the set.
+#[tactic(auto, using(krieg_text::proofs::Writings::writings))]
+fn put_denial(
+    d: Dialect,
+    side: Side,
+    moves: u8,
+    set: &Belief,
+    claims: &[Claim],
+    text: &mut Text,
+) -> Result<(), NoMemory>
+    requires { All (λ c. AreTold d (claim_state_of c)) claims.now }
+    ensures { PutsLines result text.old text.new (spec.refutation_lines (state_from d side moves set.now claims.now)) }
+{
+    put_head(d, side, moves, set.len(), text)?;
+    put_set(set, text)?;
+    put_rest(d, claims, text)
 }
 
 /// Appends the text of the refutation in its one written form. Where memory runs out, nothing is appended.
@@ -187,5 +215,26 @@ pub fn write_refutation(f: &Refutation, text: &mut Vec<u8>) -> Result<(), NoMemo
 {
     let mut all = Text::after(text);
     let done = put_refutation(f, &mut all);
+    all.end(done, text)
+}
+
+/// Appends the text of the refutation with these claims that lists the members of the set: what `write_refutation` appends,
+/// with no list of positions beside the set. Where memory runs out, nothing is appended.
+#[tactic(auto, unfolding(crate::specs::RefutationText::refutation_text))]
+pub fn write_denial(
+    d: Dialect,
+    side: Side,
+    moves: u8,
+    set: &Belief,
+    claims: &[Claim],
+    text: &mut Vec<u8>,
+) -> Result<(), NoMemory>
+    requires { CanBeWritten (state_from d side moves set.now claims.now) }
+    ensures value { Appends result text.old.items text.new.items (spec.refutation_text (state_from d side moves set.now claims.now)) }
+    // The text is read as that refutation again.
+    ensures again { whole refutation_at (lines (spec.refutation_text (state_from d side moves set.now claims.now))) ≡ Ok (state_from d side moves set.now claims.now) }
+{
+    let mut all = Text::after(text);
+    let done = put_denial(d, side, moves, set, claims, &mut all);
     all.end(done, text)
 }

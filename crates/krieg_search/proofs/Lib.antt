@@ -1,5 +1,6 @@
 pub mod Searching
 mod Leaving
+mod Telling
 mod Trying
 mod Tries
 mod Numbers

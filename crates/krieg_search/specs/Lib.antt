@@ -3,6 +3,7 @@ pub mod Planned
 pub mod Decided
 pub mod Opened
 pub mod Searched
+pub mod Tried
 pub mod Leaving
 pub mod Built
 pub mod Rooted

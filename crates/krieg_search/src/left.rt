@@ -1,15 +1,18 @@
-ghost use Rattle.std.specs.Prelude.{IfOk, ◌≡◌, true, false, ◌<◌};
+ghost use Rattle.std.specs.Prelude.{IfOk, ◌≡◌, [], true, false, ◌<◌};
 ghost use Rattle.krieg_theory.specs.Split.{legal_in_some};
 ghost use Rattle.krieg_costs.specs.Cost.{made};
 ghost use Rattle.krieg_game.specs.Chess.{chess};
 ghost use Rattle.krieg_split.specs.Units.{IsPaid};
+ghost use Rattle.krieg_split.specs.Tallies.{tally_of};
+ghost use Rattle.krieg_search.specs.Tried.{IsTold, move_of};
 ghost use Rattle.krieg_search.specs.Leaving.{IsLeft};
 
+use crate::tried::Try;
 use krieg_board::{Move, Units};
 use krieg_game::Class;
 use krieg_pack::Belief;
 use krieg_sight::{Sight, some_flees};
-use krieg_split::{SplitStop, pay_split, split_to_mate, split_unless_stale};
+use krieg_split::{SplitStop, Tally, mate_by_tally, pay_split, split_to_mate, split_unless_stale};
 use krieg_words::Dialect;
 use std::alloc::Global;
 
@@ -21,7 +24,18 @@ pub struct Left {
     pub refused: Belief,
 }
 
-/// The same where one move is left: the try must mate wherever it is legal, and then nothing is heard.
+/// What a last move leaves that mates wherever it is legal: nothing is heard then.
+fn left_of_mate(alloc: Global, refused: Belief) -> Left
+    ensures classes { result.classes.items ≡ [] }
+    ensures refused { result.refused ≡ refused }
+{
+    Left {
+        classes: Vec::new(alloc),
+        refused,
+    }
+}
+
+/// The same where one move is left: the try must mate wherever it is legal.
 fn left_by_last(
     alloc: Global,
     d: Dialect,
@@ -33,10 +47,25 @@ fn left_by_last(
     ensures units { IsPaid result (made (chess d) b.now mv) units.old units.new }
 {
     match split_to_mate(alloc, d, b, mv, units)? {
-        Some(refused) => Ok(Some(Left {
-            classes: Vec::new(alloc),
-            refused,
-        })),
+        Some(refused) => Ok(Some(left_of_mate(alloc, refused))),
+        None => Ok(None),
+    }
+}
+
+/// The same by the tally of the try in the set.
+fn left_by_tally(
+    alloc: Global,
+    d: Dialect,
+    b: &Belief,
+    tally: &Tally,
+    units: &mut Units,
+) -> Result<Option<Left>, SplitStop>
+    requires { tally.now ≡ tally_of b.now tally.now.mv }
+    ensures left { IfOk result (IsLeft d false b.now tally.now.mv 1) }
+    ensures units { IsPaid result (made (chess d) b.now tally.now.mv) units.old units.new }
+{
+    match mate_by_tally(alloc, d, b, tally, units)? {
+        Some(refused) => Ok(Some(left_of_mate(alloc, refused))),
         None => Ok(None),
     }
 }
@@ -72,8 +101,7 @@ pub fn left_by(
 
 /// The same, where tries may be cut: then a try also fails at once where in some member a reply is found to leave a position
 /// that is no mate in time even for a player who sees it.
-#[inline(never)]
-pub(crate) fn left_unless_cut(
+fn left_unless_cut(
     alloc: Global,
     d: Dialect,
     cut: bool,
@@ -92,4 +120,27 @@ pub(crate) fn left_unless_cut(
         return Ok(None);
     }
     left_by(alloc, d, b, mv, moves, units)
+}
+
+/// The same for a try of which all may be counted already.
+#[inline(never)]
+pub(crate) fn left_of(
+    alloc: Global,
+    d: Dialect,
+    cut: bool,
+    sight: &mut Sight,
+    b: &Belief,
+    tried: &Try,
+    moves: u8,
+    units: &mut Units,
+) -> Result<Option<Left>, SplitStop>
+    requires some { 0 < moves }
+    requires told { IsTold b.now moves tried.now }
+    ensures left { IfOk result (IsLeft d cut b.now (move_of tried.now) moves) }
+    ensures units { IsPaid result (made (chess d) b.now (move_of tried.now)) units.old units.new }
+{
+    match tried {
+        Try::Plain(mv) => left_unless_cut(alloc, d, cut, sight, b, *mv, moves, units),
+        Try::Counted(tally) => left_by_tally(alloc, d, b, tally, units),
+    }
 }

@@ -9,8 +9,8 @@
 //!
 //! `openings` has what may be heard before the first own turn, with the set of what is possible then. `decide` asks
 //! for one opening after the other whether its set can be won, by `search`: one number of moves after the other; for
-//! each number the tries in their order, up to the first that begins to win; for a try first what makes it fail at once
-//! (`left`), then what is possible after each thing that may be heard, and then the members that refuse it, up to
+//! each number the tries in their order (`tried`), up to the first that begins to win; for a try first what makes it fail at
+//! once (`left`), then what is possible after each thing that may be heard, and then the members that refuse it, up to
 //! the first part that cannot be won. Each set has a number in a table (`number`), which holds what is found
 //! for each number of moves, so that no set is searched twice for the same number of moves.
 //!
@@ -54,6 +54,7 @@ mod openings;
 mod roots;
 mod search;
 mod stop;
+mod tried;
 mod turn;
 
 pub use best_plan::{Answer, find, solve};

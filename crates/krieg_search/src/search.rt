@@ -6,15 +6,16 @@ ghost use Rattle.krieg_accounts.specs.Stretch.{CoversSet, CoversPair, CoversTry,
 ghost use Rattle.krieg_game.specs.Chess.{chess};
 ghost use Rattle.krieg_table.specs.Interned.{set_at};
 ghost use Rattle.krieg_table.specs.Entries.{entries};
+ghost use Rattle.krieg_search.specs.Tried.{IsTold, move_of};
 ghost use Rattle.krieg_search.specs.Searched.{IsReady, Searches, TellsSet, TellsTry, TellsSets, sets_of};
 
-use crate::left::{Left, left_unless_cut};
+use crate::left::{Left, left_of};
 use crate::number::number_of;
 use crate::stop::Stop2;
-use krieg_board::{MOST_MOVES, Move, Units};
+use crate::tried::{Try, move_of_try, tries_for};
+use krieg_board::{MOST_MOVES, Units};
 use krieg_game::Class;
 use krieg_sight::Sight;
-use krieg_split::tries;
 use krieg_table::{Known, Table};
 use krieg_words::Dialect;
 use std::alloc::Global;
@@ -69,10 +70,10 @@ fn can_win_in(
         Some(Known::Loses) => return Ok(false),
         None => {}
     }
-    let tries = tries(alloc, table.belief(set))?;
-    for mv in &tries {
-        if begins(alloc, d, cut, sight, table, set, *mv, moves, units)? {
-            table.note(set, moves, Known::Wins(*mv));
+    let tries = tries_for(alloc, table.belief(set), moves)?;
+    for tried in &tries {
+        if begins(alloc, d, cut, sight, table, set, tried, moves, units)? {
+            table.note(set, moves, Known::Wins(move_of_try(tried)));
             return Ok(true);
         }
     }
@@ -92,7 +93,7 @@ fn begins(
     sight: &mut Sight,
     table: &mut Table,
     set: u32,
-    mv: Move,
+    tried: &Try,
     moves: u8,
     units: &mut Units,
 ) -> Result<bool, Stop2>
@@ -100,16 +101,17 @@ fn begins(
     requires within { set < length table.old }
     requires most { moves ≤ MOST_MOVES }
     requires ready { IsReady d cut table.old }
-    requires legal { legal_in_some (chess d) (set_at table.old set) mv ≡ true }
-    ensures { Searches d cut result (TellsTry d cut table.new (set_at table.old set) moves mv) (CoversTry (chess d) (set_at table.old set) moves mv) (made (chess d) (set_at table.old set) mv) table.old table.new units.old units.new }
+    requires told { IsTold (set_at table.old set) moves tried.now }
+    requires legal { legal_in_some (chess d) (set_at table.old set) (move_of tried.now) ≡ true }
+    ensures { Searches d cut result (TellsTry d cut table.new (set_at table.old set) moves (move_of tried.now)) (CoversTry (chess d) (set_at table.old set) moves (move_of tried.now)) (made (chess d) (set_at table.old set) (move_of tried.now)) table.old table.new units.old units.new }
 {
-    let Some(Left { classes, refused }) = left_unless_cut(
+    let Some(Left { classes, refused }) = left_of(
         alloc,
         d,
         cut,
         sight,
         table.belief(set),
-        mv,
+        tried,
         moves,
         units,
     )?

@@ -4,3 +4,4 @@ mod LastMoves
 mod Renaming
 mod FirstMoves
 mod TryLists
+mod Tallying

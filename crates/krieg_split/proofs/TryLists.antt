@@ -1,11 +1,10 @@
 -- The tries of a set from the moves of its members.
-use Rattle.std.proofs.Common.{◌≡◌, ℕ, ◌+◌, ◌<◌, Bool, false, not, List, [], ◌∷◌, ◌++◌, ◌⊎◌, inl, inr, length, take, get_or, flat_map, sym, ap, subst, ◌∙◌}
+use Rattle.std.proofs.Common.{◌≡◌, ℕ, ◌+◌, ◌<◌, ◌≤◌, Bool, Some, List, [], ◌∷◌, ◌++◌, ◌⊎◌, inl, inr, length, take, get_or, flat_map, sym, ap, subst, ◌∙◌, arith}
 use Rattle.std.proofs.lemmas.List.{append-nil, take_more}
-use Rattle.std.proofs.lemmas.Bool.{not-false}
+use Rattle.std.proofs.lemmas.Option.{slice_get_within, get_or_from_slice_get}
 use Rattle.std.proofs.lemmas.Grind.{flat_map-append}
-use Rattle.std.specs.List.{list_any, dedup}
+use Rattle.std.specs.List.{slice_get, list_any, dedup}
 use Rattle.std.specs.List.Sorted.{IsSorted, IsPermutation}
-use Rattle.std.specs.Cmp.{Equal-is}
 use Rattle.std.specs.declared.cmp.Ordering.{Ordering}
 use Rattle.std.proofs.lemmas.List.Kept.{IsStrictlySortedBy-filter}
 use Rattle.krieg_board.specs.Order.{move_lt, move_cmp}
@@ -36,18 +35,17 @@ sorted_moves ms s moved sorted =
     ap (λ (E : Move → Move → Bool). dedup E s) (λ i a b. move_eq_derived a b i)
     ∙ sorted_set move_cmp move_total move_equal ms s moved (subst (λ (R : Move → Move → Ordering). IsSorted R s) (λ i a b. move_cmp_derived a b i) sorted)
 
--- moves that the test does not tell apart
-pub same_move : (a b : Move) (differ : Bool) → differ ≡ not ((derived_eq.ghosts).eq a b) → differ ≡ false → a ≡ b
-same_move a b differ is h = move_equal a b ((Equal-is (move_cmp a b)).0 (sym (move_eq_derived a b) ∙ not-false ((derived_eq.ghosts).eq a b) (sym is ∙ h)))
-
--- one more is known
-pub known_more : (ms known : List Move) (i place : ℕ) (m k : Move) → i < length ms → m ≡ get_or ms i m → place < length known → k ≡ get_or known place k → k ≡ m → AllIn (take i ms) known → AllIn (take (i + 1) ms) known
-known_more ms known i place m k within at inside there same all n j = by_part (append_in (take i ms) (m ∷ []) n (subst (In n) (take_more ms i m within ∙ ap (λ x. take i ms ++ x ∷ []) (sym at)) j))
+-- one more is known: the next of the moves, which stands among the known ones
+pub known_more : (ms known : List Move) (next place : ℕ) (m : Move) → slice_get ms next ≡ Some m → place < length known → m ≡ get_or known place m → AllIn (take next ms) known → (next + 1 ≤ length ms) × AllIn (take (next + 1) ms) known
+known_more ms known next place m here inside there all = (omega (arith, within), λ n j. by_part n (append_in (take next ms) (m ∷ []) n (subst (In n) (take_more ms next m within ∙ ap (λ x. take next ms ++ x ∷ []) (get_or_from_slice_get ms next m m here)) j)))
   where
-    by_part : In n (take i ms) ⊎ In n (m ∷ []) → In n known
-    by_part (inl e) = all n e
-    by_part (inr (inl e)) = in_at known place n k inside (sym there ∙ same ∙ e)
-    by_part (inr (inr e)) = absurd e
+    within : next < length ms
+    within = slice_get_within ms next m here
+
+    by_part : (n : Move) → In n (take next ms) ⊎ In n (m ∷ []) → In n known
+    by_part n (inl e) = all n e
+    by_part n (inr (inl e)) = subst (λ x. In x known) e (in_at known place m m inside (sym there))
+    by_part n (inr (inr e)) = absurd e
 
 -- a set with moves that it has
 pub known_moves : (found ms : List Move) → move_set found ≡ found → AllIn ms found → found ≡ move_set (found ++ ms)

@@ -6,3 +6,4 @@ pub mod Firsts
 pub mod Openings
 pub mod Laws
 pub mod MoveSets
+pub mod Tallies

@@ -7,7 +7,7 @@ ghost use Rattle.krieg_split.specs.Openings.{opened_pair, opened_set, heard_firs
 ghost use Rattle.krieg_words.specs.WordsReading.{silent};
 
 use krieg_board::NoMemory;
-use krieg_game::{Class, classes_of};
+use krieg_game::Class;
 use krieg_pack::Belief;
 use krieg_parting::with_openings;
 use krieg_words::{Dialect, Words};
@@ -42,6 +42,6 @@ pub fn openings(alloc: Global, d: Dialect, b: &Belief) -> Result<Vec<Opened>, No
     ensures value { IfOk result (λ v. map opened_pair v.items ≡ map heard_first (classes_in (map (opened d silent) b.now))) }
     ensures sets { IfOk result (λ v. (who : Side) → IsOwnTurn who b.now → map opened_set v.items ≡ opening_sets d who b.now) }
 {
-    let outcomes = with_openings(alloc, d, b.members())?;
-    opened_of(alloc, classes_of(alloc, outcomes)?)
+    let pool = with_openings(alloc, d, b.members())?;
+    opened_of(alloc, pool.into_classes(alloc)?)
 }

@@ -1,42 +1,33 @@
-ghost use Rattle.std.specs.Prelude.{◌≡◌, ◌++◌, ◌≤◌, length, IsTrue, IfOk, OnOk};
-ghost use Rattle.krieg_moves.specs.Moves as list;
+ghost use Rattle.std.specs.Prelude.{◌≡◌, ◌++◌, ◌↔◌, Some, map, slice_get, IsTrue, IfOk, OnOk};
 ghost use Rattle.krieg_words.specs.declared.dialects.Dialect.{Dialect};
 ghost use Rattle.krieg_theory.specs.Split as theory;
 ghost use Rattle.krieg_game.specs.Chess.{chess};
 ghost use Rattle.krieg_split.specs.MoveSets.{AllIn, move_set};
 
-use krieg_board::{Move, NoMemory, Position};
+use crate::listed::Listed;
+use krieg_board::{Move, NoMemory};
 use krieg_moves::legal_moves;
 use krieg_pack::{Belief, unpack};
 use std::alloc::Global;
 
-/// From a place on, the first known move that does not stand before `mv`.
-fn first_not_before(known: &[Move], mv: &Move, from: usize) -> usize
-    requires { from ≤ length known.now }
-    ensures { result ≤ length known.now }
+/// Whether the move stands at the place.
+pub(crate) fn stands_at(moves: &[Move], place: usize, mv: &Move) -> bool
+    ensures { IsTrue result ↔ (slice_get moves.now place ≡ Some mv.now) }
 {
-    let mut place = from;
-    while place < known.len() && known[place].cmp(mv).is_lt() {
-        place += 1;
-    }
-    place
+    place < moves.len() && moves[place] == *mv
 }
 
 /// Whether all of the moves are known. Both ascend, so one walk through them tells.
 fn are_known(moves: &[Move], known: &[Move]) -> bool
     ensures { IsTrue result → AllIn moves.now known.now }
 {
-    let mut place = 0;
-    for mv in moves {
-        place = first_not_before(known, mv, place);
-        if place == known.len() {
-            return false;
-        }
-        if known[place] != *mv {
-            return false;
+    let mut next = 0;
+    for mv in known {
+        if stands_at(moves, next, mv) {
+            next += 1;
         }
     }
-    true
+    next == moves.len()
 }
 
 /// Sorts moves in place and drops repeats.
@@ -59,15 +50,14 @@ fn insert(moves: &[Move], found: &mut Vec<Move>) -> Result<(), NoMemory>
 }
 
 /// Adds the legal moves of one member to a set. Most members have none that is new.
-fn add_moves(alloc: Global, p: &Position, found: &mut Vec<Move>) -> Result<(), NoMemory>
+fn add_moves(moves: &[Move], found: &mut Vec<Move>) -> Result<(), NoMemory>
     requires { move_set found.old.items ≡ found.old.items }
-    ensures { OnOk result (found.new.items ≡ move_set (found.old.items ++ list.moves p.now)) }
+    ensures { OnOk result (found.new.items ≡ move_set (found.old.items ++ moves.now)) }
 {
-    let moves = legal_moves(alloc, p)?;
-    if are_known(moves.as_slice(), found) {
+    if are_known(moves, found) {
         return Ok(());
     }
-    insert(moves.as_slice(), found)
+    insert(moves, found)
 }
 
 /// The tries that make sense in a set: every move that is legal in some member, once, ascending.
@@ -77,7 +67,19 @@ pub fn tries(alloc: Global, b: &Belief) -> Result<Vec<Move>, NoMemory>
 {
     let mut found = Vec::new(alloc);
     for member in b.members() {
-        add_moves(alloc, &unpack(member), &mut found)?;
+        let moves = legal_moves(alloc, &unpack(member))?;
+        add_moves(moves.as_slice(), &mut found)?;
+    }
+    Ok(found)
+}
+
+/// The same, by a caller that has the legal moves of all members.
+pub(crate) fn tries_of(alloc: Global, members: &[Listed]) -> Result<Vec<Move>, NoMemory>
+    ensures { IfOk result (λ ts. (d : Dialect) → ts.items ≡ theory.tries (chess d) (map (λ m. m.position) members.now)) }
+{
+    let mut found = Vec::new(alloc);
+    for member in members {
+        add_moves(member.moves.as_slice(), &mut found)?;
     }
     Ok(found)
 }

@@ -8,7 +8,7 @@ use crate::commands::counted::counted;
 use crate::ending::Ending;
 use crate::refusal::Refusal;
 use krieg_board::{NoMemory, Units};
-use krieg_checker::{CheckStop, Checked, check};
+use krieg_checker::{CheckStop, Checked, check_owned};
 use krieg_plan::PlanFile;
 use krieg_planfile::read_plan;
 use std::alloc::Global;
@@ -34,13 +34,13 @@ fn worst_text(alloc: Global, worst: u16) -> Result<Vec<u8>, NoMemory>
     counted(alloc, b"mates ", usize::from(worst))
 }
 
-/// What the check of a plan file comes to, within so many units.
-fn judged(alloc: Global, budget: u64, file: &PlanFile) -> Result<Vec<u8>, Ending>
-    requires { IsOneTurn file.now.list.items }
-    ensures { Decides (λ answer. answer.items) result (spec.Checked budget (state_of file.now)) }
+/// What the check of a plan file comes to, within so many units. Its list is let go once it is a set.
+fn judged(alloc: Global, budget: u64, file: PlanFile) -> Result<Vec<u8>, Ending>
+    requires { IsOneTurn file.list.items }
+    ensures { Decides (λ answer. answer.items) result (spec.Checked budget (state_of file)) }
 {
     let mut units = Units::new(budget);
-    match check(alloc, file, &mut units)? {
+    match check_owned(alloc, file, &mut units)? {
         Checked::Mates(worst) => Ok(worst_text(alloc, worst)?),
         Checked::Fails => Err(Ending::Refused(Refusal::PlanFails)),
     }
@@ -52,5 +52,5 @@ pub(crate) fn answer(alloc: Global, budget: u64, text: Vec<u8>) -> Result<Vec<u8
 {
     let file = read_plan(alloc, &text)?;
     drop(text);
-    judged(alloc, budget, &file)
+    judged(alloc, budget, file)
 }

@@ -1,4 +1,5 @@
-ghost use Rattle.std.specs.Prelude.{◌≡◌, ◌≤◌, false, length, Ok, IfOk};
+ghost use Rattle.std.specs.Prelude.{◌≡◌, ◌≤◌, All, false, length, [], IfOk, IsTrue};
+ghost use Rattle.krieg_board.specs.Validity.{IsValid};
 ghost use Rattle.krieg_text.specs.Lines.{lines};
 ghost use Rattle.krieg_text.specs.Reading.{whole};
 ghost use Rattle.krieg_theory.specs.Sets.{is_nil};
@@ -10,14 +11,14 @@ ghost use Rattle.krieg_cli.specs.Parts.{Decides};
 ghost use Rattle.krieg_cli.specs.Asked as sheets;
 ghost use Rattle.krieg_cli.specs.Refute as spec;
 
-use crate::commands::asked::{asked, listed};
+use crate::commands::asked::asked;
 use crate::ending::Ending;
 use crate::refusal::Refusal;
 use krieg_board::{MOST_MOVES, NoMemory, Side, Units};
-use krieg_fen::MOST_LISTED;
-use krieg_pack::Belief;
-use krieg_refute::{Claim, Denied, Refutation, RefuteStop, refute};
-use krieg_refutefile::write_refutation;
+use krieg_fen::{MOST_LISTED, write_position};
+use krieg_pack::{Belief, unpack};
+use krieg_refute::{Claim, Denied, RefuteStop, refute};
+use krieg_refutefile::write_denial;
 use krieg_sheet::{Sheet, read_sheet};
 use krieg_words::Dialect;
 use std::alloc::Global;
@@ -36,49 +37,96 @@ impl From<RefuteStop> for Ending {
     }
 }
 
-/// About how many bytes the text of a refutation takes: the line of a position has mostly some 32, that of a reason some 16.
-fn rough_size(listed: usize, claims: &[Claim]) -> usize {
-    let mut size = listed.saturating_mul(32);
+/// About how many bytes the text of a refutation takes, where the line of a position has so many: that of a reason has mostly
+/// 11 or 12, and the two of a claim beside these some 22.
+fn rough_size(line: usize, listed: usize, claims: &[Claim]) -> usize {
+    let mut positions = listed;
+    let mut reasons: usize = 0;
     for claim in claims {
-        let positions = claim.set.len().saturating_mul(32);
-        let reasons = claim.reasons.len().saturating_mul(16);
-        size = size.saturating_add(positions.saturating_add(reasons));
+        positions = positions.saturating_add(claim.set.len());
+        reasons = reasons.saturating_add(claim.reasons.len());
     }
-    size
+    let others = reasons
+        .saturating_add(claims.len().saturating_mul(2))
+        .saturating_add(16);
+    positions
+        .saturating_mul(line)
+        .saturating_add(others.saturating_mul(16))
+}
+
+/// A text with room for the refutation with these claims that lists the members of the set.
+///
+/// It gets its room at once, so that it fits where the table of the search was: a text that outgrows its room takes twice as
+/// much. The positions have about as many men, so their lines are about as long as that of the first.
+fn text_for(alloc: Global, set: &Belief, claims: &[Claim]) -> Result<Vec<u8>, NoMemory>
+    ensures { IfOk result (λ text. text.items ≡ []) }
+{
+    let mut line = Vec::new(alloc);
+    if let Some(first) = set.members().first() {
+        write_position(&unpack(first), &mut line)?;
+    }
+    let size = rough_size(line.len().saturating_add(2), set.len(), claims);
+    Ok(Vec::with_capacity(alloc, size)?)
 }
 
 /// The text of the refutation with these claims, that no plan mates the members of the set within so many moves.
-///
-/// It gets its room at once, so that it fits where the table of the search was.
 fn file_text(
     alloc: Global,
-    dialect: Dialect,
-    side: Side,
+    d: Dialect,
+    who: Side,
+    moves: u8,
+    set: &Belief,
+    claims: &[Claim],
+) -> Result<Vec<u8>, NoMemory>
+    requires least { 1 ≤ moves }
+    requires most { moves ≤ MOST_MOVES }
+    requires some { is_nil set.now ≡ false }
+    requires few { length set.now ≤ MOST_LISTED }
+    requires valid { All IsValid set.now }
+    requires hand { HaveOneHand who set.now }
+    requires turn { IsOwnTurn who set.now }
+    requires denial { IsDenial d who set.now moves claims.now }
+    ensures { IfOk result (λ text. spec.IsDenialText d who set.now moves text.items) }
+{
+    let mut text = text_for(alloc, set, claims)?;
+    write_denial(d, who, moves, set, claims, &mut text)?;
+    Ok(text)
+}
+
+/// Whether the claim is of just the members of the set.
+fn is_of(claim: &Claim, set: &Belief) -> bool
+    ensures { IsTrue result → claim.now.set ≡ set.now }
+{
+    claim.set == *set
+}
+
+/// The same text. Where the last claim is of all members, as at an own turn whose opening words are alike everywhere, these are
+/// written from it, and the set is let go before: so the text fits where the set and the table of the search were.
+fn last_text(
+    alloc: Global,
+    d: Dialect,
+    who: Side,
     moves: u8,
     set: Belief,
-    claims: Vec<Claim>,
+    claims: &[Claim],
 ) -> Result<Vec<u8>, NoMemory>
     requires least { 1 ≤ moves }
     requires most { moves ≤ MOST_MOVES }
     requires some { is_nil set ≡ false }
     requires few { length set ≤ MOST_LISTED }
-    requires hand { HaveOneHand side set }
-    requires turn { IsOwnTurn side set }
-    requires denial { IsDenial dialect side set moves claims.items }
-    ensures { IfOk result (λ text. spec.IsDenialText dialect side set moves text.items) }
+    requires valid { All IsValid set }
+    requires hand { HaveOneHand who set }
+    requires turn { IsOwnTurn who set }
+    requires denial { IsDenial d who set moves claims.now }
+    ensures { IfOk result (λ text. spec.IsDenialText d who set moves text.items) }
 {
-    let list = listed(alloc, &set)?;
-    drop(set);
-    let file = Refutation {
-        dialect,
-        side,
-        moves,
-        list,
-        claims,
-    };
-    let mut text = Vec::with_capacity(alloc, rough_size(file.list.len(), &file.claims))?;
-    write_refutation(&file, &mut text)?;
-    Ok(text)
+    if let Some(last) = claims.last() {
+        if is_of(last, &set) {
+            drop(set);
+            return file_text(alloc, d, who, moves, &last.set, claims);
+        }
+    }
+    file_text(alloc, d, who, moves, &set, claims)
 }
 
 /// What a search for claims comes to, within so many moves and units.
@@ -94,6 +142,7 @@ fn searched(
     requires most { moves ≤ MOST_MOVES }
     requires some { is_nil set ≡ false }
     requires few { length set ≤ MOST_LISTED }
+    requires valid { All IsValid set }
     requires hand { HaveOneHand who set }
     requires turn { IsOwnTurn who set }
     ensures { Decides (λ answer. answer.items) result (spec.Claimed d who set moves budget) }
@@ -101,7 +150,7 @@ fn searched(
     let moves = moves as u8;
     let mut units = Units::new(budget);
     match refute(alloc, d, &set, moves, &mut units)? {
-        Denied::Denial(claims) => Ok(file_text(alloc, d, who, moves, set, claims)?),
+        Denied::Denial(claims) => Ok(last_text(alloc, d, who, moves, set, &claims)?),
         Denied::Exists => Err(Ending::Refused(Refusal::PlanExists)),
     }
 }

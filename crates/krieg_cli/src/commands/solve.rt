@@ -141,29 +141,23 @@ fn searched(
     Ok(told(alloc, d, who, set, moves, answer)?)
 }
 
-/// What `solve` answers to a sheet, or `find`, whose search may cut tries.
+/// What `solve` answers to a sheet, or `find`, whose search may cut tries. The sheet is let go before the search.
 fn solved(
     alloc: Global,
     cut: bool,
-    sheet: &Sheet,
+    sheet: Sheet,
     moves: u64,
     budget: u64,
     limit: u64,
 ) -> Result<Vec<u8>, Ending>
     requires most { moves ≤ MOST_MOVES }
     requires few { limit ≤ MOST_LISTED }
-    ensures { Decides (λ answer. answer.items) result (SolvedBy cut moves budget limit sheet.now) }
+    ensures { Decides (λ answer. answer.items) result (SolvedBy cut moves budget limit sheet) }
 {
-    let set = asked(alloc, sheet, limit, sheet.is_over())?;
-    searched(
-        alloc,
-        cut,
-        sheet.dialect(),
-        sheet.side(),
-        &set,
-        moves,
-        budget,
-    )
+    let set = asked(alloc, &sheet, limit, sheet.is_over())?;
+    let (dialect, side) = (sheet.dialect(), sheet.side());
+    drop(sheet);
+    searched(alloc, cut, dialect, side, &set, moves, budget)
 }
 
 /// What `solve` answers to the text of a sheet, or `find`, whose search may cut tries.
@@ -181,5 +175,5 @@ pub(crate) fn answer(
 {
     let sheet = read_sheet(alloc, &text)?;
     drop(text);
-    solved(alloc, cut, &sheet, moves, budget, limit)
+    solved(alloc, cut, sheet, moves, budget, limit)
 }

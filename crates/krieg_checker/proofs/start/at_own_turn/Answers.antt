@@ -7,5 +7,6 @@ use Rattle.krieg_words.specs.WordsReading.{silent}
 
 pub returns : goal.returns
 returns c =
-    let classes = c.in_ok-classes.ensures ∙ ap classes_in (c.in_ok-outcomes.ensures ∙ ap (map (opened c.args.d silent)) c.members.ensures.value) in
+    let outcomes = map (opened c.args.d silent) in
+    let classes = c.in_ok-classes.ensures (outcomes c.members.result.now) c.in_ok-pool.ensures ∙ ap (λ B. classes_in (outcomes B)) c.members.ensures.value in
     (λ who turn. own_started c.args.d who c.args.b turn _ refl refl classes, refl)

@@ -1,7 +1,8 @@
-use Rattle.std.proofs.Common.{◌≡◌, map, take}
+use Rattle.std.proofs.Common.{map, take}
+use Rattle.krieg_game.specs.Buckets.{Holds}
 use Rattle.krieg_game.specs.ClassLaws.{opened}
 use Rattle.krieg_parting.proofs.opened.with_openings.Given as goal
 use Rattle.krieg_words.specs.WordsReading.{silent}
 
 abbrev pub invariant-loop-member : goal.invariant-loop-member
-invariant-loop-member l = l.outcomes.items ≡ map (opened l.d silent) (take l.member-index l.members)
+invariant-loop-member l = Holds l.pool (map (opened l.d silent) (take l.member-index l.members))

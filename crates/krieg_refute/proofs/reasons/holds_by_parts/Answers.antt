@@ -1,8 +1,7 @@
-use Rattle.std.proofs.Common.{ap, ◌∙◌, List, map}
+use Rattle.std.proofs.Common.{ap, ◌∙◌, map}
 use Rattle.krieg_costs.specs.Refutation as theory
 use Rattle.krieg_game.specs.Chess.{chess}
 use Rattle.krieg_game.specs.Classes.{class_pair}
-use Rattle.krieg_game.specs.declared.classes.Class.{Class}
 use Rattle.krieg_refute.specs.Refutations.{why_of, claims_of}
 use Rattle.krieg_refute.specs.Reasons.{class_in}
 use Rattle.krieg_refute.proofs.Holding.{class_holds}
@@ -10,5 +9,5 @@ use Rattle.krieg_refute.proofs.reasons.holds_by_parts.Goals as goal
 
 pub returns-then-fewer-gt0 : goal.returns-then-fewer-gt0
 returns-then-fewer-gt0 c = λ d B t q.
-    class_holds d B t c.args.parted.now q (claims_of d c.args.before.now) c.args.fewer c.in-Class.place (c.in-Class.own, c.in-Class.reply) c.args.why.now c.is_class_shown.result (ap why_of c.in-Class.is) c.if-fewer-gt0.true
-    (c.is_class_shown.ensures d ∙ ap (λ (cs : List Class). theory.is_shown (chess d) (theory.cited (claims_of d c.args.before.now) c.in-Class.place) c.args.fewer (class_in (map class_pair cs) (c.in-Class.own, c.in-Class.reply))) c.as_slice-classes.ensures.value)
+    class_holds d B t c.args.parted.now q (claims_of d c.args.before.now) c.args.fewer c.in-Class.place c.in-Class.heard c.args.why.now c.is_class_shown.result (ap why_of c.in-Class.is) c.if-fewer-gt0.true
+    (c.is_class_shown.ensures d ∙ (λ i. theory.is_shown (chess d) (theory.cited (claims_of d c.args.before.now) c.in-Class.place) c.args.fewer (class_in (map class_pair (c.as_slice-classes.ensures.value i)) (c.words-own.ensures i))))

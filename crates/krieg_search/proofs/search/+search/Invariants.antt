@@ -1,6 +1,7 @@
-use Rattle.std.proofs.Common.{◌≡◌, ◌-◌, length, ◌+◌, ◌*◌, ◌^◌}
+use Rattle.std.proofs.Common.{◌≡◌, ◌-◌, length, map, ◌+◌, ◌*◌, ◌^◌}
 use Rattle.std.specs.Vec.Iter.{into_iter_items, into_iter_len}
 use Rattle.krieg_table.specs.Interned.{set_at}
+use Rattle.krieg_search.specs.Tried.{move_of}
 use Rattle.krieg_search.specs.Searched.{sets_of}
 use Rattle.krieg_search.proofs.Tries.{IsTrying}
 use Rattle.krieg_search.proofs.Numbers.{IsCounting}
@@ -23,8 +24,8 @@ decreases-can_win l = 8 * (l.moves * 2 ^ 64 + length (set_at l.table.now l.set))
 abbrev pub invariant-can_win-loop-fewer : goal.invariant-can_win-loop-fewer
 invariant-can_win-loop-fewer l = IsCounting l.d l.cut l.initial.table l.table (set_at l.initial.table l.set) l.moves l.fewer l.initial.units l.units
 
-abbrev pub invariant-can_win_in-loop-mv : goal.invariant-can_win_in-loop-mv
-invariant-can_win_in-loop-mv l = IsTrying l.d l.cut l.initial.table l.table (set_at l.initial.table l.set) l.moves l.mv-items l.mv-index l.initial.units l.units
+abbrev pub invariant-can_win_in-loop-tried : goal.invariant-can_win_in-loop-tried
+invariant-can_win_in-loop-tried l = IsTrying l.d l.cut l.initial.table l.table (set_at l.initial.table l.set) l.moves (map move_of l.tried-items) l.tried-index l.initial.units l.units
 
 abbrev pub invariant-all_can_win-loop-class : goal.invariant-all_can_win-loop-class
 invariant-all_can_win-loop-class l = record {

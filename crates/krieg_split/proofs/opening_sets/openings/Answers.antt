@@ -9,5 +9,6 @@ use Rattle.krieg_words.specs.WordsReading.{silent}
 
 pub returns-clause-sets : goal.returns-clause-sets
 returns-clause-sets c =
-    let classed = c.in_ok-classes_of.ensures ∙ ap classes_in (c.in_ok-outcomes.ensures ∙ ap (map (opened c.args.d silent)) c.members.ensures.value) in
+    let outcomes = map (opened c.args.d silent) in
+    let classed = c.in_ok-into_classes.ensures (outcomes c.members.result.now) c.in_ok-pool.ensures ∙ ap (λ B. classes_in (outcomes B)) c.members.ensures.value in
     IfOk-weaker c.opened_of.result _ _ (λ v named who turn. opening_sets_are c.args.d who c.args.b.now v.items (named ∙ ap (map heard_first) classed) turn) c.opened_of.ensures

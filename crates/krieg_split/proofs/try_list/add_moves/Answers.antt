@@ -1,9 +1,9 @@
-use Rattle.std.proofs.Common.{subst, ap, ◌∙◌, ◌++◌}
-use Rattle.krieg_split.specs.MoveSets.{AllIn, move_set}
+use Rattle.std.proofs.Common.{subst}
+use Rattle.krieg_split.specs.MoveSets.{AllIn}
 use Rattle.krieg_split.proofs.TryLists.{known_moves}
 use Rattle.krieg_split.proofs.try_list.add_moves.Goals as goal
 
 pub returns-then-are_known : goal.returns-then-are_known
 returns-then-are_known c =
-    let known = subst (λ ks. AllIn c.as_slice.result.now ks) c.deref.ensures.value (c.are_known.ensures c.if-are_known.true) in
-    known_moves c.args.found.now.items c.as_slice.result.now c.requires known ∙ ap (λ ms. move_set (c.args.found.now.items ++ ms)) (c.as_slice.ensures ∙ c.in_ok-moves.ensures.exact)
+    let known = subst (λ ks. AllIn c.args.moves.now ks) c.deref.ensures.value (c.are_known.ensures c.if-are_known.true) in
+    known_moves c.args.found.now.items c.args.moves.now c.requires known

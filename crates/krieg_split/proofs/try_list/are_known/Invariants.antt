@@ -4,6 +4,6 @@ use Rattle.krieg_split.proofs.try_list.are_known.Given as goal
 
 abbrev pub invariant-loop-mv : goal.invariant-loop-mv
 invariant-loop-mv l = record {
-  known : AllIn (take l.mv-index l.moves) l.known;
-  within : l.place ≤ length l.known;
+  known : AllIn (take l.next l.moves) l.known;
+  within : l.next ≤ length l.moves;
 }

@@ -1,4 +1,4 @@
-use Rattle.std.proofs.Common.{◌≡◌, ◌++◌, flat_map, ap, sym, subst, ◌∙◌, arith}
+use Rattle.std.proofs.Common.{◌++◌, flat_map, ap, sym, subst, ◌∙◌, ◌≡◌, arith}
 use Rattle.std.proofs.lemmas.List.{take_all}
 use Rattle.krieg_moves.specs.Moves.{moves}
 use Rattle.krieg_split.specs.MoveSets.{move_set}
@@ -15,7 +15,7 @@ add_moves-requires c = subst (λ ms. move_set ms ≡ ms) (sym c.loop-member.inva
 pub loop-member-preserved : goal.loop-member-preserved
 loop-member-preserved c =
     set_more c.add_moves.new.found.items c.loop-member.found.items c.members-member-items.result.now c.loop-member.member-index c.member-item.result (omega arith) c.member-item.is c.loop-member.invariant
-    (c.in_ok-add_moves.ensures ∙ ap (λ p. move_set (c.loop-member.found.items ++ moves p)) c.unpack.ensures.value)
+    (c.in_ok-add_moves.ensures ∙ ap (λ ms. move_set (c.loop-member.found.items ++ ms)) (c.as_slice.ensures ∙ c.in_ok-moves.ensures.exact) ∙ ap (λ p. move_set (c.loop-member.found.items ++ moves p)) c.unpack.ensures.value)
 
 pub returns : goal.returns
 returns c = λ d.

@@ -6,13 +6,18 @@ use Rattle.krieg_cli.specs.Refute.{Claimed}
 use Rattle.krieg_cli.proofs.Asking.{given, asked}
 use Rattle.krieg_cli.proofs.Refuting.{is_to_move, later}
 use Rattle.krieg_cli.proofs.Searching.{few_possible}
-use Rattle.krieg_cli.proofs.SheetTurns.{own_turn}
+use Rattle.krieg_cli.proofs.SheetTurns.{own_turn, valid_possible}
 use Rattle.krieg_cli.proofs.commands.refute.refuted.Goals as goal
 
 pub searched-requires-clause-few : goal.searched-requires-clause-few
 searched-requires-clause-few c =
     let leaves = (given c.args.limit c.args.sheet c.has_no_turn.result c.in_ok-set.set c.in_ok-set.ensures.set).0 in
     omega (arith, few_possible c.args.sheet c.args.limit c.in_ok-set.set leaves.within leaves.possible, c.requires.few)
+
+pub searched-requires-clause-valid : goal.searched-requires-clause-valid
+searched-requires-clause-valid c =
+    let leaves = (given c.args.limit c.args.sheet c.has_no_turn.result c.in_ok-set.set c.in_ok-set.ensures.set).0 in
+    valid_possible c.args.sheet c.in_ok-set.set c.has_no_turn.ensures.sheet leaves.possible
 
 pub searched-requires-clause-turn : goal.searched-requires-clause-turn
 searched-requires-clause-turn c =

@@ -17,10 +17,11 @@ returns-in_err-claims c =
     (stop_told c.args.d c.args.who c.args.set c.args.moves c.args.budget c.new-units.result c.refute.new.units c.new-units.ensures (side_is c.args.who c.args.set c.requires.some c.requires.turn)
     (λ (answer : Vec ℕ Global). answer.items) c.in_err-claims.field-0.0 c.in_err-claims.ensures.answer c.in_err-claims.ensures.units)
 
-pub file_text-requires-clause-denial : goal.file_text-requires-clause-denial
-file_text-requires-clause-denial c =
-    subst (λ (who : Side). IsDenial c.args.d who c.args.set c.args.moves c.in-Denial.claims.items) (side_is c.args.who c.args.set c.requires.some c.requires.turn)
-    (subst (λ a. IsDenied c.args.d (side_of c.args.set) c.args.set c.args.moves (Ok a)) c.in-Denial.is c.in_ok-claims.ensures.answer)
+pub last_text-requires-clause-denial : goal.last_text-requires-clause-denial
+last_text-requires-clause-denial c =
+    subst (IsDenial c.args.d c.args.who c.args.set c.args.moves) (sym c.deref.ensures.value)
+    (subst (λ (who : Side). IsDenial c.args.d who c.args.set c.args.moves c.in-Denial.claims.items) (side_is c.args.who c.args.set c.requires.some c.requires.turn)
+    (subst (λ a. IsDenied c.args.d (side_of c.args.set) c.args.set c.args.moves (Ok a)) c.in-Denial.is c.in_ok-claims.ensures.answer))
 
 pub returns-in-Exists : goal.returns-in-Exists
 returns-in-Exists c =

@@ -1,0 +1,24 @@
+use Rattle.std.proofs.Common.{map, ap, sym, subst, ◌∙◌}
+use Rattle.std.specs.Prelude.{All}
+use Rattle.std.proofs.lemmas.Result.{IfOk-weaker}
+use Rattle.krieg_words.specs.declared.dialects.Dialect.TheVariants.{Wild16}
+use Rattle.krieg_search.specs.Tried.{move_of, IsTold}
+use Rattle.krieg_search.specs.declared.tried.Try.TheVariants.{Counted}
+use Rattle.krieg_search.proofs.Telling.{plain_moves, plain_told, counted_moves, counted_told}
+use Rattle.krieg_search.proofs.tried.tries_for.Goals as goal
+
+pub returns-then-len-le-MOST_TALLIED-clause-moves : goal.returns-then-len-le-MOST_TALLIED-clause-moves
+returns-then-len-le-MOST_TALLIED-clause-moves c =
+    IfOk-weaker c.counted_tries.result _ _ (λ ts is d. ap (map move_of) (is ∙ ap (map (λ y. Counted y)) (c.deref.ensures.value ∙ c.in_ok-tally_tries.ensures d)) ∙ counted_moves c.args.b.now _) c.counted_tries.ensures
+
+pub returns-then-len-le-MOST_TALLIED-clause-told : goal.returns-then-len-le-MOST_TALLIED-clause-told
+returns-then-len-le-MOST_TALLIED-clause-told c =
+    IfOk-weaker c.counted_tries.result _ _ (λ ts is. subst (All (IsTold c.args.b.now c.args.moves)) (sym (is ∙ ap (map (λ y. Counted y)) (c.deref.ensures.value ∙ c.in_ok-tally_tries.ensures Wild16))) (counted_told c.args.b.now c.args.moves _ c.if-moves-eq1.true)) c.counted_tries.ensures
+
+pub returns-clause-moves : goal.returns-clause-moves
+returns-clause-moves c =
+    IfOk-weaker c.plain_tries.result _ _ (λ ts is d. ap (map move_of) is ∙ plain_moves c.deref-2.result.now ∙ c.deref-2.ensures.value ∙ c.in_ok-tries.ensures d) c.plain_tries.ensures
+
+pub returns-clause-told : goal.returns-clause-told
+returns-clause-told c =
+    IfOk-weaker c.plain_tries.result _ _ (λ ts is. subst (All (IsTold c.args.b.now c.args.moves)) (sym is) (plain_told c.args.b.now c.args.moves c.deref-2.result.now)) c.plain_tries.ensures
