@@ -3,7 +3,7 @@ ghost use Rattle.std.specs.Iterator.{YieldsFirstRef, item_count};
 ghost use Rattle.std.specs.Option.{option_copied};
 ghost use Rattle.krieg_text.specs.Lines.{lines, with_ends, AreLines, EndsLines};
 
-use crate::pieces::first_of;
+use memchr::memchr;
 use std::marker::Model;
 
 /// The lines of a text that are left, each without its line feed.
@@ -83,13 +83,22 @@ impl<'a> Lines<'a> {
     }
 }
 
+/// Where the first line feed stands.
+fn line_end(text: &[u8]) -> Option<usize>
+    ensures none { IfNone result ((k : ℕ) → k < length text.now → (slice_index text.now k == 10) ≡ false) }
+    ensures some { IfSome result (λ i. (i < length text.now) × ((slice_index text.now i == 10) ≡ true)
+        × ((k : ℕ) → k < i → (slice_index text.now k == 10) ≡ false)) }
+{
+    memchr(b'\n', text)
+}
+
 /// The first line, and what stands after its line feed.
 #[tactic(auto, using(crate::proofs::LineCuts::cuts))]
 fn cut_line(text: &[u8]) -> (&[u8], &[u8])
     requires { 0 < length text.now }
     ensures { lines text.now ≡ result.0.now ∷ lines result.1.now }
 {
-    match first_of(text, b'\n') {
+    match line_end(text) {
         None => (text, &[]),
         Some(i) => (&text[..i], &text[i + 1..]),
     }

@@ -4,7 +4,7 @@ ghost use Rattle.krieg_text.specs.Names as names;
 ghost use Rattle.krieg_text.specs.Pieces.{pieces, pieces_left};
 
 /// Where the separator stands for the first time.
-pub(crate) fn first_of(text: &[u8], separator: u8) -> Option<usize>
+fn first_of(text: &[u8], separator: u8) -> Option<usize>
     ensures none { IfNone result ((k : ℕ) → k < length text.now → (slice_index text.now k == separator) ≡ false) }
     ensures some { IfSome result (λ i. (i < length text.now) × ((slice_index text.now i == separator) ≡ true)
         × ((k : ℕ) → k < i → (slice_index text.now k == separator) ≡ false)) }
