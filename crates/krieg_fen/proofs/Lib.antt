@@ -4,6 +4,8 @@ pub mod FieldCounts
 pub mod RankTexts
 pub mod FenTexts
 pub mod RankWriting
+pub mod RankChanges
+pub mod BoardWriting
 pub mod Listing
 pub mod CleanTexts
 pub mod BoardSpellings

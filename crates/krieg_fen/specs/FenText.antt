@@ -1,5 +1,5 @@
 -- The one written form of a position: four fields, each run of empty squares as one digit.
-use Rattle.std.specs.Prelude.{ℕ, zero, suc, ◌+◌, ◌*◌, List, [], ◌∷◌, ◌++◌, Option, Some, None, take, drop, if◌then◌else◌}
+use Rattle.std.specs.Prelude.{ℕ, zero, suc, ◌+◌, ◌*◌, List, [], ◌∷◌, ◌++◌, Option, Some, None, take, drop, length, slice_index_or, ◌≡◌, ◌<◌, if◌then◌else◌}
 use Rattle.krieg_board.specs.Board.{Board}
 use Rattle.krieg_board.specs.Pos.{Pos}
 use Rattle.krieg_board.specs.declared.men.Side.{Side}
@@ -32,6 +32,11 @@ abbrev pub ranks_text : ℕ → Board → List ℕ
 ranks_text zero board = []
 ranks_text (suc zero) board = rank_text (rank_at board 0)
 ranks_text (suc (suc n)) board = rank_text (rank_at board (suc n)) ++ (47 ∷ ranks_text (suc n) board)
+
+-- these are the texts of the eight ranks
+pub record AreRanks (texts : List (List ℕ)) (board : Board) : Type 0 where
+  pub size : length board ≡ 64
+  pub each : (k : ℕ) → k < 8 → slice_index_or texts k [] ≡ rank_text (rank_at board k)
 
 unfoldable pub board_text : Board → List ℕ
 board_text board = ranks_text 8 board

@@ -3,7 +3,8 @@
 //! Each reader answers exactly what the definition of its name in `specs/` says, takes no memory unless
 //! its answer is a list, and looks at the text once. Each writer adds the one written form. `put_*` adds
 //! it to a `Text`, and `write_*` appends it to a byte vector, whose content stays as it was where memory
-//! runs out. Lines, numbers, faults and `Text` are those of `krieg_text`.
+//! runs out. Of many positions, one after another, `put_next` spells only the ranks that differ from those
+//! of the position before, which `Ranks` keeps. Lines, numbers, faults and `Text` are those of `krieg_text`.
 //!
 //! ```
 //! let p = read_position(b"1k6/8/1K6/8/8/8/8/7R w - - 0 1")?;
@@ -15,6 +16,7 @@
 //! ```
 #![tactic(auto)]
 
+mod board_text;
 mod fen;
 mod fen_text;
 mod fields;
@@ -22,8 +24,10 @@ mod forms;
 mod list;
 mod list_text;
 mod moves;
+mod rank_text;
 mod ranks;
 
+pub use board_text::Ranks;
 pub use fen::{FenFault, read_position};
 pub use fen_text::{put_position, write_position};
 pub use forms::{
@@ -31,6 +35,6 @@ pub use forms::{
 };
 pub use list::{read_list, read_listing};
 pub use list_text::{
-    put_list, put_list_head, put_list_line, put_listed, put_listing, put_side_line,
+    put_list, put_list_head, put_list_line, put_listed, put_listing, put_next, put_side_line,
 };
 pub use moves::{MoveFault, put_move, put_square, read_move, read_square, square_of, write_move};

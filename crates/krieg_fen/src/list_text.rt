@@ -1,10 +1,11 @@
-ghost use Rattle.std.specs.Prelude.{map, codes, ◌∷◌, []};
+ghost use Rattle.std.specs.Prelude.{◌≡◌, map, codes, ◌∷◌, []};
 ghost use Rattle.krieg_text.specs.Decimals.{number_text};
 ghost use Rattle.krieg_fen.specs.Forms as forms;
 ghost use Rattle.krieg_fen.specs.ListText as spec;
 ghost use Rattle.krieg_text.specs.Writing.{PutsLines, alone};
 
-use crate::fen_text::put_position;
+use crate::board_text::Ranks;
+use crate::fen_text::{put_position, put_with};
 use crate::forms::side_line;
 use krieg_board::{NoMemory, Position, Side};
 use krieg_text::{Text, put_number};
@@ -41,13 +42,25 @@ pub fn put_listed(p: &Position, text: &mut Text) -> Result<(), NoMemory>
     text.end_line()
 }
 
+/// Adds the line of a position in its written form, as `put_listed` does, after that of another board: of
+/// its ranks, only those that differ are spelled.
+pub fn put_next(p: &Position, ranks: &mut Ranks, text: &mut Text) -> Result<(), NoMemory>
+    ensures line { PutsLines result text.old text.new (spec.position_line p.now ∷ []) }
+    ensures ranks { ranks.new ≡ p.now.board }
+{
+    ranks.renew(p.bits());
+    put_with(p, ranks, text)?;
+    text.end_line()
+}
+
 /// Adds the line of each position in its written form.
 #[tactic(auto, using(krieg_text::proofs::Writings::writings))]
 pub fn put_list(list: &[Position], text: &mut Text) -> Result<(), NoMemory>
     ensures { PutsLines result text.old text.new (map spec.position_line list.now) }
 {
+    let mut ranks = Ranks::new();
     for p in list {
-        put_listed(p, text)?;
+        put_next(p, &mut ranks, text)?;
     }
     Ok(())
 }

@@ -1,5 +1,5 @@
 -- A text of parts that are there or not, with a separator between two of them.
-use Rattle.std.specs.Prelude.{ℕ, Bool, true, false, List, [], ◌∷◌, ◌++◌, Option, Some, None, is_none, unwrap_or, if◌then◌else◌}
+use Rattle.std.specs.Prelude.{ℕ, ◌≡◌, Bool, true, false, List, [], ◌∷◌, ◌++◌, Option, Some, None, is_none, unwrap_or, if◌then◌else◌}
 use Rattle.krieg_text.specs.Names.{behind, cut}
 
 -- whether a part is there, and its text
@@ -66,3 +66,13 @@ with x (Some y) = Some (x, y)
 -- A part of that form, and the parts after it. It is left where its form says that it is not there.
 abbrev pub part_then : {A B : Type 0} → ℕ → List ℕ → (List ℕ → A) → (A → Bool) → PartsReader B → PartsReader (A × B)
 part_then mark gap form there others rest = with (form (front mark rest)) (others (left_by mark gap (there (form (front mark rest))) rest))
+
+-- what is left of a text of parts, and the mark that cuts it
+pub record Left : Type 0 where
+  pub mark : ℕ
+  pub text : Option (List ℕ)
+
+-- it is cut into the part at its front and what stands behind the mark
+pub record IsCut (mark : ℕ) (text : Option (List ℕ)) (first : List ℕ) (more : Option (List ℕ)) : Type 0 where
+  pub first_is : first ≡ front mark text
+  pub more_is : (gap : List ℕ) → after_gap gap more ≡ past mark gap text

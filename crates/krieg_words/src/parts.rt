@@ -1,10 +1,11 @@
-ghost use Rattle.std.specs.Prelude.{◌≡◌};
+ghost use Rattle.std.specs.Prelude.{◌≡◌, is_none};
 ghost use Rattle.std.specs.Option.{option_copied};
 ghost use Rattle.krieg_text.specs.Writing.{PutsText};
 ghost use Rattle.krieg_words.specs.Parts as spec;
 
 use krieg_board::NoMemory;
 use krieg_text::{Text, behind, cut};
+use std::marker::Model;
 
 /// The separator, where another part stands before.
 pub(crate) fn put_separator(separator: &[u8], before: bool, text: &mut Text) -> Result<(), NoMemory>
@@ -33,16 +34,6 @@ pub(crate) fn put_piece(
     text.put(part)
 }
 
-/// The part at the front of what is left, up to the mark.
-pub(crate) fn front(mark: u8, rest: Option<&[u8]>) -> &[u8]
-    ensures { result.now ≡ spec.front mark (option_copied rest.entry) }
-{
-    match rest {
-        None => &[],
-        Some(text) => cut(mark, text).0,
-    }
-}
-
 fn after_gap<'a>(gap: &[u8], rest: Option<&'a [u8]>) -> Option<&'a [u8]>
     ensures { option_copied result ≡ spec.after_gap gap.now (option_copied rest.entry) }
 {
@@ -55,24 +46,72 @@ fn after_gap<'a>(gap: &[u8], rest: Option<&'a [u8]>) -> Option<&'a [u8]>
     }
 }
 
-/// What is left after the part at the front, its mark and the gap.
-fn past<'a>(mark: u8, gap: &[u8], rest: Option<&'a [u8]>) -> Option<&'a [u8]>
-    ensures { option_copied result ≡ spec.past mark gap.now (option_copied rest.entry) }
-{
-    match rest {
-        None => None,
-        Some(text) => after_gap(gap, cut(mark, text).1),
-    }
+/// What is left of a text, cut once at its first mark: the part at the front, which is empty where nothing
+/// is left, and what stands behind the mark.
+///
+/// In contracts it is the mark and the text that is left.
+#[derive(Drop)]
+pub(crate) struct Rest<'a> {
+    mark: u8,
+    text: Option<&'a [u8]>,
+    front: &'a [u8],
+    behind: Option<&'a [u8]>,
 }
 
-/// What is left where the part at the front was taken, and where it was not.
-pub(crate) fn left_by<'a>(
-    mark: u8,
-    gap: &[u8],
-    taken: bool,
-    rest: Option<&'a [u8]>,
-) -> Option<&'a [u8]>
-    ensures { option_copied result ≡ spec.left_by mark gap.now taken (option_copied rest.entry) }
-{
-    if taken { past(mark, gap, rest) } else { rest }
+impl<'a> Model for Rest<'a> {
+    ghost use Rattle.krieg_words.specs.Parts.{Left, IsCut};
+    ghost use Rattle.std.specs.Option.{option_copied};
+
+    ghost Value = { Left };
+
+    ghost view = { λ r. record { mark = r.mark; text = option_copied r.text } };
+
+    ghost invariant = { λ r. IsCut r.mark (option_copied r.text) r.front.now (option_copied r.behind) };
+}
+
+impl<'a> Rest<'a> {
+    /// All of the text is left, or nothing.
+    #[inline]
+    pub(crate) fn of(mark: u8, text: Option<&'a [u8]>) -> Rest<'a>
+        ensures mark { result.mark ≡ mark }
+        ensures text { result.text ≡ option_copied text.entry }
+    {
+        let (front, behind) = match text {
+            None => (&[][..], None),
+            Some(text) => cut(mark, text),
+        };
+        Rest {
+            mark,
+            text,
+            front,
+            behind,
+        }
+    }
+
+    /// The part at the front, up to the mark.
+    #[inline]
+    pub(crate) fn front(&self) -> &'a [u8]
+        ensures { result.now ≡ spec.front self.now.mark self.now.text }
+    {
+        self.front
+    }
+
+    /// Whether nothing is left.
+    #[inline]
+    pub(crate) fn is_none(&self) -> bool
+        ensures { result ≡ is_none self.now.text }
+    {
+        self.text.is_none()
+    }
+
+    /// Goes past the part at the front, its mark and the gap, where that part was taken.
+    #[inline]
+    pub(crate) fn pass(&mut self, gap: &[u8], taken: bool)
+        ensures mark { self.new.mark ≡ self.old.mark }
+        ensures text { self.new.text ≡ spec.left_by self.old.mark gap.now taken self.old.text }
+    {
+        if taken {
+            *self = Rest::of(self.mark, after_gap(gap, self.behind));
+        }
+    }
 }

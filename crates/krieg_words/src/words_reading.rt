@@ -5,12 +5,11 @@ ghost use Rattle.krieg_text.specs.Outcomes.{Reads};
 ghost use Rattle.krieg_words.specs.Words.{Said, IsSaid};
 ghost use Rattle.krieg_words.specs.ToldWords.{Fits};
 ghost use Rattle.krieg_words.specs.WordsText.{words_text};
-ghost use Rattle.krieg_words.specs.Parts as parts;
 ghost use Rattle.krieg_words.specs.WordsReading as spec;
 ghost use Rattle.krieg_words.specs.declared.dialects.Dialect.TheVariants.{Wild16};
 
 use crate::dialects::{ChecksTold, Dialect, MenTold, TriesTold, dialect_rules};
-use crate::parts::{front, left_by};
+use crate::parts::Rest;
 use crate::told_words::SOME_KIND;
 use crate::words::{End, MOST_TRIES, SILENT, Took, Words};
 use crate::words_text::{are_tries, has_ended, is_capture, is_check};
@@ -56,26 +55,21 @@ fn took_in(men: MenTold, part: &[u8]) -> Took
     }
 }
 
-fn is_next(name: &[u8], rest: Option<&[u8]>) -> bool
-    ensures { result ≡ bytes_eq (parts.front 43 (option_copied rest.entry)) name.now }
-{
-    is_name(name, front(b'+', rest))
-}
-
 /// The kinds of check whose names stand there in their order, joined by `+`.
 fn names_in(names: Option<&[u8]>) -> Option<Kinds>
     ensures { result ≡ spec.names_in (option_copied names.entry) }
 {
-    let file = is_next(b"file", names);
-    let rest = left_by(b'+', b"", file, names);
-    let rank = is_next(b"rank", rest);
-    let rest = left_by(b'+', b"", rank, rest);
-    let long = is_next(b"long", rest);
-    let rest = left_by(b'+', b"", long, rest);
-    let short = is_next(b"short", rest);
-    let rest = left_by(b'+', b"", short, rest);
-    let knight = is_next(b"knight", rest);
-    let rest = left_by(b'+', b"", knight, rest);
+    let mut rest = Rest::of(b'+', names);
+    let file = is_name(b"file", rest.front());
+    rest.pass(b"", file);
+    let rank = is_name(b"rank", rest.front());
+    rest.pass(b"", rank);
+    let long = is_name(b"long", rest.front());
+    rest.pass(b"", long);
+    let short = is_name(b"short", rest.front());
+    rest.pass(b"", short);
+    let knight = is_name(b"knight", rest.front());
+    rest.pass(b"", knight);
     if rest.is_none() {
         Some(Kinds {
             knight,
@@ -156,15 +150,15 @@ fn parts_in(d: Dialect, text: &[u8]) -> Option<Words>
     ensures { result ≡ spec.parts_in d text.now }
 {
     let dialect = dialect_rules(d);
-    let rest = Some(text);
-    let took = took_in(dialect.men, front(b',', rest));
-    let rest = left_by(b',', b" ", is_capture(&took), rest);
-    let checks = checks_in(dialect.checks, front(b',', rest));
-    let rest = left_by(b',', b" ", is_check(checks), rest);
-    let tries = tries_in(dialect.tries, front(b',', rest));
-    let rest = left_by(b',', b" ", are_tries(dialect.tries, tries), rest);
-    let end = end_in(front(b',', rest));
-    let rest = left_by(b',', b" ", has_ended(end), rest);
+    let mut rest = Rest::of(b',', Some(text));
+    let took = took_in(dialect.men, rest.front());
+    rest.pass(b" ", is_capture(&took));
+    let checks = checks_in(dialect.checks, rest.front());
+    rest.pass(b" ", is_check(checks));
+    let tries = tries_in(dialect.tries, rest.front());
+    rest.pass(b" ", are_tries(dialect.tries, tries));
+    let end = end_in(rest.front());
+    rest.pass(b" ", has_ended(end));
     if rest.is_none() {
         Some(Words {
             end,
