@@ -142,7 +142,7 @@ never : (b : Bool) → false ≡ (b && not b)
 never true = refl
 never false = refl
 
-pub lone_counted : (p : Pos) (king : ℕ) → king < 64 → IsAlone p king → length (filter (is_legal p) (moves_from king)) ≡ length (moves p)
+pub lone_counted : (p : Pos) (king : ℕ) → king < 64 → IsAlone p.board p.side king → length (filter (is_legal p) (moves_from king)) ≡ length (moves p)
 unfolding moves_of picked
 lone_counted p king inside alone =
     let men = 1 * 2 ^ king % 18446744073709551616 in

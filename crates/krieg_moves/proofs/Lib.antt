@@ -24,6 +24,7 @@ pub mod Steps
 pub mod Going
 pub mod PawnGoing
 pub mod Listing
+pub mod LoneKings
 pub mod Counting
 pub mod Officers
 pub mod Shifts

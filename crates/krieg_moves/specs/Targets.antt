@@ -2,12 +2,14 @@
 use Rattle.std.specs.Prelude.{ℕ, Bool, ◌≡◌, ◌<◌, ◌==◌, true, false, Option, Some, None, ◌&&◌, ◌||◌, not, slice_set}
 use Rattle.krieg_board.specs.Men.{other, is_same_side}
 use Rattle.krieg_board.specs.Pos.{Pos}
-use Rattle.krieg_board.specs.Board.{man_at, is_of, is_man}
+use Rattle.krieg_board.specs.Board.{Board, man_at, is_of, is_man}
 use Rattle.krieg_board.specs.Attacks.{attacks, man_attacks, is_attacked}
 use Rattle.krieg_board.specs.declared.men.Side.{Side}
+use Rattle.krieg_board.specs.declared.men.Side.TheVariants.{White}
 use Rattle.krieg_board.specs.declared.men.Kind.{Kind}
 use Rattle.krieg_board.specs.declared.men.Kind.TheVariants.{Pawn, Knight, Bishop, Rook, Queen, King}
 use Rattle.krieg_board.specs.declared.men.Man.{Man}
+use Rattle.krieg_rays.specs.Rays.{goes}
 use Rattle.krieg_rays.specs.Pinned.{is_pinned}
 use Rattle.krieg_moves.specs.After.{is_marked}
 use Rattle.krieg_moves.specs.Legal.{is_legal}
@@ -49,7 +51,11 @@ pub record IsFreePawn (p : Pos) (k : ℕ) : Type 0 where
   pub free : is_pinned p.board p.side k ≡ false
   pub unmarked : p.mark ≡ None
 
--- the king of the side to move stands there, and is its only man
-pub record IsAlone (p : Pos) (king : ℕ) : Type 0 where
-  pub stands : is_man p.side King (man_at p.board king) ≡ true
-  pub alone : (k : ℕ) → k < 64 → is_of p.side (man_at p.board k) ≡ (k == king)
+-- a king of that side on f steps to t, where no man of his side stands and which no enemy man attacks once he has left
+abbrev pub is_step_of_king : Board → Side → ℕ → ℕ → Bool
+is_step_of_king b side f t = (goes King White f t && not (is_of side (man_at b t))) && not (is_attacked (slice_set b f None) t (other side))
+
+-- the king of that side stands there, and is its only man
+pub record IsAlone (b : Board) (side : Side) (king : ℕ) : Type 0 where
+  pub stands : is_man side King (man_at b king) ≡ true
+  pub alone : (k : ℕ) → k < 64 → is_of side (man_at b k) ≡ (k == king)

@@ -22,7 +22,8 @@ fn kind_after(promo: Promo, kind: Kind) -> Kind
     }
 }
 
-fn placed(man: Man, mv: &Move) -> Man
+#[inline]
+pub(crate) fn placed(man: Man, mv: &Move) -> Man
     ensures { result ≡ spec.placed man mv.now }
 {
     Man {
@@ -31,6 +32,7 @@ fn placed(man: Man, mv: &Move) -> Man
     }
 }
 
+#[inline(always)]
 fn moved(bits: &Bits, man: Man, mv: &Move) -> Bits
     ensures { result ≡ spec.moved bits.now man mv.now }
 {
@@ -94,6 +96,7 @@ fn with_rook(wing: Wing, side: Side, bits: &Bits) -> Bits
 }
 
 /// The board after the move of this man.
+#[inline(always)]
 pub fn board_after(bits: &Bits, mark: &Option<Square>, man: Man, mv: &Move) -> Bits
     ensures { result ≡ spec.board_after bits.now mark.now man mv.now }
 {

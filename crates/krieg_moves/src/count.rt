@@ -1,7 +1,9 @@
 ghost use Rattle.std.specs.Prelude.{◌≡◌, ◌<◌, ◌≤◌, ◌&&◌, ◌==◌, ℕ, true, false, bit_and, filter, length, Some, IfSome};
 ghost use Rattle.krieg_board.specs.Board.{man_at, is_man};
 ghost use Rattle.krieg_board.specs.Boards.{is_kind};
+ghost use Rattle.krieg_board.specs.Pos.{Pos};
 ghost use Rattle.krieg_board.specs.Sets as sets;
+ghost use Rattle.krieg_board.specs.Validity.{IsValid, count_kind};
 ghost use Rattle.krieg_board.specs.declared.men.Kind.TheVariants.{King};
 ghost use Rattle.krieg_board.specs.Squares as squares;
 ghost use Rattle.krieg_rays.specs.Pinned.{is_pinned};
@@ -11,10 +13,10 @@ ghost use Rattle.krieg_moves.specs.Moves as list;
 ghost use Rattle.krieg_moves.specs.Targets.{IsAlone, IsFreePawn, is_free_officer, is_officer};
 
 use crate::guard::Guard;
-use crate::target::{own_pawns, targets, targets_of_free_officer, targets_of_king};
+use crate::target::{king_steps, own_pawns, targets, targets_of_free_officer, targets_of_king};
 use crate::ways::count_ways;
 use krieg_board::{
-    Kind, Man, Position, Side, Square, has, king_of, know_valid, lowest, only, without_lowest,
+    Bits, Kind, Man, Position, Side, Square, has, king_of, know_valid, lowest, only, without_lowest,
 };
 
 /// The squares of the rank on which a side's pawns are promoted.
@@ -123,6 +125,9 @@ fn count_of_officers(p: &Position, guard: &Guard, men: u64) -> usize
     requires men { (k : ℕ) → k < 64 → sets.has men k ≡ is_free_officer p.now k }
     ensures { result ≡ length (list.moves_of p.now men) }
 {
+    if men == 0 {
+        return 0;
+    }
     let side = p.side();
     let sets = p.bits().sets();
     let knight = Man {
@@ -192,7 +197,7 @@ pub const MOST_LEGAL_MOVES: usize = 20_480;
 
 /// The number of the legal moves of a side by its guard. Free pawns are counted together, and men who are not pinned kind
 /// by kind.
-fn count_by_guard(p: &Position, guard: &Guard) -> usize
+pub(crate) fn count_by_guard(p: &Position, guard: &Guard) -> usize
     requires { IsGuard p.now guard.now }
     ensures { result ≡ length (list.moves p.now) }
 {
@@ -206,18 +211,26 @@ fn count_by_guard(p: &Position, guard: &Guard) -> usize
         + count_one_by_one(p, guard, others)
 }
 
-/// The king of the side to move, where he is its only man.
-fn lone_king(p: &Position) -> Option<Square>
-    ensures { IfSome result (IsAlone p.now) }
+/// The king of that side, where he is its only man.
+#[inline(always)]
+pub(crate) fn lone_king(b: &Bits, side: Side) -> Option<Square>
+    requires { count_kind b.now side King ≡ 1 }
+    ensures { IfSome result (IsAlone b.now side) }
 {
-    know_valid(p);
-    let bits = p.bits();
-    let side = p.side();
-    let king = king_of(bits, side);
-    if bits.men_of(side) == only(king) {
+    let king = king_of(b, side);
+    if b.men_of(side) == only(king) {
         return Square::new(king);
     }
     None
+}
+
+/// The number of the legal moves of a side of which the king is the only man: he can't castle, so these are his steps.
+#[inline(always)]
+pub(crate) fn count_steps(b: &Bits, side: Side, king: Square) -> usize
+    requires { IsAlone b.now side king }
+    ensures { (p : Pos) → IsValid p → p.board ≡ b.now → p.side ≡ side → result ≡ length (list.moves p) }
+{
+    king_steps(b, side, king.number()).count_ones() as usize
 }
 
 /// The number of the legal moves of the side to move, without their list. It takes no memory. A king who is alone needs no
@@ -226,8 +239,9 @@ pub fn count_moves(p: &Position) -> usize
     ensures value { result ≡ length (list.moves p.now) }
     ensures few { result ≤ MOST_LEGAL_MOVES }
 {
-    match lone_king(p) {
-        Some(king) => count_of_king(p, king),
+    know_valid(p);
+    match lone_king(p.bits(), p.side()) {
+        Some(king) => count_steps(p.bits(), p.side(), king),
         None => count_by_guard(p, &Guard::of(p)),
     }
 }

@@ -89,15 +89,6 @@ pub fn is_stalemate(p: &Position) -> bool
     !in_check_by(p, guard) && !has_move_by(p, guard)
 }
 
-/// The same as `is_mate`, by a caller that has counted the legal moves.
-#[tactic(auto, using(crate::proofs::MoveLists::none_listed), unfolding(crate::specs::Moves::is_mate, crate::specs::Moves::is_ended))]
-pub fn is_mate_by(p: &Position, moves: usize) -> bool
-    requires { moves ≡ length (list.moves p.now) }
-    ensures { result ≡ list.is_mate p.now }
-{
-    moves == 0 && in_check(p)
-}
-
 /// The same as `is_stalemate`, by a caller that has counted the legal moves.
 #[tactic(auto, using(crate::proofs::MoveLists::none_listed), unfolding(crate::specs::Moves::is_stalemate, crate::specs::Moves::is_ended))]
 pub fn is_stalemate_by(p: &Position, moves: usize) -> bool

@@ -62,6 +62,7 @@ fn safe_one_by_one(b: &Bits, gone: u8, squares: u64, by: Side) -> u64
 
 /// Those of the squares that no man of that side would attack, did nobody stand on `gone`. It looks at each of
 /// the squares or at each of the men, whichever are fewer.
+#[inline(always)]
 pub(crate) fn safe_squares(b: &Bits, gone: u8, squares: u64, by: Side) -> u64
     requires { gone < 64 }
     ensures { (t : ℕ) → t < 64 → sets.has result t ≡ (sets.has squares t && not (attack.is_attacked (slice_set b.now gone None) t by)) }

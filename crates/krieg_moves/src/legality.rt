@@ -9,7 +9,8 @@ use krieg_board::{Bits, Man, Move, Position, king_of};
 use krieg_rays::is_attacked;
 
 /// Whether the king of the side to move is safe on the board after a candidate, the move of this man: then it is legal.
-fn is_king_safe(p: &Position, man: Man, mv: &Move, next: &Bits) -> bool
+#[inline]
+pub(crate) fn is_king_safe(p: &Position, man: Man, mv: &Move, next: &Bits) -> bool
     requires man { man_at p.now.board mv.now.from ≡ Some man }
     requires candidate { spec.is_candidate p.now mv.now ≡ true }
     requires next { next.now ≡ change.board_after p.now.board p.now.mark man mv.now }

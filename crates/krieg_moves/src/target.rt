@@ -60,17 +60,16 @@ fn castle(p: &Position, from: Square, man: Man, wing: Wing) -> u64
     only_if(here, to.number())
 }
 
-/// Where the king may step: to squares next to him that hold no man of his side and that no enemy man
-/// attacks once he has left.
-fn king_steps(p: &Position, from: Square, man: Man) -> u64
-    requires { man.kind ≡ King }
-    ensures { (t : ℕ) → t < 64 → sets.has result t ≡ targets.is_king_step p.now from man t }
+/// Where a king of that side on that square may step: to squares next to him that hold no man of his side and that no
+/// enemy man attacks once he has left.
+#[inline(always)]
+pub(crate) fn king_steps(b: &Bits, side: Side, from: u8) -> u64
+    requires { from < 64 }
+    ensures { (t : ℕ) → t < 64 → sets.has result t ≡ targets.is_step_of_king b.now side from t }
 {
-    let bits = p.bits();
-    let side = p.side();
     let by = side.other();
-    let squares = king_attacks(from.number()) & !bits.men_of(side);
-    safe_squares(bits, from.number(), squares, by)
+    let squares = king_attacks(from) & !b.men_of(side);
+    safe_squares(b, from, squares, by)
 }
 
 fn king_targets(p: &Position, from: Square, man: Man) -> u64
@@ -79,7 +78,7 @@ fn king_targets(p: &Position, from: Square, man: Man) -> u64
     requires king { man.kind ≡ King }
     ensures { (t : ℕ) → t < 64 → sets.has result t ≡ can_go p.now from t }
 {
-    let steps = king_steps(p, from, man);
+    let steps = king_steps(p.bits(), p.side(), from.number());
     if from.number() != king_square(p.side()) {
         return steps;
     }

@@ -10,3 +10,4 @@ pub mod Taking
 pub mod Sniping
 pub mod Kings
 pub mod ByKind
+pub mod Behind

@@ -1,4 +1,4 @@
-ghost use Rattle.std.specs.Prelude.{◌≡◌, ◌<◌, ◌&&◌, ◌==◌, ℕ, true, not, Some, None, slice_set};
+ghost use Rattle.std.specs.Prelude.{◌≡◌, ◌≢◌, ◌<◌, ◌&&◌, ◌==◌, ℕ, true, not, Some, None, length, slice_set};
 ghost use Rattle.krieg_board.specs.Attacks.{attacks, man_attacks};
 ghost use Rattle.krieg_board.specs.Attacks as spec;
 ghost use Rattle.krieg_board.specs.Board.{man_at, is_of};
@@ -133,6 +133,7 @@ fn attacked_by_each(man: Man, men: u64, occupied: u64) -> u64
 
 /// The squares that these men attack, all of one side, where those squares are occupied. Men of one kind are
 /// looked at together, so that no square is asked who stands there.
+#[inline(always)]
 fn attacked_among(b: &Bits, side: Side, men: u64, occupied: u64) -> u64
     requires { (f : ℕ) → f < 64 → has men f ≡ true → is_of side (man_at b.now f) ≡ true }
     ensures { (k : ℕ) → k < 64 → has result k ≡ some_square (λ f. has men f && reaches occupied (man_at b.now f) f k) }
@@ -191,6 +192,7 @@ pub fn attacked_by(b: &Bits, by: Side) -> u64
 }
 
 /// The squares that men of that side would attack, did nobody stand on the square `gone`.
+#[inline(always)]
 pub fn attacked_by_without(b: &Bits, gone: u8, by: Side) -> u64
     requires { gone < 64 }
     ensures { (k : ℕ) → k < 64 → has result k ≡ spec.is_attacked (slice_set b.now gone None) k by }
@@ -198,4 +200,21 @@ pub fn attacked_by_without(b: &Bits, gone: u8, by: Side) -> u64
     let men = left_out(b.men_of(by), gone);
     let occupied = left_out(b.occupied(), gone);
     attacked_among(b, by, men, occupied)
+}
+
+/// The squares that the men of a side would attack behind the move of this man of theirs to the square `to`, did nobody
+/// stand on the square `gone`. No board is made: those who stay are looked at where they stand.
+#[inline(always)]
+pub fn attacked_behind(b: &Bits, gone: u8, from: u8, to: u8, man: Man) -> u64
+    requires size { length b.now ≡ 64 }
+    requires gone { gone < 64 }
+    requires from { from < 64 }
+    requires to { to < 64 }
+    requires apart { to ≢ gone }
+    ensures { (k : ℕ) → k < 64 → has result k ≡ spec.is_attacked (slice_set (slice_set (slice_set b.now from None) to (Some man)) gone None) k man.side }
+{
+    let others = left_out(left_out(b.men_of(man.side), from), gone);
+    let squares = left_out(left_out(b.occupied(), from), gone);
+    let occupied = squares | only(to);
+    attacked_among(b, man.side, left_out(others, to), occupied) | attacked_over(man, to, occupied)
 }

@@ -22,8 +22,8 @@ mod pin;
 mod segment;
 
 pub use attack::{
-    attacked_by, attacked_by_without, attacked_from, attackers, attackers_at, attackers_without,
-    is_attacked, is_attacked_without,
+    attacked_behind, attacked_by, attacked_by_without, attacked_from, attackers, attackers_at,
+    attackers_without, is_attacked, is_attacked_without,
 };
 pub use krieg_board::Bits;
 pub use leaps::{king_attacks, knight_attacks, pawn_attacks, pawn_steps};

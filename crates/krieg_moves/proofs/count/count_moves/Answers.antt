@@ -1,16 +1,19 @@
-use Rattle.std.proofs.Common.{rules, ◌≡◌, ◌∙◌, length, arith}
+use Rattle.std.proofs.Common.{◌≡◌, length, sym, arith}
 use Rattle.krieg_moves.specs.Moves.{moves}
-use Rattle.krieg_moves.proofs.Counting.{few_moves, lone_counted}
+use Rattle.krieg_moves.proofs.Counting.{few_moves}
+use Rattle.krieg_moves.proofs.Kings.{one_king, one_king_found}
 use Rattle.krieg_moves.proofs.count.count_moves.Goals as goal
 
-alone : (c : goal.After-count_of_king) → c.count_of_king.result ≡ length (moves c.args.p.now)
-alone c = c.count_of_king.ensures ∙ lone_counted c.args.p.now c.in-Some.king (search rules) c.in-Some.ensures
+pub lone_king-requires : goal.lone_king-requires
+lone_king-requires c =
+    one_king_found c.args.p.now.board c.bits.result.now c.args.p.now.side c.side.result c.bits.ensures.value c.side.ensures.value
+    (one_king c.args.p.now c.know_valid.ensures c.args.p.now.side)
 
-pub returns-in-Some-clause-value : goal.returns-in-Some-clause-value
-returns-in-Some-clause-value c = alone c
+counted : (c : goal.After-count_steps) → c.count_steps.result ≡ length (moves c.args.p.now)
+counted c = c.count_steps.ensures c.args.p.now c.know_valid.ensures (sym c.bits-in-Some.ensures.value) (sym c.side-in-Some.ensures.value)
 
 pub returns-in-Some-clause-few : goal.returns-in-Some-clause-few
-returns-in-Some-clause-few c = omega (arith, alone c, few_moves c.args.p.now)
+returns-in-Some-clause-few c = omega (arith, counted c, few_moves c.args.p.now)
 
 pub returns-in-None-clause-few : goal.returns-in-None-clause-few
 returns-in-None-clause-few c = omega (arith, c.count_by_guard.ensures, few_moves c.args.p.now)

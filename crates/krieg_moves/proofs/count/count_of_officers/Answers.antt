@@ -1,10 +1,18 @@
-use Rattle.std.proofs.Common.{◌∙◌, arith, subst, bit_and}
+use Rattle.std.proofs.Common.{◌∙◌, sym, arith, subst, bit_and}
 use Rattle.krieg_board.specs.Board.{Board, man_at}
 use Rattle.krieg_board.specs.Boards.{is_kind, Show}
 use Rattle.krieg_board.specs.declared.men.Kind.TheVariants.{Knight, Bishop, Rook, Queen}
-use Rattle.krieg_moves.proofs.Counting.{few_moves_of}
+use Rattle.std.specs.List.{filter}
+use Rattle.krieg_board.proofs.Picked.{picked}
+use Rattle.krieg_moves.specs.Legal.{is_legal}
+use Rattle.krieg_moves.specs.Moves.{moves_from, moves_of}
+use Rattle.krieg_moves.proofs.Counting.{counted_ended, few_moves_of}
 use Rattle.krieg_moves.proofs.Officers.{counted_by_kind}
 use Rattle.krieg_moves.proofs.count.count_of_officers.Goals as goal
+
+pub returns-then-men-eq0 : goal.returns-then-men-eq0
+unfolding moves_of picked
+returns-then-men-eq0 c = sym (counted_ended (λ k. filter (is_legal c.args.p.now) (moves_from k)) c.args.men c.if-men-eq0.true)
 
 pub count_of_kind-requires-clause-kind : goal.count_of_kind-requires-clause-kind
 count_of_kind-requires-clause-kind c = λ k h. c.sets-sets.ensures.knights k h ∙ (λ i. is_kind Knight (man_at (c.bits.ensures.value i) k))
