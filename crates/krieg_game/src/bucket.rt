@@ -16,12 +16,12 @@ pub(crate) struct Bucket {
 }
 
 impl Bucket {
-    /// A bucket of one position.
-    pub fn of(alloc: Global, heard: Heard, first: Packed) -> Result<Bucket, NoMemory>
+    /// A bucket of one position, with room for so many.
+    pub fn of(alloc: Global, heard: Heard, first: Packed, room: usize) -> Result<Bucket, NoMemory>
         ensures heard { IfOk result (λ b. b.heard ≡ heard) }
         ensures positions { IfOk result (λ b. b.positions.items ≡ first ∷ []) }
     {
-        let mut positions = Vec::new(alloc);
+        let mut positions = Vec::with_capacity(alloc, room)?;
         positions.push(first)?;
         Ok(Bucket { heard, positions })
     }

@@ -32,6 +32,8 @@ pub struct Pool {
     kept: usize,
     /// With more than four times as many, repeats are dropped.
     room: usize,
+    /// How many positions the first bucket gets room for at once.
+    first_room: usize,
 }
 
 impl Model for Pool {
@@ -58,13 +60,14 @@ fn place_of(buckets: &[Bucket], last: usize, heard: &Heard) -> Result<usize, usi
     buckets.binary_search_by(|bucket| bucket.heard.compare(heard))
 }
 
-/// Adds a position to the bucket at the place, or begins one there. With an error nothing is added.
+/// Adds a position to the bucket at the place, or begins one there with so much room. With an error nothing is added.
 fn put_at(
     alloc: Global,
     buckets: &mut Vec<Bucket>,
     place: Result<usize, usize>,
     heard: Heard,
     position: Packed,
+    room: usize,
 ) -> Result<(), NoMemory>
     requires are { AreBuckets buckets.old.items }
     requires place { IsPlace buckets.old.items heard place }
@@ -73,7 +76,7 @@ fn put_at(
 {
     match place {
         Ok(at) => buckets[at].push(position)?,
-        Err(at) => buckets.insert(at, Bucket::of(alloc, heard, position)?)?,
+        Err(at) => buckets.insert(at, Bucket::of(alloc, heard, position, room)?)?,
     }
     Ok(())
 }
@@ -117,11 +120,20 @@ impl Pool {
     pub fn new(alloc: Global) -> Pool
         ensures { result ≡ [] }
     {
+        Pool::with_room(alloc, 0)
+    }
+
+    /// No outcomes. The first bucket that is begun gets room for so many positions at once, which is best where mostly the
+    /// same is heard: a bucket that outgrows its room leaves a gap in the memory.
+    pub fn with_room(alloc: Global, first_room: usize) -> Pool
+        ensures { result ≡ [] }
+    {
         Pool {
             buckets: Vec::new(alloc),
             last: 0,
             kept: 0,
             room: FIRST_ROOM,
+            first_room,
         }
     }
 
@@ -134,7 +146,8 @@ impl Pool {
             Ok(at) | Err(at) => at,
         };
         self.kept = self.kept.saturating_add(1);
-        put_at(alloc, &mut self.buckets, place, heard, position)
+        let room = std::mem::take(&mut self.first_room);
+        put_at(alloc, &mut self.buckets, place, heard, position, room)
     }
 
     /// Drops repeats where they may be many.

@@ -1,15 +1,18 @@
-ghost use Rattle.std.specs.Prelude.{◌≡◌, true, suc, length};
+ghost use Rattle.std.specs.Prelude.{◌≡◌, ◌≤◌, true, suc, length};
 ghost use Rattle.krieg_moves.specs.After as change;
 ghost use Rattle.krieg_moves.specs.Legal as rule;
+ghost use Rattle.krieg_moves.specs.Moves as list;
+ghost use Rattle.krieg_moves.specs.declared.count.TheConstants.{MOST_LEGAL_MOVES};
 ghost use Rattle.krieg_words.specs.declared.dialects.Dialect.{Dialect};
 ghost use Rattle.krieg_costs.specs.Cost.{made};
 ghost use Rattle.krieg_game.specs.Chess.{chess};
 ghost use Rattle.krieg_parting.specs.Charged.{Charged};
-ghost use Rattle.krieg_parting.specs.Mating.{IsTried, AreTried, IsMating, replies, looked_at};
+ghost use Rattle.krieg_parting.specs.Mating as spec;
+ghost use Rattle.krieg_parting.specs.Mating.{IsTried, AreTried, IsMating, looked_at};
 
 use crate::stop::{PartStop, take};
 use krieg_board::{Move, Position, Units};
-use krieg_moves::{after_if_legal, count_moves, is_mate_by};
+use krieg_moves::{mates_by, replies_if_legal};
 use krieg_pack::{Packed, unpack};
 use std::alloc::Global;
 
@@ -22,21 +25,21 @@ pub struct Mating {
     pub refused: Vec<Packed>,
 }
 
-/// Tries the legal move in one member, where it leads to `q`.
+/// Tries the legal move in one member, with so many replies.
 fn try_legal(
     p: &Position,
     mv: &Move,
-    q: &Position,
+    replies: usize,
     found: &mut Mating,
     units: &mut Units,
 ) -> Result<(), PartStop>
     requires legal { rule.is_legal p.now mv.now ≡ true }
-    requires after { q.now ≡ change.after p.now mv.now }
-    ensures { Charged result (λ _. IsTried true found.old found.new p.now mv.now) (suc (replies mv.now p.now)) units.old units.new }
+    requires replies { replies ≡ length (list.moves (change.after p.now mv.now)) }
+    requires few { replies ≤ MOST_LEGAL_MOVES }
+    ensures { Charged result (λ _. IsTried true found.old found.new p.now mv.now) (suc (spec.replies mv.now p.now)) units.old units.new }
 {
-    let replies = count_moves(q);
     take(units, 1 + replies as u64)?;
-    found.lives = found.lives || !is_mate_by(q, replies);
+    found.lives = found.lives || !mates_by(p, *mv, replies);
     Ok(())
 }
 
@@ -48,11 +51,11 @@ fn try_in(
     found: &mut Mating,
     units: &mut Units,
 ) -> Result<(), PartStop>
-    ensures { Charged result (λ _. IsTried always found.old found.new member.now mv.now) (suc (replies mv.now member.now)) units.old units.new }
+    ensures { Charged result (λ _. IsTried always found.old found.new member.now mv.now) (suc (spec.replies mv.now member.now)) units.old units.new }
 {
     let p = unpack(member);
-    if let Some(q) = after_if_legal(&p, *mv) {
-        return try_legal(&p, mv, &q, found, units);
+    if let Some(replies) = replies_if_legal(&p, *mv) {
+        return try_legal(&p, mv, replies, found, units);
     }
     take(units, 1)?;
     if always || !found.lives {

@@ -13,7 +13,7 @@ use std::alloc::Global;
 pub fn with_openings(alloc: Global, d: Dialect, members: &[Packed]) -> Result<Pool, NoMemory>
     ensures { IfOk result (λ pool. Holds pool (map (opened d silent) members.now)) }
 {
-    let mut pool = Pool::new(alloc);
+    let mut pool = Pool::with_room(alloc, members.len());
     for member in members {
         pool.add_opening(alloc, d, &unpack(member))?;
     }

@@ -70,7 +70,7 @@ fn can_win_in(
         Some(Known::Loses) => return Ok(false),
         None => {}
     }
-    let tries = tries_for(alloc, table.belief(set), moves)?;
+    let tries = tries_for(alloc, table.belief(set), moves, units.left())?;
     for tried in &tries {
         if begins(alloc, d, cut, sight, table, set, tried, moves, units)? {
             table.note(set, moves, Known::Wins(move_of_try(tried)));

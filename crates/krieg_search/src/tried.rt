@@ -6,7 +6,7 @@ ghost use Rattle.krieg_search.specs.Tried.{IsTold, move_of};
 
 use krieg_board::{Move, NoMemory};
 use krieg_pack::Belief;
-use krieg_split::{MOST_TALLIED, Tally, tally_tries, tries};
+use krieg_split::{MOST_TALLIED, Tally, tally_large, tally_tries, tries};
 use std::alloc::Global;
 
 /// A try of a set, and what it does there where one move is left, if that was counted.
@@ -45,15 +45,26 @@ fn counted_tries(alloc: Global, tallies: &[Tally]) -> Result<Vec<Try>, NoMemory>
     )
 }
 
-/// The tries that make sense in a set, in their order. Where one move is left all are counted at once, unless the set is
-/// too large for that.
+/// The tries that make sense in a set, in their order, for a search with so many units left. Where one move is left all are
+/// counted at once; in a large set only if the search seems to come to all of them.
 #[inline(never)]
-pub(crate) fn tries_for(alloc: Global, b: &Belief, moves: u8) -> Result<Vec<Try>, NoMemory>
+pub(crate) fn tries_for(
+    alloc: Global,
+    b: &Belief,
+    moves: u8,
+    left: u64,
+) -> Result<Vec<Try>, NoMemory>
     ensures moves { IfOk result (λ ts. (d : Dialect) → map move_of ts.items ≡ theory.tries (chess d) b.now) }
     ensures told { IfOk result (λ ts. All (IsTold b.now moves) ts.items) }
 {
     if moves == 1 && b.len() <= MOST_TALLIED {
         return counted_tries(alloc, &tally_tries(alloc, b)?);
     }
-    plain_tries(alloc, &tries(alloc, b)?)
+    let found = tries(alloc, b)?;
+    if moves == 1 {
+        if let Some(tallies) = tally_large(alloc, b, &found, left)? {
+            return counted_tries(alloc, &tallies);
+        }
+    }
+    plain_tries(alloc, &found)
 }

@@ -1,11 +1,11 @@
 -- Tallies, member by member.
-use Rattle.std.proofs.Common.{◌≡◌, ℕ, zero, suc, ◌+◌, ◌-◌, ◌*◌, ◌^◌, ◌<◌, ◌≤◌, Bool, true, false, cond, not, ◌&&◌, ◌||◌, List, [], ◌∷◌, ◌++◌, length, map, filter, take, drop, get_or, Some, refl, sym, ap, subst, ◌∙◌, arith, add-zero}
+use Rattle.std.proofs.Common.{◌≡◌, ℕ, ◌+◌, ◌-◌, ◌*◌, ◌^◌, ◌<◌, ◌≤◌, Bool, true, false, cond, not, ◌&&◌, ◌||◌, List, [], ◌∷◌, ◌++◌, length, map, filter, take, drop, get_or, Some, refl, sym, ap, subst, ◌∙◌, arith, add-zero}
 use Rattle.std.proofs.Math.Bool.{or-false}
 use Rattle.std.proofs.Math.ListN.{set}
 use Rattle.std.proofs.lemmas.Bool.{both_ways, false_from_ne_true}
 use Rattle.std.proofs.lemmas.Simd.{map-map}
 use Rattle.std.proofs.lemmas.List.Folds.{list_any-append}
-use Rattle.std.proofs.lemmas.List.{take_more, drop_more, get_or-map, get_or-append_right, length-map, length-take, length-take-le}
+use Rattle.std.proofs.lemmas.List.{take_more, drop_more, get_or-map, get_or-append_right, length-map, length-take-le, length-append}
 use Rattle.std.proofs.lemmas.List.Edits.{map_over_more}
 use Rattle.std.proofs.lemmas.List.Elements.{All-map}
 use Rattle.std.proofs.lemmas.Option.{slice_get_within, get_or_from_slice_get}
@@ -18,6 +18,7 @@ use Rattle.krieg_moves.specs.Legal.{is_legal}
 use Rattle.krieg_moves.specs.Moves.{moves, all_moves, is_mate}
 use Rattle.krieg_moves.proofs.Counting.{few_moves}
 use Rattle.krieg_words.specs.declared.dialects.Dialect.{Dialect}
+use Rattle.krieg_words.specs.declared.dialects.Dialect.TheVariants.{Wild16}
 use Rattle.krieg_pack.proofs.Membership.{in_at}
 use Rattle.krieg_theory.specs.Sets.{In}
 use Rattle.krieg_theory.specs.Split as theory
@@ -26,9 +27,10 @@ use Rattle.krieg_costs.specs.Sums.{total}
 use Rattle.krieg_costs.proofs.Totals.{total_append}
 use Rattle.krieg_game.specs.Chess.{chess}
 use Rattle.krieg_parting.specs.Mating.{lives, replies}
-use Rattle.krieg_split.specs.Tallies.{tally_of, tally_with}
+use Rattle.krieg_split.proofs.TryLists.{at_head}
+use Rattle.krieg_split.specs.Tallies.{tally_of, tally_with, AreTallies}
 use Rattle.krieg_split.specs.declared.listed.Listed.{Listed}
-use Rattle.krieg_split.specs.declared.tallies.TheConstants.{MOST_TALLIED}
+use Rattle.krieg_split.specs.declared.large.TheConstants.{MOST_COUNTED}
 use Rattle.krieg_split.specs.declared.tallies.Tally.{Tally}
 
 -- a move that stands in the list of the legal ones
@@ -36,13 +38,6 @@ pub listed_is_legal : (p : Pos) (ms : List Move) (k : ℕ) (t : Move) → ms ≡
 unfolding moves
 listed_is_legal p ms k t are at =
     (filter_in (is_legal p) all_moves t (subst (In t) are (in_at ms k t t (slice_get_within ms k t at) (get_or_from_slice_get ms k t t at)))).1
-
--- what a list has first behind a place
-at_head : (ms zs : List Move) (k : ℕ) (t : Move) → drop k ms ≡ t ∷ zs → slice_get ms k ≡ Some t
-at_head [] zs zero t e = absurd cc
-at_head [] zs (suc k) t e = absurd cc
-at_head (m ∷ ms) zs zero t e = let h : m ≡ t = cc in ap Some h
-at_head (m ∷ ms) zs (suc k) t e = at_head ms zs k t e
 
 -- a member in which the try is illegal adds nothing
 pub with_illegal : (p : Pos) (y : Tally) → is_legal p y.mv ≡ false → tally_with p y ≡ y
@@ -74,11 +69,16 @@ with_one_more B p t =
     let b : (list_any (lives t) B || lives t p) ≡ list_any (lives t) (B ++ p ∷ []) = sym (list_any-append (lives t) B (p ∷ []) ∙ ap (λ (b : Bool). list_any (lives t) B || b) (or-false (lives t p))) in
     ap (λ (n : ℕ). tally n (list_any (lives t) B || lives t p)) n ∙ ap (λ (b : Bool). tally (total (replies t) (B ++ p ∷ [])) b) b
 
+pub tallied_one : (B : List Pos) (p : Pos) (ts : List Move) (old new : List Tally) → old ≡ map (tally_of B) ts → new ≡ map (tally_with p) old → new ≡ map (tally_of (B ++ p ∷ [])) ts
+tallied_one B p ts old new was is =
+    is ∙ ap (map (tally_with p)) was ∙ map-map (tally_with p) (tally_of B) ts
+    ∙ ap (λ (f : Move → Tally). map f ts) (λ k t. with_one_more B p t k)
+
+one_more_member : (B : List Pos) (i : ℕ) (p : Pos) → i < length B → p ≡ get_or B i p → take i B ++ p ∷ [] ≡ take (i + 1) B
+one_more_member B i p within at = sym (take_more B i p within ∙ ap (λ q. take i B ++ q ∷ []) (sym at))
+
 pub tallied_more : (B : List Pos) (i : ℕ) (p : Pos) (ts : List Move) (old new : List Tally) → i < length B → p ≡ get_or B i p → old ≡ map (tally_of (take i B)) ts → new ≡ map (tally_with p) old → new ≡ map (tally_of (take (i + 1) B)) ts
-tallied_more B i p ts old new within at was is =
-    is ∙ ap (map (tally_with p)) was ∙ map-map (tally_with p) (tally_of (take i B)) ts
-    ∙ ap (λ (f : Move → Tally). map f ts) (λ k t. with_one_more (take i B) p t k)
-    ∙ ap (λ (C : List Pos). map (tally_of C) ts) (sym (take_more B i p within ∙ ap (λ q. take i B ++ q ∷ []) (sym at)))
+tallied_more B i p ts old new within at was is = tallied_one (take i B) p ts old new was is ∙ ap (λ (C : List Pos). map (tally_of C) ts) (one_more_member B i p within at)
 
 pub tallied_moves : (B : List Pos) (ts : List Move) → map (λ y. y.mv) (map (tally_of B) ts) ≡ ts
 tallied_moves B [] = refl
@@ -111,10 +111,38 @@ few_in_all : (t : Move) (B : List Pos) → total (replies t) B ≤ length B * 20
 few_in_all t [] = omega arith
 few_in_all t (p ∷ B) = let a = few_replies t p in let b = few_in_all t B in omega arith
 
-pub room_for_more : (B : List Pos) (i : ℕ) (ts : List Move) (ys : List Tally) → length B ≤ MOST_TALLIED → ys ≡ map (tally_of (take i B)) ts → All (λ y. y.replies < 2 ^ 63) ys
-room_for_more B i ts ys few are =
+pub room_for_more : (B : List Pos) (ts : List Move) (ys : List Tally) → length B ≤ MOST_COUNTED → ys ≡ map (tally_of B) ts → All (λ y. y.replies < 2 ^ 63) ys
+room_for_more B ts ys few are =
     let P : Tally → Type 0 = λ y. y.replies < 2 ^ 63 in
-    subst (All P) (sym are) (All-map P (tally_of (take i B)) ts (λ k t within. (let a = few_in_all (get_or ts k t) (take i B) in let b = length-take i B in omega arith)))
+    subst (All P) (sym are) (All-map P (tally_of B) ts (λ k t within. (let a = few_in_all (get_or ts k t) B in omega arith)))
+
+-- the tallies are those of some members before a place, and of all of these where none is left out
+pub record AreOfSome (B : List Pos) (step place : ℕ) (ys : List Tally) : Type 0 where
+  pub members : List Pos
+  pub few : length members ≤ place
+  pub are : AreTallies B members ys
+  pub all : step ≡ 1 → members ≡ take place B
+
+module _ {B : List Pos} {step place : ℕ} {ys : List Tally} (p q : Pos) (same : p ≡ q) (within : place < length B) (there : q ≡ get_or B place q) (a : AreOfSome B step place ys) where
+  at : p ≡ get_or B place p
+  at = subst (λ (r : Pos). r ≡ get_or B place r) (sym same) there
+
+  pub some_room : length B ≤ MOST_COUNTED → All (λ y. y.replies < 2 ^ 63) ys
+  some_room few = room_for_more a.members (theory.tries (chess Wild16) B) ys (omega (arith, a.few)) (a.are Wild16)
+
+  pub some_tries : filter (is_legal p) (map (λ y. y.mv) ys) ≡ moves p
+  some_tries =
+      ap (λ (zs : List Tally). filter (is_legal p) (map (λ y. y.mv) zs)) (a.are Wild16)
+      ∙ ap (filter (is_legal p)) (tallied_moves a.members (theory.tries (chess Wild16) B))
+      ∙ moves_of_tries Wild16 B place p within at
+
+  pub some_more : (new : List Tally) → 0 < step → new ≡ map (tally_with p) ys → AreOfSome B step (place + step) new
+  some_more new some is = record {
+    members = a.members ++ p ∷ [];
+    few = (let n = length-append a.members (p ∷ []) in omega (arith, a.few));
+    are = λ d. tallied_one a.members p (theory.tries (chess d) B) ys new (a.are d) is;
+    all = λ one. ap (λ C. C ++ p ∷ []) (a.all one) ∙ one_more_member B place p within at ∙ ap (λ n. take (place + n) B) (sym one);
+  }
 
 -- the walk through the tallies has come to place i, and that through the legal moves to the first that is not counted
 pub record IsWalk (p : Pos) (ms : List Move) (xs ys : List Tally) (i next : ℕ) : Type 0 where

@@ -1,68 +1,155 @@
 -- The tries of a set from the moves of its members.
-use Rattle.std.proofs.Common.{◌≡◌, ℕ, ◌+◌, ◌<◌, ◌≤◌, Bool, Some, List, [], ◌∷◌, ◌++◌, ◌⊎◌, inl, inr, length, take, get_or, flat_map, sym, ap, subst, ◌∙◌, arith}
-use Rattle.std.proofs.lemmas.List.{append-nil, take_more}
-use Rattle.std.proofs.lemmas.Option.{slice_get_within, get_or_from_slice_get}
+use Rattle.std.proofs.Common.{◌≡◌, ℕ, zero, suc, ◌+◌, ◌<◌, ◌≤◌, Bool, true, false, Some, List, [], ◌∷◌, ◌++◌, ◌⊎◌, inl, inr, length, take, drop, get_or, flat_map, refl, sym, ap, subst, ◌∙◌, append_assoc, arith}
+use Rattle.std.proofs.lemmas.Bool.{cond-true, cond-false}
+use Rattle.std.proofs.lemmas.List.{append-nil, take_more, drop_more, take_all, take-append-drop, take-append-le, length-take-le}
+use Rattle.std.proofs.lemmas.List.Edits.{length-insert, get_or-insert_at}
+use Rattle.std.proofs.lemmas.Option.{slice_get_within, slice_get-get_or, get_or_from_slice_get}
 use Rattle.std.proofs.lemmas.Grind.{flat_map-append}
-use Rattle.std.specs.List.{slice_get, list_any, dedup}
-use Rattle.std.specs.List.Sorted.{IsSorted, IsPermutation}
-use Rattle.std.specs.declared.cmp.Ordering.{Ordering}
+use Rattle.std.specs.List.{slice_get, list_any, insert}
+use Rattle.std.specs.Ordering.{is_lt, is_some_and, partial_lt}
 use Rattle.std.proofs.lemmas.List.Kept.{IsStrictlySortedBy-filter}
 use Rattle.krieg_board.specs.Order.{move_lt, move_cmp}
 use Rattle.krieg_board.specs.Pos.{Pos}
-use Rattle.krieg_board.specs.contracts.men.MoveOrd.TheImpl as derived
-use Rattle.krieg_board.specs.contracts.men.MovePartialEq.TheImpl as derived_eq
+use Rattle.krieg_board.specs.contracts.men.MovePartialOrd.TheImpl.{partial_cmp-value as derived_partial}
+use Rattle.krieg_board.specs.contracts.men.MoveOrd.TheImpl.Laws as laws
 use Rattle.krieg_board.specs.declared.men.Move.{Move}
-use Rattle.krieg_board.proofs.MoveOrder.{move_cmp_derived, move_eq_derived, move_total, move_equal}
+use Rattle.krieg_board.proofs.MoveOrder.{move_cmp_derived, move_total, move_equal}
 use Rattle.krieg_moves.specs.Legal.{is_legal}
 use Rattle.krieg_moves.specs.Moves.{moves, all_moves}
-use Rattle.krieg_moves.proofs.Ascending.{all_moves_ascend}
+use Rattle.krieg_moves.proofs.Ascending.{all_moves_ascend, moves_ascend as ascend}
 use Rattle.krieg_words.specs.declared.dialects.Dialect.{Dialect}
-use Rattle.krieg_pack.proofs.Membership.{in_at}
 use Rattle.krieg_pack.proofs.Counts.{as_set_early}
-use Rattle.krieg_pack.proofs.Sorting.{ascending_from, sorted_set}
-use Rattle.krieg_theory.specs.Sets.{In, Ascending, as_set}
+use Rattle.krieg_pack.proofs.Sorting.{ascending_from}
+use Rattle.krieg_theory.specs.Sets.{In, Ascending, as_set, insert_once}
 use Rattle.krieg_theory.specs.Split as theory
-use Rattle.krieg_theory.proofs.Ascending.{same_set, as_set_ascending, in_as_set, as_set_in}
-use Rattle.krieg_theory.proofs.Lists.{in_append_left, append_in, in_filter, filter_in, in_flat, flat_in, any_from, any_at}
+use Rattle.krieg_theory.proofs.Ascending.{same_set, as_set_ascending, in_as_set, as_set_in, asym, in_insert_here, in_insert, insert_in, insert_ascending}
+use Rattle.krieg_theory.proofs.Lists.{in_append_left, in_append_right, append_in, in_filter, filter_in, in_flat, flat_in, any_from, any_at}
 use Rattle.krieg_game.specs.Chess.{chess}
 use Rattle.krieg_game.proofs.MoveOrder.{move_order}
-use Rattle.krieg_split.specs.MoveSets.{AllIn, move_set}
+use Rattle.krieg_split.specs.MoveSets.{AllBefore, IsPut, move_set}
 
--- what sort_unstable and then dedup leave of moves
-pub sorted_moves : (ms s : List Move) → IsPermutation ms s → IsSorted (derived.ghosts).cmp s → dedup (derived_eq.ghosts).eq s ≡ move_set ms
-unfolding move_set
-sorted_moves ms s moved sorted =
-    ap (λ (E : Move → Move → Bool). dedup E s) (λ i a b. move_eq_derived a b i)
-    ∙ sorted_set move_cmp move_total move_equal ms s moved (subst (λ (R : Move → Move → Ordering). IsSorted R s) (λ i a b. move_cmp_derived a b i) sorted)
+-- the derived order is that of moves
+pub derived_lt : (a b : Move) → partial_lt derived_partial.it a b ≡ move_lt a b
+derived_lt a b = ap (is_some_and is_lt) (laws.matches_partial_cmp-law a b ∙ ap Some (move_cmp_derived a b))
 
--- one more is known: the next of the moves, which stands among the known ones
-pub known_more : (ms known : List Move) (next place : ℕ) (m : Move) → slice_get ms next ≡ Some m → place < length known → m ≡ get_or known place m → AllIn (take next ms) known → (next + 1 ≤ length ms) × AllIn (take (next + 1) ms) known
-known_more ms known next place m here inside there all = (omega (arith, within), λ n j. by_part n (append_in (take next ms) (m ∷ []) n (subst (In n) (take_more ms next m within ∙ ap (λ x. take next ms ++ x ∷ []) (get_or_from_slice_get ms next m m here)) j)))
+-- what a list has first behind a place
+pub at_head : (ms zs : List Move) (k : ℕ) (t : Move) → drop k ms ≡ t ∷ zs → slice_get ms k ≡ Some t
+at_head [] zs zero t e = absurd cc
+at_head [] zs (suc k) t e = absurd cc
+at_head (m ∷ ms) zs zero t e = let h : m ≡ t = cc in ap Some h
+at_head (m ∷ ms) zs (suc k) t e = at_head ms zs k t e
+
+-- one more stands before a move
+pub before_more : (found : List Move) (place : ℕ) (x m : Move) → place < length found → x ≡ get_or found place x → AllBefore (take place found) m → move_lt x m ≡ true → AllBefore (take (place + 1) found) m
+before_more found place x m within at before less y i = by_part (append_in (take place found) (x ∷ []) y (subst (In y) (take_more found place x within ∙ ap (λ z. take place found ++ z ∷ []) (sym at)) i))
   where
-    within : next < length ms
-    within = slice_get_within ms next m here
+    by_part : In y (take place found) ⊎ In y (x ∷ []) → move_lt y m ≡ true
+    by_part (inl j) = before y j
+    by_part (inr (inl e)) = subst (λ z. move_lt z m ≡ true) e less
+    by_part (inr (inr e)) = absurd e
 
-    by_part : (n : Move) → In n (take next ms) ⊎ In n (m ∷ []) → In n known
-    by_part n (inl e) = all n e
-    by_part n (inr (inl e)) = subst (λ x. In x known) e (in_at known place m m inside (sym there))
-    by_part n (inr (inr e)) = absurd e
+-- a move belongs behind all that stand before it
+behind : (xs ys : List Move) (m : Move) → AllBefore xs m → insert_once move_lt m (xs ++ ys) ≡ xs ++ insert_once move_lt m ys
+behind [] ys m before = refl
+behind (x ∷ xs) ys m before =
+    let less = before x (inl refl) in
+    cond-false (move_lt m x) _ _ (asym move_lt move_order x m less) ∙ cond-true (move_lt x m) _ _ less ∙ ap (λ r. x ∷ r) (behind xs ys m (λ y i. before y (inr i)))
 
--- a set with moves that it has
-pub known_moves : (found ms : List Move) → move_set found ≡ found → AllIn ms found → found ≡ move_set (found ++ ms)
+-- all that are lower stand before a place
+module _ (found : List Move) (place : ℕ) (m : Move) (set : move_set found ≡ found) (before : AllBefore (take place found) m) where
+  with_one_more : (rest : List Move) → insert_once move_lt m (drop place found) ≡ rest → take place found ++ rest ≡ move_set (found ++ m ∷ [])
+  unfolding move_set
+  with_one_more rest is =
+      ap (λ r. take place found ++ r) (sym is) ∙ sym (behind (take place found) (drop place found) m before) ∙ ap (insert_once move_lt m) (take-append-drop place found)
+      ∙ same_set move_lt move_order (insert_once move_lt m found) (as_set move_lt (found ++ m ∷ [])) (insert_ascending move_lt move_order m found (subst (Ascending move_lt) set (as_set_ascending move_lt move_order found))) (as_set_ascending move_lt move_order (found ++ m ∷ []))
+      (λ x i. in_as_set move_lt move_order x (found ++ m ∷ []) (to_end x (insert_in move_lt move_order m x found i)))
+      (λ x i. from_end x (append_in found (m ∷ []) x (as_set_in move_lt move_order x (found ++ m ∷ []) i)))
+    where
+      to_end : (x : Move) → (m ≡ x) ⊎ In x found → In x (found ++ m ∷ [])
+      to_end x (inl e) = in_append_right found (m ∷ []) x (inl e)
+      to_end x (inr i) = in_append_left found (m ∷ []) x i
+
+      from_end : (x : Move) → In x found ⊎ In x (m ∷ []) → In x (insert_once move_lt m found)
+      from_end x (inl i) = in_insert move_lt move_order m x found i
+      from_end x (inr (inl e)) = subst (λ z. In z (insert_once move_lt m found)) e (in_insert_here move_lt move_order m found)
+      from_end x (inr (inr e)) = absurd e
+
+  -- the move stands there
+  pub there : slice_get found place ≡ Some m → IsPut found found m place
+  there here =
+      let itself = move_order.never_itself m in
+      let next : drop place found ≡ m ∷ drop (place + 1) found = drop_more found place m (slice_get_within found place m here) ∙ ap (λ y. y ∷ drop (place + 1) found) (get_or_from_slice_get found place m m here) in
+      record {
+        set = sym (take-append-drop place found)
+            ∙ with_one_more (drop place found) (subst (λ rest. insert_once move_lt m rest ≡ rest) (sym next) (cond-false (move_lt m m) _ _ itself ∙ cond-false (move_lt m m) _ _ itself));
+        at = here;
+        before = before;
+      }
+
+  -- a greater one does, or none
+  pub inserted : place ≤ length found → ((y : Move) → slice_get found place ≡ Some y → move_lt y m ≡ false) → (slice_get found place ≡ Some m → ⊥) → IsPut found (insert found place m) m place
+  inserted within first other = record {
+    set = with_one_more (m ∷ drop place found) (next (drop place found) refl);
+    at = slice_get-get_or (insert found place m) place m (let n = length-insert found place m within in omega arith) ∙ ap Some (get_or-insert_at found place m m within);
+    before = (let n = length-take-le place found within in subst (λ ns. AllBefore ns m) (sym (take-append-le place (take place found) (m ∷ drop place found) (omega arith) ∙ take_all place (take place found) (omega arith))) before);
+  }
+    where
+      next : (rest : List Move) → drop place found ≡ rest → insert_once move_lt m rest ≡ m ∷ rest
+      next [] e = refl
+      next (y ∷ ys) e = cond-true (move_lt m y) _ _ (less (move_lt m y) refl)
+        where
+          at : slice_get found place ≡ Some y
+          at = at_head found ys place y e
+
+          less : (b : Bool) → move_lt m y ≡ b → b ≡ true
+          less true h = refl
+          less false h = absurd (other (at ∙ ap Some (move_order.total y m (first y at) h)))
+
+-- the moves of a first member are a set
+pub first_moves : (found ms : List Move) → length found ≡ 0 → Ascending move_lt ms → found ++ ms ≡ move_set (found ++ ms)
 unfolding move_set
-known_moves found ms set known =
-    same_set move_lt move_order found (as_set move_lt (found ++ ms)) (subst (Ascending move_lt) set (as_set_ascending move_lt move_order found)) (as_set_ascending move_lt move_order (found ++ ms))
-    (λ m i. in_as_set move_lt move_order m (found ++ ms) (in_append_left found ms m i))
-    (λ m i. by_part m (append_in found ms m (as_set_in move_lt move_order m (found ++ ms) i)))
-  where
-    by_part : (m : Move) → In m found ⊎ In m ms → In m found
-    by_part m (inl i) = i
-    by_part m (inr i) = known m i
+first_moves [] ms none up = same_set move_lt move_order ms (as_set move_lt ms) up (as_set_ascending move_lt move_order ms) (λ m i. in_as_set move_lt move_order m ms i) (λ m i. as_set_in move_lt move_order m ms i)
+first_moves (m ∷ found) ms none up = absurd (omega (arith, none))
 
 -- a set is its own set
 pub set_of_set : (ms : List Move) → move_set (move_set ms) ≡ move_set ms
 unfolding move_set
 set_of_set ms = sym (ap (as_set move_lt) (append-nil (as_set move_lt ms))) ∙ as_set_early move_lt move_order ms [] ∙ ap (as_set move_lt) (append-nil ms)
+
+-- the walk through the moves has come to place i, and that through the set to the place of the last of them
+pub record IsAdding (old ms found : List Move) (i place : ℕ) : Type 0 where
+  pub set : found ≡ move_set (old ++ take i ms)
+  pub within : place ≤ length found
+  pub before : (m : Move) → In m (drop i ms) → AllBefore (take place found) m
+  pub ahead : Ascending move_lt (drop i ms)
+
+module _ {old ms found : List Move} {i place : ℕ} (m : Move) (within : i < length ms) (at : m ≡ get_or ms i m) (a : IsAdding old ms found i place) where
+  ahead_is : drop i ms ≡ m ∷ drop (i + 1) ms
+  ahead_is = drop_more ms i m within ∙ ap (λ x. x ∷ drop (i + 1) ms) (sym at)
+
+  pub all_before : AllBefore (take place found) m
+  all_before = a.before m (subst (In m) (sym ahead_is) (inl refl))
+
+  pub is_set : move_set found ≡ found
+  is_set = subst (λ ns. move_set ns ≡ ns) (sym a.set) (set_of_set (old ++ take i ms))
+
+  -- that one is among them as well
+  pub one_added : (now : List Move) (next : ℕ) → IsPut found now m next → IsAdding old ms now (i + 1) (next + 1)
+  unfolding move_set
+  one_added now next put = record {
+    set = put.set
+        ∙ ap (λ ns. move_set (ns ++ m ∷ [])) a.set ∙ as_set_early move_lt move_order (old ++ take i ms) (m ∷ [])
+        ∙ ap move_set (append_assoc old (take i ms) (m ∷ []) ∙ ap (λ ns. old ++ ns) (sym (take_more ms i m within ∙ ap (λ x. take i ms ++ x ∷ []) (sym at))));
+    within = (let w = slice_get_within now next m put.at in omega (arith, w));
+    before = λ n k. before_more now next m n (slice_get_within now next m put.at) (sym (get_or_from_slice_get now next m m put.at)) (λ x j. move_order.trans x m n (put.before x j) (up.0 n k)) (up.0 n k);
+    ahead = up.1;
+  }
+    where
+      up : Ascending move_lt (m ∷ drop (i + 1) ms)
+      up = subst (Ascending move_lt) ahead_is a.ahead
+
+pub moves_ascend : (p : Pos) → Ascending move_lt (moves p)
+moves_ascend p = ascending_from move_cmp move_total move_equal (moves p) (ascend p)
 
 flat_map_push : (ps : List Pos) (p : Pos) → flat_map moves (ps ++ p ∷ []) ≡ flat_map moves ps ++ moves p
 flat_map_push ps p = flat_map-append moves ps (p ∷ []) ∙ ap (λ r. flat_map moves ps ++ r) (append-nil (moves p))

@@ -1,5 +1,5 @@
 -- Sets of moves.
-use Rattle.std.specs.Prelude.{List}
+use Rattle.std.specs.Prelude.{◌≡◌, ◌++◌, ◌∷◌, [], ℕ, true, Some, List, take, slice_get}
 use Rattle.krieg_board.specs.Order.{move_lt}
 use Rattle.krieg_board.specs.declared.men.Move.{Move}
 use Rattle.krieg_theory.specs.Sets.{In, as_set}
@@ -8,6 +8,12 @@ use Rattle.krieg_theory.specs.Sets.{In, as_set}
 unfoldable pub move_set : List Move → List Move
 move_set ms = as_set move_lt ms
 
--- each of the moves is one of the known ones
-abbrev pub AllIn : List Move → List Move → Type 0
-AllIn ms known = (m : Move) → In m ms → In m known
+-- each of the moves stands before that one
+abbrev pub AllBefore : List Move → Move → Type 0
+AllBefore ms m = (x : Move) → In x ms → move_lt x m ≡ true
+
+-- the move was put into the set, at its place
+pub record IsPut (old new : List Move) (m : Move) (place : ℕ) : Type 0 where
+  pub set : new ≡ move_set (old ++ m ∷ [])
+  pub at : slice_get new place ≡ Some m
+  pub before : AllBefore (take place new) m

@@ -9,11 +9,11 @@ ghost use Rattle.krieg_split.specs.Tallies.{tally_of, tally_with};
 use crate::listed::list_all;
 use crate::try_list::{stands_at, tries_of};
 use krieg_board::{Move, NoMemory, Position};
-use krieg_moves::{after, count_moves, is_mate_by};
+use krieg_moves::{count_replies, mates_by};
 use krieg_pack::Belief;
 use std::alloc::Global;
 
-/// The most members of a set of which tallies are made: all their legal moves are kept at once.
+/// The most members of a set that `tally_tries` takes: all their legal moves are kept at once.
 pub const MOST_TALLIED: usize = 4_096;
 
 /// What a try does in a set where one move is left.
@@ -32,15 +32,14 @@ fn add_legal(p: &Position, tally: &mut Tally)
     requires room { tally.old.replies < 2 ^ 63 }
     ensures { tally.new ≡ tally_with p.now tally.old }
 {
-    let q = after(p, tally.mv);
-    let replies = count_moves(&q);
+    let replies = count_replies(p, tally.mv);
     tally.replies += replies as u64;
-    tally.lives = tally.lives || !is_mate_by(&q, replies);
+    tally.lives = tally.lives || !mates_by(p, tally.mv, replies);
 }
 
 /// Adds one member to the tallies of the tries, by its legal moves. They are the tries that are legal in it, in the same
 /// order, so one walk through both tells which these are.
-fn add_member(p: &Position, moves: &[Move], tallies: &mut [Tally])
+pub(crate) fn add_member(p: &Position, moves: &[Move], tallies: &mut [Tally])
     requires moves { moves.now ≡ list.moves p.now }
     requires tries { filter (rule.is_legal p.now) (map (λ y. y.mv) tallies.old) ≡ list.moves p.now }
     requires room { All (λ y. y.replies < 2 ^ 63) tallies.old }
@@ -56,7 +55,7 @@ fn add_member(p: &Position, moves: &[Move], tallies: &mut [Tally])
 }
 
 /// The tallies of tries in no member.
-fn tallies_of_none(alloc: Global, tries: &[Move]) -> Result<Vec<Tally>, NoMemory>
+pub(crate) fn tallies_of_none(alloc: Global, tries: &[Move]) -> Result<Vec<Tally>, NoMemory>
     ensures { IfOk result (λ ys. ys.items ≡ map (tally_of []) tries.now) }
 {
     let mut tallies = Vec::with_capacity(alloc, tries.len())?;

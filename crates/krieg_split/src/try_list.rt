@@ -1,8 +1,11 @@
-ghost use Rattle.std.specs.Prelude.{◌≡◌, ◌++◌, ◌↔◌, Some, map, slice_get, IsTrue, IfOk, OnOk};
+ghost use Rattle.std.specs.Prelude.{◌≡◌, ◌≤◌, ◌++◌, ◌↔◌, false, Some, length, map, take, slice_get, IsTrue, IfOk, OnOk};
+ghost use Rattle.krieg_board.specs.Order.{move_lt};
+ghost use Rattle.krieg_board.specs.declared.men.Move.{Move as Step};
 ghost use Rattle.krieg_words.specs.declared.dialects.Dialect.{Dialect};
+ghost use Rattle.krieg_theory.specs.Sets.{Ascending};
 ghost use Rattle.krieg_theory.specs.Split as theory;
 ghost use Rattle.krieg_game.specs.Chess.{chess};
-ghost use Rattle.krieg_split.specs.MoveSets.{AllIn, move_set};
+ghost use Rattle.krieg_split.specs.MoveSets.{AllBefore, IsPut, move_set};
 
 use crate::listed::Listed;
 use krieg_board::{Move, NoMemory};
@@ -17,47 +20,53 @@ pub(crate) fn stands_at(moves: &[Move], place: usize, mv: &Move) -> bool
     place < moves.len() && moves[place] == *mv
 }
 
-/// Whether all of the moves are known. Both ascend, so one walk through them tells.
-fn are_known(moves: &[Move], known: &[Move]) -> bool
-    ensures { IsTrue result → AllIn moves.now known.now }
+/// The first place from that one on where no lower move stands.
+fn place_from(found: &[Move], from: usize, mv: &Move) -> usize
+    requires within { from ≤ length found.now }
+    requires before { AllBefore (take from found.now) mv.now }
+    ensures within { result ≤ length found.now }
+    ensures before { AllBefore (take result found.now) mv.now }
+    ensures first { (m : Step) → slice_get found.now result ≡ Some m → move_lt m mv.now ≡ false }
 {
-    let mut next = 0;
-    for mv in known {
-        if stands_at(moves, next, mv) {
-            next += 1;
-        }
+    let mut place = from;
+    while place < found.len() && found[place] < *mv {
+        place += 1;
     }
-    next == moves.len()
+    place
 }
 
-/// Sorts moves in place and drops repeats.
-fn make_ascending(moves: &mut Vec<Move>)
-    ensures { moves.new.items ≡ move_set moves.old.items }
+/// Puts the move at its place in the set, from that one on, unless it is there, and tells the place.
+fn put_from(found: &mut Vec<Move>, from: usize, mv: &Move) -> Result<usize, NoMemory>
+    requires within { from ≤ length found.old.items }
+    requires before { AllBefore (take from found.old.items) mv.now }
+    requires set { move_set found.old.items ≡ found.old.items }
+    ensures { IfOk result (IsPut found.old.items found.new.items mv.now) }
 {
-    moves.sort_unstable();
-    moves.dedup();
-}
-
-/// Adds moves to a set.
-fn insert(moves: &[Move], found: &mut Vec<Move>) -> Result<(), NoMemory>
-    ensures { OnOk result (found.new.items ≡ move_set (found.old.items ++ moves.now)) }
-{
-    for mv in moves {
-        found.push(*mv)?;
+    if stands_at(found, from, mv) {
+        return Ok(from);
     }
-    make_ascending(found);
-    Ok(())
+    let place = place_from(found, from, mv);
+    if !stands_at(found, place, mv) {
+        found.insert(place, *mv)?;
+    }
+    Ok(place)
 }
 
-/// Adds the legal moves of one member to a set. Most members have none that is new.
+/// Adds the legal moves of one member to a set. Both ascend, so one walk through them tells where each belongs. Most
+/// members have none that is new.
 fn add_moves(moves: &[Move], found: &mut Vec<Move>) -> Result<(), NoMemory>
-    requires { move_set found.old.items ≡ found.old.items }
+    requires moves { Ascending move_lt moves.now }
+    requires found { move_set found.old.items ≡ found.old.items }
     ensures { OnOk result (found.new.items ≡ move_set (found.old.items ++ moves.now)) }
 {
-    if are_known(moves, found) {
-        return Ok(());
+    if found.is_empty() {
+        return Ok(found.extend_from_slice(moves)?);
     }
-    insert(moves, found)
+    let mut place = 0;
+    for mv in moves {
+        place = put_from(found, place, mv)? + 1;
+    }
+    Ok(())
 }
 
 /// The tries that make sense in a set: every move that is legal in some member, once, ascending.

@@ -1,5 +1,5 @@
 use Rattle.std.proofs.Common.{◌≡◌, ◌≤◌, List, filter, [], map, length, take, drop, ap, ◌∙◌, arith}
-use Rattle.std.proofs.lemmas.List.{take_all, take-append-le, length-map}
+use Rattle.std.proofs.lemmas.List.{take_all, take-append-le, length-map, length-take}
 use Rattle.krieg_board.specs.Pos.{Pos}
 use Rattle.krieg_moves.specs.Legal.{is_legal}
 use Rattle.krieg_theory.specs.Split as theory
@@ -29,7 +29,7 @@ add_member-requires-clause-tries c =
     ∙ moves_of_tries Wild16 B i p at.0 at.1
 
 pub add_member-requires-clause-room : goal.add_member-requires-clause-room
-add_member-requires-clause-room c = room_for_more c.args.b.now c.loop-member.member-index c.in_ok-tries.tries.items c.deref_mut.result.now c.requires (c.deref_mut.ensures.value ∙ c.loop-member.invariant)
+add_member-requires-clause-room c = room_for_more (take c.loop-member.member-index c.args.b.now) c.in_ok-tries.tries.items c.deref_mut.result.now (let l = length-take c.loop-member.member-index c.args.b.now in omega (arith, c.requires)) (c.deref_mut.ensures.value ∙ c.loop-member.invariant)
 
 pub loop-member-preserved : goal.loop-member-preserved
 loop-member-preserved c =

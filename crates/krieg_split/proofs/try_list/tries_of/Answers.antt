@@ -1,9 +1,11 @@
 use Rattle.std.proofs.Common.{◌≡◌, ◌≤◌, ◌++◌, map, length, flat_map, refl, ap, sym, subst, ◌∙◌}
 use Rattle.std.proofs.lemmas.List.{take_all, length-map}
+use Rattle.krieg_board.specs.Order.{move_lt}
 use Rattle.krieg_moves.specs.Moves.{moves}
+use Rattle.krieg_theory.specs.Sets.{Ascending}
 use Rattle.krieg_split.specs.MoveSets.{move_set}
 use Rattle.krieg_split.specs.declared.listed.Listed.{Listed}
-use Rattle.krieg_split.proofs.TryLists.{set_of_set, set_more, moves_are_tries}
+use Rattle.krieg_split.proofs.TryLists.{set_of_set, moves_ascend, set_more, moves_are_tries}
 use Rattle.krieg_split.proofs.Tallying.{listed_at}
 use Rattle.krieg_split.proofs.try_list.tries_of.Goals as goal
 
@@ -11,8 +13,11 @@ pub loop-member-init : goal.loop-member-init
 unfolding move_set
 loop-member-init c = c.new-found.ensures.items
 
-pub add_moves-requires : goal.add_moves-requires
-add_moves-requires c = subst (λ ms. move_set ms ≡ ms) (sym c.loop-member.invariant) (set_of_set _)
+pub add_moves-requires-clause-moves : goal.add_moves-requires-clause-moves
+add_moves-requires-clause-moves c = subst (Ascending move_lt) (sym (c.as_slice.ensures ∙ c.member-item.result.exact)) (moves_ascend _)
+
+pub add_moves-requires-clause-found : goal.add_moves-requires-clause-found
+add_moves-requires-clause-found c = subst (λ ms. move_set ms ≡ ms) (sym c.loop-member.invariant) (set_of_set _)
 
 pub loop-member-preserved : goal.loop-member-preserved
 loop-member-preserved c =
