@@ -1,12 +1,10 @@
 -- What a search for claims finds, as the answer to a sheet.
-use Rattle.std.proofs.Common.{Vec, Global, ◌≡◌, ℕ, ◌≤◌, Bool, true, false, not, List, [], ◌∷◌, ◌++◌, length, map, Ok, Err, refl, sym, ap, subst, inl, ◌∙◌, arith}
+use Rattle.std.proofs.Common.{◌≡◌, ℕ, ◌≤◌, Bool, true, false, not, List, [], ◌∷◌, ◌++◌, length, map, Ok, Err, refl, sym, ap, subst, inl, ◌∙◌, arith}
 use Rattle.std.specs.Prelude.{◌||◌}
-use Rattle.std.specs.List.{All}
 use Rattle.std.proofs.lemmas.List.{length-map}
 use Rattle.std.proofs.lemmas.Bool.{both_ways, and_parts, and_from, false_from_ne_true}
 use Rattle.krieg_board.specs.Men.{is_same_side}
 use Rattle.krieg_board.specs.Pos.{Pos}
-use Rattle.krieg_board.specs.Validity.{IsValid}
 use Rattle.krieg_board.specs.declared.men.Side.{Side}
 use Rattle.krieg_board.specs.declared.limits.TheConstants.{MOST_MOVES}
 use Rattle.krieg_board.proofs.MenLemmas.{same_side_eq}
@@ -15,7 +13,6 @@ use Rattle.krieg_text.specs.Reading.{whole}
 use Rattle.krieg_sheet.specs.Sheets.{SheetState}
 use Rattle.krieg_sheet.specs.Turns.{is_my_turn, is_over}
 use Rattle.krieg_cli.specs.Asked.{has_no_turn}
-use Rattle.krieg_fen.specs.declared.forms.TheConstants.{MOST_LISTED}
 use Rattle.krieg_words.specs.declared.dialects.Dialect.{Dialect}
 use Rattle.krieg_theory.specs.Sets.{is_nil}
 use Rattle.krieg_theory.specs.Plans.{can_plan}
@@ -44,7 +41,7 @@ use Rattle.krieg_search.specs.Decided.{IsBetween}
 use Rattle.krieg_cli.specs.Solve.{NoneMates}
 use Rattle.krieg_cli.specs.declared.refusal.Refusal.TheVariants.{PlanExists}
 use Rattle.krieg_cli.specs.Parts.{of_refute, Decides}
-use Rattle.krieg_cli.specs.Refute.{denial_file, IsDenialText, Claimed}
+use Rattle.krieg_cli.specs.Refute.{CanBeListed, denial_file, IsDenialText, Claimed}
 use Rattle.krieg_cli.proofs.BestFiles.{valid_of, some_length, alike, one_turn_of}
 use Rattle.krieg_cli.proofs.ClaimedSets.{denial_written}
 use Rattle.krieg_cli.proofs.ToldClaims.{told_claims}
@@ -109,8 +106,8 @@ module _ (d : Dialect) (who : Side) (S : List Pos) (n : ℕ) (cs : List Claim) (
       }
 
   -- and it can be written
-  pub can_be_written : is_nil S ≡ false → length S ≤ MOST_LISTED → HaveOneHand who S → All IsValid S → IsOwnTurn who S → 1 ≤ n → n ≤ MOST_MOVES → CanBeWritten (denial_file d who S n)
-  can_be_written some listed hand valid own least most =
+  pub can_be_written : CanBeListed who S → 1 ≤ n → n ≤ MOST_MOVES → CanBeWritten (denial_file d who S n)
+  can_be_written listed least most =
       let claimed = and_parts (theory.claims_hold (chess d) [] claims) (theory.denies (chess d) (outset d who) n S (theory.last_of claims)) holds in
       let last = some_claim claims claimed.1 in
       let size = length-map claims (claim_from d) in
@@ -119,16 +116,16 @@ module _ (d : Dialect) (who : Side) (S : List Pos) (n : ℕ) (cs : List Claim) (
       record {
         least_moves = least;
         most_moves = most;
-        some_listed = some_length S some;
-        few_listed = listed;
-        valid = valid;
-        turn = turn_of who S own;
-        alike = alike who S hand;
+        some_listed = some_length S listed.some;
+        few_listed = listed.few;
+        valid = listed.valid;
+        turn = turn_of who S listed.turn;
+        alike = alike who S listed.hand;
         some_claims = omega (arith, last, size);
         few_claims = omega (arith, few.claims, size);
         few_positions = omega (arith, few.positions, positions);
         few_reasons = omega (arith, few.reasons, reasons);
-        told = told_claims d [] claims 1 (omega arith) (λ c i. absurd i) (denial_written d who S n (valid_of S valid) own most) claimed.0;
+        told = told_claims d [] claims 1 (omega arith) (λ c i. absurd i) (denial_written d who S n (valid_of S listed.valid) listed.turn most) claimed.0;
       }
     where
       some_claim : (xs : List (theory.Claim (chess d))) → theory.denies (chess d) (outset d who) n S (theory.last_of xs) ≡ true → 1 ≤ length xs
@@ -162,7 +159,7 @@ module _ (d : Dialect) (who : Side) (S : List Pos) (n budget start left : ℕ) (
       (omega (arith, same, paid.at_least), (mated.plan, mated.mates_all))
 
   -- the text of the claims
-  pub claims_told : (cs : Vec Claim Global) (answer : List ℕ) → IsTaken d (side_of S) S n (Ok (Denial cs)) start left → IsDenialText d who S n answer → Claimed d who S n budget (Ok answer)
+  pub claims_told : (cs : List Claim) (answer : List ℕ) → IsTaken d (side_of S) S n (Ok (Denial cs)) start left → IsDenialText d who S n answer → Claimed d who S n budget (Ok answer)
   claims_told cs answer taken text =
       let paid : IsBetween d who S n start left = subst (λ (w : Side). IsBetween d w S n start left) side taken.1 in
       (omega (arith, same, paid.at_least), text)

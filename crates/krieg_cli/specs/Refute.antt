@@ -1,7 +1,12 @@
 -- What `refute` answers to a sheet: claims that show that no plan mates within the moves that were asked, or that some plan does.
-use Rattle.std.specs.Prelude.{◌≡◌, ℕ, ◌<◌, ◌≤◌, true, List, Result, Ok, Err}
+use Rattle.std.specs.Prelude.{◌≡◌, ℕ, ◌<◌, ◌≤◌, true, false, All, List, length, Result, Ok, Err}
 use Rattle.krieg_board.specs.Pos.{Pos}
+use Rattle.krieg_board.specs.Validity.{IsValid}
 use Rattle.krieg_board.specs.declared.men.Side.{Side}
+use Rattle.krieg_fen.specs.declared.forms.TheConstants.{MOST_LISTED}
+use Rattle.krieg_theory.specs.Sets.{is_nil}
+use Rattle.krieg_belief.specs.Possible.{HaveOneHand}
+use Rattle.krieg_split.specs.Turns.{IsOwnTurn}
 use Rattle.krieg_text.specs.Lines.{lines}
 use Rattle.krieg_text.specs.Reading.{whole}
 use Rattle.krieg_words.specs.declared.dialects.Dialect.{Dialect}
@@ -21,6 +26,14 @@ use Rattle.krieg_cli.specs.Refusal.{OfText}
 use Rattle.krieg_cli.specs.Solve.{mates_all, NoneMates, least_units, fresh_units}
 use Rattle.krieg_cli.specs.declared.refusal.Refusal.{Refusal}
 use Rattle.krieg_cli.specs.declared.refusal.Refusal.TheVariants.{BudgetSpent, PlanTooLarge, PlanExists}
+
+-- the positions can be listed in a file of the player, who is to move in each of them
+pub record CanBeListed (who : Side) (S : List Pos) : Type 0 where
+  pub some : is_nil S ≡ false
+  pub few : length S ≤ MOST_LISTED
+  pub valid : All IsValid S
+  pub hand : HaveOneHand who S
+  pub turn : IsOwnTurn who S
 
 module _ (d : Dialect) (who : Side) (S : List Pos) where
   -- the file that no plan mates within n own moves: its claims are those of the first opening set that cannot be won

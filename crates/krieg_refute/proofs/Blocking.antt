@@ -1,7 +1,8 @@
 -- What blocks a try, as stored results tell it, and what is claimed for it.
-use Rattle.std.proofs.Common.{◌≡◌, ℕ, zero, suc, ◌-◌, ◌<◌, Bool, true, false, ◌&&◌, ◌⊎◌, List, [], ◌∷◌, map, find, Option, Some, None, Ok, refl, sym, ap, subst, inl, inr, ◌∙◌, arith}
+use Rattle.std.proofs.Common.{◌≡◌, ℕ, zero, suc, ◌-◌, ◌<◌, Bool, true, false, ◌&&◌, ◌⊎◌, List, [], ◌∷◌, map, find, length, Option, Some, None, Ok, refl, sym, ap, subst, inl, inr, ◌∙◌, arith}
 use Rattle.std.specs.Prelude.{◌==◌, IfSome, if◌then◌else◌}
 use Rattle.std.proofs.lemmas.Bool.{cases_Bool, eqb-true, false_from_ne_true}
+use Rattle.std.proofs.lemmas.List.Elements.{All-head, All-tail, All-weaker}
 use Rattle.krieg_board.specs.Pos.{Pos}
 use Rattle.krieg_board.specs.declared.men.Move.{Move}
 use Rattle.krieg_words.specs.declared.dialects.Dialect.{Dialect}
@@ -18,6 +19,7 @@ use Rattle.krieg_accounts.specs.Stored.{stored}
 use Rattle.krieg_claims.specs.InOrder.{claimed, add_all}
 use Rattle.krieg_claims.specs.Written as written
 use Rattle.krieg_claims.specs.Losses.{is_loss}
+use Rattle.krieg_claims.specs.Sizes.{positions_in, reasons_in, AreFew}
 use Rattle.krieg_claims.proofs.Adding.{in_all}
 use Rattle.krieg_claims.specs.Walks.{behind_try}
 use Rattle.krieg_claims.specs.Standing.{Stands}
@@ -37,7 +39,10 @@ use Rattle.krieg_search.proofs.Building.{adds_nothing, adds_then}
 use Rattle.krieg_refute.specs.declared.claiming.Asked.{Asked}
 use Rattle.krieg_refute.specs.declared.claiming.Claimed.{Claimed}
 use Rattle.krieg_refute.specs.declared.refutation.Why.{Why}
-use Rattle.krieg_refute.specs.Refutations.{why_of}
+use Rattle.krieg_refute.specs.declared.claims.Draft.{Draft}
+use Rattle.krieg_refute.specs.declared.refutation.Claim.{Claim}
+use Rattle.krieg_refute.specs.Drafts.{claims_over, AreWithin}
+use Rattle.krieg_refute.specs.Refutations.{why_of, claims_of, most_claims, most_claimed}
 use Rattle.krieg_refute.specs.Blocking.{IsBlockedBy}
 use Rattle.krieg_refute.specs.Claiming.{IsLost, is_lost_class, at_once_reason, pairs_in, IsClaimed, Claims, Blocks}
 use Rattle.krieg_refute.proofs.Carrying.{AreTooMany}
@@ -157,21 +162,28 @@ module _ (d : Dialect) where
         )
 
   -- what is claimed stays claimed where sets come to the table
-  pub same_pairs : (T T' : Interned) (keys : List Asked) → AddsSets T T' → ((a : Asked) → In a keys → a.set < Rattle.std.proofs.Common.length T) → pairs_in T' keys ≡ pairs_in T keys
+  pub same_pairs : (T T' : Interned) (keys : List Asked) → AddsSets T T' → ((a : Asked) → In a keys → a.set < length T) → pairs_in T' keys ≡ pairs_in T keys
   same_pairs T T' [] s n = refl
   same_pairs T T' (a ∷ keys) s n = let e = s.more.same a.set (n a (inl refl)) in let r = same_pairs T T' keys s (λ x i. n x (inr i)) in λ i. (e i, a.moves) ∷ r i
+
+  same_drafts : (T T' : Interned) (ws : List Draft) → AddsSets T T' → AreWithin T ws → claims_over T' ws ≡ claims_over T ws
+  same_drafts T T' [] s n = refl
+  same_drafts T T' (w ∷ ws) s n =
+      let e = s.more.same w.set (All-head (λ (x : Draft). x.set < length T) w ws n) in let r = same_drafts T T' ws s (All-tail (λ (x : Draft). x.set < length T) w ws n) in λ i. record { moves = w.moves; set = e i; reasons = w.reasons } ∷ r i
 
   pub still_claimed : (T T' : Interned) (w : Claimed) → AddsSets T T' → IsClaimed d T w → IsClaimed d T' w
   still_claimed T T' w s c =
       let e = same_pairs T T' w.places.keys s c.numbered in
+      let f = same_drafts T T' w.claims.items s c.within in
       let longer = s.more.longer in
       record {
         numbered = λ a i. (let n = c.numbered a i in omega arith);
         stands = subst (Stands (chess d) []) (sym e) c.stands;
-        are = c.are ∙ ap (written.claims_of (chess d)) (sym e);
-        positions_part = c.positions_part;
-        reasons_part = c.reasons_part;
-        few = c.few;
+        within = All-weaker (λ (x : Draft). x.set < length T) (λ (x : Draft). x.set < length T') (λ x n. omega arith) w.claims.items c.within;
+        are = ap (claims_of d) f ∙ c.are ∙ ap (written.claims_of (chess d)) (sym e);
+        positions_part = c.positions_part ∙ ap (λ (cs : List Claim). positions_in (chess d) (claims_of d cs)) (sym f);
+        reasons_part = c.reasons_part ∙ ap (λ (cs : List Claim). reasons_in (chess d) (claims_of d cs)) (sym f);
+        few = subst (λ (cs : List Claim). AreFew (chess d) most_claims most_claimed (claims_of d cs)) (sym f) c.few;
       }
 
   -- the pair of the block is claimed, or is too many

@@ -1,6 +1,6 @@
 -- Claims that are written where there are none yet.
-use Rattle.std.proofs.Common.{◌≡◌, ℕ, List, [], Result, Ok, Err, sym, ap, subst, ◌∙◌, arith, Vec}
-use Rattle.std.specs.declared.alloc.Global.{Global}
+use Rattle.std.proofs.Common.{◌≡◌, ℕ, List, [], Result, Ok, Err, sym, ap, subst, ◌∙◌, arith, length, ◌<◌}
+use Rattle.std.proofs.lemmas.List.Elements.{All-nil, All-same}
 use Rattle.std.specs.Result.{IsErrAnd}
 use Rattle.krieg_board.specs.Pos.{Pos}
 use Rattle.krieg_words.specs.declared.dialects.Dialect.{Dialect}
@@ -14,11 +14,13 @@ use Rattle.krieg_table.specs.Interned.{Interned}
 use Rattle.krieg_search.specs.declared.stop.Stop2.{Stop2}
 use Rattle.krieg_refute.specs.declared.claiming.Claimed.{Claimed}
 use Rattle.krieg_refute.specs.declared.refutation.Claim.{Claim}
+use Rattle.krieg_refute.specs.declared.claims.Draft.{Draft}
+use Rattle.krieg_refute.specs.Drafts.{claims_over}
 use Rattle.krieg_refute.specs.Refutations.{claims_of, most_claims, most_claimed}
 use Rattle.krieg_refute.specs.Claiming.{pairs_in, IsClaimed, Claims, AreClaims}
 use Rattle.krieg_refute.proofs.Carrying.{carried}
 
-module _ (d : Dialect) (T : Interned) (w : Claimed) (cs : w.claims.items ≡ []) (ks : w.places.keys ≡ []) where
+module _ (d : Dialect) (T : Interned) (w : Claimed) (ws : w.claims.items ≡ []) (ks : w.places.keys ≡ []) where
   nothing : pairs_in T w.places.keys ≡ []
   nothing = ap (pairs_in T) ks
 
@@ -26,20 +28,24 @@ module _ (d : Dialect) (T : Interned) (w : Claimed) (cs : w.claims.items ≡ [])
   none_claimed p r = record {
     numbered = λ a i. absurd (subst (In a) ks i);
     stands = subst (Stands (chess d) []) (sym nothing) tt;
-    are = ap (claims_of d) cs ∙ ap (written.claims_of (chess d)) (sym nothing);
-    positions_part = p ∙ ap (λ (xs : List Claim). positions_in (chess d) (claims_of d xs)) (sym cs);
-    reasons_part = r ∙ ap (λ (xs : List Claim). reasons_in (chess d) (claims_of d xs)) (sym cs);
-    few = subst (λ (xs : List Claim). AreFew (chess d) most_claims most_claimed (claims_of d xs)) (sym cs) (record { claims = omega arith; positions = omega arith; reasons = omega arith });
+    within = All-same (λ (x : Draft). x.set < length T) w.claims.items [] ws (All-nil (λ (x : Draft). x.set < length T));
+    are = ap (claims_of d) none ∙ ap (written.claims_of (chess d)) (sym nothing);
+    positions_part = p ∙ ap (λ (xs : List Claim). positions_in (chess d) (claims_of d xs)) (sym none);
+    reasons_part = r ∙ ap (λ (xs : List Claim). reasons_in (chess d) (claims_of d xs)) (sym none);
+    few = subst (λ (xs : List Claim). AreFew (chess d) most_claims most_claimed (claims_of d xs)) (sym none) (record { claims = omega arith; positions = omega arith; reasons = omega arith });
   }
+    where
+      none : claims_over T w.claims.items ≡ []
+      none = ap (claims_over T) ws
 
   module _ (T' : Interned) (w' : Claimed) (B : List Pos) (j : ℕ) where
-    pub all_claims : (place : ℕ) → Claims d (Ok place) B j T T' w w' → (claims_of d w'.claims.items ≡ written.claims (chess d) j B) × AreFew (chess d) most_claims most_claimed (claims_of d w'.claims.items)
+    pub all_claims : (place : ℕ) → Claims d (Ok place) B j T T' w w' → (claims_of d (claims_over T' w'.claims.items) ≡ written.claims (chess d) j B) × AreFew (chess d) most_claims most_claimed (claims_of d (claims_over T' w'.claims.items))
     all_claims place v = (
       v.1.are ∙ ap (written.claims_of (chess d)) (v.2.all ∙ ap (λ (qs : List (List Pos × ℕ)). add_all (chess d) qs (claimed (chess d) j B)) nothing),
       v.1.few,
     )
 
-    pub claims_carried : (P : Stop2 → Type 0) (r : Result (Vec Claim Global) Stop2) (e : Stop2) → ((x : Stop2) → P x → e ≡ x) → IsErrAnd r P → Claims d (Err e) B j T T' w w' → AreClaims d B j r
+    pub claims_carried : (P : Stop2 → Type 0) (r : Result (List Claim) Stop2) (e : Stop2) → ((x : Stop2) → P x → e ≡ x) → IsErrAnd r P → Claims d (Err e) B j T T' w w' → AreClaims d B j r
     claims_carried P r e same fails k =
         carried P r e (λ e. Claims d (Err e) B j T T' w w') (λ r. AreClaims d B j r) same fails (λ v. v)
         (λ v. subst (λ (qs : List (List Pos × ℕ)). AreMany (chess d) most_claims most_claimed (written.claims_of (chess d) (add_all (chess d) qs (claimed (chess d) j B)))) nothing v) tt k

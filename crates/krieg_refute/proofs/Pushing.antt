@@ -1,7 +1,7 @@
 -- A claim is put behind others.
-use Rattle.std.proofs.Common.{◌≡◌, ℕ, suc, ◌+◌, ◌<◌, ◌≤◌, min, leb, Bool, true, false, ◌⊎◌, List, [], ◌∷◌, ◌++◌, length, map, refl, sym, ap, subst, inl, inr, ◌∙◌, arith, length-append}
+use Rattle.std.proofs.Common.{◌≡◌, ℕ, suc, ◌+◌, ◌<◌, ◌≤◌, min, leb, Bool, true, false, ◌⊎◌, List, [], ◌∷◌, ◌++◌, length, sym, ap, subst, inl, inr, ◌∙◌, arith, length-append}
 use Rattle.std.proofs.lemmas.Bool.{cases_Bool, cond-true, cond-false, both_ways, false_from_ne_true, leb-true, leb-false}
-use Rattle.std.proofs.lemmas.List.{map-append}
+use Rattle.std.proofs.lemmas.List.{map-append, length-map}
 use Rattle.krieg_board.specs.Pos.{Pos}
 use Rattle.krieg_words.specs.declared.dialects.Dialect.{Dialect}
 use Rattle.krieg_theory.specs.Sets.{In}
@@ -21,7 +21,7 @@ use Rattle.krieg_game.proofs.ChessLaws.{chess_is_game}
 use Rattle.krieg_table.specs.Interned.{Interned, set_at}
 use Rattle.krieg_refute.specs.declared.claiming.Asked.{Asked}
 use Rattle.krieg_refute.specs.declared.refutation.Claim.{Claim}
-use Rattle.krieg_refute.specs.Refutations.{claim_of, claims_of, most_claims, most_claimed}
+use Rattle.krieg_refute.specs.Refutations.{reason_of, claim_of, claims_of, most_claims, most_claimed}
 use Rattle.krieg_refute.specs.Claiming.{pairs_in, IsNext}
 
 module _ (d : Dialect) where
@@ -31,10 +31,6 @@ module _ (d : Dialect) where
   index_new (p ∷ qs) q n =
       cond-false (same_pair (chess d) p q) 0 (suc (index_of (chess d) (qs ++ q ∷ []) q)) (false_from_ne_true _ (λ e. n (inl (same_pair_eq (chess d) (chess_is_game d) p q e))))
       ∙ ap suc (index_new qs q (λ i. n (inr i)))
-
-  map_length : {X Y : Type 0} (f : X → Y) (xs : List X) → length (map f xs) ≡ length xs
-  map_length f [] = refl
-  map_length f (x ∷ xs) = ap suc (map_length f xs)
 
   module _ (T : Interned) (keys : List Asked) (cs : List Claim) (c : Claim) (a : Asked) (within : a.set < length T) (numbered : (k : Asked) → In k keys → k.set < length T)
       (stands : Stands (chess d) [] (pairs_in T keys)) (are : claims_of d cs ≡ written.claims_of (chess d) (pairs_in T keys))
@@ -67,15 +63,15 @@ module _ (d : Dialect) where
 
     counted : length cs ≡ length keys
     counted =
-        sym (map_length (claim_of d) cs) ∙ ap length are
-        ∙ map_length (written.claim_of (chess d) (pairs_in T keys)) (pairs_in T keys)
-        ∙ map_length {Y = List Pos × ℕ} (λ (k : Asked). (set_at T k.set, k.moves)) keys
+        sym (length-map cs (claim_of d)) ∙ ap length are
+        ∙ length-map (pairs_in T keys) (written.claim_of (chess d) (pairs_in T keys))
+        ∙ length-map {B = List Pos × ℕ} keys (λ (k : Asked). (set_at T k.set, k.moves))
 
     pub place_is : (n : ℕ) → n ≡ length (cs ++ c ∷ []) → n ≡ place_of (chess d) (pairs_in T keys ++ (set_at T a.set, a.moves) ∷ []) (set_at T a.set, a.moves)
     place_is n e =
         let x = length-append cs (c ∷ []) in
         let y = index_new (pairs_in T keys) (set_at T a.set, a.moves) next.fresh in
-        let z = map_length {Y = List Pos × ℕ} (λ (k : Asked). (set_at T k.set, k.moves)) keys in
+        let z = length-map {B = List Pos × ℕ} keys (λ (k : Asked). (set_at T k.set, k.moves)) in
         let w = counted in
         omega arith
 
@@ -90,10 +86,10 @@ module _ (d : Dialect) where
   reasons_more cs c =
       ap (reasons_in (chess d)) (map-append (claim_of d) cs (c ∷ []))
       ∙ total_append (λ (x : theory.Claim (chess d)). length x.reasons) (claims_of d cs) (claim_of d c ∷ [])
-      ∙ (let e = map_length Rattle.krieg_refute.specs.Refutations.reason_of c.reasons.items in omega arith)
+      ∙ (let e = length-map c.reasons.items reason_of in omega arith)
 
   pub count_more : (cs : List Claim) (c : Claim) → length (claims_of d (cs ++ c ∷ [])) ≡ length cs + 1
-  count_more cs c = let e = map_length (claim_of d) (cs ++ c ∷ []) in let x = length-append cs (c ∷ []) in omega arith
+  count_more cs c = let e = length-map (cs ++ c ∷ []) (claim_of d) in let x = length-append cs (c ∷ []) in omega arith
 
   -- with one claim more they are too many
   pub too_many : (cs : List Claim) (c : Claim) (count positions reasons most : ℕ) (b : Bool) → count ≡ length cs → most_claimed < most

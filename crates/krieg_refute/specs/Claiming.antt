@@ -29,6 +29,7 @@ use Rattle.krieg_refute.specs.declared.claiming.LostClass.{LostClass}
 use Rattle.krieg_refute.specs.declared.refutation.Claim.{Claim}
 use Rattle.krieg_refute.specs.declared.refutation.Reason.{Reason as Reason'}
 use Rattle.krieg_refute.specs.declared.refutation.Why.{Why}
+use Rattle.krieg_refute.specs.Drafts.{claims_over, AreWithin}
 use Rattle.krieg_refute.specs.Refutations.{why_of, reason_of, claims_of, most_claims, most_claimed}
 
 -- the set is stored as one that cannot be won within the number
@@ -63,10 +64,11 @@ module _ (d : Dialect) where
   pub record IsClaimed (T : Interned) (w : Claimed) : Type 0 where
     pub numbered : (a : Asked) → In a w.places.keys → a.set < length T
     pub stands : Stands (chess d) [] (pairs_in T w.places.keys)
-    pub are : claims_of d w.claims.items ≡ written.claims_of (chess d) (pairs_in T w.places.keys)
-    pub positions_part : w.positions ≡ positions_in (chess d) (claims_of d w.claims.items)
-    pub reasons_part : w.reasons ≡ reasons_in (chess d) (claims_of d w.claims.items)
-    pub few : AreFew (chess d) most_claims most_claimed (claims_of d w.claims.items)
+    pub within : AreWithin T w.claims.items
+    pub are : claims_of d (claims_over T w.claims.items) ≡ written.claims_of (chess d) (pairs_in T w.places.keys)
+    pub positions_part : w.positions ≡ positions_in (chess d) (claims_of d (claims_over T w.claims.items))
+    pub reasons_part : w.reasons ≡ reasons_in (chess d) (claims_of d (claims_over T w.claims.items))
+    pub few : AreFew (chess d) most_claims most_claimed (claims_of d (claims_over T w.claims.items))
 
   -- the pair may be claimed next, for these reasons: it is lost and new, and what blocks its tries is claimed
   pub record IsNext (T : Interned) (keys : List Asked) (B : List Pos) (j : ℕ) (rs : List (Move × Reason Key)) : Type 0 where
@@ -110,8 +112,8 @@ abbrev pub is_lost_opening : Interned → ℕ → Opening → Bool
 is_lost_opening T j o = is_loss (stored position_lt (entries T) (set_at T o.set, j))
 
 -- the claims that a set cannot be won within j, or that they are too many
-abbrev pub AreClaims : (d : Dialect) → List Pos → ℕ → Result (Vec Claim Global) Stop2 → Type 0
-AreClaims d B j (Ok cs) = (claims_of d cs.items ≡ written.claims (chess d) j B) × AreFew (chess d) most_claims most_claimed (claims_of d cs.items)
+abbrev pub AreClaims : (d : Dialect) → List Pos → ℕ → Result (List Claim) Stop2 → Type 0
+AreClaims d B j (Ok cs) = (claims_of d cs ≡ written.claims (chess d) j B) × AreFew (chess d) most_claims most_claimed (claims_of d cs)
 AreClaims d B j (Err Spent) = ⊥
 AreClaims d B j (Err Large) = AreMany (chess d) most_claims most_claimed (written.claims (chess d) j B)
 AreClaims d B j (Err NoMemory) = ⊤

@@ -4,6 +4,7 @@ pub mod Refuted
 pub mod Stops
 pub mod Tried
 pub mod Reasons
+pub mod Drafts
 pub mod Claiming
 pub mod Blocking
 pub mod PackedHeard

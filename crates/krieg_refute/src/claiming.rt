@@ -18,8 +18,9 @@ ghost use Rattle.krieg_refute.specs.Claiming.{at_once_reason, IsLost, IsFirstLos
 ghost use Rattle.krieg_refute.specs.Refutations.{why_of, reason_of, most_claims, most_claimed};
 ghost use Rattle.krieg_search.specs.Searched.{AreCounted};
 
+use crate::claims::Draft;
 use crate::heard::Heard;
-use crate::refutation::{Claim, MOST_CLAIMED, MOST_CLAIMS, Reason, Why};
+use crate::refutation::{MOST_CLAIMED, MOST_CLAIMS, Reason, Why};
 use indexmap::IndexSet;
 use krieg_board::{Move, NoMemory, Units};
 use krieg_game::Class;
@@ -41,7 +42,7 @@ pub(crate) struct Asked {
 /// The claims that are written so far, each behind those that it cites.
 #[derive(Drop)]
 pub(crate) struct Claimed {
-    pub claims: Vec<Claim>,
+    pub claims: Vec<Draft>,
     /// What the claims speak of, in their order.
     pub places: IndexSet<Asked>,
     /// How many positions the claims have in all.
@@ -202,24 +203,6 @@ fn are_few(claims: usize, positions: usize, reasons: usize) -> bool
     claims <= MOST_CLAIMS && positions <= MOST_CLAIMED && reasons <= MOST_CLAIMED
 }
 
-/// Adds a claim of a copy of the set.
-fn add_claim(
-    claims: &mut Vec<Claim>,
-    set: &Belief,
-    moves: u8,
-    reasons: Vec<Reason>,
-) -> Result<(), NoMemory>
-    ensures { OnOk result (claims.new.items ≡ claims.old.items ++ (record { moves = moves; set = set.now; reasons = reasons }) ∷ []) }
-{
-    let set = set.copy()?;
-    claims.push(Claim {
-        moves,
-        set,
-        reasons,
-    })?;
-    Ok(())
-}
-
 /// Adds what a claim speaks of, which is new.
 fn add_place(places: &mut IndexSet<Asked>, asked: Asked) -> Result<(), NoMemory>
     requires { In asked places.old.keys → ⊥ }
@@ -243,13 +226,16 @@ fn push(
     requires next { IsNext d table.now claimed.old.places.keys (set_at table.now set) moves (map reason_of reasons.items) }
     ensures { IsPushed d table.now (set_at table.now set) moves claimed.old claimed.new result }
 {
-    let belief = table.belief(set);
-    let positions = claimed.positions.saturating_add(belief.len());
+    let positions = claimed.positions.saturating_add(table.belief(set).len());
     let count = claimed.reasons.saturating_add(reasons.len());
     if !are_few(claimed.claims.len() + 1, positions, count) {
         return Err(Stop2::Large);
     }
-    add_claim(&mut claimed.claims, belief, moves, reasons)?;
+    claimed.claims.push(Draft {
+        moves,
+        set,
+        reasons,
+    })?;
     add_place(&mut claimed.places, Asked { set, moves })?;
     claimed.positions = positions;
     claimed.reasons = count;

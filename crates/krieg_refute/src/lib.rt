@@ -6,11 +6,12 @@
 //! what is possible after something that may be heard, or denies the members that refuse the try.
 //!
 //! What makes a refutation hold stands in `Refutations` of `specs/`, in the terms of krieg_costs, and what `refute` answers
-//! and takes in `Refuted`; which claims it writes says krieg_claims. `Tried`, `Reasons`, `Claiming`, `Blocking` and `PackedHeard`
-//! are parts of the work.
+//! and takes in `Refuted`; which claims it writes says krieg_claims. `Tried`, `Reasons`, `Drafts`, `Claiming`, `Blocking` and
+//! `PackedHeard` are parts of the work.
 //!
 //! `refute` searches by krieg_search and reads its table, in which each lost set has what blocks its tries: the splits are
-//! made again, and nothing is searched twice. `claiming` walks that table, each set behind those that it stands on.
+//! made again, and nothing is searched twice. `claiming` walks that table, each set behind those that it stands on. The claims
+//! that it gives, `claims`, keep the table: a set that is claimed stands there by its number, and is never copied.
 //! `deny` takes nothing for granted: it makes each try in each claim's set. Where one move is left nothing that is heard
 //! matters: then both look only at what lives, and at what refuses the try.
 //!
@@ -28,6 +29,7 @@
 #![tactic(auto)]
 
 mod claiming;
+mod claims;
 mod denial;
 mod heard;
 mod reasons;
@@ -36,6 +38,7 @@ mod refuting;
 mod stop;
 mod tried;
 
+pub use claims::{ClaimRef, Claims};
 pub use denial::deny;
 pub use heard::Heard;
 pub use refutation::{Claim, MOST_CLAIMED, MOST_CLAIMS, Reason, Refutation, Why};

@@ -8,7 +8,7 @@ ghost use Rattle.krieg_refute.specs.Refuted.{IsOneSide, IsDenied, IsTaken};
 ghost use Rattle.krieg_refute.specs.Claiming.{IsLost, is_lost_opening, AreClaims};
 
 use crate::claiming::{Claimed, claim, is_lost};
-use crate::refutation::Claim;
+use crate::claims::Claims;
 use crate::stop::RefuteStop;
 use indexmap::IndexSet;
 use krieg_board::{MOST_MOVES, Side, Units};
@@ -23,7 +23,7 @@ use std::alloc::Global;
 #[derive(Drop)]
 pub enum Denied {
     /// No plan mates all members within the number, and these claims show it.
-    Denial(Vec<Claim>),
+    Denial(Claims),
     /// Some plan mates all members within the number.
     Exists,
 }
@@ -59,7 +59,7 @@ fn claims_for(
     mut table: Table,
     set: u32,
     moves: u8,
-) -> Result<Vec<Claim>, Stop2>
+) -> Result<Claims, Stop2>
     requires some { 0 < moves }
     requires within { set < length table }
     requires members { is_nil (set_at table set) ≡ false }
@@ -74,7 +74,7 @@ fn claims_for(
         reasons: 0,
     };
     claim(alloc, d, &mut table, &mut claimed, set, moves)?;
-    Ok(claimed.claims)
+    Ok(Claims::over(table, claimed.claims))
 }
 
 /// The claims that no plan of the side to move mates all members within `moves`, as the umpire tells games in the

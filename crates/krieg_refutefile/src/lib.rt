@@ -18,7 +18,9 @@
 //! let mut written = Vec::new(alloc);
 //! write_refutation(&file, &mut written)?; // the same bytes
 //! let set = Belief::from_positions(alloc, &file.list)?;
-//! write_denial(file.dialect, file.side, file.moves, &set, &file.claims, &mut written)?; // once more, from a set
+//! if let Denied::Denial(claims) = refute(alloc, file.dialect, &set, file.moves, &mut units)? {
+//!     write_denial(file.dialect, file.side, file.moves, &set, &claims, &mut written)?; // a text of the claims that are found
+//! }
 //! let cut = read_refutation(alloc, b"krieg refutation 1\nside w\n");
 //! // Err(TextFault::At { line: 2, kind: TextKind::Syntax }): the dialect has a line
 //! ```

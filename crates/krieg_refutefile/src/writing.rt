@@ -14,9 +14,9 @@ ghost use Rattle.krieg_refutefile.specs.Writable.{IsToldWhy, CanBeWritten};
 ghost use Rattle.krieg_refutefile.specs.Parts.{IsTold, AreTold};
 
 use krieg_board::{NoMemory, Side};
-use krieg_fen::{put_list, put_listed, put_move, put_side_line};
+use krieg_fen::{Ranks, put_list, put_move, put_next, put_side_line};
 use krieg_pack::{Belief, unpack};
-use krieg_refute::{Claim, Heard, Reason, Refutation, Why};
+use krieg_refute::{Claim, Claims, Heard, Reason, Refutation, Why};
 use krieg_text::{Text, put_number};
 use krieg_words::{Dialect, dialect_name, put_words_in};
 
@@ -56,8 +56,9 @@ fn put_sizes(moves: u8, positions: usize, text: &mut Text) -> Result<(), NoMemor
 fn put_set(set: &Belief, text: &mut Text) -> Result<(), NoMemory>
     ensures { PutsLines result text.old text.new (map position_line set.now) }
 {
+    let mut ranks = Ranks::new();
     for member in set.members() {
-        put_listed(&unpack(member), text)?;
+        put_next(&unpack(member), &mut ranks, text)?;
     }
     Ok(())
 }
@@ -115,16 +116,22 @@ fn put_reasons(d: Dialect, reasons: &[Reason], text: &mut Text) -> Result<(), No
     Ok(())
 }
 
-/// Adds the lines of a claim.
+/// Adds the lines of the claim with these parts.
 #[tactic(auto, using(krieg_text::proofs::Writings::writings))]
-fn put_claim(d: Dialect, claim: &Claim, text: &mut Text) -> Result<(), NoMemory>
-    requires { AreTold d (claim_state_of claim.now) }
-    ensures { PutsLines result text.old text.new (spec.claim_lines d (claim_state_of claim.now)) }
+fn put_claim(
+    d: Dialect,
+    moves: u8,
+    set: &Belief,
+    reasons: &[Reason],
+    text: &mut Text,
+) -> Result<(), NoMemory>
+    requires { All (IsTold d) reasons.now }
+    ensures { PutsLines result text.old text.new (spec.claim_lines d (record { moves = moves; set = set.now; reasons = reasons.now })) }
 {
-    put_sizes(claim.moves, claim.set.len(), text)?;
-    put_set(&claim.set, text)?;
-    put_numbered(b"tries ", claim.reasons.len(), text)?;
-    put_reasons(d, &claim.reasons, text)
+    put_sizes(moves, set.len(), text)?;
+    put_set(set, text)?;
+    put_numbered(b"tries ", reasons.len(), text)?;
+    put_reasons(d, reasons, text)
 }
 
 /// Adds the lines of claims.
@@ -134,7 +141,7 @@ fn put_claims(d: Dialect, claims: &[Claim], text: &mut Text) -> Result<(), NoMem
     ensures { PutsLines result text.old text.new (flat_map (λ c. spec.claim_lines d (claim_state_of c)) claims.now) }
 {
     for claim in claims {
-        put_claim(d, claim, text)?;
+        put_claim(d, claim.moves, &claim.set, &claim.reasons, text)?;
     }
     Ok(())
 }
@@ -169,6 +176,20 @@ fn put_rest(d: Dialect, claims: &[Claim], text: &mut Text) -> Result<(), NoMemor
     text.line(b"end")
 }
 
+/// Adds what stands behind the listed positions, where the claims stand over a table.
+#[tactic(auto, using(krieg_text::proofs::Writings::writings, crate::proofs::WrittenClaims::states))]
+fn put_rest_over(d: Dialect, claims: &Claims, text: &mut Text) -> Result<(), NoMemory>
+    requires { All (λ c. AreTold d (claim_state_of c)) claims.now }
+    ensures { PutsLines result text.old text.new (spec.rest_lines d (map claim_state_of claims.now)) }
+{
+    put_numbered(b"claims ", claims.len(), text)?;
+    for i in 0..claims.len() {
+        let claim = claims.get(i);
+        put_claim(d, claim.moves, claim.set, claim.reasons, text)?;
+    }
+    text.line(b"end")
+}
+
 /// Adds the lines of the refutation.
 #[tactic(auto, using(krieg_text::proofs::Writings::writings))]
 fn put_refutation(f: &Refutation, text: &mut Text) -> Result<(), NoMemory>
@@ -187,7 +208,7 @@ fn put_denial(
     side: Side,
     moves: u8,
     set: &Belief,
-    claims: &[Claim],
+    claims: &Claims,
     text: &mut Text,
 ) -> Result<(), NoMemory>
     requires { All (λ c. AreTold d (claim_state_of c)) claims.now }
@@ -195,7 +216,7 @@ fn put_denial(
 {
     put_head(d, side, moves, set.len(), text)?;
     put_set(set, text)?;
-    put_rest(d, claims, text)
+    put_rest_over(d, claims, text)
 }
 
 /// Appends the text of the refutation in its one written form. Where memory runs out, nothing is appended.
@@ -219,14 +240,15 @@ pub fn write_refutation(f: &Refutation, text: &mut Vec<u8>) -> Result<(), NoMemo
 }
 
 /// Appends the text of the refutation with these claims that lists the members of the set: what `write_refutation` appends,
-/// with no list of positions beside the set. Where memory runs out, nothing is appended.
+/// with no list of positions beside the set, and no set beside those of the table of the search. Where memory runs out,
+/// nothing is appended.
 #[tactic(auto, unfolding(crate::specs::RefutationText::refutation_text))]
 pub fn write_denial(
     d: Dialect,
     side: Side,
     moves: u8,
     set: &Belief,
-    claims: &[Claim],
+    claims: &Claims,
     text: &mut Vec<u8>,
 ) -> Result<(), NoMemory>
     requires { CanBeWritten (state_from d side moves set.now claims.now) }

@@ -10,7 +10,7 @@ use crate::ending::Ending;
 use crate::refusal::Refusal;
 use krieg_belief::{BeliefStop, believe};
 use krieg_board::{NoMemory, Side};
-use krieg_fen::put_listed;
+use krieg_fen::{Ranks, put_next};
 use krieg_pack::{Belief, Packed, unpack};
 use krieg_sheet::{put_end, put_head, read_sheet};
 use krieg_text::Text;
@@ -34,8 +34,9 @@ impl From<BeliefStop> for Ending {
 fn put_positions(members: &[Packed], text: &mut Text) -> Result<(), NoMemory>
     ensures { PutsLines result text.old text.new (map position_line members.now) }
 {
+    let mut ranks = Ranks::new();
     for member in members {
-        put_listed(&unpack(member), text)?;
+        put_next(&unpack(member), &mut ranks, text)?;
     }
     Ok(())
 }

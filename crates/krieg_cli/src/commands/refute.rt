@@ -1,10 +1,4 @@
-ghost use Rattle.std.specs.Prelude.{◌≡◌, ◌≤◌, All, false, length, [], IfOk, IsTrue};
-ghost use Rattle.krieg_board.specs.Validity.{IsValid};
-ghost use Rattle.krieg_text.specs.Lines.{lines};
-ghost use Rattle.krieg_text.specs.Reading.{whole};
-ghost use Rattle.krieg_theory.specs.Sets.{is_nil};
-ghost use Rattle.krieg_belief.specs.Possible.{HaveOneHand};
-ghost use Rattle.krieg_split.specs.Turns.{IsOwnTurn};
+ghost use Rattle.std.specs.Prelude.{◌≡◌, ◌≤◌, [], IfOk};
 ghost use Rattle.krieg_refute.specs.Refuted.{IsDenial};
 ghost use Rattle.krieg_sheet.specs.Places.{IsSheet};
 ghost use Rattle.krieg_cli.specs.Parts.{Decides};
@@ -17,7 +11,7 @@ use crate::refusal::Refusal;
 use krieg_board::{MOST_MOVES, NoMemory, Side, Units};
 use krieg_fen::{MOST_LISTED, write_position};
 use krieg_pack::{Belief, unpack};
-use krieg_refute::{Claim, Denied, RefuteStop, refute};
+use krieg_refute::{Claims, Denied, RefuteStop, refute};
 use krieg_refutefile::write_denial;
 use krieg_sheet::{Sheet, read_sheet};
 use krieg_words::Dialect;
@@ -39,10 +33,11 @@ impl From<RefuteStop> for Ending {
 
 /// About how many bytes the text of a refutation takes, where the line of a position has so many: that of a reason has mostly
 /// 11 or 12, and the two of a claim beside these some 22.
-fn rough_size(line: usize, listed: usize, claims: &[Claim]) -> usize {
+fn rough_size(line: usize, listed: usize, claims: &Claims) -> usize {
     let mut positions = listed;
     let mut reasons: usize = 0;
-    for claim in claims {
+    for i in 0..claims.len() {
+        let claim = claims.get(i);
         positions = positions.saturating_add(claim.set.len());
         reasons = reasons.saturating_add(claim.reasons.len());
     }
@@ -56,9 +51,9 @@ fn rough_size(line: usize, listed: usize, claims: &[Claim]) -> usize {
 
 /// A text with room for the refutation with these claims that lists the members of the set.
 ///
-/// It gets its room at once, so that it fits where the table of the search was: a text that outgrows its room takes twice as
-/// much. The positions have about as many men, so their lines are about as long as that of the first.
-fn text_for(alloc: Global, set: &Belief, claims: &[Claim]) -> Result<Vec<u8>, NoMemory>
+/// It gets its room at once: a text that outgrows its room takes twice as much. The positions have about as many men, so their
+/// lines are about as long as that of the first.
+fn text_for(alloc: Global, set: &Belief, claims: &Claims) -> Result<Vec<u8>, NoMemory>
     ensures { IfOk result (λ text. text.items ≡ []) }
 {
     let mut line = Vec::new(alloc);
@@ -76,15 +71,11 @@ fn file_text(
     who: Side,
     moves: u8,
     set: &Belief,
-    claims: &[Claim],
+    claims: &Claims,
 ) -> Result<Vec<u8>, NoMemory>
     requires least { 1 ≤ moves }
     requires most { moves ≤ MOST_MOVES }
-    requires some { is_nil set.now ≡ false }
-    requires few { length set.now ≤ MOST_LISTED }
-    requires valid { All IsValid set.now }
-    requires hand { HaveOneHand who set.now }
-    requires turn { IsOwnTurn who set.now }
+    requires listed { spec.CanBeListed who set.now }
     requires denial { IsDenial d who set.now moves claims.now }
     ensures { IfOk result (λ text. spec.IsDenialText d who set.now moves text.items) }
 {
@@ -93,37 +84,27 @@ fn file_text(
     Ok(text)
 }
 
-/// Whether the claim is of just the members of the set.
-fn is_of(claim: &Claim, set: &Belief) -> bool
-    ensures { IsTrue result → claim.now.set ≡ set.now }
-{
-    claim.set == *set
-}
-
 /// The same text. Where the last claim is of all members, as at an own turn whose opening words are alike everywhere, these are
-/// written from it, and the set is let go before: so the text fits where the set and the table of the search were.
+/// written from it, and the set is let go before: so beside the text there is only the table of the search, which has the claims.
 fn last_text(
     alloc: Global,
     d: Dialect,
     who: Side,
     moves: u8,
     set: Belief,
-    claims: &[Claim],
+    claims: &Claims,
 ) -> Result<Vec<u8>, NoMemory>
     requires least { 1 ≤ moves }
     requires most { moves ≤ MOST_MOVES }
-    requires some { is_nil set ≡ false }
-    requires few { length set ≤ MOST_LISTED }
-    requires valid { All IsValid set }
-    requires hand { HaveOneHand who set }
-    requires turn { IsOwnTurn who set }
+    requires listed { spec.CanBeListed who set }
     requires denial { IsDenial d who set moves claims.now }
     ensures { IfOk result (λ text. spec.IsDenialText d who set moves text.items) }
 {
-    if let Some(last) = claims.last() {
-        if is_of(last, &set) {
+    if let Some(last) = claims.len().checked_sub(1) {
+        let last = claims.get(last);
+        if last.set.same(&set) {
             drop(set);
-            return file_text(alloc, d, who, moves, &last.set, claims);
+            return file_text(alloc, d, who, moves, last.set, claims);
         }
     }
     file_text(alloc, d, who, moves, &set, claims)
@@ -140,11 +121,7 @@ fn searched(
 ) -> Result<Vec<u8>, Ending>
     requires least { 1 ≤ moves }
     requires most { moves ≤ MOST_MOVES }
-    requires some { is_nil set ≡ false }
-    requires few { length set ≤ MOST_LISTED }
-    requires valid { All IsValid set }
-    requires hand { HaveOneHand who set }
-    requires turn { IsOwnTurn who set }
+    requires listed { spec.CanBeListed who set }
     ensures { Decides (λ answer. answer.items) result (spec.Claimed d who set moves budget) }
 {
     let moves = moves as u8;

@@ -1,4 +1,6 @@
-use Rattle.std.proofs.Common.{◌≡◌, ℕ, ◌+◌, ◌++◌, ◌∷◌, [], List, length, ap, sym, subst, ◌∙◌, min, arith, rules}
+use Rattle.std.proofs.Common.{◌≡◌, ℕ, ◌+◌, ◌<◌, ◌++◌, ◌∷◌, [], List, length, refl, ap, sym, subst, ◌∙◌, min, arith, rules}
+use Rattle.std.proofs.lemmas.List.{map-append, length-map}
+use Rattle.std.proofs.lemmas.List.Elements.{All-push, All-same}
 use Rattle.krieg_board.specs.Pos.{Pos}
 use Rattle.krieg_theory.specs.Sets.{In}
 use Rattle.krieg_theory.proofs.Lists.{in_map}
@@ -9,6 +11,8 @@ use Rattle.krieg_claims.specs.Sizes.{AreFew, AreMany, positions_in, reasons_in}
 use Rattle.krieg_game.specs.Chess.{chess}
 use Rattle.krieg_table.specs.Interned.{set_at}
 use Rattle.krieg_refute.specs.declared.refutation.Claim.{Claim}
+use Rattle.krieg_refute.specs.declared.claims.Draft.{Draft}
+use Rattle.krieg_refute.specs.Drafts.{claim_over, claims_over}
 use Rattle.krieg_refute.specs.declared.claiming.Asked.{Asked}
 use Rattle.krieg_refute.specs.Refutations.{claims_of, most_claims, most_claimed}
 use Rattle.krieg_refute.specs.Claiming.{pairs_in}
@@ -23,16 +27,18 @@ returns-then-not-are_few c =
     let one : Claim = record { moves = c.args.moves; set = set_at T c.args.set; reasons = c.args.reasons } in
     let a : Asked = record { set = c.args.set; moves = c.args.moves } in
     let own = c.requires.claimed in
-    let is = claims_are d T w.places.keys w.claims.items one a c.requires.within own.numbered own.stands own.are c.requires.next (λ i. set_at T c.args.set) (λ i. c.args.moves) in
+    let cs = claims_over T w.claims.items in
+    let is = claims_are d T w.places.keys cs one a c.requires.within own.numbered own.stands own.are c.requires.next (λ i. set_at T c.args.set) (λ i. c.args.moves) in
     let had = own.positions_part in
-    let members = c.len.ensures.value ∙ ap length c.belief-belief.ensures in
-    let positions : c.saturating_add-positions.result ≡ min (positions_in (chess d) (claims_of d w.claims.items) + length (set_at T c.args.set)) 18446744073709551615 = c.saturating_add-positions.ensures ∙ (λ i. min (had i + members i) 18446744073709551615) in
+    let members = c.len.ensures.value ∙ ap length c.belief.ensures in
+    let positions : c.saturating_add-positions.result ≡ min (positions_in (chess d) (claims_of d cs) + length (set_at T c.args.set)) 18446744073709551615 = c.saturating_add-positions.ensures ∙ (λ i. min (had i + members i) 18446744073709551615) in
     let given = own.reasons_part in
     let new : c.len-2.result ≡ length c.args.reasons.items = c.len-2.ensures ∙ search rules in
-    let reasons : c.saturating_add-count.result ≡ min (reasons_in (chess d) (claims_of d w.claims.items) + length c.args.reasons.items) 18446744073709551615 = c.saturating_add-count.ensures ∙ (λ i. min (given i + new i) 18446744073709551615) in
-    let count : c.len-3.result ≡ length w.claims.items = c.len-3.ensures ∙ search rules in
+    let reasons : c.saturating_add-count.result ≡ min (reasons_in (chess d) (claims_of d cs) + length c.args.reasons.items) 18446744073709551615 = c.saturating_add-count.ensures ∙ (λ i. min (given i + new i) 18446744073709551615) in
+    let had_claims : c.len-3.result ≡ length w.claims.items = c.len-3.ensures ∙ search rules in
+    let count : c.len-3.result ≡ length cs = had_claims ∙ sym (length-map w.claims.items (claim_over T)) in
     subst (λ cs. AreMany (chess d) most_claims most_claimed cs) is
-    (too_many d w.claims.items one c.len-3.result c.saturating_add-positions.result c.saturating_add-count.result 18446744073709551615 c.are_few.result count (omega arith) positions reasons c.are_few.ensures.1 c.if-not-are_few.true)
+    (too_many d cs one c.len-3.result c.saturating_add-positions.result c.saturating_add-count.result 18446744073709551615 c.are_few.result count (omega arith) positions reasons c.are_few.ensures.1 c.if-not-are_few.true)
 
 pub add_place-requires : goal.add_place-requires
 add_place-requires c = λ i.
@@ -44,29 +50,34 @@ returns c =
     let T = c.args.table.now in
     let w = c.args.claimed.now in
     let keys = w.places.keys in
-    let cs = w.claims.items in
-    let B = c.belief-belief.result.now in
-    let one : Claim = record { moves = c.args.moves; set = B; reasons = c.args.reasons } in
+    let cs = claims_over T w.claims.items in
+    let B = set_at T c.args.set in
+    let draft : Draft = record { moves = c.args.moves; set = c.args.set; reasons = c.args.reasons } in
+    let one = claim_over T draft in
     let a : Asked = record { set = c.args.set; moves = c.args.moves } in
     let own = c.requires.claimed in
     let next = c.requires.next in
-    let set = c.belief-belief.ensures in
+    let set : B ≡ B = refl in
     let k = c.in_ok-add_place.ensures in
-    let p = c.in_ok-add_claim.ensures in
+    let more = c.in_ok-push.ensures.items in
+    let p : claims_over T c.push.new.self.items ≡ cs ++ one ∷ [] = ap (claims_over T) more ∙ map-append (claim_over T) w.claims.items (draft ∷ []) in
     let is = claims_are d T keys cs one a c.requires.within own.numbered own.stands own.are next set (λ i. c.args.moves) in
     let pairs : pairs_in T c.add_place.new.places.keys ≡ pairs_in T keys ++ (set_at T c.args.set, c.args.moves) ∷ [] = ap (pairs_in T) k ∙ pairs_more d T keys cs one a c.requires.within own.numbered own.stands own.are next set (λ i. c.args.moves) in
     let had = own.positions_part in
-    let members = c.len.ensures.value in
+    let members = c.len.ensures.value ∙ ap length c.belief.ensures in
     let positions : c.saturating_add-positions.result ≡ min (positions_in (chess d) (claims_of d cs) + length B) 18446744073709551615 = c.saturating_add-positions.ensures ∙ (λ i. min (had i + members i) 18446744073709551615) in
     let given = own.reasons_part in
     let new : c.len-2.result ≡ length c.args.reasons.items = c.len-2.ensures ∙ search rules in
     let reasons : c.saturating_add-count.result ≡ min (reasons_in (chess d) (claims_of d cs) + length c.args.reasons.items) 18446744073709551615 = c.saturating_add-count.ensures ∙ (λ i. min (given i + new i) 18446744073709551615) in
-    let count : c.len-3.result ≡ length cs = c.len-3.ensures ∙ search rules in
+    let had_claims : c.len-3.result ≡ length w.claims.items = c.len-3.ensures ∙ search rules in
+    let count : c.len-3.result ≡ length cs = had_claims ∙ sym (length-map w.claims.items (claim_over T)) in
     let few = still_few d cs one c.len-3.result c.saturating_add-positions.result c.saturating_add-count.result 18446744073709551615 count (omega arith) positions reasons (c.are_few.ensures.0 c.if-not-are_few.false) in
-    let last : c.len-4.result ≡ length c.add_claim.new.claims.items = c.len-4.ensures ∙ search rules in (
+    let has_claims : c.len-4.result ≡ length c.push.new.self.items = c.len-4.ensures ∙ search rules in
+    let last : c.len-4.result ≡ length (claims_over T c.push.new.self.items) = has_claims ∙ sym (length-map c.push.new.self.items (claim_over T)) in (
       record {
         numbered = λ x i. all_numbered d T keys cs one a c.requires.within own.numbered own.stands own.are next set (λ i. c.args.moves) x (subst (In x) k i);
         stands = subst (Stands (chess d) []) (sym pairs) (stand d T keys cs one a c.requires.within own.numbered own.stands own.are next set (λ i. c.args.moves));
+        within = All-same (λ (x : Draft). x.set < length T) _ _ more (All-push (λ (x : Draft). x.set < length T) w.claims.items draft own.within c.requires.within);
         are = ap (claims_of d) p ∙ is ∙ ap (written.claims_of (chess d)) (sym pairs);
         positions_part = few.0 ∙ ap (λ (xs : List Claim). positions_in (chess d) (claims_of d xs)) (sym p);
         reasons_part = few.1 ∙ ap (λ (xs : List Claim). reasons_in (chess d) (claims_of d xs)) (sym p);
