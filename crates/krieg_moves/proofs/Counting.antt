@@ -142,9 +142,9 @@ never : (b : Bool) → false ≡ (b && not b)
 never true = refl
 never false = refl
 
-pub lone_counted : (p : Pos) (king : ℕ) → king < 64 → IsAlone p.board p.side king → length (filter (is_legal p) (moves_from king)) ≡ length (moves p)
+pub one_counted : (p : Pos) (king : ℕ) → king < 64 → length (moves_of p (1 * 2 ^ king % 18446744073709551616)) ≡ length (filter (is_legal p) (moves_from king))
 unfolding moves_of picked
-lone_counted p king inside alone =
+one_counted p king inside =
     let men = 1 * 2 ^ king % 18446744073709551616 in
     let has_men = λ (k : ℕ) (h : k < 64). has_place king k inside h in
     let first : IsLowest men king = record {
@@ -154,8 +154,12 @@ lone_counted p king inside alone =
     } in
     let moves_from_king = λ (k : ℕ). filter (is_legal p) (moves_from k) in
     let one = counted_taken moves_from_king men king 0 first (λ k h. has_zero k ∙ never (k == king) ∙ ap (λ b. b && not (k == king)) (sym (has_men k h))) in
-    let all : length (picked men moves_from_king) ≡ length (moves p) = all_counted p men (λ k h. has_men k h ∙ sym (alone.alone k h)) in
-    omega (arith, one, counted_ended moves_from_king 0 refl, all)
+    omega (arith, one, counted_ended moves_from_king 0 refl)
+
+pub lone_counted : (p : Pos) (king : ℕ) → king < 64 → IsAlone p.board p.side king → length (filter (is_legal p) (moves_from king)) ≡ length (moves p)
+lone_counted p king inside alone =
+    let men = 1 * 2 ^ king % 18446744073709551616 in
+    sym (one_counted p king inside) ∙ all_counted p men (λ k h. has_place king k inside h ∙ sym (alone.alone k h))
 
 -- a rank as a set
 pub eighth_rank : (t : ℕ) → t < 64 → has 18374686479671623680 t ≡ (t / 8 == 7)

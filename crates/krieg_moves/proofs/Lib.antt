@@ -25,6 +25,7 @@ pub mod Going
 pub mod PawnGoing
 pub mod Listing
 pub mod LoneKings
+pub mod PawnReplies
 pub mod Counting
 pub mod Officers
 pub mod Shifts

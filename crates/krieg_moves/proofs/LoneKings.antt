@@ -1,4 +1,5 @@
 -- A king who is the only man of his side can't castle, so his steps are all that may be done.
+use Rattle.std.specs.List.{filter}
 use Rattle.std.proofs.Common.{◌≡◌, ◌≢◌, ℕ, ◌<◌, ◌^◌, Bool, true, false, not, ◌&&◌, ◌||◌, ◌==◌, ◌⊎◌, inl, inr, length, sym, ◌∙◌, ap, subst}
 use Rattle.std.specs.Prelude.{Option, Some, None, count_ones, slice_set}
 use Rattle.std.proofs.Math.Bool.{or-false, and-false, and-true}
@@ -21,7 +22,7 @@ use Rattle.krieg_rays.proofs.Attacking.{king_from}
 use Rattle.krieg_moves.specs.Wings.{corner, king_square, arrival}
 use Rattle.krieg_moves.specs.After.{moved, placed, board_after, after, after_by}
 use Rattle.krieg_moves.specs.Legal.{is_legal, is_candidate, holds, can_castle}
-use Rattle.krieg_moves.specs.Moves.{can_go, plain_move, moves}
+use Rattle.krieg_moves.specs.Moves.{can_go, plain_move, moves, moves_from}
 use Rattle.krieg_moves.specs.Targets.{is_king_step, is_step_of_king, IsAlone}
 use Rattle.krieg_moves.specs.declared.wing.Wing.{Wing}
 use Rattle.krieg_moves.specs.declared.wing.Wing.TheVariants.{Short, Long}
@@ -50,6 +51,27 @@ step_is p man f t king = ap (λ x. (x && not (is_of p.side (man_at p.board t))) 
 pub step_found : (p : Pos) (b : Board) (side : Side) (f f' t steps : ℕ) (man : Man) → b ≡ p.board → side ≡ p.side → f ≡ f' → man.kind ≡ King → has steps t ≡ is_step_of_king b side f t → has steps t ≡ is_king_step p f' man t
 step_found p b side f f' t steps man board turn place king are = are ∙ (λ i. is_step_of_king (board i) (turn i) (place i) t) ∙ step_is p man f' t king
 
+-- a king who can't castle
+module _ (p : Pos) (king : ℕ) (valid : IsValid p) (inside : king < 64) (stands : is_man p.side King (man_at p.board king) ≡ true) (none : (wing : Wing) → holds p.rights p.side wing ≡ false) where
+  castles_not : (wing : Wing) (t : ℕ) → can_castle wing p (plain_move king t) ≡ false
+  castles_not wing t = third_not (king == king_square p.side) (t == arrival wing p.side) (holds p.rights p.side wing) _ (none wing)
+
+  pub steps_go : (t : ℕ) → t < 64 → is_step_of_king p.board p.side king t ≡ can_go p king t
+  steps_go t h =
+      let (man, is, own, kind) = found_man p.side King (man_at p.board king) stands in
+      let m = plain_move king t in
+      step_is p man king t kind
+      ∙ sym ((λ i. (is_king_step p king man t || (castles_not Short t i && is_legal p m)) || (castles_not Long t i && is_legal p m))
+      ∙ or-false (is_king_step p king man t || false) ∙ or-false (is_king_step p king man t))
+      ∙ king_goes p king t man valid inside h is own kind
+
+  -- his moves are counted, where a set has them
+  pub king_counted : (steps : ℕ) → steps < 2 ^ 64 → ((t : ℕ) → t < 64 → has steps t ≡ is_step_of_king p.board p.side king t) → count_ones steps ≡ length (filter (is_legal p) (moves_from king))
+  king_counted steps small are =
+      let (man, is, own, kind) = found_man p.side King (man_at p.board king) stands in
+      counted_plain p king steps valid inside small (λ t h. are t h ∙ steps_go t h)
+      (ap (is_man p.side Pawn) is ∙ is_man_other_kind p.side Pawn man (ap (λ k. is_same_kind k Pawn) kind))
+
 module _ (p : Pos) (king : ℕ) (valid : IsValid p) (inside : king < 64) (alone : IsAlone p.board p.side king) where
   holds_none : (wing : Wing) → holds p.rights p.side wing ≡ false
   holds_none wing = false_from_ne_true (holds p.rights p.side wing) (λ h.
@@ -58,25 +80,9 @@ module _ (p : Pos) (king : ℕ) (valid : IsValid p) (inside : king < 64) (alone 
       let here = eqb-true (corner wing p.side) king (sym (alone.alone (corner wing p.side) (squares_apart wing p.side).corner_in) ∙ of_side) in
       no_rook p.side (man_at p.board king) alone.stands (subst (λ s. is_man p.side Rook (man_at p.board s) ≡ true) here rook))
 
-  castles_not : (wing : Wing) (t : ℕ) → can_castle wing p (plain_move king t) ≡ false
-  castles_not wing t = third_not (king == king_square p.side) (t == arrival wing p.side) (holds p.rights p.side wing) _ (holds_none wing)
-
-  steps_go : (t : ℕ) → t < 64 → is_step_of_king p.board p.side king t ≡ can_go p king t
-  steps_go t h =
-      let (man, is, own, kind) = found_man p.side King (man_at p.board king) alone.stands in
-      let m = plain_move king t in
-      step_is p man king t kind
-      ∙ sym ((λ i. (is_king_step p king man t || (castles_not Short t i && is_legal p m)) || (castles_not Long t i && is_legal p m))
-      ∙ or-false (is_king_step p king man t || false) ∙ or-false (is_king_step p king man t))
-      ∙ king_goes p king t man valid inside h is own kind
-
   -- the steps are counted, where a set has them
   pub steps_counted : (steps : ℕ) → steps < 2 ^ 64 → ((t : ℕ) → t < 64 → has steps t ≡ is_step_of_king p.board p.side king t) → count_ones steps ≡ length (moves p)
-  steps_counted steps small are =
-      let (man, is, own, kind) = found_man p.side King (man_at p.board king) alone.stands in
-      counted_plain p king steps valid inside small (λ t h. are t h ∙ steps_go t h)
-      (ap (is_man p.side Pawn) is ∙ is_man_other_kind p.side Pawn man (ap (λ k. is_same_kind k Pawn) kind))
-      ∙ lone_counted p king inside alone
+  steps_counted steps small are = king_counted p king valid inside alone.stands holds_none steps small are ∙ lone_counted p king inside alone
 
 -- the board and the side to move after the move of a man
 pub board_is : (p : Pos) (m : Move) (man : Man) (b : Board) → b ≡ board_after p.board p.mark man m → man_at p.board m.from ≡ Some man → b ≡ (after p m).board
@@ -97,31 +103,42 @@ goes_off king t = by_place (cases_eq t king)
     by_place (inr off) = sym (ap (λ x. (not (king == t) && can_reach King White king t) && not x) (ne_eqb t king off) ∙ and-true (not (king == t) && can_reach King White king t))
 
 -- a king who can't be captured is alone behind a legal move of the other side
-module _ (p : Pos) (m : Move) (man : Man) (king : ℕ) (valid : IsValid p) (is : man_at p.board m.from ≡ Some man) (legal : is_legal p m ≡ true) (inside : king < 64) (alone : IsAlone p.board (other p.side) king) where
-  moves_man : Mover p m man
+module _ (p : Pos) (m : Move) (man : Man) (king : ℕ) (valid : IsValid p) (is : man_at p.board m.from ≡ Some man) (legal : is_legal p m ≡ true) (stands : is_man (other p.side) King (man_at p.board king) ≡ true) where
+  pub moves_man : Mover p m man
   unfolding is_legal
   moves_man = mover_is p m man valid is (and_parts (is_candidate p m) (not (is_king_attacked (after p m).board p.side)) legal).0
 
   pub to_off : m.to ≢ king
-  to_off e = both_ways (is_man (other p.side) King (man_at p.board king)) (ap (λ s. is_man (other p.side) King (man_at p.board s)) (sym e) ∙ (effect p m man (facts p valid) moves_man).no_king_there (other p.side)) alone.stands
+  to_off e = both_ways (is_man (other p.side) King (man_at p.board king)) (ap (λ s. is_man (other p.side) King (man_at p.board s)) (sym e) ∙ (effect p m man (facts p valid) moves_man).no_king_there (other p.side)) stands
 
-  from_off : king ≢ m.from
+  pub from_off : king ≢ m.from
   from_off e =
       let own : is_of p.side (man_at p.board m.from) ≡ true = ap (is_of p.side) is ∙ ap (λ s. is_same_side s p.side) moves_man.own ∙ same_side_self p.side in
-      both_ways (is_of (other p.side) (man_at p.board king)) (ap (λ s. is_of (other p.side) (man_at p.board s)) e ∙ not_enemy p.side (man_at p.board m.from) own) (is_of_man (other p.side) King (man_at p.board king) alone.stands)
+      both_ways (is_of (other p.side) (man_at p.board king)) (ap (λ s. is_of (other p.side) (man_at p.board s)) e ∙ not_enemy p.side (man_at p.board m.from) own) (is_of_man (other p.side) King (man_at p.board king) stands)
 
-  placed_off : is_of (other p.side) (Some (placed man m)) ≡ false
+  pub placed_off : is_of (other p.side) (Some (placed man m)) ≡ false
   placed_off = not_enemy p.side (Some (placed man m)) (ap (λ s. is_same_side s p.side) moves_man.own ∙ same_side_self p.side)
+
+-- the same king, where he is alone
+module _ (p : Pos) (m : Move) (man : Man) (king : ℕ) (valid : IsValid p) (is : man_at p.board m.from ≡ Some man) (legal : is_legal p m ≡ true) (inside : king < 64) (alone : IsAlone p.board (other p.side) king) where
+  goes_to : m.to ≢ king
+  goes_to = to_off p m man king valid is legal alone.stands
+
+  goes_from : king ≢ m.from
+  goes_from = from_off p m man king valid is legal alone.stands
+
+  mover : Mover p m man
+  mover = moves_man p m man king valid is legal alone.stands
 
   alone_moved : IsAlone (moved p.board man m) (other p.side) king
   alone_moved = record {
-    stands = ap (is_man (other p.side) King) (man_at_moved_other p.board man m king from_off (λ e. to_off (sym e))) ∙ alone.stands;
+    stands = ap (is_man (other p.side) King) (man_at_moved_other p.board man m king goes_from (λ e. goes_to (sym e))) ∙ alone.stands;
     alone = λ k h. by_place k h (cases_eq k m.to) (cases_eq k m.from);
   }
     where
       by_place : (k : ℕ) → k < 64 → (k ≡ m.to) ⊎ (k ≢ m.to) → (k ≡ m.from) ⊎ (k ≢ m.from) → is_of (other p.side) (man_at (moved p.board man m) k) ≡ (k == king)
-      by_place k h (inl e) f = ap (λ s. is_of (other p.side) (man_at (moved p.board man m) s)) e ∙ ap (is_of (other p.side)) (man_at_moved_to p.board man m moves_man.departs) ∙ placed_off ∙ sym (ne_eqb k king (λ q. to_off (sym e ∙ q)))
-      by_place k h (inr t) (inl e) = ap (λ s. is_of (other p.side) (man_at (moved p.board man m) s)) e ∙ ap (is_of (other p.side)) (man_at_moved_from p.board man m moves_man.departs) ∙ sym (ne_eqb k king (λ q. from_off (sym q ∙ e)))
+      by_place k h (inl e) f = ap (λ s. is_of (other p.side) (man_at (moved p.board man m) s)) e ∙ ap (is_of (other p.side)) (man_at_moved_to p.board man m mover.departs) ∙ placed_off p m man king valid is legal alone.stands ∙ sym (ne_eqb k king (λ q. goes_to (sym e ∙ q)))
+      by_place k h (inr t) (inl e) = ap (λ s. is_of (other p.side) (man_at (moved p.board man m) s)) e ∙ ap (is_of (other p.side)) (man_at_moved_from p.board man m mover.departs) ∙ sym (ne_eqb k king (λ q. goes_from (sym q ∙ e)))
       by_place k h (inr t) (inr f) = ap (is_of (other p.side)) (man_at_moved_other p.board man m k f t) ∙ alone.alone k h
 
   -- the steps are counted, where a set has them
@@ -135,4 +152,4 @@ module _ (p : Pos) (m : Move) (man : Man) (king : ℕ) (valid : IsValid p) (is :
     where
       step : (t : ℕ) → t < 64 → (goes King White king t && not (is_attacked (slice_set (moved p.board man m) king None) t man.side)) ≡ is_step_of_king (moved p.board man m) (other p.side) king t
       step t h = λ i. (goes_off king t ∙ ap (λ x. goes King White king t && not x) (sym (alone_moved.alone t h))) i
-          && not (is_attacked (slice_set (moved p.board man m) king None) t ((moves_man.own ∙ sym (other_other p.side)) i))
+          && not (is_attacked (slice_set (moved p.board man m) king None) t ((mover.own ∙ sym (other_other p.side)) i))

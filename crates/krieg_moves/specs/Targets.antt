@@ -55,6 +55,11 @@ pub record IsFreePawn (p : Pos) (k : ℕ) : Type 0 where
 abbrev pub is_step_of_king : Board → Side → ℕ → ℕ → Bool
 is_step_of_king b side f t = (goes King White f t && not (is_of side (man_at b t))) && not (is_attacked (slice_set b f None) t (other side))
 
+-- the king of that side stands there, and its other men are pawns
+pub record HasOnlyPawns (b : Board) (side : Side) (king : ℕ) : Type 0 where
+  pub stands : is_man side King (man_at b king) ≡ true
+  pub others : (k : ℕ) → k < 64 → is_of side (man_at b k) ≡ (k == king || is_man side Pawn (man_at b k))
+
 -- the king of that side stands there, and is its only man
 pub record IsAlone (b : Board) (side : Side) (king : ℕ) : Type 0 where
   pub stands : is_man side King (man_at b king) ≡ true

@@ -20,7 +20,7 @@ use krieg_board::{
 };
 
 /// The squares of the rank on which a side's pawns are promoted.
-fn last_rank_squares(side: Side) -> u64
+pub(crate) fn last_rank_squares(side: Side) -> u64
     ensures { (t : ℕ) → t < 64 → sets.has result t ≡ (squares.rank_of t == squares.last_rank side) }
 {
     match side {

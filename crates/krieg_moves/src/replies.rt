@@ -1,20 +1,23 @@
 ghost use Rattle.std.specs.Prelude.{◌≡◌, ◌≤◌, true, false, Some, IfSome, IfNone, IsTrue, length};
 ghost use Rattle.krieg_board.specs.Board.{man_at};
-ghost use Rattle.krieg_board.specs.Men.{other};
+ghost use Rattle.krieg_board.specs.Men.{other, is_same_kind};
+ghost use Rattle.krieg_board.specs.Validity.{count_kind};
+ghost use Rattle.krieg_board.specs.declared.men.Kind.TheVariants.{Pawn, King};
 ghost use Rattle.krieg_moves.specs.After as change;
 ghost use Rattle.krieg_moves.specs.Legal as spec;
 ghost use Rattle.krieg_moves.specs.Moves as list;
-ghost use Rattle.krieg_moves.specs.Targets.{IsAlone};
+ghost use Rattle.krieg_moves.specs.Targets.{HasOnlyPawns, IsAlone};
 
 use crate::candidate::is_candidate;
 use crate::change::{after, board_after, is_castling, is_en_passant, placed, position_after};
-use crate::count::{MOST_LEGAL_MOVES, count_by_guard, count_steps, lone_king};
+use crate::count::{MOST_LEGAL_MOVES, count_by_guard, count_steps, last_rank_squares, lone_king};
 use crate::ends::in_check;
 use crate::guard::Guard;
 use crate::legality::is_king_safe;
+use crate::ways::count_ways;
 use crate::wing::Wing;
-use krieg_board::{Bits, Man, Move, Position, Square, know_valid};
-use krieg_rays::{attacked_behind, king_attacks};
+use krieg_board::{Bits, Kind, Man, Move, Position, Side, Square, has, king_of, know_valid, only};
+use krieg_rays::{attacked_behind, king_attacks, may_pin_behind};
 
 /// The number of the replies to the legal move of this man, which leaves the board `next`. Of a king who is alone the steps
 /// are counted on the board, and no position is made.
@@ -60,6 +63,54 @@ fn count_steps_behind(p: &Position, man: Man, mv: &Move, king: Square) -> usize
     (king_attacks(king.number()) & !attacked).count_ones() as usize
 }
 
+/// The king of that side, where its other men are pawns.
+#[inline(always)]
+fn king_with_pawns(b: &Bits, side: Side) -> Option<Square>
+    requires { count_kind b.now side King ≡ 1 }
+    ensures { IfSome result (HasOnlyPawns b.now side) }
+{
+    let king = king_of(b, side);
+    let men = b.men_of(side);
+    if men == only(king) | (b.sets().pawns & men) {
+        return Square::new(king);
+    }
+    None
+}
+
+/// The number of the replies of an enemy who has a king and pawns, to the legal move of an officer or of the king, who moves
+/// alone. Nothing, where the move gives check, or where it may be that it pins a pawn. No board is made.
+#[inline(always)]
+fn count_if_quiet(p: &Position, man: Man, mv: &Move, king: Square) -> Option<usize>
+    requires man { man_at p.now.board mv.now.from ≡ Some man }
+    requires legal { IsTrue (spec.is_legal p.now mv.now) }
+    requires pawns { HasOnlyPawns p.now.board (other p.now.side) king }
+    requires single { change.board_after p.now.board p.now.mark man mv.now ≡ change.moved p.now.board man mv.now }
+    requires officer { is_same_kind man.kind Pawn ≡ false }
+    ensures { IfSome result (λ n. n ≡ length (list.moves (change.after p.now mv.now))) }
+{
+    know_valid(p);
+    let bits = p.bits();
+    let by = p.side().other();
+    let (king, from, to) = (king.number(), mv.from.number(), mv.to.number());
+    let man = placed(man, mv);
+    if may_pin_behind(bits, king, from, to, man) {
+        return None;
+    }
+    let attacked = attacked_behind(bits, king, from, to, man);
+    if has(attacked, king) {
+        return None;
+    }
+    let men = bits.men_of(by) & !only(to);
+    let pawns = bits.sets().pawns & men;
+    let empty = !(bits.occupied() & !only(from) | only(to));
+    let captures = bits.men_of(p.side()) & !only(from) | only(to);
+    let last = last_rank_squares(by);
+    let steps = king_attacks(king) & !men & !attacked;
+    let ways = count_ways(by, pawns, empty, empty, captures);
+    let promotions = count_ways(by, pawns, empty, empty & last, captures & last);
+    Some(steps.count_ones() as usize + (ways + 3 * promotions))
+}
+
 /// The number of the replies to the legal move of this man.
 #[inline(always)]
 fn count_behind(p: &Position, man: Man, mv: &Move) -> usize
@@ -71,6 +122,12 @@ fn count_behind(p: &Position, man: Man, mv: &Move) -> usize
     if let Some(king) = lone_king(p.bits(), p.side().other()) {
         if moves_alone(p, man, mv) {
             return count_steps_behind(p, man, mv, king);
+        }
+    } else if let Some(king) = king_with_pawns(p.bits(), p.side().other()) {
+        if man.kind != Kind::Pawn && moves_alone(p, man, mv) {
+            if let Some(count) = count_if_quiet(p, man, mv, king) {
+                return count;
+            }
         }
     }
     let next = board_after(p.bits(), &p.mark(), man, mv);

@@ -11,3 +11,4 @@ pub mod Sniping
 pub mod Kings
 pub mod ByKind
 pub mod Behind
+pub mod PinsBehind

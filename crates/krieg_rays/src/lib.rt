@@ -30,5 +30,5 @@ pub use leaps::{king_attacks, knight_attacks, pawn_attacks, pawn_steps};
 pub use lines::{
     diagonal_from, falling_through, file_through, rank_through, rising_through, straight_from,
 };
-pub use pin::{KingLines, king_lines, pinned};
+pub use pin::{KingLines, king_lines, may_pin_behind, pinned};
 pub use segment::{between, between_at};

@@ -1,17 +1,18 @@
-ghost use Rattle.std.specs.Prelude.{◌≡◌, ◌<◌, ◌&&◌, ℕ, true};
+ghost use Rattle.std.specs.Prelude.{◌≡◌, ◌<◌, ◌&&◌, ℕ, true, false, Some, None, length, slice_set};
 ghost use Rattle.krieg_board.specs.Men.{other};
 ghost use Rattle.krieg_board.specs.Attacks.{attacks};
-ghost use Rattle.krieg_board.specs.Board.{man_at, is_of, is_man};
+ghost use Rattle.krieg_board.specs.Board.{Board, man_at, is_of, is_man};
 ghost use Rattle.krieg_board.specs.Sets.{has};
 ghost use Rattle.krieg_board.specs.Validity.{count_kind};
 ghost use Rattle.krieg_board.specs.declared.men.Kind.TheVariants.{King};
+ghost use Rattle.krieg_board.specs.declared.men.Side.{Side as Who};
 ghost use Rattle.krieg_rays.specs.Pinned.{is_pinned};
 ghost use Rattle.krieg_rays.specs.Snipers.{is_only, is_sniper};
 
 use crate::attack::near_men;
 use crate::lines::{falling_through, file_through, rank_through, rising_through};
 use crate::segment::between_at;
-use krieg_board::{Bits, Side, king_of, lowest, only_if, without_lowest};
+use krieg_board::{Bits, Man, Side, king_of, lowest, only, only_if, without_lowest};
 
 /// Who gives check to a king, and who is pinned to him.
 #[derive(Clone, Copy, Debug)]
@@ -80,4 +81,23 @@ fn only_one(set: u64) -> u64
     } else {
         0
     }
+}
+
+/// Whether some rook, bishop or queen of that side may pin a man to the king on the square, behind a move of theirs to the square
+/// `to`: such a man, or the one who moved, stands on a line with him then. Where none does, nobody is pinned.
+#[inline(always)]
+pub fn may_pin_behind(b: &Bits, king: u8, from: u8, to: u8, man: Man) -> bool
+    requires size { length b.now ≡ 64 }
+    requires king { king < 64 }
+    requires from { from < 64 }
+    requires to { to < 64 }
+    ensures { result ≡ false → (c : Board) → c ≡ slice_set (slice_set b.now from None) to (Some man) → (who : Who) → other who ≡ man.side
+        → count_kind c who King ≡ 1 → is_man who King (man_at c king) ≡ true → (k : ℕ) → k < 64 → is_pinned c who k ≡ false }
+{
+    let sets = b.sets();
+    let sliders = (sets.rooks | sets.bishops | sets.queens) & b.men_of(man.side);
+    let behind = sliders & !only(from) | only(to);
+    let straight = file_through(king) | rank_through(king);
+    let diagonal = rising_through(king) | falling_through(king);
+    (straight | diagonal) & behind != 0
 }

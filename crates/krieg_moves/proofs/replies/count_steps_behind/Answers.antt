@@ -11,7 +11,7 @@ use Rattle.krieg_moves.proofs.replies.count_steps_behind.Goals as goal
 
 pub attacked_behind-attacked-requires-clause-apart : goal.attacked_behind-attacked-requires-clause-apart
 attacked_behind-attacked-requires-clause-apart c = λ e.
-    to_off c.args.p.now c.args.mv.now c.args.man c.args.king c.know_valid.ensures c.requires.man c.requires.legal (omega (arith, c.number.ensures.value, c.number.ensures.below)) c.requires.alone
+    to_off c.args.p.now c.args.mv.now c.args.man c.args.king c.know_valid.ensures c.requires.man c.requires.legal c.requires.alone.stands
     (omega (arith, c.number.ensures.value, c.number-to.ensures.value, e))
 
 pub returns : goal.returns
