@@ -1,4 +1,4 @@
-//! Tallies of the tries in a set that is too large for the moves of all its members to be kept.
+//! Tallies of the tries in a set that may be too large for the moves of all its members to be kept.
 
 ghost use Rattle.std.specs.Prelude.{◌≡◌, ◌<◌, ◌≤◌, [], length, IfOk, IfSome, OnOk};
 ghost use Rattle.krieg_words.specs.declared.dialects.Dialect.{Dialect};
@@ -26,7 +26,7 @@ fn add_members(
     step: usize,
     tallies: &mut [Tally],
 ) -> Result<(), NoMemory>
-    requires step { (0 < step) × (step ≤ length members.now) }
+    requires step { (0 < step) × (step ≤ MOST_COUNTED) }
     requires few { length members.now ≤ MOST_COUNTED }
     requires none { AreTallies members.now [] tallies.old }
     ensures { OnOk result (step ≡ 1 → AreTallies members.now members.now tallies.new) }
@@ -61,7 +61,7 @@ fn are_all_made(
     step: usize,
     left: u64,
 ) -> Result<bool, NoMemory>
-    requires step { (0 < step) × (step ≤ length members.now) }
+    requires step { (0 < step) × (step ≤ MOST_COUNTED) }
     requires few { length members.now ≤ MOST_COUNTED }
     requires tries { (d : Dialect) → tries.now ≡ theory.tries (chess d) members.now }
 {
@@ -73,12 +73,28 @@ fn are_all_made(
     )
 }
 
+/// The tallies of all tries in a set. `None` where it has more than 100,000,000 members.
+///
+/// The legal moves of each member are listed, and each move is made once.
+#[inline(never)]
+pub fn tally_all(alloc: Global, b: &Belief, tries: &[Move]) -> Result<Option<Vec<Tally>>, NoMemory>
+    requires { (d : Dialect) → tries.now ≡ theory.tries (chess d) b.now }
+    ensures { IfOk result (λ o. IfSome o (λ ys. AreTallies b.now b.now ys.items)) }
+{
+    let members = b.members();
+    if members.len() > MOST_COUNTED {
+        return Ok(None);
+    }
+    let mut tallies = tallies_of_none(alloc, tries)?;
+    add_members(alloc, members, 1, &mut tallies)?;
+    Ok(Some(tallies))
+}
+
 /// The tallies of the tries in a large set, if a search with so many units left seems to come to all of them. `None` where it
 /// may end before, by a try that wins or for want of units: then each try is better made when its turn comes. Both answers are
 /// right in any case, and only the time hangs on which it is.
 ///
-/// A few members that are spread over the set tell which it is. Then the legal moves of each member are listed, and each
-/// move is made once.
+/// A few members that are spread over the set tell which it is.
 #[inline(never)]
 pub fn tally_large(
     alloc: Global,
@@ -97,7 +113,5 @@ pub fn tally_large(
     if !are_all_made(alloc, members, tries, step, left)? {
         return Ok(None);
     }
-    let mut tallies = tallies_of_none(alloc, tries)?;
-    add_members(alloc, members, 1, &mut tallies)?;
-    Ok(Some(tallies))
+    tally_all(alloc, b, tries)
 }

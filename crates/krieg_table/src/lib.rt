@@ -15,6 +15,7 @@
 //! table.note(id, 2, Known::Wins(mv));
 //! let again = table.intern(copy)?; // 0 once more
 //! let found = table.result(again, 2); // Some(Known::Wins(mv)), and still None with 1 or 3 moves
+//! let sets = table.into_sets(alloc)?; // the set, moved out, and what was known of it is let go
 //! ```
 #![tactic(auto)]
 

@@ -113,4 +113,11 @@ impl Table {
     {
         self.rows[id as usize].put(moves, known);
     }
+
+    /// The sets, by their numbers. All else is let go.
+    pub fn into_sets(self, alloc: Global) -> Result<Vec<Belief>, NoMemory>
+        ensures { IfOk result (λ v. v.items ≡ sets self) }
+    {
+        Ok(self.rows.into_keys().collect(alloc)?)
+    }
 }
