@@ -49,6 +49,7 @@ use Rattle.krieg_search.specs.Stops.{stop_of}
 use Rattle.krieg_search.specs.Searched.{AreCounted, IsReady, IsSearched, Searches, TellsSets}
 use Rattle.krieg_search.specs.Opened.{opening_in, AreNumbered, AreAdded, IsOpened}
 use Rattle.krieg_search.specs.Built.{WonBy}
+use Rattle.krieg_search.specs.Notes.{AreNotes}
 use Rattle.krieg_search.specs.Decided.{sets_in, IsAccount, IsFound, IsLost, IsWon, IsDecided}
 use Rattle.krieg_search.proofs.Searching.{ready_from}
 use Rattle.krieg_search.proofs.OpenedSets.{same_openings, numbered_more}
@@ -164,21 +165,22 @@ module _ (d : Dialect) (cut : Bool) (who : Side) (S : List Pos) (n : ℕ) where
       ready = ready_from d cut s
 
       -- what the search leaves, whatever its answer
-      is_found : (w : Found) → w.table ≡ T2 → w.openings.items ≡ os → IsFound d who S n cut w u0
-      is_found w t o = record {
+      is_found : (w : Found) → w.table ≡ T2 → w.openings.items ≡ os → AreNotes d cut T2 w.notes → IsFound d who S n cut w u0
+      is_found w t o r = record {
         ready = subst (IsReady d cut) (sym t) ready;
         paid = subst (λ (T : Interned). charged (chess d) (entries T) ≤ u0) (sym t) (let x = stretch.exact in omega arith);
         numbered = subst (λ (T : Interned). AreNumbered T w.openings.items) (sym t) (subst (λ (xs : List Opening). AreNumbered T2 xs) (sym o) (numbered_more T1 T2 os s.more a.numbered));
         sets = subst (λ (T : Interned). map (opening_in T) w.openings.items ≡ game.opening_sets d who S) (sym t) (subst (λ (xs : List Opening). map (opening_in T2) xs ≡ game.opening_sets d who S) (sym o) (same_openings T1 T2 os s.more a.numbered ∙ a.are));
+        noted = subst (λ (T : Interned). AreNotes d cut T w.notes) (sym t) r;
       }
 
       -- some opening set cannot be won
-      pub not_won : yes ≡ false → (lost : Found) → lost.table ≡ T2 → lost.openings.items ≡ os → IsLost d who S n cut lost u0 × IsAccount d who S n cut u0 u2
-      not_won e lost t o = (
+      pub not_won : yes ≡ false → (lost : Found) → lost.table ≡ T2 → lost.openings.items ≡ os → AreNotes d cut T2 lost.notes → IsLost d who S n cut lost u0 × IsAccount d who S n cut u0 u2
+      not_won e lost t o r = (
         record {
           cannot = sym answer ∙ e;
           none_over = none;
-          found = is_found lost t o;
+          found = is_found lost t o r;
           lost =
               subst (λ (T : Interned). FirstIsLost T (sets_in T lost.openings.items)) (sym t) (subst (λ (xs : List Opening). FirstIsLost T2 (sets_in T2 xs)) (sym o)
               (subst (FirstIsLost T2) (sym (same_sets T1 T2 os s.more a.numbered)) (w.stored.lost e)));
@@ -190,11 +192,11 @@ module _ (d : Dialect) (cut : Bool) (who : Side) (S : List Pos) (n : ℕ) where
           FirstIsLost T Cs = IfSome (find (λ C. not (can (chess d) n C)) Cs) (λ C. 0 < n → stored position_lt (entries T) (C, n) ≡ Some None)
 
       -- all can
-      pub all_are_won : yes ≡ true → (won : Found) → won.table ≡ T2 → won.openings.items ≡ os → IsWon d who S n cut won u0 × IsAccount d who S n cut u0 u2
-      all_are_won e won t o = (
+      pub all_are_won : yes ≡ true → (won : Found) → won.table ≡ T2 → won.openings.items ≡ os → AreNotes d cut T2 won.notes → IsWon d who S n cut won u0 × IsAccount d who S n cut u0 u2
+      all_are_won e won t o r = (
         record {
           can = sym answer ∙ e;
-          found = is_found won t o;
+          found = is_found won t o r;
           won = subst (λ (T : Interned). (C : List Pos) → In C (sets_in T won.openings.items) → WonBy T C n) (sym t) (subst (λ (xs : List Opening). (C : List Pos) → In C (sets_in T2 xs) → WonBy T2 C n) (sym o) each);
         },
         account,

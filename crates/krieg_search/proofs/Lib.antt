@@ -1,5 +1,8 @@
 pub mod Searching
 mod Leaving
+pub mod Blocked
+mod PackedHeards
+pub mod Noted
 mod Telling
 mod Trying
 mod Tries

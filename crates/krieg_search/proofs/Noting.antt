@@ -1,5 +1,5 @@
 -- What is known of a set once its result is stored.
-use Rattle.std.proofs.Common.{Bool, ◌≡◌, ℕ, zero, suc, ◌≤◌, ◌<◌, ◌^◌, true, false, List, [], ◌∷◌, length, slice_index_or, Option, Some, None, Result, Ok, Err, is_some, refl, sym, ap, subst, ◌∙◌, arith}
+use Rattle.std.proofs.Common.{Bool, ◌≡◌, ℕ, zero, suc, ◌<◌, ◌^◌, true, false, List, [], ◌∷◌, length, slice_index_or, Option, Some, None, Result, Ok, Err, is_some, refl, sym, ap, subst, ◌∙◌, arith}
 use Rattle.std.specs.Prelude.{option_map}
 use Rattle.std.specs.Result.{IsErrAnd}
 use Rattle.std.proofs.lemmas.Bool.{both_ways}
@@ -35,6 +35,17 @@ set_there (r ∷ T) (suc m) = set_there T m
 length_sets : (T : Interned) → length (sets T) ≡ length T
 length_sets [] = refl
 length_sets (r ∷ T) = ap suc (length_sets T)
+
+-- no set changes where a result is noted
+module _ {T1 T2 : Interned} {set j : ℕ} {k : Known} (n : IsNoted T1 T2 set j k) where
+  same_set : (m : ℕ) → set_at T2 m ≡ set_at T1 m
+  same_set m = set_there T2 m ∙ ap (λ (xs : List (List Pos)). slice_index_or xs m []) n.same_sets ∙ sym (set_there T1 m)
+
+  pub noted_more : IsMore T1 T2
+  noted_more = record {
+    longer = (let a = length_sets T1 in let b = length_sets T2 in let q = ap (λ (xs : List (List Pos)). length xs) n.same_sets in omega arith);
+    same = λ m h. same_set m;
+  }
 
 module _ (d : Dialect) (cut : Bool) where
   -- the result that is stored for a pair answers
@@ -89,17 +100,11 @@ module _ (d : Dialect) (cut : Bool) where
       adds : AddsResult position_lt (entries T1) (entries T2) (B, j) o
       adds = subst (λ (X : List Pos). AddsResult position_lt (entries T1) (entries T2) (X, j) o) same (subst (λ (y : Option Move). AddsResult position_lt (entries T1) (entries T2) (set_at T1 set, j) y) is (n.added still))
 
-      same_set : (m : ℕ) → set_at T2 m ≡ set_at T1 m
-      same_set m = set_there T2 m ∙ ap (λ (xs : List (List Pos)). slice_index_or xs m []) n.same_sets ∙ sym (set_there T1 m)
-
       counted : (k : ℕ) → length (set_at T2 k) < 2 ^ 64
-      counted k = subst (λ (X : List Pos). length X < 2 ^ 64) (sym (same_set k)) (s.counted k)
-
-      longer : length T1 ≤ length T2
-      longer = let a = length_sets T1 in let b = length_sets T2 in let q = ap (λ (xs : List (List Pos)). length xs) n.same_sets in omega arith
+      counted k = subst (λ (X : List Pos). length X < 2 ^ 64) (sym (same_set n k)) (s.counted k)
 
       more : IsMore T0 T2
-      more = more_then T0 T1 T2 s.more (record { longer = longer; same = λ m h. same_set m })
+      more = more_then T0 T1 T2 s.more (noted_more n)
 
       sound : Rattle.krieg_accounts.specs.Stretch.IsStretch (chess d) cut (CoversPair (chess d) B j) 0 (entries T0) (entries T2) u0 u1
       sound = stretch_noted (chess d) (chess_is_game d) cut (entries T0) (entries T1) (entries T2) B j o u0 u1 s.stretch f b none adds

@@ -65,14 +65,6 @@ module _ (d : Dialect) (cut : Bool) where
       go Large v = absurd v
       go NoMemory v = tt
 
-  -- the answer of a last step, behind others
-  pub answered : {A : Type 0} (r : Result A Stop2) (holds wanted : A → Type 0) (Q Q' : List (List Pos × ℕ) → Type 0) (a b all : ℕ) (T0 T1 T2 : Interned) (u0 u1 u2 : ℕ)
-      → ((R : List (List Pos × ℕ)) → Q R → Q' R) → IsSearched d cut Q a T0 T1 u0 u1 → a + b ≡ all → ((x : A) → holds x → IsSearched d cut Q' b T1 T2 u1 u2 → wanted x) → Searches d cut r holds Q' b T1 T2 u1 u2 → Searches d cut r wanted Q all T0 T2 u0 u2
-  answered (Ok x) holds wanted Q Q' a b all T0 T1 T2 u0 u1 u2 f s e w k = (w x k.0 k.1, searched_then Q Q' a b all T0 T1 T2 u0 u1 u2 f s e k.1)
-  answered (Err Spent) holds wanted Q Q' a b all T0 T1 T2 u0 u1 u2 f s e w k = short_behind Q Q' a b all T0 T1 u0 u1 f s (omega arith) k
-  answered (Err Large) holds wanted Q Q' a b all T0 T1 T2 u0 u1 u2 f s e w k = absurd k
-  answered (Err NoMemory) holds wanted Q Q' a b all T0 T1 T2 u0 u1 u2 f s e w k = tt
-
   -- a first split was stopped
   pub unpaid : (A : Type 0) {B : Type 0} (P : Stop2 → Type 0) (r : Result B Stop2) (stop : SplitStop) (wanted : B → Type 0) (Q : List (List Pos × ℕ) → Type 0) (m : ℕ) (T0 T3 : Interned) (u0 u1 u3 : ℕ)
       → ((x : Stop2) → P x → stop_of stop ≡ x) → IsErrAnd r P → IsPaid {A = A} (Err stop) m u0 u1 → Searches d cut r wanted Q m T0 T3 u0 u3

@@ -1,5 +1,5 @@
 -- How the test of one try ends.
-use Rattle.std.proofs.Common.{◌≡◌, ℕ, suc, ◌+◌, ◌-◌, ◌<◌, Bool, true, false, ◌||◌, List, [], ◌∷◌, length, Option, Some, Result, refl, sym, ap, subst, ◌∙◌, arith}
+use Rattle.std.proofs.Common.{◌≡◌, ℕ, suc, ◌+◌, ◌-◌, ◌<◌, Bool, true, false, ◌||◌, List, [], ◌∷◌, length, Option, Some, None, refl, sym, ap, subst, ◌∙◌, arith}
 use Rattle.std.specs.Prelude.{IfSome, IsTrue, ◌↔◌}
 use Rattle.std.specs.List.{list_all}
 use Rattle.std.proofs.lemmas.Bool.{both_ways, or_left}
@@ -21,11 +21,14 @@ use Rattle.krieg_game.proofs.ChessLaws.{chess_is_game}
 use Rattle.krieg_table.specs.Interned.{Interned, set_at}
 use Rattle.krieg_table.specs.Entries.{entries}
 use Rattle.krieg_search.specs.declared.left.Left.{Left}
-use Rattle.krieg_search.specs.declared.stop.Stop2.{Stop2}
-use Rattle.krieg_search.specs.Searched.{IsNumbered, IsReady, IsSearched, Searches, TellsSet, TellsTry, TellsSets, sets_of}
+use Rattle.krieg_search.specs.declared.search.LostClass.{LostClass}
+use Rattle.krieg_search.specs.declared.notes.Block.TheVariants.{AtOnce, Class, Refused}
+use Rattle.krieg_search.specs.Searched.{IsNumbered, IsReady, IsSearched, TellsSet, TellsTry, TellsSets, sets_of}
+use Rattle.krieg_search.specs.Blocked.{TellsFirst, TellsBlock}
 use Rattle.krieg_search.specs.Leaving.{FailsAtOnce, Leaves, IsLeft}
 use Rattle.krieg_search.proofs.Leaving.{sets_are}
-use Rattle.krieg_search.proofs.Searching.{searched_split, searched_then, searched_number, answered}
+use Rattle.krieg_search.proofs.Blocked.{class_blocks, refused_blocks}
+use Rattle.krieg_search.proofs.Searching.{searched_split, searched_then, searched_number}
 
 pub empty_is : (X : List Pos) (b : Bool) → (IsTrue b ↔ (X ≡ [])) → b ≡ true → is_nil X ≡ true
 empty_is X b h e = ap is_nil (h.0 e)
@@ -37,15 +40,18 @@ some_is (x ∷ X) b h e = refl
 module _ (d : Dialect) (cut : Bool) where
   -- a try that fails at once
   pub failed : (T : Interned) (B : List Pos) (t : Move) (j u0 u1 : ℕ) → IsReady d cut T → FailsAtOnce d cut B t j → u1 + made (chess d) B t ≡ u0
-      → TellsTry d cut T B j t false × IsSearched d cut (CoversTry (chess d) B j t) (made (chess d) B t) T T u0 u1
+      → TellsBlock d cut T B j t (Some AtOnce) × IsSearched d cut (CoversTry (chess d) B j t) (made (chess d) B t) T T u0 u1
   failed T B t j u0 u1 r f e = (
     record {
-      right = sym f.fails;
-      stored = record {
-        classes = λ y. absurd (both_ways false refl y);
-        refused_part = λ y. absurd (both_ways false refl y);
-        blocked = λ c y. subst (λ o. IfSome o (λ q. StoredLost (chess d) (entries T) q)) (sym (f.no_pair c)) tt;
+      tells = record {
+        right = sym f.fails;
+        stored = record {
+          classes = λ y. absurd (both_ways false refl y);
+          refused_part = λ y. absurd (both_ways false refl y);
+          blocked = λ c y. subst (λ o. IfSome o (λ q. StoredLost (chess d) (entries T) q)) (sym (f.no_pair c)) tt;
+        };
       };
+      blocked = f.no_pair;
     },
     searched_split d cut (CoversTry (chess d) B j t) T (made (chess d) B t) u0 u1 r e,
   )
@@ -71,6 +77,9 @@ module _ (d : Dialect) (cut : Bool) where
     one_less : suc (j - 1) ≡ j
     one_less = let p = a.some in omega arith
 
+    leaves_less : Leaves d B t (suc (j - 1)) l
+    leaves_less = subst (λ (n : ℕ). Leaves d B t n l) (sym one_less) a.leaves
+
     at_sets : sets_of l.classes.items ≡ classes (chess d) B t
     at_sets = sets_are d B t l.classes.items a.leaves.classes_part
 
@@ -90,32 +99,39 @@ module _ (d : Dialect) (cut : Bool) where
     in_game T won w = subst (λ (Cs : List (List Pos)). TellsSets d T Cs (j - 1) won) at_sets w
 
     -- some class cannot be won
-    pub class_lost : {T1 : Interned} → TellsSets d T1 (sets_of l.classes.items) (j - 1) false → TellsTry d cut T1 B j t false
-    class_lost {T1 = T1} w =
-        let v = in_game T1 false w in
-        subst (λ (n : ℕ). TellsTry d cut T1 B n t false) one_less (record {
-          right = sym (begins_class (chess d) (chess_is_game d) (j - 1) B t (sym v.right));
-          stored = answered_class (chess d) (chess_is_game d) cut (entries T1) B (j - 1) t a.leaves.none_stale (sym v.right) v.stored;
+    pub class_lost : {T1 : Interned} (lost : LostClass) → TellsFirst d T1 l.classes.items (j - 1) (Some lost) → TellsBlock d cut T1 B j t (Some (Class lost.heard lost.set))
+    class_lost {T1 = T1} lost w =
+        let v = in_game T1 false w.tells in
+        let b = class_blocks d B t (j - 1) l leaves_less lost.heard (set_at T1 lost.set) w.first in
+        subst (λ (n : ℕ). TellsBlock d cut T1 B n t (Some (Class lost.heard lost.set))) one_less (record {
+          tells = record {
+            right = sym (begins_class (chess d) (chess_is_game d) (j - 1) B t (sym v.right));
+            stored = answered_class (chess d) (chess_is_game d) cut (entries T1) B (j - 1) t a.leaves.none_stale (sym v.right) v.stored;
+          };
+          blocked = record { blocks = b.0; within = w.within; at = b.1 };
         })
 
     -- all classes can be won
-    module _ {T1 : Interned} (w : TellsSets d T1 (sets_of l.classes.items) (j - 1) true) where
+    module _ {T1 : Interned} (w : TellsFirst d T1 l.classes.items (j - 1) None) where
       all_won : list_all (can (chess d) (j - 1)) (classes (chess d) B t) ≡ true
-      all_won = sym (in_game T1 true w).right
+      all_won = sym (in_game T1 true w.tells).right
 
       all_stored : (C : List Pos) → In C (classes (chess d) B t) → StoredWon (chess d) (entries T1) C
-      all_stored = (in_game T1 true w).stored.won refl
+      all_stored = (in_game T1 true w.tells).stored.won refl
 
       rest_decides : begins (chess d) (suc (j - 1)) B t ≡ (is_nil (refused (chess d) B t) || can (chess d) (suc (j - 1)) (refused (chess d) B t))
       rest_decides = begins_rest (chess d) (chess_is_game d) (j - 1) B t a.legal a.leaves.none_stale all_won
 
       -- and no member refuses the try
-      pub none_refuses : is_nil l.refused ≡ true → TellsTry d cut T1 B j t true
+      pub none_refuses : is_nil l.refused ≡ true → TellsBlock d cut T1 B j t None
       none_refuses n =
           let nil : is_nil (refused (chess d) B t) ≡ true = ap is_nil (sym a.leaves.refused_part) ∙ n in
-          subst (λ (n : ℕ). TellsTry d cut T1 B n t true) one_less (record {
-            right = sym (rest_decides ∙ or_left _ _ nil);
-            stored = answered_all (chess d) (chess_is_game d) cut (entries T1) B (j - 1) t all_stored nil;
+          subst (λ (n : ℕ). TellsBlock d cut T1 B n t None) one_less (record {
+            tells = record {
+              right = sym (rest_decides ∙ or_left _ _ nil);
+              stored = answered_all (chess d) (chess_is_game d) cut (entries T1) B (j - 1) t all_stored nil;
+            };
+            blocked = tt;
           })
 
       -- or those that do are searched last
@@ -135,19 +151,36 @@ module _ (d : Dialect) (cut : Bool) where
         pub before_rest : IsSearched d cut (CoversTry (chess d) B j t) (made (chess d) B t) T0 T2 u0 u2
         before_rest = searched_number d cut (after_classes s) i
 
-        covers_rest : (R : List (List Pos × ℕ)) → CoversTry (chess d) B j t R → CoversSet (chess d) X j R
+        pub covers_rest : (R : List (List Pos × ℕ)) → CoversTry (chess d) B j t R → CoversSet (chess d) X j R
         covers_rest R h = subst (λ (Y : List Pos). CoversSet (chess d) Y j R) (sym is_rest) (covering.covers_refused (chess d) B j t some_rest R h)
 
-        rest_tells : (T3 : Interned) (u3 : ℕ) (won : Bool) → TellsSet d T3 X j won → IsSearched d cut (CoversSet (chess d) X j) 0 T2 T3 u2 u3 → TellsTry d cut T3 B j t won
-        rest_tells T3 u3 won v r =
-            let w : TellsSet d T3 (refused (chess d) B t) (suc (j - 1)) won = subst (λ (k : ℕ). TellsSet d T3 (refused (chess d) B t) k won) (sym one_less) (subst (λ (Y : List Pos). TellsSet d T3 Y j won) is_rest v) in
-            subst (λ (n : ℕ). TellsTry d cut T3 B n t won) one_less (record {
-              right = w.right ∙ sym (rest_decides ∙ ap (λ b. b || can (chess d) (suc (j - 1)) (refused (chess d) B t)) some_rest);
-              stored = answered_rest (chess d) (chess_is_game d) cut (entries T3) B (j - 1) t won a.leaves.none_stale all_won (λ C m. kept C (all_stored C m)) some_rest w.right w.stored;
-            })
-          where
-            kept : (C : List Pos) → StoredWon (chess d) (entries T1) C → StoredWon (chess d) (entries T3) C
-            kept C m = (m.0, m.1, r.stretch.kept (C, m.0) (Some m.1) (subst (λ E. known (chess d) E (C, m.0) ≡ Some (Some m.1)) (sym i.interned.noted) m.2))
+        module _ {T3 : Interned} {u3 : ℕ} (r : IsSearched d cut (CoversSet (chess d) X j) 0 T2 T3 u2 u3) where
+          kept : (C : List Pos) → StoredWon (chess d) (entries T1) C → StoredWon (chess d) (entries T3) C
+          kept C m = (m.0, m.1, r.stretch.kept (C, m.0) (Some m.1) (subst (λ E. known (chess d) E (C, m.0) ≡ Some (Some m.1)) (sym i.interned.noted) m.2))
 
-        pub rest_answers : (T3 : Interned) (u3 : ℕ) (r : Result Bool Stop2) → Searches d cut r (TellsSet d T3 X j) (CoversSet (chess d) X j) 0 T2 T3 u2 u3 → Searches d cut r (TellsTry d cut T3 B j t) (CoversTry (chess d) B j t) (made (chess d) B t) T0 T3 u0 u3
-        rest_answers T3 u3 r k = answered d cut r (TellsSet d T3 X j) (TellsTry d cut T3 B j t) (CoversTry (chess d) B j t) (CoversSet (chess d) X j) (made (chess d) B t) 0 (made (chess d) B t) T0 T2 T3 u0 u2 u3 covers_rest before_rest (omega arith) (λ won v s. rest_tells T3 u3 won v s) k
+          rest_known : (won : Bool) → TellsSet d T3 X j won → TellsSet d T3 (refused (chess d) B t) (suc (j - 1)) won
+          rest_known won v = subst (λ (k : ℕ). TellsSet d T3 (refused (chess d) B t) k won) (sym one_less) (subst (λ (Y : List Pos). TellsSet d T3 Y j won) is_rest v)
+
+          rest_tells : (won : Bool) → TellsSet d T3 X j won → TellsTry d cut T3 B (suc (j - 1)) t won
+          rest_tells won v =
+              let w = rest_known won v in
+              record {
+                right = w.right ∙ sym (rest_decides ∙ ap (λ b. b || can (chess d) (suc (j - 1)) (refused (chess d) B t)) some_rest);
+                stored = answered_rest (chess d) (chess_is_game d) cut (entries T3) B (j - 1) t won a.leaves.none_stale all_won (λ C m. kept C (all_stored C m)) some_rest w.right w.stored;
+              }
+
+          pub after_rest : IsSearched d cut (CoversTry (chess d) B j t) (made (chess d) B t) T0 T3 u0 u3
+          after_rest = searched_then d cut (CoversTry (chess d) B j t) (CoversSet (chess d) X j) (made (chess d) B t) 0 (made (chess d) B t) T0 T2 T3 u0 u2 u3 covers_rest before_rest (omega arith) r
+
+          pub rest_won : TellsSet d T3 X j true → TellsBlock d cut T3 B j t None
+          rest_won v = subst (λ (n : ℕ). TellsBlock d cut T3 B n t None) one_less (record { tells = rest_tells true v; blocked = tt })
+
+          pub rest_lost : TellsSet d T3 X j false → TellsBlock d cut T3 B j t (Some (Refused rest))
+          rest_lost v = subst (λ (n : ℕ). TellsBlock d cut T3 B n t (Some (Refused rest))) one_less (record {
+            tells = rest_tells false v;
+            blocked = record {
+              blocks = refused_blocks d B t (j - 1) l leaves_less w.first some_rest (sym (rest_known false v).right);
+              within = (let n = i.interned.within in let m = r.more.longer in omega arith);
+              at = r.more.same rest i.interned.within ∙ is_rest;
+            };
+          })

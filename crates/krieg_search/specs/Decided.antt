@@ -30,6 +30,7 @@ use Rattle.krieg_search.specs.declared.stop.Stop2.TheVariants.{Spent, Large, NoM
 use Rattle.krieg_search.specs.Searched.{IsReady}
 use Rattle.krieg_search.specs.Opened.{AreNumbered, opening_in}
 use Rattle.krieg_search.specs.Built.{WonBy}
+use Rattle.krieg_search.specs.Notes.{AreNotes}
 
 -- the sets of openings
 abbrev pub sets_in : Interned → List Opening → List (List Pos)
@@ -53,12 +54,13 @@ module _ (d : Dialect) (who : Side) (S : List Pos) (n : ℕ) where
     pub at_least : has + floor (chess d) (outset d who) n S ≤ had
     pub at_most : had ≤ has + fresh (chess d) (outset d who) n S
 
-  -- the results are right and paid for, and each opening that occurs has its set in the table
+  -- the results are right and paid for, each opening that occurs has its set in the table, and the notes are right
   pub record IsFound (cut : Bool) (w : Found) (had : ℕ) : Type 0 where
     pub ready : IsReady d cut w.table
     pub paid : charged (chess d) (entries w.table) ≤ had
     pub numbered : AreNumbered w.table w.openings.items
     pub sets : map (opening_in w.table) w.openings.items ≡ opening_sets d who S
+    pub noted : AreNotes d cut w.table w.notes
 
   -- no listed position is over, and the first opening set that cannot be won within n is stored as such
   pub record IsLost (cut : Bool) (w : Found) (had : ℕ) : Type 0 where

@@ -6,6 +6,9 @@ pub mod Searched
 pub mod Tried
 pub mod Leaving
 pub mod Built
+pub mod Notes
+pub mod Blocked
+pub mod PackedHeard
 pub mod Rooted
 pub mod Stops
 pub mod Laws

@@ -49,6 +49,7 @@ fn build_plan(
     let Found {
         mut table,
         openings,
+        ..
     } = won;
     let mut left = nodes;
     let Roots { worst, roots } = build_roots(alloc, d, &mut table, openings, moves, &mut left)?;
@@ -75,7 +76,7 @@ fn answer_for(
     ensures units { Takes d who b.now moves cut result units.old units.new }
 {
     let mut left = Units::new(units.left());
-    let won = match decide(alloc, d, cut, who, b, moves, &mut left)? {
+    let won = match decide(alloc, d, cut, 0, who, b, moves, &mut left)? {
         Decided::Over => {
             *units = left;
             return Ok(Answer::None);

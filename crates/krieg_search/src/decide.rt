@@ -1,13 +1,15 @@
-ghost use Rattle.std.specs.Prelude.{◌≤◌, ◌⊎◌, map};
+ghost use Rattle.std.specs.Prelude.{◌≤◌, ◌⊎◌, OnOk, map};
 ghost use Rattle.krieg_accounts.specs.Stretch.{CoversSets};
 ghost use Rattle.krieg_game.specs.Chess.{chess};
 ghost use Rattle.krieg_split.specs.Turns.{IsOwnTurn, IsOthersTurn};
 ghost use Rattle.krieg_search.specs.Searched.{IsReady, Searches, TellsSets};
 ghost use Rattle.krieg_search.specs.Opened.{AreNumbered};
+ghost use Rattle.krieg_search.specs.Notes.{AreNotes};
 ghost use Rattle.krieg_search.specs.Decided.{IsDecided, sets_in};
 
+use crate::notes::Notes;
 use crate::openings::{Opening, find_openings};
-use crate::search::can_win;
+use crate::search::{Kept, can_win};
 use crate::stop::Stop2;
 use krieg_board::{MOST_MOVES, Side, Units};
 use krieg_pack::Belief;
@@ -21,6 +23,8 @@ use std::alloc::Global;
 pub struct Found {
     pub table: Table,
     pub openings: Vec<Opening>,
+    /// What blocks each try of sets that cannot be won.
+    pub notes: Notes,
 }
 
 /// Whether some plan mates every listed position.
@@ -39,7 +43,7 @@ fn all_openings_win(
     alloc: Global,
     d: Dialect,
     cut: bool,
-    sight: &mut Sight,
+    kept: &mut Kept,
     table: &mut Table,
     openings: &[Opening],
     moves: u8,
@@ -48,10 +52,12 @@ fn all_openings_win(
     requires most { moves ≤ MOST_MOVES }
     requires ready { IsReady d cut table.old }
     requires numbered { AreNumbered table.old openings.now }
-    ensures { Searches d cut result (TellsSets d table.new (sets_in table.old openings.now) moves) (CoversSets (chess d) (sets_in table.old openings.now) moves) 0 table.old table.new units.old units.new }
+    requires noted { AreNotes d cut table.old kept.old.notes }
+    ensures searched { Searches d cut result (TellsSets d table.new (sets_in table.old openings.now) moves) (CoversSets (chess d) (sets_in table.old openings.now) moves) 0 table.old table.new units.old units.new }
+    ensures noted { OnOk result (AreNotes d cut table.new kept.new.notes) }
 {
     for o in openings {
-        if !can_win(alloc, d, cut, sight, table, o.set, moves, units)? {
+        if !can_win(alloc, d, cut, kept, table, o.set, moves, units)? {
             return Ok(false);
         }
     }
@@ -62,10 +68,13 @@ fn all_openings_win(
 ///
 /// With `cut` it looks into no part of a try that is found to fail even for a player who sees the position: the answer is
 /// the same, but of such tries the table has no block. At most as many positions are looked at for it as there are units.
+///
+/// At most `noted` notes are kept.
 pub fn decide(
     alloc: Global,
     d: Dialect,
     cut: bool,
+    noted: usize,
     who: Side,
     b: &Belief,
     moves: u8,
@@ -76,16 +85,28 @@ pub fn decide(
     ensures { IsDecided d who b.now moves cut result units.old units.new }
 {
     let mut table = Table::new(alloc);
-    let mut sight = Sight::new(alloc, if cut { units.left() } else { 0 });
+    let mut kept = Kept {
+        sight: Sight::new(alloc, if cut { units.left() } else { 0 }),
+        notes: Notes::new(alloc, noted),
+    };
     let Some(openings) = find_openings(alloc, d, who, b, &mut table, units)? else {
         return Ok(Decided::Over);
     };
     let all_win = all_openings_win(
-        alloc, d, cut, &mut sight, &mut table, &openings, moves, units,
+        alloc, d, cut, &mut kept, &mut table, &openings, moves, units,
     )?;
     table.know_once();
+    let Kept { notes, .. } = kept;
     if !all_win {
-        return Ok(Decided::Lost(Found { table, openings }));
+        return Ok(Decided::Lost(Found {
+            table,
+            openings,
+            notes,
+        }));
     }
-    Ok(Decided::Won(Found { table, openings }))
+    Ok(Decided::Won(Found {
+        table,
+        openings,
+        notes,
+    }))
 }

@@ -4,8 +4,8 @@
 //! or that no plan does. Both give the same answers, at other prices. What stands in their clauses is in the terms of
 //! krieg_theory and krieg_costs: read `Solved` in `specs/` (what each answer says, and what it takes), then `Decided` and
 //! `Planned` (the two halves: whether some plan mates, with the account of what that took, and the plan that is built),
-//! then `Searched` and `Built` (a stretch of the search, and a node of the plan). `laws` has the theorems of krieg_theory
-//! and krieg_costs for chess.
+//! then `Searched` and `Built` (a stretch of the search, and a node of the plan), and `Notes` and `Blocked` (what blocks a
+//! try). `laws` has the theorems of krieg_theory and krieg_costs for chess.
 //!
 //! `openings` has what may be heard before the first own turn, with the set of what is possible then. `decide` asks
 //! for one opening after the other whether its set can be won, by `search`: one number of moves after the other; for
@@ -24,11 +24,13 @@
 //! for that alone: `paid` (in `Built`) says that the search has paid for all of these splits.
 //!
 //! Who goes on by what a search leaves, as krieg_refute does, calls `decide` itself: it gives the table and the openings,
-//! whatever the answer. `left_by` makes one split of it again, and `number_of` finds the number of a part.
+//! whatever the answer. `left_by` makes one split of it again, and `number_of` finds the number of a part. `decide` also
+//! keeps `notes`, as many as it is asked for: of a set that cannot be won with two moves or more, what blocks each of its
+//! tries, by the number of a part and the words that are heard there (`heard`). `solve` and `find` keep none.
 //!
 //! The search calls itself for each part of a set, and building for each node below a node. Where one try after another
-//! is refused, they go a level deeper for each, some 2,490 levels at most. A level of the search takes some 400 bytes of
-//! the stack, or less than 1,500 in a program that Rattle's own compiler builds, and a level of building less than 600.
+//! is refused, they go a level deeper for each, some 2,490 levels at most. A level of the search takes some 460 bytes of
+//! the stack, or less than 2,900 in a program that Rattle's own compiler builds, and a level of building less than 600.
 //!
 //! ```
 //! let mut units = Units::new(5_000_000);
@@ -47,8 +49,10 @@
 mod best_plan;
 mod build;
 pub mod decide;
+mod heard;
 pub mod laws;
 mod left;
+mod notes;
 mod number;
 mod openings;
 mod roots;
@@ -58,7 +62,9 @@ mod tried;
 mod turn;
 
 pub use best_plan::{Answer, find, solve};
+pub use heard::Heard;
 pub use left::{Left, left_by};
+pub use notes::{Asked, Block, Note, Notes};
 pub use number::number_of;
 pub use openings::Opening;
 pub use stop::Stop2;

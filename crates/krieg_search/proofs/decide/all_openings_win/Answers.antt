@@ -7,33 +7,36 @@ use Rattle.krieg_search.proofs.Asking.{opening_within, opening_covers, opening_l
 use Rattle.krieg_search.proofs.decide.all_openings_win.Goals as goal
 
 pub loop-o-init : goal.loop-o-init
-loop-o-init c = none_checked c.args.d c.args.cut c.args.table.now (sets_in c.args.table.now c.args.openings.now) c.args.moves c.args.units.now c.requires.ready
+loop-o-init c = record {
+  checking = none_checked c.args.d c.args.cut c.args.table.now (sets_in c.args.table.now c.args.openings.now) c.args.moves c.args.units.now c.requires.ready;
+  noted = c.requires.noted;
+}
 
 pub can_win-requires-clause-within : goal.can_win-requires-clause-within
-can_win-requires-clause-within c = opening_within c.args.d c.args.cut c.args.openings.now c.loop-o.o-index c.o-item.result c.loop-o-test.true c.o-item.is c.requires.numbered c.loop-o.invariant
+can_win-requires-clause-within c = opening_within c.args.d c.args.cut c.args.openings.now c.loop-o.o-index c.o-item.result c.loop-o-test.true c.o-item.is c.requires.numbered c.loop-o.invariant.checking
 
 pub can_win-requires-clause-ready : goal.can_win-requires-clause-ready
-can_win-requires-clause-ready c = ready_from c.args.d c.args.cut c.loop-o.invariant.searched
+can_win-requires-clause-ready c = ready_from c.args.d c.args.cut c.loop-o.invariant.checking.searched
 
-pub returns-in_err-can_win : goal.returns-in_err-can_win
-returns-in_err-can_win c =
+pub returns-in_err-can_win-clause-searched : goal.returns-in_err-can_win-clause-searched
+returns-in_err-can_win-clause-searched c =
     let d = c.args.d in
-    let covers = opening_covers d c.args.cut c.args.openings.now c.loop-o.o-index c.o-item.result c.loop-o-test.true c.o-item.is c.requires.numbered c.loop-o.invariant in
-    stopped d c.args.cut c.from_residual.result c.in_err-can_win.field-0.0 _ _ _ _ _ _ _ (λ x h. cc) c.from_residual.ensures.1 covers c.loop-o.invariant.searched (omega arith) c.in_err-can_win.ensures
+    let covers = opening_covers d c.args.cut c.args.openings.now c.loop-o.o-index c.o-item.result c.loop-o-test.true c.o-item.is c.requires.numbered c.loop-o.invariant.checking in
+    stopped d c.args.cut c.from_residual.result c.in_err-can_win.field-0.0 _ _ _ _ _ _ _ (λ x h. cc) c.from_residual.ensures.1 covers c.loop-o.invariant.checking.searched (omega arith) c.in_err-can_win.ensures.searched
 
-pub returns-then-not-branch : goal.returns-then-not-branch
-returns-then-not-branch c =
-    let w = c.in_ok-can_win.ensures in
-    opening_lost c.args.d c.args.cut c.args.openings.now c.loop-o.o-index c.o-item.result c.loop-o-test.true c.o-item.is c.requires.numbered c.loop-o.invariant w.1 (rw c.if-not-branch.true at w.0)
+pub returns-then-not-branch-clause-searched : goal.returns-then-not-branch-clause-searched
+returns-then-not-branch-clause-searched c =
+    let w = c.in_ok-can_win.ensures.searched in
+    opening_lost c.args.d c.args.cut c.args.openings.now c.loop-o.o-index c.o-item.result c.loop-o-test.true c.o-item.is c.requires.numbered c.loop-o.invariant.checking w.1 (rw c.if-not-branch.true at w.0)
 
 pub loop-o-preserved : goal.loop-o-preserved
 loop-o-preserved c =
-    let w = c.in_ok-can_win.ensures in
-    opening_won c.args.d c.args.cut c.args.openings.now c.loop-o.o-index c.o-item.result c.loop-o-test.true c.o-item.is c.requires.numbered c.loop-o.invariant w.1 (rw c.if-not-branch.false at w.0)
+    let w = c.in_ok-can_win.ensures.searched in
+    record { checking = opening_won c.args.d c.args.cut c.args.openings.now c.loop-o.o-index c.o-item.result c.loop-o-test.true c.o-item.is c.requires.numbered c.loop-o.invariant.checking w.1 (rw c.if-not-branch.false at w.0); noted = c.in_ok-can_win.ensures.noted }
 
-pub returns : goal.returns
-returns c =
+pub returns-clause-searched : goal.returns-clause-searched
+returns-clause-searched c =
     let T0 = c.args.table.now in
     let Cs = sets_in T0 c.args.openings.now in
     let none = no_rest c.args.openings.now c.loop-o.o-index c.loop-o-test.false in
-    all_checked c.args.d c.args.cut (subst (λ (ys : List Opening). IsChecking c.args.d c.args.cut T0 c.loop-o.table Cs (sets_in T0 ys) c.args.moves c.args.units.now c.loop-o.units) none c.loop-o.invariant)
+    all_checked c.args.d c.args.cut (subst (λ (ys : List Opening). IsChecking c.args.d c.args.cut T0 c.loop-o.table Cs (sets_in T0 ys) c.args.moves c.args.units.now c.loop-o.units) none c.loop-o.invariant.checking)

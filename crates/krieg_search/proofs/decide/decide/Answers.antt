@@ -1,5 +1,6 @@
 use Rattle.std.proofs.Common.{Bool, Err, refl, sym, subst, List, Option, Vec}
 use Rattle.std.specs.declared.alloc.Global.{Global}
+use Rattle.krieg_theory.specs.Sets.{In}
 use Rattle.krieg_accounts.specs.Stretch.{CoversSets}
 use Rattle.krieg_game.specs.Chess.{chess}
 use Rattle.krieg_search.specs.declared.openings.Opening.{Opening}
@@ -67,7 +68,7 @@ returns-in_err-all_win c =
     let o = are_opened d c.args.cut who S n c.new-table.result T1 c.in_ok-openings.field-0 os c.new-table.ensures c.in-Some.is c.in_ok-openings.ensures.0 in
     search_stopped d c.args.cut who S n T1 os.items o.1 _ c.from_residual-in_err-all_win.result c.in_err-all_win.field-0.0 (TellsSets d T2 (sets_in T1 os.items) n) T2 u0 u1 u2 u2 (λ x h. cc) c.from_residual-in_err-all_win.ensures.1
     c.in_ok-openings.ensures.1
-    (subst (λ (xs : List Opening). Searches d c.args.cut {A = Bool} (Err c.in_err-all_win.field-0.0) (TellsSets d T2 (sets_in T1 xs) n) (CoversSets (chess d) (sets_in T1 xs) n) 0 T1 T2 u1 u2) c.deref.ensures.value c.in_err-all_win.ensures)
+    (subst (λ (xs : List Opening). Searches d c.args.cut {A = Bool} (Err c.in_err-all_win.field-0.0) (TellsSets d T2 (sets_in T1 xs) n) (CoversSets (chess d) (sets_in T1 xs) n) 0 T1 T2 u1 u2) c.deref.ensures.value c.in_err-all_win.ensures.searched)
 
 pub returns-then-not-all_win : goal.returns-then-not-all_win
 returns-then-not-all_win c =
@@ -82,9 +83,9 @@ returns-then-not-all_win c =
     let u2 = c.all_openings_win.new.units in
     let os = c.in-Some.openings in
     let o = are_opened d c.args.cut who S n c.new-table.result T1 c.in_ok-openings.field-0 os c.new-table.ensures c.in-Some.is c.in_ok-openings.ensures.0 in
-    let lost : Found = record { table = T2; openings = os } in
-    let w = subst (λ (xs : List Opening). TellsSets d T2 (sets_in T1 xs) n c.in_ok-all_win.all_win × IsSearched d c.args.cut (CoversSets (chess d) (sets_in T1 xs) n) 0 T1 T2 u1 u2) c.deref.ensures.value c.in_ok-all_win.ensures in
-    not_won d c.args.cut who S n T1 os.items o.1 T2 c.in_ok-all_win.all_win u0 u1 u2 o.0 c.in_ok-openings.ensures.1 w.0 w.1 c.know_once.ensures.results c.if-not-all_win.true lost refl refl
+    let lost : Found = record { table = T2; openings = os; notes = c.all_openings_win.new.kept.notes } in
+    let w = subst (λ (xs : List Opening). TellsSets d T2 (sets_in T1 xs) n c.in_ok-all_win.all_win × IsSearched d c.args.cut (CoversSets (chess d) (sets_in T1 xs) n) 0 T1 T2 u1 u2) c.deref.ensures.value c.in_ok-all_win.ensures.searched in
+    not_won d c.args.cut who S n T1 os.items o.1 T2 c.in_ok-all_win.all_win u0 u1 u2 o.0 c.in_ok-openings.ensures.1 w.0 w.1 c.know_once.ensures.results c.if-not-all_win.true lost refl refl c.in_ok-all_win.ensures.noted
 
 pub returns : goal.returns
 returns c =
@@ -99,6 +100,9 @@ returns c =
     let u2 = c.all_openings_win.new.units in
     let os = c.in-Some.openings in
     let o = are_opened d c.args.cut who S n c.new-table.result T1 c.in_ok-openings.field-0 os c.new-table.ensures c.in-Some.is c.in_ok-openings.ensures.0 in
-    let won : Found = record { table = T2; openings = os } in
-    let w = subst (λ (xs : List Opening). TellsSets d T2 (sets_in T1 xs) n c.in_ok-all_win.all_win × IsSearched d c.args.cut (CoversSets (chess d) (sets_in T1 xs) n) 0 T1 T2 u1 u2) c.deref.ensures.value c.in_ok-all_win.ensures in
-    all_are_won d c.args.cut who S n T1 os.items o.1 T2 c.in_ok-all_win.all_win u0 u1 u2 o.0 c.in_ok-openings.ensures.1 w.0 w.1 c.know_once.ensures.results c.if-not-all_win.false won refl refl
+    let won : Found = record { table = T2; openings = os; notes = c.all_openings_win.new.kept.notes } in
+    let w = subst (λ (xs : List Opening). TellsSets d T2 (sets_in T1 xs) n c.in_ok-all_win.all_win × IsSearched d c.args.cut (CoversSets (chess d) (sets_in T1 xs) n) 0 T1 T2 u1 u2) c.deref.ensures.value c.in_ok-all_win.ensures.searched in
+    all_are_won d c.args.cut who S n T1 os.items o.1 T2 c.in_ok-all_win.all_win u0 u1 u2 o.0 c.in_ok-openings.ensures.1 w.0 w.1 c.know_once.ensures.results c.if-not-all_win.false won refl refl c.in_ok-all_win.ensures.noted
+
+pub all_openings_win-requires-clause-noted : goal.all_openings_win-requires-clause-noted
+all_openings_win-requires-clause-noted c = λ e i. absurd (subst (In e) c.new-2.ensures i)

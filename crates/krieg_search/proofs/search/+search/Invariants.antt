@@ -1,19 +1,24 @@
-use Rattle.std.proofs.Common.{◌≡◌, ◌-◌, length, map, ◌+◌, ◌*◌, ◌^◌}
+use Rattle.std.proofs.Common.{◌≡◌, ◌-◌, length, map, find, ◌+◌, ◌*◌, ◌^◌}
+use Rattle.std.specs.Prelude.{IfSome}
 use Rattle.std.specs.Vec.Iter.{into_iter_items, into_iter_len}
+use Rattle.krieg_game.specs.Classes.{class_pair}
 use Rattle.krieg_table.specs.Interned.{set_at}
 use Rattle.krieg_search.specs.Tried.{move_of}
 use Rattle.krieg_search.specs.Searched.{sets_of}
+use Rattle.krieg_search.specs.Notes.{AreNotes, items_of}
+use Rattle.krieg_search.proofs.Noted.{IsRowTo}
+use Rattle.krieg_search.proofs.Blocked.{is_lost}
 use Rattle.krieg_search.proofs.Tries.{IsTrying}
 use Rattle.krieg_search.proofs.Numbers.{IsCounting}
 use Rattle.krieg_search.proofs.Checking.{IsChecking}
 use Rattle.krieg_search.proofs.search.+search.Given as goal
 
 -- first the number of moves counts, then the members; no class has 2 ^ 64
-abbrev pub decreases-all_can_win : goal.decreases-all_can_win
-decreases-all_can_win l = 8 * (l.moves * 2 ^ 64 + 2 ^ 64 - 1) + 4
+abbrev pub decreases-first_lost : goal.decreases-first_lost
+decreases-first_lost l = 8 * (l.moves * 2 ^ 64 + 2 ^ 64 - 1) + 4
 
-abbrev pub decreases-begins : goal.decreases-begins
-decreases-begins l = 8 * (l.moves * 2 ^ 64 + length (set_at l.table.now l.set)) + 1
+abbrev pub decreases-block_of : goal.decreases-block_of
+decreases-block_of l = 8 * (l.moves * 2 ^ 64 + length (set_at l.table.now l.set)) + 1
 
 abbrev pub decreases-can_win_in : goal.decreases-can_win_in
 decreases-can_win_in l = 8 * (l.moves * 2 ^ 64 + length (set_at l.table.now l.set)) + 2
@@ -22,13 +27,22 @@ abbrev pub decreases-can_win : goal.decreases-can_win
 decreases-can_win l = 8 * (l.moves * 2 ^ 64 + length (set_at l.table.now l.set)) + 3
 
 abbrev pub invariant-can_win-loop-fewer : goal.invariant-can_win-loop-fewer
-invariant-can_win-loop-fewer l = IsCounting l.d l.cut l.initial.table l.table (set_at l.initial.table l.set) l.moves l.fewer l.initial.units l.units
+invariant-can_win-loop-fewer l = record {
+  counting : IsCounting l.d l.cut l.initial.table l.table (set_at l.initial.table l.set) l.moves l.fewer l.initial.units l.units;
+  noted : AreNotes l.d l.cut l.table l.kept.notes;
+}
 
 abbrev pub invariant-can_win_in-loop-tried : goal.invariant-can_win_in-loop-tried
-invariant-can_win_in-loop-tried l = IsTrying l.d l.cut l.initial.table l.table (set_at l.initial.table l.set) l.moves (map move_of l.tried-items) l.tried-index l.initial.units l.units
+invariant-can_win_in-loop-tried l = record {
+  trying : IsTrying l.d l.cut l.initial.table l.table (set_at l.initial.table l.set) l.moves (map move_of l.tried-items) l.tried-index l.initial.units l.units;
+  noted : AreNotes l.d l.cut l.table l.kept.notes;
+  row : IfSome (items_of l.row) (IsRowTo l.d l.cut l.table (set_at l.initial.table l.set) l.moves (map move_of l.tried-items) l.tried-index);
+}
 
-abbrev pub invariant-all_can_win-loop-class : goal.invariant-all_can_win-loop-class
-invariant-all_can_win-loop-class l = record {
+abbrev pub invariant-first_lost-loop-class : goal.invariant-first_lost-loop-class
+invariant-first_lost-loop-class l = record {
   checking : IsChecking l.d l.cut l.initial.table l.table (sets_of l.fn.classes.items) (sets_of (into_iter_items l.class-iterator)) l.moves l.initial.units l.units;
   counted : into_iter_len l.class-iterator ≡ length (into_iter_items l.class-iterator);
+  first : find (is_lost l.d l.moves) (map class_pair l.fn.classes.items) ≡ find (is_lost l.d l.moves) (map class_pair (into_iter_items l.class-iterator));
+  noted : AreNotes l.d l.cut l.table l.kept.notes;
 }
