@@ -1,7 +1,7 @@
 -- What blocks a try, as stored results tell it, and what is claimed for it.
-use Rattle.std.proofs.Common.{◌≡◌, ℕ, zero, suc, ◌-◌, ◌<◌, Bool, true, false, ◌&&◌, ◌⊎◌, List, [], ◌∷◌, map, find, length, Option, Some, None, Ok, refl, sym, ap, subst, inl, inr, ◌∙◌, arith}
-use Rattle.std.specs.Prelude.{◌==◌, IfSome, if◌then◌else◌}
-use Rattle.std.proofs.lemmas.Bool.{cases_Bool, eqb-true, false_from_ne_true}
+use Rattle.std.proofs.Common.{◌≡◌, ℕ, zero, suc, ◌-◌, ◌<◌, Bool, true, false, List, [], ◌∷◌, map, find, length, Option, Some, None, Ok, refl, sym, ap, subst, inl, inr, ◌∙◌, arith}
+use Rattle.std.specs.Prelude.{◌==◌, IfSome, option_map, if◌then◌else◌}
+use Rattle.std.proofs.lemmas.Bool.{eqb-true, false_from_ne_true}
 use Rattle.std.proofs.lemmas.List.Elements.{All-head, All-tail, All-weaker}
 use Rattle.krieg_board.specs.Pos.{Pos}
 use Rattle.krieg_board.specs.declared.men.Move.{Move}
@@ -9,13 +9,14 @@ use Rattle.krieg_words.specs.declared.dialects.Dialect.{Dialect}
 use Rattle.krieg_pack.specs.Order.{position_lt}
 use Rattle.krieg_theory.specs.Sets.{In}
 use Rattle.krieg_theory.specs.Split.{refused, legal_in_some, keys, class}
-use Rattle.krieg_costs.specs.Block.{Block, Lives, Stale, LostClass, LostRefused, NoBlock, lives_in_some, block, pair_of, block_pair}
+use Rattle.krieg_costs.specs.Block.{Block, Lives, Stale, LostClass, LostRefused, NoBlock, block, pair_of, block_pair}
 use Rattle.krieg_costs.specs.Backing.{behind}
 use Rattle.krieg_costs.specs.Refutation.{Reason, ByLife, ByStalemate, ByClass, ByRefused}
 use Rattle.krieg_costs.proofs.Blocks.{BlockSays, block_says}
 use Rattle.krieg_costs.proofs.Reached.{class_some}
 use Rattle.krieg_accounts.specs.Sound.{StoredLost}
 use Rattle.krieg_accounts.specs.Stored.{stored}
+use Rattle.krieg_accounts.proofs.TryEnds.{find_map}
 use Rattle.krieg_claims.specs.InOrder.{claimed, add_all}
 use Rattle.krieg_claims.specs.Written as written
 use Rattle.krieg_claims.specs.Losses.{is_loss}
@@ -35,8 +36,9 @@ use Rattle.krieg_search.specs.declared.left.Left.{Left}
 use Rattle.krieg_search.specs.Leaving.{Leaves}
 use Rattle.krieg_search.specs.Searched.{IsReady}
 use Rattle.krieg_search.specs.Opened.{AddsSets}
+use Rattle.krieg_search.proofs.Blocked.{keyed_some, keyed_none, alive}
 use Rattle.krieg_search.proofs.Building.{adds_nothing, adds_then}
-use Rattle.krieg_refute.specs.declared.claiming.Asked.{Asked}
+use Rattle.krieg_search.specs.declared.notes.Asked.{Asked}
 use Rattle.krieg_refute.specs.declared.claiming.Claimed.{Claimed}
 use Rattle.krieg_refute.specs.declared.refutation.Why.{Why}
 use Rattle.krieg_refute.specs.declared.claims.Draft.{Draft}
@@ -46,22 +48,6 @@ use Rattle.krieg_refute.specs.Refutations.{why_of, claims_of, most_claims, most_
 use Rattle.krieg_refute.specs.Blocking.{IsBlockedBy}
 use Rattle.krieg_refute.specs.Claiming.{IsLost, is_lost_class, at_once_reason, pairs_in, IsClaimed, Claims, Blocks}
 use Rattle.krieg_refute.proofs.Carrying.{AreTooMany}
-use Rattle.krieg_refute.proofs.Finding.{on_found, find_map}
-
--- what is found among keys with their sets is found among the keys
-abbrev with_set : (Key → List Pos) → Option Key → Option (Key × List Pos)
-with_set f o = on_found {Y = Key × List Pos} (λ key. (key, f key)) o
-
-keyed_some : (f : Key → List Pos) (o : Option Key) (key : Key) (C : List Pos) → with_set f o ≡ Some (key, C) → (o ≡ Some key) × (f key ≡ C)
-keyed_some f None key C e = let q : ◌≡◌ {A = Option (Key × List Pos)} None (Some (key, C)) = e in absurd (cc)
-keyed_some f (Some k) key C e =
-    let q : ◌≡◌ {A = Option (Key × List Pos)} (Some (k, f k)) (Some (key, C)) = e in
-    let s : ◌≡◌ {A = Key × List Pos} (k, f k) (key, C) = cc in
-    (ap (λ (x : Key × List Pos). Some x.0) s, ap (λ (x : Key × List Pos). f x.0) (sym s) ∙ ap (λ (x : Key × List Pos). x.1) s)
-
-keyed_none : (f : Key → List Pos) (o : Option Key) → with_set f o ≡ None → o ≡ None
-keyed_none f None e = refl
-keyed_none f (Some k) e = let q : ◌≡◌ {A = Option (Key × List Pos)} (Some (k, f k)) None = e in absurd (cc)
 
 is_one : (i : ℕ) → (suc i == 1) ≡ (i == 0)
 is_one zero = refl
@@ -96,27 +82,18 @@ module _ (d : Dialect) where
     }
 
     module _ (l : Left) (a : Leaves d B t (suc i) l) where
-      alive : ((i == 0) && lives_in_some (chess d) B t) ≡ false
-      alive = go (cases_Bool (i == 0))
-        where
-          go : ((i == 0) ≡ true) ⊎ ((i == 0) ≡ false) → ((i == 0) && lives_in_some (chess d) B t) ≡ false
-          go (inl z) = let e = a.none_lives (ap suc (eqb-true i 0 z)) in λ k. z k && e k
-          go (inr n) = ap (λ (b : Bool). b && lives_in_some (chess d) B t) n
-
-      found : find (is_lost_class T i) (map class_pair l.classes.items) ≡ with_set (class (chess d) B t) (find (λ key. is_loss (stored position_lt (entries T) (class (chess d) B t key, i))) (keys (chess d) B t))
+      found : find (is_lost_class T i) (map class_pair l.classes.items) ≡ option_map {T = Key} {U = Key × List Pos} (λ key. (key, class (chess d) B t key)) (find (λ key. is_loss (stored position_lt (entries T) (class (chess d) B t key, i))) (keys (chess d) B t))
       found = ap (find (is_lost_class T i)) a.classes_part ∙ find_map (λ (c : Key × List Pos). is_loss (stored position_lt (entries T) (c.1, i))) (λ key. (key, class (chess d) B t key)) (keys (chess d) B t)
 
-      class_found : (key : Key) (C : List Pos) → find (is_lost_class T i) (map class_pair l.classes.items) ≡ Some (key, C) → IsBlockedBy d T B t i (suc i) (C, i) (ByClass key)
+      class_found : (key : Key) (C : List Pos) → find (is_lost_class T i) (map class_pair l.classes.items) ≡ Some (key, C) → (block (chess d) (suc i) B t ≡ LostClass key) × (class (chess d) B t key ≡ C)
       class_found key C e =
           let f = keyed_some (class (chess d) B t) (find (λ key. is_loss (stored position_lt (entries T) (class (chess d) B t key, i))) (keys (chess d) B t)) key C (sym found ∙ e) in
-          subst (λ (X : List Pos). IsBlockedBy d T B t i (suc i) (X, i) (ByClass key)) f.1
-          (by_class key (class_blocks (chess d) (chess_is_game d) (entries T) ready.sound B i lost t legal alive a.none_stale key f.0))
+          (class_blocks (chess d) (chess_is_game d) (entries T) ready.sound B i lost t legal (alive d B t i l a) a.none_stale key f.0, f.1)
 
-      refused_found : find (is_lost_class T i) (map class_pair l.classes.items) ≡ None → IsBlockedBy d T B t i (suc i) (l.refused, suc i) ByRefused
+      refused_found : find (is_lost_class T i) (map class_pair l.classes.items) ≡ None → block (chess d) (suc i) B t ≡ LostRefused
       refused_found e =
-          let f = keyed_none (class (chess d) B t) (find (λ key. is_loss (stored position_lt (entries T) (class (chess d) B t key, i))) (keys (chess d) B t)) (sym found ∙ e) in
-          subst (λ (X : List Pos). IsBlockedBy d T B t i (suc i) (X, suc i) ByRefused) (sym a.refused_part)
-          (by_refused (refused_blocks (chess d) (chess_is_game d) (entries T) ready.sound B i lost t legal alive a.none_stale f))
+          refused_blocks (chess d) (chess_is_game d) (entries T) ready.sound B i lost t legal (alive d B t i l a) a.none_stale
+          (keyed_none (class (chess d) B t) (find (λ key. is_loss (stored position_lt (entries T) (class (chess d) B t key, i))) (keys (chess d) B t)) (sym found ∙ e))
 
     -- a try that fails at once adds nothing
     at_once_adds : block_pair (chess d) (suc i) B t ≡ None → behind_try (chess d) i B t ≡ []
@@ -140,15 +117,29 @@ module _ (d : Dialect) where
     before_lost : IsLost T B (suc (j - 1))
     before_lost = subst (IsLost T B) (sym before) lost
 
-    pub class_at : (l : Left) → Leaves d B' t j l → (key : Key) (C : List Pos) → find (is_lost_class T (j - 1)) (map class_pair l.classes.items) ≡ Some (key, C) → IsBlockedBy d T B t (j - 1) j (C, j - 1) (ByClass key)
+    -- what a split tells of the block
+    pub class_at : (l : Left) → Leaves d B' t j l → (key : Key) (C : List Pos) → find (is_lost_class T (j - 1)) (map class_pair l.classes.items) ≡ Some (key, C) → (block (chess d) j B t ≡ LostClass key) × (class (chess d) B t key ≡ C)
     class_at l a key C e =
-        subst (λ (k : ℕ). IsBlockedBy d T B t (j - 1) k (C, j - 1) (ByClass key)) before
+        subst (λ (k : ℕ). (block (chess d) k B t ≡ LostClass key) × (class (chess d) B t key ≡ C)) before
         (class_found T B t (j - 1) ready before_lost legal l (subst (λ (k : ℕ). Leaves d B t k l) (sym before) (subst (λ (X : List Pos). Leaves d X t j l) is a)) key C e)
 
-    pub refused_at : (l : Left) → Leaves d B' t j l → find (is_lost_class T (j - 1)) (map class_pair l.classes.items) ≡ None → IsBlockedBy d T B t (j - 1) j (l.refused, j) ByRefused
+    pub refused_at : (l : Left) → Leaves d B' t j l → find (is_lost_class T (j - 1)) (map class_pair l.classes.items) ≡ None → block (chess d) j B t ≡ LostRefused
     refused_at l a e =
-        subst (λ (k : ℕ). IsBlockedBy d T B t (j - 1) k (l.refused, k) ByRefused) before
+        subst (λ (k : ℕ). block (chess d) k B t ≡ LostRefused) before
         (refused_found T B t (j - 1) ready before_lost legal l (subst (λ (k : ℕ). Leaves d B t k l) (sym before) (subst (λ (X : List Pos). Leaves d X t j l) is a)) e)
+
+    -- and what is claimed for it
+    pub by_class_at : (key : Key) (C : List Pos) → block (chess d) j B t ≡ LostClass key → class (chess d) B t key ≡ C → IsBlockedBy d T B t (j - 1) j (C, j - 1) (ByClass key)
+    by_class_at key C e same =
+        subst (λ (X : List Pos). IsBlockedBy d T B t (j - 1) j (X, j - 1) (ByClass key)) same
+        (subst (λ (k : ℕ). IsBlockedBy d T B t (j - 1) k (class (chess d) B t key, j - 1) (ByClass key)) before
+        (by_class T B t (j - 1) ready before_lost legal key (subst (λ (k : ℕ). block (chess d) k B t ≡ LostClass key) (sym before) e)))
+
+    pub by_refused_at : (R : List Pos) → block (chess d) j B t ≡ LostRefused → refused (chess d) B t ≡ R → IsBlockedBy d T B t (j - 1) j (R, j) ByRefused
+    by_refused_at R e same =
+        subst (λ (X : List Pos). IsBlockedBy d T B t (j - 1) j (X, j) ByRefused) same
+        (subst (λ (k : ℕ). IsBlockedBy d T B t (j - 1) k (refused (chess d) B t, k) ByRefused) before
+        (by_refused T B t (j - 1) ready before_lost legal (subst (λ (k : ℕ). block (chess d) k B t ≡ LostRefused) (sym before) e)))
 
     pub fails_blocks : (w : Claimed) (y : Why) → block_pair (chess d) j B t ≡ None → IsClaimed d T w → why_of y ≡ at_once_reason j → Blocks d (Ok y) B j t T T w w
     fails_blocks w y none c e =

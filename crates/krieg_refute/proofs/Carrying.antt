@@ -27,7 +27,7 @@ use Rattle.krieg_costs.specs.Block.{block_pair}
 use Rattle.krieg_costs.specs.Refutation.{Reason}
 use Rattle.krieg_costs.proofs.Costs.{legal_try}
 use Rattle.krieg_game.specs.Keys.{Key}
-use Rattle.krieg_refute.specs.declared.claiming.Asked.{Asked}
+use Rattle.krieg_search.specs.declared.notes.Asked.{Asked}
 use Rattle.krieg_refute.specs.declared.claiming.Claimed.{Claimed}
 use Rattle.krieg_refute.specs.Refutations.{most_claims, most_claimed}
 use Rattle.krieg_refute.specs.Claiming.{pairs_in, IsNext, IsPushed, Claims}

@@ -1,6 +1,6 @@
 -- The first opening set that is stored as lost is the first that cannot be won.
 use Rattle.std.proofs.Common.{◌≡◌, ℕ, ◌<◌, Bool, true, false, not, List, find, length, is_some, Option, Some, None, Result, Ok, Err, refl, sym, ap, subst, ◌∙◌, arith}
-use Rattle.std.specs.Prelude.{IfSome}
+use Rattle.std.specs.Prelude.{IfSome, option_map}
 use Rattle.std.specs.Result.{IsErrAnd}
 use Rattle.std.proofs.lemmas.Bool.{both_ways, not_from_false, false_from_ne_true, true_from_ne_false}
 use Rattle.krieg_board.specs.Pos.{Pos}
@@ -16,6 +16,7 @@ use Rattle.krieg_theory.proofs.Theorems.{can_plan_is_mated}
 use Rattle.krieg_costs.specs.Backing.{first_lost}
 use Rattle.krieg_costs.proofs.Blocks.{found, none_found}
 use Rattle.krieg_costs.proofs.Reached.{opening_some}
+use Rattle.krieg_accounts.proofs.TryEnds.{find_map}
 use Rattle.krieg_accounts.specs.Stored.{stored}
 use Rattle.krieg_accounts.proofs.Tables.{result_can}
 use Rattle.krieg_claims.specs.Written.{claims, claims_from, denial}
@@ -44,7 +45,6 @@ use Rattle.krieg_refute.specs.Stops.{refute_stop_of}
 use Rattle.krieg_refute.specs.Refutations.{claims_of, most_claims, most_claimed}
 use Rattle.krieg_refute.specs.Claiming.{IsLost, is_lost_opening, AreClaims}
 use Rattle.krieg_refute.specs.Refuted.{IsDenial, IsMated, IsDenied, IsTaken}
-use Rattle.krieg_refute.proofs.Finding.{on_found, find_map}
 
 is_stored : (o : Option (Option (Rattle.krieg_board.specs.declared.men.Move.Move))) → is_loss o ≡ true → o ≡ Some None
 is_stored None e = absurd (both_ways false refl e)
@@ -69,8 +69,8 @@ module _ (d : Dialect) (who : Side) (S : List Pos) (n : ℕ) where
     no_key : RootKey → Bool
     no_key key = not (can (chess d) n (opening_set (chess d) (outset d who) S key))
 
-    same_first : on_found (opening_in w.table) (find (λ o. not (can (chess d) n (set_at w.table o.set))) w.openings.items)
-        ≡ on_found {Y = RootKey × List Pos} (λ key. (key, opening_set (chess d) (outset d who) S key)) (first_lost (chess d) (outset d who) n S)
+    same_first : option_map (opening_in w.table) (find (λ o. not (can (chess d) n (set_at w.table o.set))) w.openings.items)
+        ≡ option_map {T = RootKey} {U = RootKey × List Pos} (λ key. (key, opening_set (chess d) (outset d who) S key)) (first_lost (chess d) (outset d who) n S)
     same_first =
         sym (find_map (λ (c : RootKey × List Pos). not (can (chess d) n c.1)) (opening_in w.table) w.openings.items)
         ∙ ap (find (λ (c : RootKey × List Pos). not (can (chess d) n c.1))) a.found.sets
@@ -86,14 +86,14 @@ module _ (d : Dialect) (who : Side) (S : List Pos) (n : ℕ) where
     stored_at : (o : Opening) → find (λ o. not (can (chess d) n (set_at w.table o.set))) w.openings.items ≡ Some o → IsLost w.table (set_at w.table o.set) n
     stored_at o e =
         let q : find (λ C. not (can (chess d) n C)) (sets_in w.table w.openings.items) ≡ Some (set_at w.table o.set) =
-        find_map (λ C. not (can (chess d) n C)) (λ (x : Opening). set_at w.table x.set) w.openings.items ∙ ap (on_found (λ (x : Opening). set_at w.table x.set)) e in
+        find_map (λ C. not (can (chess d) n C)) (λ (x : Opening). set_at w.table x.set) w.openings.items ∙ ap (option_map (λ (x : Opening). set_at w.table x.set)) e in
         (subst (λ (x : Option (List Pos)). IfSome x (λ C. 0 < n → stored position_lt (entries w.table) (C, n) ≡ Some None)) q a.lost) some
 
     pub has_first : HasFirst w.table w.openings.items
     has_first = go (first_lost (chess d) (outset d who) n S) (find (λ o. not (can (chess d) n (set_at w.table o.set))) w.openings.items) refl refl same_first
       where
         go : (k : Option RootKey) (o : Option Opening) → first_lost (chess d) (outset d who) n S ≡ k → find (λ o. not (can (chess d) n (set_at w.table o.set))) w.openings.items ≡ o
-            → on_found (opening_in w.table) o ≡ on_found {Y = RootKey × List Pos} (λ key. (key, opening_set (chess d) (outset d who) S key)) k → HasFirst w.table w.openings.items
+            → option_map (opening_in w.table) o ≡ option_map {T = RootKey} {U = RootKey × List Pos} (λ key. (key, opening_set (chess d) (outset d who) S key)) k → HasFirst w.table w.openings.items
         go None o e f q = absurd (some_lost e)
         go (Some key) None e f q = let r : ◌≡◌ {A = Option (RootKey × List Pos)} None (Some (key, opening_set (chess d) (outset d who) S key)) = q in absurd (cc)
         go (Some key) (Some o) e f q =

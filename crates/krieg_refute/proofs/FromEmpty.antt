@@ -1,5 +1,5 @@
 -- Claims that are written where there are none yet.
-use Rattle.std.proofs.Common.{◌≡◌, ℕ, List, [], Result, Ok, Err, sym, ap, subst, ◌∙◌, arith, length, ◌<◌}
+use Rattle.std.proofs.Common.{◌≡◌, ℕ, List, [], Vec, Global, Result, Ok, Err, sym, ap, subst, ◌∙◌, arith, length, ◌<◌}
 use Rattle.std.proofs.lemmas.List.Elements.{All-nil, All-same}
 use Rattle.std.specs.Result.{IsErrAnd}
 use Rattle.krieg_board.specs.Pos.{Pos}
@@ -45,7 +45,7 @@ module _ (d : Dialect) (T : Interned) (w : Claimed) (ws : w.claims.items ≡ [])
       v.1.few,
     )
 
-    pub claims_carried : (P : Stop2 → Type 0) (r : Result (List Claim) Stop2) (e : Stop2) → ((x : Stop2) → P x → e ≡ x) → IsErrAnd r P → Claims d (Err e) B j T T' w w' → AreClaims d B j r
+    pub claims_carried : (P : Stop2 → Type 0) (r : Result (Vec Claim Global) Stop2) (e : Stop2) → ((x : Stop2) → P x → e ≡ x) → IsErrAnd r P → Claims d (Err e) B j T T' w w' → AreClaims d B j r
     claims_carried P r e same fails k =
         carried P r e (λ e. Claims d (Err e) B j T T' w w') (λ r. AreClaims d B j r) same fails (λ v. v)
         (λ v. subst (λ (qs : List (List Pos × ℕ)). AreMany (chess d) most_claims most_claimed (written.claims_of (chess d) (add_all (chess d) qs (claimed (chess d) j B)))) nothing v) tt k

@@ -1,66 +1,83 @@
--- The opening sets of a list are those of the set of what it lists.
-use Rattle.std.proofs.Common.{◌≡◌, Bool, List, [], ◌∷◌, map, refl, ap, subst, ◌∙◌}
-use Rattle.std.specs.List.{list_any}
+-- At the player's turn a set is within an opening set of a list just where its members are listed and open alike.
+use Rattle.std.proofs.Common.{◌≡◌, true, false, not, ◌&&◌, ◌⊎◌, List, [], None, refl, sym, ap, subst, inl, inr, ◌∙◌}
+use Rattle.std.specs.List.{list_any, list_all}
+use Rattle.std.specs.Ordering.{is_eq}
+use Rattle.std.specs.Cmp.{Equal-is}
+use Rattle.std.proofs.lemmas.Bool.{and_parts, and_from, both_ways, not-true, not_from_false}
 use Rattle.krieg_board.specs.Pos.{Pos}
 use Rattle.krieg_board.specs.declared.men.Side.{Side}
+use Rattle.krieg_words.specs.Words.{words_cmp}
+use Rattle.krieg_words.specs.WordsOfMoves.{opening}
+use Rattle.krieg_words.specs.ToldWords.{told}
 use Rattle.krieg_words.specs.declared.dialects.Dialect.{Dialect}
+use Rattle.krieg_words.proofs.OrderLaws.{words_cmp_equal, words_cmp_self}
 use Rattle.krieg_pack.specs.Order.{position_lt}
 use Rattle.krieg_pack.specs.Members.{IsSetOf}
-use Rattle.krieg_theory.specs.Sets.{In, at_key}
-use Rattle.krieg_theory.specs.Game.{Game, IsGame}
-use Rattle.krieg_theory.specs.Plans.{Outset, IsOutset, all_starts, openings, opening_set}
-use Rattle.krieg_theory.proofs.Ascending.{same_set, as_set_ascending}
-use Rattle.krieg_theory.proofs.Planned.{start_in, in_opening, opens, opening_member}
-use Rattle.krieg_costs.specs.Refutation as theory
+use Rattle.krieg_pack.proofs.PositionSets.{position_order}
+use Rattle.krieg_theory.specs.Sets.{In, is_nil, same}
+use Rattle.krieg_theory.specs.Plans.{openings, opening_set}
+use Rattle.krieg_theory.proofs.Lists.{all_at, all_from, any_at, any_from, nil_or_member}
+use Rattle.krieg_theory.proofs.Ascending.{same_eq, same_refl}
+use Rattle.krieg_costs.specs.Refutation.{is_within}
+use Rattle.krieg_costs.proofs.Reached.{not_nil}
 use Rattle.krieg_game.specs.Keys.{RootKey}
 use Rattle.krieg_game.specs.Chess.{chess}
 use Rattle.krieg_game.specs.Outset.{outset}
-use Rattle.krieg_game.specs.ClassLaws.{opening_sets}
-use Rattle.krieg_game.proofs.ChessLaws.{chess_is_game, outset_is_lawful}
-use Rattle.krieg_split.specs.Openings.{opened_pair, opened_set}
+use Rattle.krieg_game.proofs.Starting.{openings_are_members, openings_occur}
 use Rattle.krieg_split.specs.Turns.{IsOwnTurn}
-use Rattle.krieg_split.specs.declared.opening_sets.Opened.{Opened}
-use Rattle.krieg_refute.specs.Reasons.{any_within}
+use Rattle.krieg_refute.specs.Reasons.{opens_with, within_opening}
+use Rattle.krieg_refute.proofs.ClaimTests.{both}
 
-module _ (G : Game) (L : IsGame G) (O : Outset G) (W : IsOutset G O) where
-  -- two lists with the same members
-  set_within : (S R : List G.Position) → ((p : G.Position) → In p S → In p R) → (key : O.Root) (q : G.Position) → In q (opening_set G O S key) → In q (opening_set G O R key)
-  set_within S R f key q i =
-      let a = start_in G L O W S key q i in
-      subst (λ x. In x (opening_set G O R key)) a.2.3 (subst (λ k. In a.2.0.1 (opening_set G O R k)) a.2.2 (in_opening G L O W R a.0 a.2.0 (f a.0 a.1) a.2.1))
+module _ (d : Dialect) (who : Side) (S B : List Pos) (s : IsSetOf B S) (own : IsOwnTurn who S) where
+  abbrev set_at : RootKey → List Pos
+  set_at key = opening_set (chess d) (outset d who) S key
 
-  keys_within : (S R : List G.Position) → ((p : G.Position) → In p S → In p R) → (key : O.Root) → In key (openings G O S) → In key (openings G O R)
-  keys_within S R f key i =
-      let m = opening_member G L O W S key i in
-      let a = start_in G L O W S key m.0 m.1 in
-      subst (λ k. In k (openings G O R)) a.2.2 (opens G L O W R a.0 a.2.0 (f a.0 a.1) a.2.1)
+  here : (p : Pos) → In p S → In p (set_at (told d (opening p), None))
+  here p i = (openings_are_members d who S own (told d (opening p)) None p).1 (i, refl, refl)
 
-  module _ (S R : List G.Position) (f : (p : G.Position) → In p S → In p R) (g : (p : G.Position) → In p R → In p S) where
-    pub same_opening_set : (key : O.Root) → opening_set G O S key ≡ opening_set G O R key
-    same_opening_set key = same_set G.position_lt L.position_order (opening_set G O S key) (opening_set G O R key) (as_set_ascending G.position_lt L.position_order (at_key O.root_lt key (all_starts G O S))) (as_set_ascending G.position_lt L.position_order (at_key O.root_lt key (all_starts G O R))) (set_within S R f key) (set_within R S g key)
+  occurs : (p : Pos) → In p S → In (told d (opening p), None) (openings (chess d) (outset d who) S)
+  occurs p i = (openings_occur d who S (told d (opening p), None)).occurs.1 (not_nil (set_at (told d (opening p), None)) p (here p i))
 
-    pub same_keys : openings G O S ≡ openings G O R
-    same_keys = same_set O.root_lt W.root_order (openings G O S) (openings G O R) (as_set_ascending O.root_lt W.root_order (map (λ (o : O.Root × G.Position). o.0) (all_starts G O S))) (as_set_ascending O.root_lt W.root_order (map (λ (o : O.Root × G.Position). o.0) (all_starts G O R))) (keys_within S R f) (keys_within R S g)
+  -- the empty set is, where some position is listed
+  pub none_within : not (is_nil B) ≡ within_opening d who S []
+  none_within = both _ _ (λ h. there (nil_or_member B) (not-true _ h)) back
+    where
+      there : (is_nil B ≡ true) ⊎ ((p : Pos) × In p B) → is_nil B ≡ false → within_opening d who S [] ≡ true
+      there (inl e) n = absurd (both_ways _ n e)
+      there (inr m) n = any_from (λ key. true) (openings (chess d) (outset d who) S) _ (occurs m.0 ((s.exact m.0).0 m.1)) refl
 
-by_set : (X : List Pos) (os : List Opened) → any_within X (map opened_pair os) ≡ any_within X (map opened_set os)
-by_set X [] = refl
-by_set X (o ∷ os) = ap (λ (b : Bool). Rattle.std.specs.Prelude.◌||◌ (theory.is_within position_lt X o.belief) b) (by_set X os)
+      listed : (key : RootKey) → is_nil (set_at key) ≡ false → (is_nil (set_at key) ≡ true) ⊎ ((p : Pos) × In p (set_at key)) → is_nil B ≡ false
+      listed key n (inl e) = absurd (both_ways _ n e)
+      listed key n (inr m) = not_nil B m.0 ((s.exact m.0).1 ((openings_are_members d who S own key.0 key.1 m.0).0 m.1).0)
 
-by_keys : (X : List Pos) (f : RootKey → List Pos) (ks : List RootKey) → any_within X (map (λ key. (key, f key)) ks) ≡ list_any (λ key. theory.is_within position_lt X (f key)) ks
-by_keys X f [] = refl
-by_keys X f (k ∷ ks) = ap (λ (b : Bool). Rattle.std.specs.Prelude.◌||◌ (theory.is_within position_lt X (f k)) b) (by_keys X f ks)
+      back : within_opening d who S [] ≡ true → not (is_nil B) ≡ true
+      back h =
+          let k = any_at (λ key. true) (openings (chess d) (outset d who) S) h in
+          not_from_false _ (listed k.0 ((openings_occur d who S k.0).occurs.0 k.1) (nil_or_member (set_at k.0)))
 
-any_agree : (f g : RootKey → Bool) (ks : List RootKey) → ((k : RootKey) → f k ≡ g k) → list_any f ks ≡ list_any g ks
-any_agree f g [] h = refl
-any_agree f g (k ∷ ks) h = let a = h k in let b = any_agree f g ks h in λ i. Rattle.std.specs.Prelude.◌||◌ (a i) (b i)
+  -- any other is, where its members are listed and open as its first one does
+  module _ (x : Pos) (X : List Pos) (first : In x X) where
+    member : (R : List Pos) → is_within position_lt X R ≡ true → (p : Pos) → In p X → In p R
+    member R h p i =
+        let m = any_at (same position_lt p) R (all_at (λ p. list_any (same position_lt p) R) X h p i) in
+        subst (λ q. In q R) (sym (same_eq position_lt position_order p m.0 m.2)) m.1
 
--- a set is within one of the opening sets of a list, as it is found by the openings of the set of the list
-pub opened_within : (d : Dialect) (who : Side) (S B X : List Pos) (os : List Opened) → IsSetOf B S → IsOwnTurn who S → (IsOwnTurn who B → map opened_set os ≡ opening_sets d who B)
-    → any_within X (map opened_pair os) ≡ list_any (λ key. theory.is_within position_lt X (opening_set (chess d) (outset d who) S key)) (openings (chess d) (outset d who) S)
-opened_within d who S B X os s own h =
-    by_set X os
-    ∙ ap (any_within X) (h (λ p i. own p ((s.exact p).0 i)))
-    ∙ by_keys X (opening_set (chess d) (outset d who) B) (openings (chess d) (outset d who) B)
-    ∙ any_agree (λ key. theory.is_within position_lt X (opening_set (chess d) (outset d who) B key)) (λ key. theory.is_within position_lt X (opening_set (chess d) (outset d who) S key)) (openings (chess d) (outset d who) B)
-    (λ key. ap (theory.is_within position_lt X) (same_opening_set (chess d) (chess_is_game d) (outset d who) (outset_is_lawful d who) B S (λ p i. (s.exact p).0 i) (λ p i. (s.exact p).1 i) key))
-    ∙ ap (list_any (λ key. theory.is_within position_lt X (opening_set (chess d) (outset d who) S key))) (same_keys (chess d) (chess_is_game d) (outset d who) (outset_is_lawful d who) B S (λ p i. (s.exact p).0 i) (λ p i. (s.exact p).1 i))
+    within : (R : List Pos) → ((p : Pos) → In p X → In p R) → is_within position_lt X R ≡ true
+    within R h = all_from (λ p. list_any (same position_lt p) R) X (λ p i. any_from (same position_lt p) R p (h p i) (same_refl position_lt position_order p))
+
+    pub some_within : (is_within position_lt X B && list_all (opens_with d (told d (opening x))) X) ≡ within_opening d who S X
+    some_within = both _ _ there back
+      where
+        there : (is_within position_lt X B && list_all (opens_with d (told d (opening x))) X) ≡ true → within_opening d who S X ≡ true
+        there h =
+            let a = and_parts (is_within position_lt X B) _ h in
+            let listed : (p : Pos) → In p X → In p S = λ p i. (s.exact p).0 (member B a.0 p i) in
+            any_from (λ key. is_within position_lt X (set_at key)) (openings (chess d) (outset d who) S) (told d (opening x), None) (occurs x (listed x first))
+            (within (set_at (told d (opening x), None)) (λ p i. subst (λ w. In p (set_at (w, None))) (words_cmp_equal _ _ ((Equal-is _).0 (all_at (opens_with d (told d (opening x))) X a.1 p i))) (here p (listed p i))))
+
+        back : within_opening d who S X ≡ true → (is_within position_lt X B && list_all (opens_with d (told d (opening x))) X) ≡ true
+        back h =
+            let k = any_at (λ key. is_within position_lt X (set_at key)) (openings (chess d) (outset d who) S) h in
+            let is = λ (p : Pos) (i : In p X). (openings_are_members d who S own k.0.0 k.0.1 p).0 (member (set_at k.0) k.2 p i) in
+            and_from _ _ (within B (λ p i. (s.exact p).1 (is p i).0))
+            (all_from _ X (λ p i. subst (λ w. is_eq (words_cmp (told d (opening p)) w) ≡ true) (sym (is p i).1 ∙ (is x first).1) (ap is_eq (words_cmp_self (told d (opening p))))))

@@ -13,7 +13,7 @@ use Rattle.krieg_claims.specs.Written.{index_of}
 use Rattle.krieg_game.specs.Chess.{chess}
 use Rattle.krieg_game.proofs.ChessLaws.{chess_is_game}
 use Rattle.krieg_table.specs.Interned.{Interned, sets, set_at}
-use Rattle.krieg_refute.specs.declared.claiming.Asked.{Asked}
+use Rattle.krieg_search.specs.declared.notes.Asked.{Asked}
 use Rattle.krieg_refute.specs.Claiming.{pairs_in}
 
 set_in : (T : Interned) (i : ℕ) → i < length T → In (set_at T i) (sets T)

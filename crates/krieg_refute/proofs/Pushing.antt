@@ -19,7 +19,7 @@ use Rattle.krieg_claims.proofs.Walking.{claims_more}
 use Rattle.krieg_game.specs.Chess.{chess}
 use Rattle.krieg_game.proofs.ChessLaws.{chess_is_game}
 use Rattle.krieg_table.specs.Interned.{Interned, set_at}
-use Rattle.krieg_refute.specs.declared.claiming.Asked.{Asked}
+use Rattle.krieg_search.specs.declared.notes.Asked.{Asked}
 use Rattle.krieg_refute.specs.declared.refutation.Claim.{Claim}
 use Rattle.krieg_refute.specs.Refutations.{reason_of, claim_of, claims_of, most_claims, most_claimed}
 use Rattle.krieg_refute.specs.Claiming.{pairs_in, IsNext}

@@ -23,7 +23,7 @@ use Rattle.krieg_search.specs.declared.stop.Stop2.{Stop2}
 use Rattle.krieg_search.specs.declared.stop.Stop2.TheVariants.{Spent, Large, NoMemory}
 use Rattle.krieg_search.specs.declared.openings.Opening.{Opening}
 use Rattle.krieg_search.specs.Opened.{AddsSets}
-use Rattle.krieg_refute.specs.declared.claiming.Asked.{Asked}
+use Rattle.krieg_search.specs.declared.notes.Asked.{Asked}
 use Rattle.krieg_refute.specs.declared.claiming.Claimed.{Claimed}
 use Rattle.krieg_refute.specs.declared.claiming.LostClass.{LostClass}
 use Rattle.krieg_refute.specs.declared.refutation.Claim.{Claim}
@@ -112,8 +112,8 @@ abbrev pub is_lost_opening : Interned → ℕ → Opening → Bool
 is_lost_opening T j o = is_loss (stored position_lt (entries T) (set_at T o.set, j))
 
 -- the claims that a set cannot be won within j, or that they are too many
-abbrev pub AreClaims : (d : Dialect) → List Pos → ℕ → Result (List Claim) Stop2 → Type 0
-AreClaims d B j (Ok cs) = (claims_of d cs ≡ written.claims (chess d) j B) × AreFew (chess d) most_claims most_claimed (claims_of d cs)
+abbrev pub AreClaims : (d : Dialect) → List Pos → ℕ → Result (Vec Claim Global) Stop2 → Type 0
+AreClaims d B j (Ok cs) = (claims_of d cs.items ≡ written.claims (chess d) j B) × AreFew (chess d) most_claims most_claimed (claims_of d cs.items)
 AreClaims d B j (Err Spent) = ⊥
 AreClaims d B j (Err Large) = AreMany (chess d) most_claims most_claimed (written.claims (chess d) j B)
 AreClaims d B j (Err NoMemory) = ⊤

@@ -1,9 +1,12 @@
--- Claims whose sets stand in a table.
-use Rattle.std.specs.Prelude.{◌≡◌, ◌<◌, List, length, map}
-use Rattle.std.specs.List.{All}
-use Rattle.krieg_table.specs.Interned.{Interned, set_at}
+-- Claims whose sets stand in a table, and where these sets are while they are moved out of it.
+use Rattle.std.specs.Prelude.{◌≡◌, ◌<◌, List, length, map, Option, Some}
+use Rattle.std.specs.List.{All, slice_get}
+use Rattle.std.specs.Option.{option_map}
+use Rattle.krieg_board.specs.Pos.{Pos}
+use Rattle.krieg_table.specs.Interned.{Interned, sets, set_at}
 use Rattle.krieg_refute.specs.declared.claims.Draft.{Draft}
-use Rattle.krieg_refute.specs.declared.claims.ClaimRef.{ClaimRef}
+use Rattle.krieg_refute.specs.declared.claims.Slot.{Slot}
+use Rattle.krieg_refute.specs.declared.claims.Slot.TheVariants.{Here, In}
 use Rattle.krieg_refute.specs.declared.refutation.Claim.{Claim}
 
 -- the claim of the set with that number
@@ -18,8 +21,11 @@ claims_over T ws = map (claim_over T) ws
 abbrev pub AreWithin : Interned → List Draft → Type 0
 AreWithin T ws = All (λ w. w.set < length T) ws
 
--- these are the parts of the claim
-pub record Shows (r : ClaimRef) (c : Claim) : Type 0 where
-  pub moves_part : r.moves ≡ c.moves
-  pub set_part : r.set.now ≡ c.set
-  pub reasons_part : r.reasons.now ≡ c.reasons.items
+-- the set of a slot: its own, or that of the claim at its place
+abbrev pub set_in : List Claim → Slot → Option (List Pos)
+set_in cs (Here B) = Some B
+set_in cs (In place) = option_map (λ (c : Claim). c.set) (slice_get cs place)
+
+-- the sets of the slots are those of the table
+abbrev pub HaveSets : List Claim → List Slot → Interned → Type 0
+HaveSets cs slots T = map (set_in cs) slots ≡ map Some (sets T)

@@ -7,4 +7,3 @@ pub mod Reasons
 pub mod Drafts
 pub mod Claiming
 pub mod Blocking
-pub mod PackedHeard

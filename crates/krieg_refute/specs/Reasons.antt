@@ -1,14 +1,21 @@
 -- What is found of claims.
 use Rattle.std.specs.Prelude.{ℕ, ◌&&◌, Bool, true, List, [], ◌∷◌, if◌then◌else◌}
 use Rattle.std.specs.List.{list_all, list_any}
+use Rattle.std.specs.Ordering.{is_eq}
 use Rattle.krieg_board.specs.Pos.{Pos}
 use Rattle.krieg_board.specs.declared.men.Move.{Move}
+use Rattle.krieg_board.specs.declared.men.Side.{Side}
+use Rattle.krieg_words.specs.Words.{Said, words_cmp}
+use Rattle.krieg_words.specs.WordsOfMoves.{opening}
+use Rattle.krieg_words.specs.ToldWords.{told}
 use Rattle.krieg_words.specs.declared.dialects.Dialect.{Dialect}
 use Rattle.krieg_pack.specs.Order.{position_lt}
 use Rattle.krieg_theory.specs.Sets.{same}
+use Rattle.krieg_theory.specs.Plans.{openings, opening_set}
 use Rattle.krieg_costs.specs.Refutation.{Reason, Claim, holds, is_within}
 use Rattle.krieg_game.specs.Keys.{Key, key_lt}
 use Rattle.krieg_game.specs.Chess.{chess}
+use Rattle.krieg_game.specs.Outset.{outset}
 use Rattle.krieg_board.specs.Order.{move_lt}
 
 -- the set that stands in a list of classes under a key: nothing where none does
@@ -16,9 +23,13 @@ abbrev pub class_in : List (Key × List Pos) → Key → List Pos
 class_in [] key = []
 class_in (c ∷ cs) key = if same key_lt c.0 key then c.1 else class_in cs key
 
--- the set is within one of some that go with what is heard
-abbrev pub any_within : {K : Type 0} → List Pos → List (K × List Pos) → Bool
-any_within X cs = list_any (λ c. is_within position_lt X c.1) cs
+-- the words are told of the position at the start
+abbrev pub opens_with : Dialect → Said → Pos → Bool
+opens_with d w p = is_eq (words_cmp (told d (opening p)) w)
+
+-- the set is within one of the opening sets of a list
+abbrev pub within_opening : Dialect → Side → List Pos → List Pos → Bool
+within_opening d who S X = list_any (λ key. is_within position_lt X (opening_set (chess d) (outset d who) S key)) (openings (chess d) (outset d who) S)
 
 module _ (d : Dialect) (before : List (Claim (chess d))) (j : ℕ) (B : List Pos) (t : Move) where
   -- the reason, where it is one for this try, holds at the number j + 1

@@ -53,7 +53,7 @@ module _ (d : Dialect) (who : Side) (S : List Pos) (n : ℕ) where
   -- What each answer says. Since no two of the first three can hold at once, each comes exactly where it holds and nothing
   -- was wanting.
   abbrev pub IsDenied : Result Denied RefuteStop → Type 0
-  IsDenied (Ok (Denial cs)) = IsDenial cs
+  IsDenied (Ok (Denial cs)) = IsDenial cs.items
   IsDenied (Ok Exists) = IsMated
   IsDenied (Err Large) = IsTooLarge
   IsDenied (Err Spent) = ⊤

@@ -3,7 +3,6 @@ use Rattle.std.specs.Prelude.{◌≡◌, ℕ, List}
 use Rattle.krieg_board.specs.Pos.{Pos}
 use Rattle.krieg_board.specs.declared.men.Move.{Move}
 use Rattle.krieg_words.specs.declared.dialects.Dialect.{Dialect}
-use Rattle.krieg_theory.specs.Split.{refused}
 use Rattle.krieg_costs.specs.Block.{lives_in_some}
 use Rattle.krieg_game.specs.Chess.{chess}
 use Rattle.krieg_split.specs.Parted.{IsParted}
@@ -11,12 +10,11 @@ use Rattle.krieg_refute.specs.declared.tried.LastTry.{LastTry}
 use Rattle.krieg_refute.specs.declared.tried.Tried.{Tried}
 use Rattle.krieg_refute.specs.declared.tried.Tried.TheVariants.{Parts, Last}
 
--- whether the try lives in some member, and the members that refuse it
+-- the set and the try, and whether it lives in some member
 pub record IsLast (d : Dialect) (B : List Pos) (t : Move) (l : LastTry) : Type 0 where
-  pub lives_part : l.lives ≡ lives_in_some (chess d) B t
-  pub refused_part : l.refused ≡ refused (chess d) B t
-  pub members_part : l.members.now ≡ B
+  pub set_part : l.set.now ≡ B
   pub move_part : l.mv ≡ t
+  pub lives_part : l.lives ≡ lives_in_some (chess d) B t
 
 -- the parts of the set, or with one move left the last try
 unfoldable pub IsTried : Dialect → ℕ → List Pos → Move → Tried → Type 0

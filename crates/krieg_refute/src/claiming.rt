@@ -13,31 +13,24 @@ ghost use Rattle.krieg_table.specs.Interned.{set_at};
 ghost use Rattle.krieg_table.specs.Entries.{entries};
 ghost use Rattle.krieg_claims.specs.Losses.{is_loss};
 ghost use Rattle.krieg_search.specs.Built.{IsPaidFor};
-ghost use Rattle.krieg_refute.specs.Blocking.{reason_by, HasBlock, LeavesAgain};
+ghost use Rattle.krieg_search.specs.Notes.{IsBlock, IsRow, AreNotes};
+ghost use Rattle.krieg_refute.specs.Blocking.{HasBlock, HasRow, LeavesAgain};
 ghost use Rattle.krieg_refute.specs.Claiming.{at_once_reason, IsLost, IsFirstLost, IsClaimed, IsNext, IsPushed, Claims, Reasons, Blocks};
 ghost use Rattle.krieg_refute.specs.Refutations.{why_of, reason_of, most_claims, most_claimed};
 ghost use Rattle.krieg_search.specs.Searched.{AreCounted};
 
 use crate::claims::Draft;
-use crate::heard::Heard;
 use crate::refutation::{MOST_CLAIMED, MOST_CLAIMS, Reason, Why};
 use indexmap::IndexSet;
 use krieg_board::{Move, NoMemory, Units};
 use krieg_game::Class;
 use krieg_moves::{after_if_legal, is_mate};
 use krieg_pack::{Belief, Packed, unpack};
-use krieg_search::{Left, Stop2, left_by, number_of};
+use krieg_search::{Asked, Block, Heard, Left, Note, Notes, Stop2, left_by, number_of};
 use krieg_split::{SplitStop, tries};
 use krieg_table::{Known, Table};
 use krieg_words::{Dialect, Words};
 use std::alloc::Global;
-
-/// A set by its number, with a number of own moves.
-#[derive(Clone, Copy, Debug, PartialEq, Eq, Hash)]
-pub(crate) struct Asked {
-    pub set: u32,
-    pub moves: u8,
-}
 
 /// The claims that are written so far, each behind those that it cites.
 #[derive(Drop)]
@@ -57,15 +50,6 @@ pub(crate) struct LostClass {
     pub own: Words,
     pub reply: Words,
     pub set: u32,
-}
-
-/// What blocks a try: a set that cannot be won within `moves`.
-#[derive(Drop)]
-pub(crate) struct Block {
-    pub set: u32,
-    pub moves: u8,
-    /// The words of which the set is the class, and nothing where it is what refuses the try.
-    pub heard: Option<(Words, Words)>,
 }
 
 /// Whether the set is stored as one that cannot be won within `moves`.
@@ -118,8 +102,8 @@ fn left_again(
     }
 }
 
-/// The first thing that blocks the try, as it is stored: a class with one move less, or the members that refuse it. Nothing,
-/// where it fails at once.
+/// What blocks the try, by one split more: the first class that is stored as lost with one move less, or the members that refuse
+/// it; or it fails at once.
 fn block_of(
     alloc: Global,
     d: Dialect,
@@ -127,7 +111,7 @@ fn block_of(
     set: u32,
     mv: Move,
     moves: u8,
-) -> Result<Option<Block>, NoMemory>
+) -> Result<Block, NoMemory>
     requires some { 0 < moves }
     requires within { set < length table.old }
     requires paid { IsPaidFor d false table.old }
@@ -136,30 +120,29 @@ fn block_of(
     ensures { IfOk result (HasBlock d table.old table.new (set_at table.old set) mv moves) }
 {
     let Some(Left { classes, refused }) = left_again(alloc, d, table.belief(set), mv, moves)? else {
-        return Ok(None);
+        return Ok(Block::AtOnce);
     };
     if let Some(class) = first_lost(table, classes, moves - 1)? {
-        return Ok(Some(Block {
-            set: class.set,
-            moves: moves - 1,
-            heard: Some((class.own, class.reply)),
-        }));
+        return Ok(Block::Class(Heard::new(&class.own, &class.reply), class.set));
     }
-    Ok(Some(Block {
-        set: number_of(table, refused)?,
-        moves,
-        heard: None,
-    }))
+    Ok(Block::Refused(number_of(table, refused)?))
 }
 
-/// The reason that cites the claim of what blocks a try.
-fn reason_by(heard: Option<(Words, Words)>, place: u16) -> Why
-    ensures { why_of result ≡ reason_by heard place }
+/// Each try that makes sense in the set, in order, with what blocks it.
+fn row_of(alloc: Global, d: Dialect, table: &mut Table, asked: Asked) -> Result<Vec<Note>, NoMemory>
+    requires some { 0 < asked.moves }
+    requires within { asked.set < length table.old }
+    requires paid { IsPaidFor d false table.old }
+    requires lost { IsLost table.old (set_at table.old asked.set) asked.moves }
+    ensures { IfOk result (λ row. HasRow d table.old table.new asked row.items) }
 {
-    match heard {
-        Some((own, reply)) => Why::Class(Heard::new(&own, &reply), place),
-        None => Why::Refused(place),
+    let tries = tries(alloc, table.belief(asked.set))?;
+    let mut row = Vec::with_capacity(alloc, tries.len())?;
+    for mv in &tries {
+        let block = block_of(alloc, d, table, asked.set, *mv, asked.moves)?;
+        row.push(Note { mv: *mv, block })?;
     }
+    Ok(row)
 }
 
 /// Why a try fails at once: with one move left it lives in some member, and else it stalemates in some.
@@ -242,83 +225,123 @@ fn push(
     Ok(claimed.claims.len() as u16)
 }
 
-/// The place of the claim that the set cannot be won within `moves`, as it is stored. A claim that is not there yet is put
-/// behind all that it cites.
+/// The place of the claim that the set cannot be won within its number of moves, as it is stored. A claim that is not there yet is
+/// put behind all that it cites.
 #[cycle(claim)]
 pub(crate) fn claim(
     alloc: Global,
     d: Dialect,
+    notes: &Notes,
     table: &mut Table,
     claimed: &mut Claimed,
-    set: u32,
-    moves: u8,
+    asked: Asked,
 ) -> Result<u16, Stop2>
-    requires some { 0 < moves }
-    requires within { set < length table.old }
-    requires members { is_nil (set_at table.old set) ≡ false }
+    requires some { 0 < asked.moves }
+    requires within { asked.set < length table.old }
+    requires members { is_nil (set_at table.old asked.set) ≡ false }
     requires paid { IsPaidFor d false table.old }
-    requires lost { IsLost table.old (set_at table.old set) moves }
+    requires noted { AreNotes d false table.old notes.now }
+    requires lost { IsLost table.old (set_at table.old asked.set) asked.moves }
     requires claimed { IsClaimed d table.old claimed.old }
-    ensures { Claims d result (set_at table.old set) moves table.old table.new claimed.old claimed.new }
+    ensures { Claims d result (set_at table.old asked.set) asked.moves table.old table.new claimed.old claimed.new }
 {
     table.know_once();
-    if let Some(index) = claimed.places.get_index_of(&Asked { set, moves }) {
+    if let Some(index) = claimed.places.get_index_of(&asked) {
         return Ok(index as u16 + 1);
     }
-    let tries = tries(alloc, table.belief(set))?;
-    let reasons = reasons_for(alloc, d, table, claimed, set, moves, tries.as_slice())?;
-    push(d, table, claimed, set, moves, reasons)
+    let reasons = reasons_of(alloc, d, notes, table, claimed, asked)?;
+    push(d, table, claimed, asked.set, asked.moves, reasons)
 }
 
-/// The reasons of all tries of the set, by claims that stand before its own.
+/// The reasons of all tries of the set, by claims that stand before its own. What blocks the tries is as the search has noted it,
+/// or is found by one split more for each.
+#[cycle(claim)]
+fn reasons_of(
+    alloc: Global,
+    d: Dialect,
+    notes: &Notes,
+    table: &mut Table,
+    claimed: &mut Claimed,
+    asked: Asked,
+) -> Result<Vec<Reason>, Stop2>
+    requires some { 0 < asked.moves }
+    requires within { asked.set < length table.old }
+    requires paid { IsPaidFor d false table.old }
+    requires noted { AreNotes d false table.old notes.now }
+    requires lost { IsLost table.old (set_at table.old asked.set) asked.moves }
+    requires claimed { IsClaimed d table.old claimed.old }
+    ensures { Reasons d result (set_at table.old asked.set) asked.moves (theory.tries (chess d) (set_at table.old asked.set)) table.old table.new claimed.old claimed.new }
+{
+    if let Some(row) = notes.of(asked.set, asked.moves) {
+        return reasons_for(alloc, d, notes, table, claimed, asked, row);
+    }
+    let row = row_of(alloc, d, table, asked)?;
+    reasons_for(alloc, d, notes, table, claimed, asked, row.as_slice())
+}
+
+/// The reasons of tries by what blocks each.
 #[cycle(claim)]
 fn reasons_for(
     alloc: Global,
     d: Dialect,
+    notes: &Notes,
     table: &mut Table,
     claimed: &mut Claimed,
-    set: u32,
-    moves: u8,
-    tries: &[Move],
+    asked: Asked,
+    row: &[Note],
 ) -> Result<Vec<Reason>, Stop2>
-    requires some { 0 < moves }
-    requires within { set < length table.old }
+    requires some { 0 < asked.moves }
+    requires within { asked.set < length table.old }
     requires paid { IsPaidFor d false table.old }
-    requires lost { IsLost table.old (set_at table.old set) moves }
+    requires noted { AreNotes d false table.old notes.now }
+    requires lost { IsLost table.old (set_at table.old asked.set) asked.moves }
     requires claimed { IsClaimed d table.old claimed.old }
-    requires all { tries.now ≡ theory.tries (chess d) (set_at table.old set) }
-    ensures { Reasons d result (set_at table.old set) moves tries.now table.old table.new claimed.old claimed.new }
+    requires row { IsRow d false table.old asked row.now }
+    ensures { Reasons d result (set_at table.old asked.set) asked.moves (theory.tries (chess d) (set_at table.old asked.set)) table.old table.new claimed.old claimed.new }
 {
-    let mut reasons = Vec::with_capacity(alloc, tries.len())?;
-    for mv in tries {
-        let why = why(alloc, d, table, claimed, set, *mv, moves)?;
-        reasons.push(Reason { mv: *mv, why })?;
+    let mut reasons = Vec::with_capacity(alloc, row.len())?;
+    for note in row {
+        let why = why(alloc, d, notes, table, claimed, asked, note)?;
+        reasons.push(Reason { mv: note.mv, why })?;
     }
     Ok(reasons)
 }
 
-/// Why the try does not begin to win the set within `moves`.
+/// Why the try does not begin to win the set, by what blocks it.
 #[cycle(claim)]
 fn why(
     alloc: Global,
     d: Dialect,
+    notes: &Notes,
     table: &mut Table,
     claimed: &mut Claimed,
-    set: u32,
-    mv: Move,
-    moves: u8,
+    asked: Asked,
+    note: &Note,
 ) -> Result<Why, Stop2>
-    requires some { 0 < moves }
-    requires within { set < length table.old }
+    requires some { 0 < asked.moves }
+    requires within { asked.set < length table.old }
     requires paid { IsPaidFor d false table.old }
-    requires lost { IsLost table.old (set_at table.old set) moves }
+    requires noted { AreNotes d false table.old notes.now }
+    requires lost { IsLost table.old (set_at table.old asked.set) asked.moves }
     requires claimed { IsClaimed d table.old claimed.old }
-    requires legal { legal_in_some (chess d) (set_at table.old set) mv ≡ true }
-    ensures { Blocks d result (set_at table.old set) moves mv table.old table.new claimed.old claimed.new }
+    requires legal { legal_in_some (chess d) (set_at table.old asked.set) note.now.mv ≡ true }
+    requires blocked { IsBlock d false table.old (set_at table.old asked.set) asked.moves note.now.mv note.now.block }
+    ensures { Blocks d result (set_at table.old asked.set) asked.moves note.now.mv table.old table.new claimed.old claimed.new }
 {
-    let Some(block) = block_of(alloc, d, table, set, mv, moves)? else {
-        return Ok(at_once(moves));
-    };
-    let place = claim(alloc, d, table, claimed, block.set, block.moves)?;
-    Ok(reason_by(block.heard, place))
+    let moves = asked.moves;
+    match note.block {
+        Block::AtOnce => Ok(at_once(moves)),
+        Block::Class(heard, set) => {
+            let less = Asked {
+                set,
+                moves: moves - 1,
+            };
+            let place = claim(alloc, d, notes, table, claimed, less)?;
+            Ok(Why::Class(heard, place))
+        }
+        Block::Refused(set) => {
+            let place = claim(alloc, d, notes, table, claimed, Asked { set, moves })?;
+            Ok(Why::Refused(place))
+        }
+    }
 }

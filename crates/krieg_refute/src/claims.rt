@@ -1,11 +1,14 @@
-ghost use Rattle.std.specs.Prelude.{◌≡◌, ◌<◌, length};
-ghost use Rattle.std.specs.List.{HoldsAt};
-ghost use Rattle.krieg_refute.specs.Drafts.{claims_over, AreWithin, Shows};
+ghost use Rattle.std.specs.Prelude.{◌≡◌, true, Some, IfOk, length, map, is_some};
+ghost use Rattle.krieg_table.specs.Interned.{sets};
+ghost use Rattle.krieg_refute.specs.Drafts.{claims_over, AreWithin, set_in};
+ghost use Rattle.krieg_refute.specs.declared.claims.Slot.TheVariants as Slot;
 
-use crate::refutation::Reason;
+use crate::refutation::{Claim, Reason};
+use krieg_board::NoMemory;
 use krieg_pack::Belief;
 use krieg_table::Table;
-use std::marker::Model;
+use std::alloc::Global;
+use std::mem;
 
 /// A claim whose set is known by its number in a table.
 #[derive(Drop)]
@@ -15,61 +18,57 @@ pub(crate) struct Draft {
     pub reasons: Vec<Reason>,
 }
 
-/// Claims over the table of a search, which has their sets: so no set is copied.
-///
-/// In contracts it is the list of the claims.
+/// Where a set of a table is.
 #[derive(Drop)]
-pub struct Claims {
+pub(crate) enum Slot {
+    /// No claim has it yet.
+    Here(Belief),
+    /// The claim at this place has it.
+    In(usize),
+}
+
+/// The sets of the table, of which the rest is let go.
+fn slots_of(alloc: Global, table: Table) -> Result<Vec<Slot>, NoMemory>
+    ensures { IfOk result (λ slots. slots.items ≡ map (λ B. Slot.Here B) (sets table)) }
+{
+    let sets = table.into_sets(alloc)?;
+    Ok(sets.into_iter().map(|set| Slot::Here(set)).collect(alloc)?)
+}
+
+/// The set of the slot, which is in the next claim from now on. Only where an earlier claim has the same set it is copied.
+fn take_set(slot: &mut Slot, claims: &[Claim]) -> Result<Belief, NoMemory>
+    requires { is_some (set_in claims.now slot.old) ≡ true }
+    ensures set { IfOk result (λ set. set_in claims.now slot.old ≡ Some set) }
+    ensures slot { slot.new ≡ Slot.In (length claims.now) }
+{
+    match mem::replace(slot, Slot::In(claims.len())) {
+        Slot::Here(set) => Ok(set),
+        Slot::In(place) => claims[place].set.copy(),
+    }
+}
+
+/// The claims with sets of their own, which are moved out of the table.
+pub(crate) fn claims_of(
+    alloc: Global,
     table: Table,
     drafts: Vec<Draft>,
-}
-
-impl Model for Claims {
-    ghost use Rattle.std.specs.Prelude.{List};
-    ghost use Rattle.krieg_refute.specs.declared.refutation.Claim.{Claim};
-    ghost use Rattle.krieg_refute.specs.Drafts.{claims_over, AreWithin};
-
-    ghost Value = { List Claim };
-
-    ghost view = { λ c. claims_over c.table c.drafts.items };
-
-    ghost invariant = { λ c. AreWithin c.table c.drafts.items };
-}
-
-/// The parts of a claim.
-#[derive(Clone, Copy)]
-pub struct ClaimRef<'a> {
-    pub moves: u8,
-    pub set: &'a Belief,
-    pub reasons: &'a [Reason],
-}
-
-impl Claims {
-    /// The claims of the drafts over the table.
-    pub(crate) fn over(table: Table, drafts: Vec<Draft>) -> Claims
-        requires { AreWithin table drafts.items }
-        ensures { result ≡ claims_over table drafts.items }
-    {
-        Claims { table, drafts }
+) -> Result<Vec<Claim>, NoMemory>
+    requires { AreWithin table drafts.items }
+    ensures { IfOk result (λ claims. claims.items ≡ claims_over table drafts.items) }
+{
+    let mut slots = slots_of(alloc, table)?;
+    let mut claims = Vec::with_capacity(alloc, drafts.len())?;
+    for Draft {
+        moves,
+        set,
+        reasons,
+    } in drafts {
+        let set = take_set(&mut slots[set as usize], &claims)?;
+        claims.push(Claim {
+            moves,
+            set,
+            reasons,
+        })?;
     }
-
-    /// How many claims there are.
-    pub fn len(&self) -> usize
-        ensures { result ≡ length self.now }
-    {
-        self.drafts.len()
-    }
-
-    /// The claim at place `i`, from 0 on.
-    pub fn get(&self, i: usize) -> ClaimRef<'_>
-        requires { i < length self.now }
-        ensures { HoldsAt (Shows result) self.now i }
-    {
-        let draft = &self.drafts[i];
-        ClaimRef {
-            moves: draft.moves,
-            set: self.table.belief(draft.set),
-            reasons: &draft.reasons,
-        }
-    }
+    Ok(claims)
 }

@@ -1,30 +1,36 @@
-ghost use Rattle.std.specs.Prelude.{◌≡◌, ◌-◌, ◌&&◌, true, [], Some, IfOk, map};
+ghost use Rattle.std.specs.Prelude.{◌≡◌, ◌-◌, ◌*◌, ◌<◌, ◌&&◌, true, false, [], List, All, Some, IfOk, IfSome, map};
 ghost use Rattle.std.specs.List.{list_all};
 ghost use Rattle.krieg_board.specs.Men.{is_same_side};
+ghost use Rattle.krieg_board.specs.Pos.{Pos};
+ghost use Rattle.krieg_words.specs.ToldWords as told;
+ghost use Rattle.krieg_words.specs.WordsOfMoves as words;
+ghost use Rattle.krieg_pack.specs.Members.{IsSetOf};
 ghost use Rattle.krieg_costs.specs.Sums.{total};
 ghost use Rattle.krieg_costs.specs.Cost.{made, price};
 ghost use Rattle.krieg_costs.specs.Refutation as theory;
+ghost use Rattle.krieg_theory.specs.Split as sets;
 ghost use Rattle.krieg_game.specs.Chess.{chess};
 ghost use Rattle.krieg_game.specs.Outset.{outset};
+ghost use Rattle.krieg_split.specs.Tallies.{tally_of, AreTallies};
 ghost use Rattle.krieg_split.specs.Units.{Charged};
-ghost use Rattle.krieg_split.specs.Openings.{opened_pair};
 ghost use Rattle.krieg_split.specs.Turns.{IsOwnTurn};
 ghost use Rattle.krieg_refute.specs.Refutations.{refutes, is_own_turn, claims_price, claims_of, claim_of, reason_of};
 ghost use Rattle.krieg_refute.specs.Excluded.{NoneMates};
-ghost use Rattle.krieg_refute.specs.Reasons.{try_holds as try_spec, any_within};
+ghost use Rattle.krieg_refute.specs.Reasons.{try_holds as try_spec, opens_with, within_opening};
 ghost use Rattle.krieg_refute.specs.Stops.{IsPaid};
 
 use crate::reasons::{are_for, is_within, reasons_hold};
 use crate::refutation::{Claim, Refutation};
 use crate::stop::DenyStop;
-use crate::tried::try_in_all;
-use krieg_board::{Move, NoMemory, Position, Side, Units};
-use krieg_pack::Belief;
-use krieg_split::{Opened, SplitStop, openings, tries};
-use krieg_words::Dialect;
+use crate::tried::{Tried, last_try};
+use krieg_board::{Move, NoMemory, Side, Units};
+use krieg_pack::{Belief, Packed, unpack};
+use krieg_split::{MOST_TALLIED, SplitStop, Tally, split, tally_all, tally_tries, tries};
+use krieg_words::{Dialect, Words, compare, opening, told};
 use std::alloc::Global;
 
 /// Whether the claim has a reason for the try and each one for it holds, by one split.
+#[tactic(auto, unfolding(crate::specs::Tried::IsTried))]
 fn try_holds(
     alloc: Global,
     d: Dialect,
@@ -36,8 +42,31 @@ fn try_holds(
     ensures { Charged result (λ yes. yes ≡ try_spec d (claims_of d before.now) (claim.now.moves - 1) claim.now.set mv.now (map reason_of claim.now.reasons.items)) (made (chess d) claim.now.set mv.now) units.old units.new }
 {
     let fewer = claim.moves.saturating_sub(1);
-    let tried = try_in_all(alloc, d, fewer, &claim.set, mv, units)?;
+    let tried = Tried::Parts(split(alloc, d, &claim.set, *mv, units)?);
     Ok(reasons_hold(alloc, before, fewer, mv, &tried, claim.reasons.as_slice()))
+}
+
+/// The same where one move is left, by the tally of the try.
+fn last_try_holds(
+    alloc: Global,
+    d: Dialect,
+    before: &[Claim],
+    claim: &Claim,
+    tally: &Tally,
+    units: &mut Units,
+) -> Result<bool, SplitStop>
+    requires { tally.now ≡ tally_of claim.now.set tally.now.mv }
+    ensures { Charged result (λ yes. yes ≡ try_spec d (claims_of d before.now) 0 claim.now.set tally.now.mv (map reason_of claim.now.reasons.items)) (made (chess d) claim.now.set tally.now.mv) units.old units.new }
+{
+    let tried = last_try(d, &claim.set, tally, units)?;
+    Ok(reasons_hold(
+        alloc,
+        before,
+        0,
+        &tally.mv,
+        &tried,
+        claim.reasons.as_slice(),
+    ))
 }
 
 /// Whether both are true, where both have been found.
@@ -66,6 +95,83 @@ fn tries_hold(
     Ok(all)
 }
 
+/// The same where one move is left, by the tallies of the tries.
+fn last_tries_hold(
+    alloc: Global,
+    d: Dialect,
+    before: &[Claim],
+    claim: &Claim,
+    tallies: &[Tally],
+    units: &mut Units,
+) -> Result<bool, SplitStop>
+    requires { All (λ y. y ≡ tally_of claim.now.set y.mv) tallies.now }
+    ensures { Charged result (λ yes. yes ≡ list_all (λ y. try_spec d (claims_of d before.now) 0 claim.now.set y.mv (map reason_of claim.now.reasons.items)) tallies.now) (total (λ y. made (chess d) claim.now.set y.mv) tallies.now) units.old units.new }
+{
+    let mut all = true;
+    for tally in tallies {
+        let held = last_try_holds(alloc, d, before, claim, tally, units)?;
+        all = both(all, held);
+    }
+    Ok(all)
+}
+
+/// Whether there is a unit for each member at each of the tries.
+fn is_one_for_each(units: &Units, members: usize, tries: usize) -> bool
+    ensures { result ≡ false → units.now < members * tries }
+{
+    (members as u64).saturating_mul(tries as u64) <= units.left()
+}
+
+/// The moves of tallies.
+fn moves_of(alloc: Global, tallies: &[Tally]) -> Result<Vec<Move>, NoMemory>
+    ensures { IfOk result (λ moves. moves.items ≡ map (λ y. y.mv) tallies.now) }
+{
+    Ok(tallies.iter().map(|tally| tally.mv).collect(alloc)?)
+}
+
+/// The tries of the claim's set, and where one move is left and the set is small, their tallies.
+fn tries_of(alloc: Global, claim: &Claim) -> Result<(Vec<Move>, Option<Vec<Tally>>), NoMemory>
+    ensures moves { IfOk result (λ r. (d : Dialect) → r.0.items ≡ sets.tries (chess d) claim.now.set) }
+    ensures tallies { IfOk result (λ r. IfSome r.1 (λ ys. AreTallies claim.now.set claim.now.set ys.items)) }
+{
+    if claim.moves > 1 || claim.set.len() > MOST_TALLIED {
+        return Ok((tries(alloc, &claim.set)?, None));
+    }
+    let tallies = tally_tries(alloc, &claim.set)?;
+    let moves = moves_of(alloc, &tallies)?;
+    Ok((moves, Some(tallies)))
+}
+
+/// Whether this holds of each of the tries of the claim's set. Where one move is left, all are counted at once, if they are not
+/// counted yet.
+fn all_tries_hold(
+    alloc: Global,
+    d: Dialect,
+    before: &[Claim],
+    claim: &Claim,
+    moves: &[Move],
+    tallies: Option<Vec<Tally>>,
+    units: &mut Units,
+) -> Result<bool, SplitStop>
+    requires moves { (d : Dialect) → moves.now ≡ sets.tries (chess d) claim.now.set }
+    requires tallies { IfSome tallies (λ ys. AreTallies claim.now.set claim.now.set ys.items) }
+    ensures { Charged result (λ yes. yes ≡ list_all (λ t. try_spec d (claims_of d before.now) (claim.now.moves - 1) claim.now.set t (map reason_of claim.now.reasons.items)) moves.now) (total (made (chess d) claim.now.set) moves.now) units.old units.new }
+{
+    if claim.moves > 1 {
+        return tries_hold(alloc, d, before, claim, moves, units);
+    }
+    if let Some(tallies) = tallies {
+        return last_tries_hold(alloc, d, before, claim, tallies.as_slice(), units);
+    }
+    if !is_one_for_each(units, claim.set.len(), moves.len()) {
+        return Err(SplitStop::Spent);
+    }
+    match tally_all(alloc, &claim.set, moves)? {
+        None => tries_hold(alloc, d, before, claim, moves, units),
+        Some(tallies) => last_tries_hold(alloc, d, before, claim, tallies.as_slice(), units),
+    }
+}
+
 /// Whether the claim holds by those before it. It takes the units of the splits by all tries, whether it holds or not.
 fn claim_holds(
     alloc: Global,
@@ -76,8 +182,8 @@ fn claim_holds(
 ) -> Result<bool, SplitStop>
     ensures { Charged result (λ yes. yes ≡ theory.claim_holds (chess d) (claims_of d before.now) (claim_of d claim.now)) (price (chess d) claim.now.set) units.old units.new }
 {
-    let moves = tries(alloc, &claim.set)?;
-    let held = tries_hold(alloc, d, before, claim, moves.as_slice(), units)?;
+    let (moves, tallies) = tries_of(alloc, claim)?;
+    let held = all_tries_hold(alloc, d, before, claim, moves.as_slice(), tallies, units)?;
     let only = are_for(claim.reasons.as_slice(), moves.as_slice());
     let some = both(claim.moves > 0, !claim.set.is_empty());
     Ok(both(some, both(held, only)))
@@ -100,16 +206,37 @@ fn claims_hold(
     Ok(all)
 }
 
-/// Whether the set is within one of the opening sets.
-fn is_within_some(set: &Belief, opened: &[Opened]) -> bool
-    ensures { result ≡ any_within set.now (map opened_pair opened.now) }
+/// What is told of the position at the start.
+fn told_first(d: Dialect, p: &Packed) -> Words
+    ensures { result ≡ told.told d (words.opening p.now) }
 {
-    for o in opened {
-        if is_within(set, &o.belief) {
-            return true;
+    told(d, opening(&unpack(p)))
+}
+
+/// Whether the words are told of each of the members at the start.
+fn all_open_with(d: Dialect, words: &Words, members: &[Packed]) -> bool
+    ensures { result ≡ list_all (opens_with d words.now) members.now }
+{
+    for member in members {
+        if compare(&told_first(d, member), words).is_ne() {
+            return false;
         }
     }
-    false
+    true
+}
+
+/// Whether the set is within one of the opening sets of positions in which the player is to move: its members are listed,
+/// and the same is told of all of them at the start.
+fn is_within_opening(d: Dialect, set: &Belief, listed: &Belief) -> bool
+    ensures { (who : Side) (S : List Pos) → IsSetOf listed.now S → IsOwnTurn who S → result ≡ within_opening d who S set.now }
+{
+    match set.members().first() {
+        None => !listed.is_empty(),
+        Some(first) => {
+            let words = told_first(d, first);
+            is_within(set, listed) && all_open_with(d, &words, set.members())
+        }
+    }
 }
 
 /// Whether the claim denies that some plan mates the listed positions within `moves`.
@@ -118,24 +245,23 @@ fn denies(
     d: Dialect,
     who: Side,
     moves: u8,
-    list: &[Position],
+    list: &[Packed],
     claim: &Claim,
 ) -> Result<bool, NoMemory>
     requires { IsOwnTurn who list.now }
     ensures { IfOk result (λ yes. yes ≡ theory.denies (chess d) (outset d who) moves list.now (Some (claim_of d claim.now))) }
 {
-    let b = Belief::from_positions(alloc, list)?;
-    let opened = openings(alloc, d, &b)?;
-    let within = is_within_some(&claim.set, opened.as_slice());
+    let listed = Belief::from_packed(list.to_vec(alloc)?);
+    let within = is_within_opening(d, &claim.set, &listed);
     Ok(both(claim.moves >= moves, within))
 }
 
 /// Whether the side is to move in all positions.
-fn are_turns_of(list: &[Position], side: Side) -> bool
+fn are_turns_of(list: &[Packed], side: Side) -> bool
     ensures { result ≡ list_all (λ p. is_same_side p.side side) list.now }
 {
     for p in list {
-        if p.side() != side {
+        if unpack(p).side() != side {
             return false;
         }
     }

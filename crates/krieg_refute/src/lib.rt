@@ -6,14 +6,15 @@
 //! what is possible after something that may be heard, or denies the members that refuse the try.
 //!
 //! What makes a refutation hold stands in `Refutations` of `specs/`, in the terms of krieg_costs, and what `refute` answers
-//! and takes in `Refuted`; which claims it writes says krieg_claims. `Tried`, `Reasons`, `Drafts`, `Claiming`, `Blocking` and
-//! `PackedHeard` are parts of the work.
+//! and takes in `Refuted`; which claims it writes says krieg_claims. `Tried`, `Reasons`, `Drafts`, `Claiming` and `Blocking`
+//! are parts of the work.
 //!
-//! `refute` searches by krieg_search and reads its table, in which each lost set has what blocks its tries: the splits are
-//! made again, and nothing is searched twice. `claiming` walks that table, each set behind those that it stands on. The claims
-//! that it gives, `claims`, keep the table: a set that is claimed stands there by its number, and is never copied.
+//! `refute` searches by krieg_search and reads its table, in which each lost set has what blocks its tries, and nothing is
+//! searched twice. The search notes what blocks them where more than one move is left; what it has not noted is found by one
+//! split more. `claiming` walks that table, each set behind those that it stands on. The sets of the claims that it gives are
+//! moved out of the table by `claims`, and the rest of the table is let go.
 //! `deny` takes nothing for granted: it makes each try in each claim's set. Where one move is left nothing that is heard
-//! matters: then both look only at what lives, and at what refuses the try.
+//! matters: then both look only at what lives, and at what refuses the try, and all tries of a set are counted at once.
 //!
 //! ```
 //! let mut units = Units::new(81);
@@ -31,16 +32,14 @@
 mod claiming;
 mod claims;
 mod denial;
-mod heard;
 mod reasons;
 mod refutation;
 mod refuting;
 mod stop;
 mod tried;
 
-pub use claims::{ClaimRef, Claims};
 pub use denial::deny;
-pub use heard::Heard;
+pub use krieg_search::Heard;
 pub use refutation::{Claim, MOST_CLAIMED, MOST_CLAIMS, Reason, Refutation, Why};
 pub use refuting::{Denied, refute};
 pub use stop::{DenyStop, RefuteStop};

@@ -5,7 +5,7 @@ ghost use Rattle.krieg_board.specs.declared.men.Move.{Move as Try};
 ghost use Rattle.krieg_words.specs.declared.dialects.Dialect.{Dialect};
 ghost use Rattle.krieg_pack.specs.Order.{position_lt};
 ghost use Rattle.krieg_theory.specs.Sets.{same};
-ghost use Rattle.krieg_theory.specs.Split.{keys, class};
+ghost use Rattle.krieg_theory.specs.Split.{keys, class, refused};
 ghost use Rattle.krieg_costs.specs.Block.{lives_in_some};
 ghost use Rattle.krieg_costs.specs.Refutation as theory;
 ghost use Rattle.krieg_game.specs.Chess.{chess};
@@ -19,7 +19,7 @@ ghost use Rattle.krieg_refute.specs.Reasons as spec;
 ghost use Rattle.krieg_refute.specs.Tried.{IsLast, IsTried};
 
 use crate::refutation::{Claim, Reason, Why};
-use crate::tried::{LastTry, Tried, stalemates_in_some};
+use crate::tried::{LastTry, Tried, all_refuse, stalemates_in_some};
 use krieg_board::Move;
 use krieg_game::Class;
 use krieg_pack::{Belief, Packed, unpack};
@@ -137,15 +137,32 @@ fn holds_by_parts(alloc: Global, before: &[Claim], fewer: u8, parted: &Parted, w
     }
 }
 
+/// Whether each member of the set is one of those that refuse the last try.
+fn is_within_refused(set: &Belief, last: &LastTry) -> bool
+    ensures { (d : Dialect) (B : List Pos) (t : Try) → IsLast d B t last.now → result ≡ theory.is_within position_lt set.now (refused (chess d) B t) }
+{
+    is_within(set, last.set) && all_refuse(set.members(), &last.mv)
+}
+
+/// Whether the claim at a place denies the members that refuse the last try.
+fn is_refused_shown(before: &[Claim], place: u16, last: &LastTry) -> bool
+    ensures { (d : Dialect) (B : List Pos) (t : Try) → IsLast d B t last.now → result ≡ theory.is_shown (chess d) (theory.cited (claims_of d before.now) place) 1 (refused (chess d) B t) }
+{
+    match cited(before, place) {
+        Some(c) => c.moves >= 1 && is_within_refused(&c.set, last),
+        None => false,
+    }
+}
+
 /// Whether the reason holds where one move is left, by the last try.
 fn holds_at_last(before: &[Claim], last: &LastTry, why: &Why) -> bool
     ensures { (d : Dialect) (B : List Pos) (t : Try) → IsLast d B t last.now → result ≡ theory.holds (chess d) (claims_of d before.now) 0 B t (why_of why.now) }
 {
     match why {
         Why::Lives => last.lives,
-        Why::Stale => stalemates_in_some(last.members, &last.mv),
+        Why::Stale => stalemates_in_some(last.set.members(), &last.mv),
         Why::Class(_, _) => false,
-        Why::Refused(place) => is_shown(before, *place, 1, &last.refused),
+        Why::Refused(place) => is_refused_shown(before, *place, last),
     }
 }
 

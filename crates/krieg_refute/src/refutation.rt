@@ -1,6 +1,6 @@
-use crate::heard::Heard;
-use krieg_board::{Move, Position, Side};
-use krieg_pack::Belief;
+use krieg_board::{Move, Side};
+use krieg_pack::{Belief, Packed};
+use krieg_search::Heard;
 use krieg_words::Dialect;
 
 /// The most claims that are written.
@@ -49,6 +49,6 @@ pub struct Refutation {
     pub dialect: Dialect,
     pub side: Side,
     pub moves: u8,
-    pub list: Vec<Position>,
+    pub list: Vec<Packed>,
     pub claims: Vec<Claim>,
 }

@@ -3,27 +3,32 @@ ghost use Rattle.krieg_theory.specs.Sets.{is_nil};
 ghost use Rattle.krieg_table.specs.Interned.{set_at};
 ghost use Rattle.krieg_search.specs.Built.{IsPaidFor};
 ghost use Rattle.krieg_search.specs.Opened.{AreNumbered};
+ghost use Rattle.krieg_search.specs.Notes.{AreNotes};
 ghost use Rattle.krieg_refute.specs.Refuted as side;
 ghost use Rattle.krieg_refute.specs.Refuted.{IsOneSide, IsDenied, IsTaken};
 ghost use Rattle.krieg_refute.specs.Claiming.{IsLost, is_lost_opening, AreClaims};
 
 use crate::claiming::{Claimed, claim, is_lost};
-use crate::claims::Claims;
+use crate::claims::claims_of;
+use crate::refutation::Claim;
 use crate::stop::RefuteStop;
 use indexmap::IndexSet;
 use krieg_board::{MOST_MOVES, Side, Units};
 use krieg_pack::Belief;
 use krieg_search::decide::{Decided, Found, decide};
-use krieg_search::{Opening, Stop2};
+use krieg_search::{Asked, Notes, Opening, Stop2};
 use krieg_table::Table;
 use krieg_words::Dialect;
 use std::alloc::Global;
+
+/// The most notes that the search keeps of what blocks the tries of lost sets: 256 KB of them. What is not noted is found once more.
+const MOST_NOTED: usize = 16_384;
 
 /// What is found of a set of positions and a number of moves.
 #[derive(Drop)]
 pub enum Denied {
     /// No plan mates all members within the number, and these claims show it.
-    Denial(Claims),
+    Denial(Vec<Claim>),
     /// Some plan mates all members within the number.
     Exists,
 }
@@ -56,14 +61,16 @@ fn lost_opening(table: &Table, openings: &[Opening], moves: u8) -> u32
 fn claims_for(
     alloc: Global,
     d: Dialect,
+    notes: Notes,
     mut table: Table,
     set: u32,
     moves: u8,
-) -> Result<Claims, Stop2>
+) -> Result<Vec<Claim>, Stop2>
     requires some { 0 < moves }
     requires within { set < length table }
     requires members { is_nil (set_at table set) ≡ false }
     requires paid { IsPaidFor d false table }
+    requires noted { AreNotes d false table notes }
     requires lost { IsLost table (set_at table set) moves }
     ensures { AreClaims d (set_at table set) moves result }
 {
@@ -73,8 +80,17 @@ fn claims_for(
         positions: 0,
         reasons: 0,
     };
-    claim(alloc, d, &mut table, &mut claimed, set, moves)?;
-    Ok(Claims::over(table, claimed.claims))
+    claim(
+        alloc,
+        d,
+        &notes,
+        &mut table,
+        &mut claimed,
+        Asked { set, moves },
+    )?;
+    drop(notes);
+    drop(claimed.places);
+    Ok(claims_of(alloc, table, claimed.claims)?)
 }
 
 /// The claims that no plan of the side to move mates all members within `moves`, as the umpire tells games in the
@@ -105,12 +121,16 @@ pub fn refute(
 {
     let who = side_of(b);
     let mut left = Units::new(units.left());
-    match decide(alloc, d, false, who, b, moves, &mut left)? {
+    match decide(alloc, d, false, MOST_NOTED, who, b, moves, &mut left)? {
         Decided::Over => unreachable!(),
         Decided::Lost(found) => {
-            let Found { table, openings } = found;
+            let Found {
+                table,
+                openings,
+                notes,
+            } = found;
             let set = lost_opening(&table, openings.as_slice(), moves);
-            let claims = claims_for(alloc, d, table, set, moves)?;
+            let claims = claims_for(alloc, d, notes, table, set, moves)?;
             *units = left;
             Ok(Denied::Denial(claims))
         }

@@ -1,18 +1,19 @@
 ghost use Rattle.std.specs.Prelude.{◌≡◌, ◌&&◌, true};
-ghost use Rattle.std.specs.List.{list_any};
+ghost use Rattle.std.specs.List.{list_all, list_any};
 ghost use Rattle.krieg_moves.specs.Legal as rule;
 ghost use Rattle.krieg_costs.specs.Cost.{made};
 ghost use Rattle.krieg_game.specs.Chess.{chess, stalemates};
+ghost use Rattle.krieg_parting.specs.Mating.{refuses};
 ghost use Rattle.krieg_split.specs.Units.{Charged};
+ghost use Rattle.krieg_split.specs.Tallies.{tally_of};
 ghost use Rattle.krieg_refute.specs.Tried.{IsTried};
 
 use krieg_board::{Move, Units};
-use krieg_moves::{after_if_legal, is_stalemate};
+use krieg_moves::{after_if_legal, is_legal, is_stalemate};
 use krieg_pack::{Belief, Packed, unpack};
-use krieg_parting::{Mating, try_to_mate};
-use krieg_split::{Parted, SplitStop, split};
+use krieg_parting::take;
+use krieg_split::{Parted, SplitStop, Tally};
 use krieg_words::Dialect;
-use std::alloc::Global;
 
 /// What a try makes of a set, as far as a reason may ask.
 #[derive(Drop)]
@@ -23,16 +24,13 @@ pub(crate) enum Tried<'a> {
     Last(LastTry<'a>),
 }
 
-/// What a try makes of a set where one move is left.
-#[derive(Drop)]
+/// A try of a set where one move is left.
+#[derive(Clone, Copy)]
 pub(crate) struct LastTry<'a> {
+    pub set: &'a Belief,
+    pub mv: Move,
     /// Whether in some member it is legal and does not mate.
     pub lives: bool,
-    /// The members that refuse it.
-    pub refused: Belief,
-    /// The set.
-    pub members: &'a [Packed],
-    pub mv: Move,
 }
 
 /// Whether the try stalemates in the member.
@@ -58,27 +56,33 @@ pub(crate) fn stalemates_in_some(members: &[Packed], mv: &Move) -> bool
     false
 }
 
-/// Makes the try in all members of the set, for a number of moves that is one more than `fewer`. It takes the units of a
-/// split.
-pub(crate) fn try_in_all<'a>(
-    alloc: Global,
+/// Whether each of the members refuses the try.
+pub(crate) fn all_refuse(members: &[Packed], mv: &Move) -> bool
+    ensures { result ≡ list_all (refuses mv.now) members.now }
+{
+    for member in members {
+        if is_legal(&unpack(member), *mv) {
+            return false;
+        }
+    }
+    true
+}
+
+/// The try where one move is left, by its tally in the set. It takes the units of a split.
+pub(crate) fn last_try<'a>(
     d: Dialect,
-    fewer: u8,
     set: &'a Belief,
-    mv: &Move,
+    tally: &Tally,
     units: &mut Units,
 ) -> Result<Tried<'a>, SplitStop>
-    ensures { Charged result (IsTried d fewer set.now mv.now) (made (chess d) set.now mv.now) units.old units.new }
+    requires { tally.now ≡ tally_of set.now tally.now.mv }
+    ensures { Charged result (IsTried d 0 set.now tally.now.mv) (made (chess d) set.now tally.now.mv) units.old units.new }
 {
-    if fewer > 0 {
-        return Ok(Tried::Parts(split(alloc, d, set, *mv, units)?));
-    }
-    let members = set.members();
-    let Mating { lives, refused } = try_to_mate(alloc, members, mv, true, units)?;
+    take(units, set.len() as u64)?;
+    take(units, tally.replies)?;
     Ok(Tried::Last(LastTry {
-        lives,
-        refused: Belief::from_packed(refused),
-        members,
-        mv: *mv,
+        set,
+        mv: tally.mv,
+        lives: tally.lives,
     }))
 }

@@ -13,7 +13,7 @@ use Rattle.krieg_table.specs.Interned.{set_at}
 use Rattle.krieg_refute.specs.declared.refutation.Claim.{Claim}
 use Rattle.krieg_refute.specs.declared.claims.Draft.{Draft}
 use Rattle.krieg_refute.specs.Drafts.{claim_over, claims_over}
-use Rattle.krieg_refute.specs.declared.claiming.Asked.{Asked}
+use Rattle.krieg_search.specs.declared.notes.Asked.{Asked}
 use Rattle.krieg_refute.specs.Refutations.{claims_of, most_claims, most_claimed}
 use Rattle.krieg_refute.specs.Claiming.{pairs_in}
 use Rattle.krieg_refute.proofs.Pushing.{claims_are, pairs_more, all_numbered, stand, place_is, too_many, still_few}

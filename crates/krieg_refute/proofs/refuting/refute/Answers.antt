@@ -77,7 +77,7 @@ pub returns-in_ok-claims-in-Lost-clause-answer : goal.returns-in_ok-claims-in-Lo
 returns-in_ok-claims-in-Lost-clause-answer c =
     let k = rw (c.in-Lost.is, c.side_of-who.ensures) at c.in_ok-decide.ensures in
     let h = rw c.as_slice.ensures.value at c.lost_opening-set.ensures in
-    is_denial c.args.d _ c.args.b.now c.args.moves c.in-Lost.found c.new-left.result k.0 c.requires.some c.lost_opening-set.result h c.in_ok-claims-in-Lost.claims c.in_ok-claims-in-Lost.ensures.0
+    is_denial c.args.d _ c.args.b.now c.args.moves c.in-Lost.found c.new-left.result k.0 c.requires.some c.lost_opening-set.result h c.in_ok-claims-in-Lost.claims.items c.in_ok-claims-in-Lost.ensures.0
     c.in_ok-claims-in-Lost.ensures.1
 
 pub returns-in_ok-claims-in-Lost-clause-units : goal.returns-in_ok-claims-in-Lost-clause-units

@@ -1,0 +1,59 @@
+use Rattle.std.proofs.Common.{◌≡◌, true, false, List, Some, sym, ap, subst, ◌∙◌}
+use Rattle.krieg_board.specs.Pos.{Pos}
+use Rattle.krieg_theory.specs.Split.{legal_in_some, tries}
+use Rattle.krieg_accounts.proofs.TryWalk.{legal_at}
+use Rattle.krieg_game.specs.Chess.{chess}
+use Rattle.krieg_game.proofs.ChessLaws.{chess_is_game}
+use Rattle.krieg_table.specs.Interned.{set_at}
+use Rattle.krieg_search.specs.Notes.{IsBlock}
+use Rattle.krieg_search.specs.declared.notes.Note.{Note}
+use Rattle.krieg_search.proofs.Building.{adds_nothing, adds_then}
+use Rattle.krieg_search.proofs.Searching.{more_itself}
+use Rattle.krieg_search.proofs.Noted.{no_notes, one_noted, all_noted}
+use Rattle.krieg_refute.proofs.claiming.row_of.Goals as goal
+
+pub loop-mv-init : goal.loop-mv-init
+loop-mv-init c =
+    let T = c.args.table.now in
+    record {
+      sets = adds_nothing T c.requires.paid.ready.counted;
+      row = no_notes c.args.d false T (set_at T c.args.asked.set) c.args.asked.moves c.deref-mv-items.result.now (Some c.in_ok-row.row.items) c.in_ok-row.ensures.items;
+    }
+
+pub block_of-requires-clause-legal : goal.block_of-requires-clause-legal
+block_of-requires-clause-legal c =
+    let d = c.args.d in
+    let B = set_at c.args.table.now c.args.asked.set in
+    let are = c.deref-mv-items.ensures.value ∙ c.in_ok-tries.ensures d ∙ ap (tries (chess d)) c.belief.ensures in
+    let same = c.loop-mv.invariant.sets.more.same c.args.asked.set c.requires.within in
+    subst (λ (X : List Pos). legal_in_some (chess d) X c.mv-item.result ≡ true) (sym same)
+    (legal_at (chess d) (chess_is_game d) B c.args.asked.moves c.deref-mv-items.result.now are c.loop-mv.mv-index c.mv-item.result c.loop-mv-test.true c.mv-item.is)
+
+pub loop-mv-preserved : goal.loop-mv-preserved
+loop-mv-preserved c =
+    let d = c.args.d in
+    let T1 = c.loop-mv.table in
+    let T2 = c.block_of.new.table in
+    let B = set_at c.args.table.now c.args.asked.set in
+    let j = c.args.asked.moves in
+    let inv = c.loop-mv.invariant in
+    let h = c.in_ok-block.ensures in
+    let same = inv.sets.more.same c.args.asked.set c.requires.within in
+    let mv = c.mv-item.result in
+    let new : Note = record { mv = mv; block = c.in_ok-block.block } in
+    let here = subst (λ (X : List Pos). IsBlock d false T2 X j mv c.in_ok-block.block) same h.1 in
+    record {
+      sets = adds_then c.args.table.now T1 T2 inv.sets h.0;
+      row = one_noted d false T1 B j c.deref-mv-items.result.now {T' = T2} c.loop-mv.mv-index (Some c.loop-mv.row.items) (Some c.push.new.self.items) new h.0.more c.loop-mv-test.true c.mv-item.is here (ap Some c.in_ok-push.ensures.items) inv.row;
+    }
+
+pub returns : goal.returns
+returns c =
+    let d = c.args.d in
+    let T = c.args.table.now in
+    let B = set_at T c.args.asked.set in
+    let inv = c.loop-mv.invariant in
+    let are = c.deref-mv-items.ensures.value ∙ c.in_ok-tries.ensures d ∙ ap (tries (chess d)) c.belief.ensures in
+    let longer = inv.sets.more.longer in
+    let within = c.requires.within in
+    (inv.sets, all_noted d false c.loop-mv.table B c.args.asked.moves c.deref-mv-items.result.now {T' = c.loop-mv.table} c.loop-mv.mv-index c.args.asked.set (Some c.loop-mv.row.items) (more_itself c.loop-mv.table) (omega Rattle.std.proofs.Common.arith) (inv.sets.more.same c.args.asked.set within) are c.loop-mv-test.false inv.row)
