@@ -1,5 +1,5 @@
 -- What a search for claims finds, as the answer to a sheet.
-use Rattle.std.proofs.Common.{◌≡◌, ℕ, ◌≤◌, Bool, true, false, not, List, [], ◌∷◌, ◌++◌, length, map, Ok, Err, refl, sym, ap, subst, inl, ◌∙◌, arith}
+use Rattle.std.proofs.Common.{◌≡◌, ℕ, ◌≤◌, Bool, true, false, not, List, [], ◌∷◌, Vec, Global, length, map, Ok, Err, refl, sym, ap, subst, inl, ◌∙◌, arith}
 use Rattle.std.specs.Prelude.{◌||◌}
 use Rattle.std.proofs.lemmas.List.{length-map}
 use Rattle.std.proofs.lemmas.Bool.{both_ways, and_parts, and_from, false_from_ne_true}
@@ -95,9 +95,9 @@ module _ (d : Dialect) (who : Side) (S : List Pos) (n : ℕ) (cs : List Claim) (
       (subst (λ (xs : List (theory.Claim (chess d))). theory.refutes (chess d) (outset d who) n S xs ≡ true) (sym (claims_again d claims)) holds)
 
   -- its text is the answer
-  pub text_told : (old answer : List ℕ) → IsOwnTurn who S → old ≡ [] → answer ≡ old ++ refutation_text found_file → whole refutation_at (lines (refutation_text found_file)) ≡ Ok found_file → IsDenialText d who S n answer
-  text_told old answer own empty is again =
-      let text : answer ≡ refutation_text (denial_file d who S n) = is ∙ ap (λ (t : List ℕ). t ++ refutation_text found_file) empty ∙ ap refutation_text file_is in
+  pub text_told : (answer : List ℕ) → IsOwnTurn who S → answer ≡ refutation_text found_file → whole refutation_at (lines (refutation_text found_file)) ≡ Ok found_file → IsDenialText d who S n answer
+  text_told answer own is again =
+      let text : answer ≡ refutation_text (denial_file d who S n) = is ∙ ap refutation_text file_is in
       record {
         text = text;
         again = ap (λ (t : List ℕ). whole refutation_at (lines t)) text ∙ subst (λ (f : RefutationState). whole refutation_at (lines (refutation_text f)) ≡ Ok f) file_is again;
@@ -159,7 +159,7 @@ module _ (d : Dialect) (who : Side) (S : List Pos) (n budget start left : ℕ) (
       (omega (arith, same, paid.at_least), (mated.plan, mated.mates_all))
 
   -- the text of the claims
-  pub claims_told : (cs : List Claim) (answer : List ℕ) → IsTaken d (side_of S) S n (Ok (Denial cs)) start left → IsDenialText d who S n answer → Claimed d who S n budget (Ok answer)
+  pub claims_told : (cs : Vec Claim Global) (answer : List ℕ) → IsTaken d (side_of S) S n (Ok (Denial cs)) start left → IsDenialText d who S n answer → Claimed d who S n budget (Ok answer)
   claims_told cs answer taken text =
       let paid : IsBetween d who S n start left = subst (λ (w : Side). IsBetween d w S n start left) side taken.1 in
       (omega (arith, same, paid.at_least), text)

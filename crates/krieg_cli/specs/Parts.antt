@@ -1,5 +1,6 @@
 -- What no public clause cites: the parts of the work answer a value, or the ending of a run that has none.
-use Rattle.std.specs.Prelude.{◌≡◌, ◌⊎◌, ℕ, Bool, true, false, List, Some, Result, Ok, Err}
+use Rattle.std.specs.Prelude.{◌≡◌, ◌⊎◌, ℕ, Bool, true, false, List, Some, Result, Ok, Err, Vec}
+use Rattle.std.specs.declared.alloc.Global.{Global}
 use Rattle.krieg_board.specs.Pos.{Pos}
 use Rattle.krieg_text.specs.declared.fault.TextFault.{TextFault}
 use Rattle.krieg_text.specs.declared.fault.TextFault.TheVariants as fault
@@ -20,7 +21,7 @@ use Rattle.krieg_refute.specs.declared.stop.DenyStop.TheVariants as deny
 use Rattle.krieg_seats.specs.Accounts.{Account}
 use Rattle.krieg_play.specs.Played.{Sides}
 use Rattle.krieg_args.specs.declared.command.Command.{Command}
-use Rattle.krieg_args.specs.declared.command.Command.TheVariants.{Play, Lead}
+use Rattle.krieg_args.specs.declared.command.Command.TheVariants.{Play, Lead, Refute}
 use Rattle.krieg_cli.specs.Play.{HasBegun}
 use Rattle.krieg_cli.specs.Lead.{HasLedText}
 use Rattle.krieg_cli.specs.Live.{calls_seats}
@@ -41,6 +42,8 @@ use Rattle.krieg_cli.specs.declared.refusal.Refusal.{Refusal}
 use Rattle.krieg_play.specs.declared.outcome.PlayFault.{PlayFault}
 use Rattle.krieg_play.specs.declared.outcome.PlayFault.TheVariants as played
 use Rattle.krieg_cli.specs.declared.refusal.Refusal.TheVariants.{BadText, TooMany, BudgetSpent, PlanTooLarge, NoSeat, SeatFault}
+use Rattle.krieg_cli.specs.declared.answers.Answer.{Answer}
+use Rattle.krieg_cli.specs.declared.answers.Answer.TheVariants.{Whole, InPieces}
 use Rattle.krieg_cli.specs.declared.ending.Ending.{Ending}
 use Rattle.krieg_cli.specs.declared.ending.Ending.TheVariants.{Answered, TooLong, ReadFault, NoMemory, Refused}
 
@@ -97,6 +100,28 @@ of_play played.NoMemory = NoMemory
 abbrev pub of_lead : Side → LeadFault → Ending
 of_lead who led.Seat = Refused (SeatFault who)
 of_lead who led.NoMemory = NoMemory
+
+-- ---- answers
+
+-- the bytes of an answer
+abbrev pub bytes_of : Answer → List ℕ
+bytes_of (Whole text) = text.items
+bytes_of (InPieces text) = text
+
+-- a text as an answer, where there is one
+abbrev pub as_whole : Result (Vec ℕ Global) Ending → Result Answer Ending
+as_whole (Ok text) = Ok (Whole text)
+as_whole (Err ending) = Err ending
+
+-- the same of a text in pieces
+abbrev pub as_pieces : Result (List ℕ) Ending → Result Answer Ending
+as_pieces (Ok text) = Ok (InPieces text)
+as_pieces (Err ending) = Err ending
+
+-- the command whose answer is in pieces
+abbrev pub is_in_pieces : Command → Bool
+is_in_pieces (Refute moves budget limit) = true
+is_in_pieces _ = false
 
 abbrev pub ending_of : {X : Type 0} → Result X Ending → Ending
 ending_of (Ok x) = Answered

@@ -12,7 +12,7 @@
 //! stands, given what `umpire` writes of it, `WholeRecords` what comes back of a session by `san` and `unsan`, and `LedGames` that
 //! a plan that mates leads to a mate. `Complete` says when there must be an answer.
 //!
-//! `commands` has a file for each command, and `outcome` chooses among them.
+//! `commands` has a file for each command, `outcome` chooses among them, and `answers` has what they answer: one text, or one in pieces.
 //!
 //! `live` has the calls that hold boxed seats: `bench` has the seats of both sides, `telling` what one seat is asked and
 //! told, `team` the turns and reliefs of one side, `table` one pass over both sides, `game` a whole game. They stand here,
@@ -28,6 +28,7 @@
 //! ```
 #![tactic(auto)]
 
+mod answers;
 mod commands;
 mod ending;
 mod input;

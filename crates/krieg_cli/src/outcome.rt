@@ -1,8 +1,10 @@
+ghost use Rattle.std.specs.Prelude.{◌≡◌, false};
 ghost use Rattle.krieg_cli.specs.Seated.{bench_sides};
-ghost use Rattle.krieg_cli.specs.Parts.{Decides, LeavesSeats, ending_of};
+ghost use Rattle.krieg_cli.specs.Parts.{Decides, LeavesSeats, ending_of, bytes_of, is_in_pieces};
 ghost use Rattle.krieg_cli.specs.Live.{LivesBy};
 ghost use Rattle.krieg_cli.specs.Outcome as spec;
 
+use crate::answers::{Answer, in_pieces, whole};
 use crate::commands::{
     believe, check, deny, job, lead, make, next, play, refute, san, solve, umpire, unsan, why,
 };
@@ -12,14 +14,15 @@ use krieg_args::Command;
 use krieg_seats::Seat;
 use std::alloc::Global;
 
-/// What the command makes of its text, whose memory is given back once it is read.
-pub(crate) fn outcome(
+/// What a command that answers with one text makes of its text, whose memory is given back once it is read.
+fn whole_outcome(
     alloc: Global,
     command: &Command,
     text: Vec<u8>,
     bench: &mut Bench,
 ) -> Result<Vec<u8>, Ending>
-    requires { spec.IsInRange command.now }
+    requires range { spec.IsInRange command.now }
+    requires one_text { is_in_pieces command.now ≡ false }
     ensures outcome { let live = LivesBy (λ b. account b)
         (bench_sides bench.old) (bench_sides bench.new) in
         Decides (λ answer. answer.items) result (spec.HasOutcome live command.now text.items) }
@@ -38,11 +41,7 @@ pub(crate) fn outcome(
             limit,
         } => { solve::answer(alloc, true, *moves, *budget, *limit, text) }
         Command::Check { budget } => check::answer(alloc, *budget, text),
-        Command::Refute {
-            moves,
-            budget,
-            limit,
-        } => { refute::answer(alloc, *moves, *budget, *limit, text) }
+        Command::Refute { .. } => unreachable!(),
         Command::Deny { budget } => deny::answer(alloc, *budget, text),
         Command::Believe { limit } => believe::answer(alloc, *limit, text),
         Command::Why { limit } => why::answer(alloc, *limit, text),
@@ -54,5 +53,29 @@ pub(crate) fn outcome(
         Command::Next => next::answer(alloc, text),
         Command::Make { what, number } => make::answer(alloc, *what, *number),
         Command::Job { number } => job::answer(alloc, *number),
+    }
+}
+
+/// What the command makes of its text.
+pub(crate) fn outcome(
+    alloc: Global,
+    command: &Command,
+    text: Vec<u8>,
+    bench: &mut Bench,
+) -> Result<Answer, Ending>
+    requires { spec.IsInRange command.now }
+    ensures outcome { let live = LivesBy (λ b. account b)
+        (bench_sides bench.old) (bench_sides bench.new) in
+        Decides bytes_of result (spec.HasOutcome live command.now text.items) }
+    ensures bench { LeavesSeats (λ b. account b) command.now (ending_of result) text.items
+        (bench_sides bench.old) (bench_sides bench.new) }
+{
+    match command {
+        Command::Refute {
+            moves,
+            budget,
+            limit,
+        } => { in_pieces(refute::answer(alloc, *moves, *budget, *limit, text)) }
+        _ => whole(whole_outcome(alloc, command, text, bench)),
     }
 }

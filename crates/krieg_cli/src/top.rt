@@ -15,13 +15,14 @@ ghost use Rattle.krieg_cli.specs.WholeRecords.{ReturnsGames};
 ghost use Rattle.krieg_cli.specs.Headline.{SolvesSheets, FindsSheets};
 ghost use Rattle.krieg_cli.specs.Complete.{Completes};
 
+use crate::answers::write_answer;
 use crate::ending::Ending;
 use crate::input::taken;
 use crate::live::Bench;
 use crate::outcome::outcome;
 use crate::report::report;
 use krieg_args::{Command, command_of, find_of};
-use krieg_ports::{Sink, Source, write_all};
+use krieg_ports::{Sink, Source};
 use krieg_seats::Seat;
 use std::alloc::Global;
 
@@ -44,7 +45,7 @@ fn answer<S: Source, O: Sink>(
 {
     let text = taken(alloc, command, input)?;
     let answer = outcome(alloc, command, text, bench)?;
-    write_all(out, &answer)?;
+    write_answer(out, &answer)?;
     Ok(())
 }
 

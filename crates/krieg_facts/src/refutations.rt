@@ -8,9 +8,8 @@ use crate::stop::Stop;
 use crate::terms::{halves, number_of, small_of};
 use krieg_board::{MOST_MOVES, Side, Units};
 use krieg_fen::write_move;
-use krieg_refute::{
-    Claim, ClaimRef, Claims, Denied, DenyStop, Reason, Refutation, RefuteStop, Why, deny, refute,
-};
+use krieg_pack::pack;
+use krieg_refute::{Claim, Denied, DenyStop, Reason, Refutation, RefuteStop, Why, deny, refute};
 use krieg_search::has_one_turn;
 use krieg_words::{Words, told, write_words_in};
 
@@ -34,25 +33,11 @@ fn refuted(
 }
 
 /// The claims that no plan mates within so many moves.
-fn claims_of(scene: &Scene, moves: u8) -> Result<Claims, Stop> {
+fn claims_of(scene: &Scene, moves: u8) -> Result<Vec<Claim>, Stop> {
     match refuted(scene, moves, &mut Units::new(ENOUGH))? {
         Ok(Denied::Denial(claims)) => Ok(claims),
         _ => Err(Stop::Unread),
     }
-}
-
-/// The same claims, each with a set of its own.
-fn copied(scene: &Scene, claims: &Claims) -> Result<Vec<Claim>, Stop> {
-    let mut copies = Vec::with_capacity(scene.alloc, claims.len())?;
-    for i in 0..claims.len() {
-        let c = claims.get(i);
-        copies.push(Claim {
-            moves: c.moves,
-            set: c.set.copy()?,
-            reasons: c.reasons.to_vec(scene.alloc)?,
-        })?;
-    }
-    Ok(copies)
 }
 
 /// The refutation of the list by these claims.
@@ -61,17 +46,16 @@ fn refutation_of(scene: &Scene, moves: u8) -> Result<Refutation, Stop> {
         dialect: scene.dialect,
         side: scene.list.first().map_or(Side::White, |p| p.side()),
         moves,
-        list: scene.list.as_slice().to_vec(scene.alloc)?,
-        claims: copied(scene, &claims_of(scene, moves)?)?,
+        list: scene.list.iter().map(|p| pack(p)).collect(scene.alloc)?,
+        claims: claims_of(scene, moves)?,
     })
 }
 
 /// How many claims there are, and how many positions and reasons they have in all.
-fn say_sizes(claims: &Claims, answer: &mut Answer) -> Result<(), Stop> {
+fn say_sizes(claims: &[Claim], answer: &mut Answer) -> Result<(), Stop> {
     let mut positions = 0u64;
     let mut reasons = 0u64;
-    for i in 0..claims.len() {
-        let c = claims.get(i);
+    for c in claims {
         positions = positions.saturating_add(c.set.len() as u64);
         reasons = reasons.saturating_add(c.reasons.len() as u64);
     }
@@ -146,14 +130,14 @@ fn say_reasons(scene: &Scene, reasons: &[Reason], answer: &mut Answer) -> Result
 }
 
 /// The number of moves and the set of a claim, or its reasons.
-fn ask_claim(scene: &Scene, mark: &str, c: ClaimRef, answer: &mut Answer) -> Result<(), Stop> {
+fn ask_claim(scene: &Scene, mark: &str, c: &Claim, answer: &mut Answer) -> Result<(), Stop> {
     match mark {
         "claim" => {
             answer.number(u64::from(c.moves))?;
             answer.part(b"")?;
-            say_members(scene, c.set, answer)
+            say_members(scene, &c.set, answer)
         }
-        "reasons" => say_reasons(scene, c.reasons, answer),
+        "reasons" => say_reasons(scene, &c.reasons, answer),
         _ => Err(Stop::Unread),
     }
 }
@@ -182,10 +166,10 @@ pub fn ask(scene: &Scene, mark: &str, given: &str, answer: &mut Answer) -> Resul
         _ => {
             let claims = claims_of(scene, moves)?;
             let place = number.saturating_sub(1) as usize;
-            if place >= claims.len() {
-                return Err(Stop::Unread);
+            match claims.get(place) {
+                Some(claim) => ask_claim(scene, mark, claim, answer),
+                None => Err(Stop::Unread),
             }
-            ask_claim(scene, mark, claims.get(place), answer)
         }
     }
 }

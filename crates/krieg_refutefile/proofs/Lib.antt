@@ -4,6 +4,7 @@ mod ReasonLines
 mod RefutationLaws
 mod WrittenLines
 mod WrittenClaims
+mod InPieces
 mod Chains
 mod Writables
 mod Loops

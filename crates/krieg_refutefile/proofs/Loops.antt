@@ -1,9 +1,8 @@
 -- The loops over the positions and the reasons of a claim, over listed positions and over claims.
 use Rattle.std.proofs.Common.{◌≡◌, ℕ, ◌+◌, ◌-◌, ◌<◌, ◌≤◌, List, [], ◌∷◌, ◌++◌, length, Option, Some, Result, Ok, refl, ap, ◌∙◌, arith, length-append}
-use Rattle.std.specs.Prelude.{slice_get, unwrap_or}
+use Rattle.std.specs.Prelude.{slice_get}
 use Rattle.std.specs.Option.{option_map}
 use Rattle.krieg_board.specs.Pos.{Pos}
-use Rattle.krieg_board.specs.declared.men.Side.{Side}
 use Rattle.krieg_text.specs.declared.fault.TextFault.{TextFault}
 use Rattle.krieg_text.specs.Outcomes.{◌>>=◌}
 use Rattle.krieg_text.specs.Reading.{Place}
@@ -18,7 +17,7 @@ use Rattle.krieg_format.proofs.Fitting.{said_fits}
 use Rattle.krieg_format.proofs.Reading.{law}
 use Rattle.krieg_format.proofs.Repeats.{with_front, item_ok, item_gives, items_end}
 use Rattle.krieg_refutefile.specs.RefutationFormat.{set_format, claim_format}
-use Rattle.krieg_refutefile.specs.Parts.{listed_at, member_at, set_at, reason_at, claim_at, last_in, last_move}
+use Rattle.krieg_refutefile.specs.Parts.{member_at, set_at, reason_at, claim_at, last_in, last_move}
 use Rattle.krieg_refutefile.specs.RefutationLines.{Totals}
 use Rattle.krieg_refutefile.specs.Refutations.{ClaimState}
 use Rattle.krieg_refutefile.proofs.RefutationLaws.{set_owes, claim_owes}
@@ -48,18 +47,7 @@ reason_ok d own list n i from new r all lt read so =
 
 pub ruleset reasons = (reason_ok, item_gives, items_end)
 
-first_is : (list : List Pos) (x : Pos) → slice_get (list ++ x ∷ []) 0 ≡ Some (unwrap_or (slice_get list 0) x)
-first_is [] x = refl
-first_is (y ∷ list) x = refl
-
-pub listed_ok : (who : Side) (list : List Pos) (n i : ℕ) (from new : Place) (x : Pos) (all : Result (List Pos × Place) TextFault) → i < n → listed_at who (slice_get list 0) from ≡ Ok (x, new) →
-    with_front list (repeated (n - i) (listed_at who) (λ first x. Some (unwrap_or first x)) (slice_get list 0) from) ≡ all →
-    with_front (list ++ x ∷ []) (repeated (n - (i + 1)) (listed_at who) (λ first x. Some (unwrap_or first x)) (slice_get (list ++ x ∷ []) 0) new) ≡ all
-listed_ok who list n i from new x all lt read so =
-    ap (λ (s : Option Pos). with_front (list ++ x ∷ []) (repeated (n - (i + 1)) (listed_at who) (λ first x. Some (unwrap_or first x)) s new)) (first_is list x)
-    ∙ item_ok (listed_at who) (λ first x. Some (unwrap_or first x)) list n i (slice_get list 0) from new x all lt read so
-
-pub ruleset listing = (listed_ok, item_gives, items_end)
+pub ruleset listing = (item_ok, item_gives, items_end)
 
 -- ---- what was read
 

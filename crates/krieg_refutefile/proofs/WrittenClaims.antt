@@ -1,16 +1,18 @@
 -- The lines of claims, one claim after another, and that their words can be told.
-use Rattle.std.proofs.Common.{◌≡◌, ℕ, ◌+◌, ◌<◌, List, [], ◌∷◌, ◌++◌, map, take, get_or, length, refl, sym, ap, subst, ◌∙◌, append_assoc, arith}
-use Rattle.std.specs.List.{All, HoldsAt, flat_map}
+use Rattle.std.proofs.Common.{◌≡◌, ℕ, ◌+◌, List, [], ◌∷◌, ◌++◌, map, length, codes, refl, sym, ap, ◌∙◌, append_assoc}
+use Rattle.std.specs.List.{All, flat_map}
 use Rattle.std.proofs.lemmas.List.{append-nil, length-map}
-use Rattle.std.proofs.lemmas.Grind.{take_at_read}
 use Rattle.std.proofs.lemmas.List.Elements.{All-nil, All-cons, All-weaker}
+use Rattle.krieg_board.specs.Pos.{Pos}
+use Rattle.krieg_board.specs.declared.men.Side.{Side}
+use Rattle.krieg_text.specs.Writing.{alone, put_lines}
+use Rattle.krieg_text.proofs.Writings.{lines_then}
+use Rattle.krieg_fen.specs.ListText.{position_line}
 use Rattle.krieg_words.specs.declared.dialects.Dialect.{Dialect}
-use Rattle.krieg_refute.specs.declared.claims.ClaimRef.{ClaimRef}
 use Rattle.krieg_refute.specs.declared.refutation.Claim.{Claim}
-use Rattle.krieg_refute.specs.Drafts.{Shows}
 use Rattle.krieg_refutefile.specs.Parts.{IsTold, AreTold}
-use Rattle.krieg_refutefile.specs.RefutationText.{claim_lines}
-use Rattle.krieg_refutefile.specs.Refutations.{claim_state_of}
+use Rattle.krieg_refutefile.specs.RefutationText.{numbered, claim_lines, head_lines, refutation_lines}
+use Rattle.krieg_refutefile.specs.Refutations.{claim_state_of, state_from}
 use Rattle.krieg_refutefile.specs.Writable.{IsToldReason, AreToldClaims}
 
 pub flat_last : {A B : Type 0} (f : A → List B) (xs : List A) (x : A) → flat_map f (xs ++ x ∷ []) ≡ flat_map f xs ++ f x
@@ -27,19 +29,20 @@ are_told d own [] told = All-nil (λ c. AreTold d (claim_state_of c))
 are_told d own (c ∷ cs) told =
     All-cons (λ c. AreTold d (claim_state_of c)) c cs (All-weaker (IsToldReason d own) (IsTold d) (λ r t. t.told) c.reasons.items told.0.reasons) (are_told d (own + 1) cs told.1)
 
--- the claim at a place, by its parts
-pub told_at : (d : Dialect) (cs : List Claim) (i : ℕ) (r : ClaimRef) → All (λ c. AreTold d (claim_state_of c)) cs → i < length cs → HoldsAt (Shows r) cs i → All (IsTold d) r.reasons.now
-told_at d [] i r told l h = absurd (omega arith)
-told_at d (c ∷ cs) i r told l h = subst (All (IsTold d)) (sym (h c).reasons_part) (told i c l)
-
-pub lines_at : (d : Dialect) (cs : List Claim) (i : ℕ) (r : ClaimRef) → i < length cs → HoldsAt (Shows r) cs i
-    → flat_map (λ c. claim_lines d (claim_state_of c)) (take (i + 1) cs) ≡ flat_map (λ c. claim_lines d (claim_state_of c)) (take i cs) ++ claim_lines d (record { moves = r.moves; set = r.set.now; reasons = r.reasons.now })
-lines_at d [] i r l h = absurd (omega arith)
-lines_at d (c ∷ cs) i r l h =
-    let f = λ (c : Claim). claim_lines d (claim_state_of c) in
-    let before = take i (c ∷ cs) in
-    let s = h c in
-    ap (flat_map f) (take_at_read (c ∷ cs) i c l).1 ∙ flat_last f before (get_or (c ∷ cs) i c)
-    ∙ (λ k. flat_map f before ++ claim_lines d (record { moves = sym s.moves_part k; set = sym s.set_part k; reasons = sym s.reasons_part k }))
-
-pub ruleset states = (flat_of_map, length-map)
+-- the parts of a refutation, one after another, are its lines
+pub all_lines : (d : Dialect) (who : Side) (n k m : ℕ) (L : List Pos) (cs : List Claim) (o a b c e f : List ℕ) → k ≡ length L → m ≡ length cs → o ≡ [] → a ≡ put_lines o (head_lines d who n k) → b ≡ put_lines a (map position_line L)
+    → c ≡ put_lines b (numbered (codes "claims ") m ∷ []) → e ≡ put_lines c (flat_map (λ x. claim_lines d (claim_state_of x)) cs) → f ≡ put_lines e (alone (codes "end") ∷ []) → f ≡ put_lines [] (refutation_lines (state_from d who n L cs))
+all_lines d who n k m L cs o a b c e f listed claimed none head list count claims end =
+    let hs = head_lines d who n (length L) in
+    let ps = map position_line L in
+    let one = numbered (codes "claims ") (length cs) ∷ [] in
+    let ks = flat_map (λ x. claim_lines d (claim_state_of x)) cs in
+    let last = alone (codes "end") ∷ [] in
+    let count' : one ≡ numbered (codes "claims ") (length (map claim_state_of cs)) ∷ [] = ap (λ (i : ℕ). numbered (codes "claims ") i ∷ []) (sym (length-map cs claim_state_of)) in
+    let claims' : ks ≡ flat_map (claim_lines d) (map claim_state_of cs) = sym (flat_of_map claim_state_of (claim_lines d) cs) in
+    let a' : a ≡ put_lines [] hs = head ∙ (λ i. put_lines (none i) (head_lines d who n (listed i))) in
+    let c' : c ≡ put_lines b one = count ∙ ap (λ (i : ℕ). put_lines b (numbered (codes "claims ") i ∷ [])) claimed in
+    end ∙ ap (λ (t : List ℕ). put_lines t last) (claims ∙ ap (λ (t : List ℕ). put_lines t ks) (c' ∙ ap (λ (t : List ℕ). put_lines t one) (list ∙ ap (λ (t : List ℕ). put_lines t ps) a')))
+    ∙ sym (lines_then (put_lines (put_lines (put_lines [] hs) ps) one) ks last) ∙ sym (lines_then (put_lines (put_lines [] hs) ps) one (ks ++ last))
+    ∙ sym (lines_then (put_lines [] hs) ps (one ++ (ks ++ last))) ∙ sym (lines_then [] hs (ps ++ (one ++ (ks ++ last))))
+    ∙ (λ i. put_lines [] (hs ++ (ps ++ (count' i ++ (claims' i ++ last)))))

@@ -5,3 +5,4 @@ pub mod RefutationText
 pub mod RefutationLines
 pub mod RefutationFormat
 pub mod Parts
+pub mod InPieces

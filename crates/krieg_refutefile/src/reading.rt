@@ -1,4 +1,5 @@
-ghost use Rattle.std.specs.Prelude.{◌≡◌, IfOk, map, slice_get};
+ghost use Rattle.std.specs.Prelude.{◌≡◌, IfOk, map};
+ghost use Rattle.std.specs.Option.{option_copied};
 ghost use Rattle.krieg_text.specs.Formats.{Always, IsReading};
 ghost use Rattle.krieg_text.specs.Lines.{lines};
 ghost use Rattle.krieg_text.specs.Reading.{taken, whole, Gives, GivesOn};
@@ -12,6 +13,7 @@ ghost use Rattle.krieg_refutefile.specs.Writable.{CanBeWritten};
 use crate::claims::read_claims;
 use krieg_board::{MOST_MOVES, Position, Side};
 use krieg_fen::{MOST_LISTED, Turn, listed_form, read_side};
+use krieg_pack::{Packed, pack};
 use krieg_refute::{Claim, MOST_CLAIMS, Refutation};
 use krieg_text::{Cursor, TextFault, TextKind, is_name, read_count, read_version};
 use krieg_words::{Dialect, read_dialect_line};
@@ -36,19 +38,23 @@ fn read_moves(from: &mut Cursor<'_>) -> Result<u8, TextFault>
 
 /// The position of a line, after the first of the list.
 #[tactic(auto, unfolding(krieg_fen::specs::Forms::listed_form, krieg_fen::specs::Forms::position_form))]
-fn listed(who: Side, list: &[Position], line: &[u8]) -> Result<Position, TextKind>
-    ensures { result ≡ (tested a_position (listed who (slice_get list.now 0))).form line.now }
+fn listed(who: Side, first: Option<&Position>, line: &[u8]) -> Result<Position, TextKind>
+    ensures { result ≡ (tested a_position (listed who (option_copied first.entry))).form line.now }
 {
-    listed_form(Turn::Own, who, list.first(), line)
+    listed_form(Turn::Own, who, first, line)
 }
 
-/// The next line, as a position that may stand after those of the list.
+/// The next line, as a position that may stand in the list after its first.
 #[tactic(auto, using(krieg_text::proofs::ReadingLemmas::refused))]
-fn next_listed(from: &mut Cursor<'_>, who: Side, list: &[Position]) -> Result<Position, TextFault>
-    ensures { GivesOn (λ p. p) result from.new (parts.listed_at who (slice_get list.now 0) from.old) }
+fn next_listed(
+    from: &mut Cursor<'_>,
+    who: Side,
+    first: Option<&Position>,
+) -> Result<Position, TextFault>
+    ensures { GivesOn (λ p. p) result from.new (parts.listed_at who (option_copied first.entry) from.old) }
 {
     let line = from.number();
-    listed(who, list, from.line()?).map_err(|kind| TextFault::At { line, kind })
+    listed(who, first, from.line()?).map_err(|kind| TextFault::At { line, kind })
 }
 
 /// The next `n` lines as positions with one hand, in which the side is to move.
@@ -58,13 +64,17 @@ fn read_list(
     from: &mut Cursor<'_>,
     who: Side,
     n: usize,
-) -> Result<Vec<Position>, TextFault>
+) -> Result<Vec<Packed>, TextFault>
     ensures { GivesOn (λ v. v.items) result from.new (parts.list_at who n from.old) }
 {
-    let mut list: Vec<Position> = Vec::with_capacity(alloc, n)?;
+    let mut list: Vec<Packed> = Vec::with_capacity(alloc, n)?;
+    let mut first = None;
     for i in 0..n {
-        match next_listed(from, who, &list) {
-            Ok(position) => list.push(position)?,
+        match next_listed(from, who, first.as_ref()) {
+            Ok(position) => {
+                list.push(pack(&position))?;
+                first = Some(first.unwrap_or(position));
+            }
             Err(fault) => return Err(fault),
         }
     }
@@ -72,7 +82,7 @@ fn read_list(
 }
 
 /// The number of listed positions, and these.
-fn read_listing(alloc: Global, from: &mut Cursor<'_>, who: Side) -> Result<Vec<Position>, TextFault>
+fn read_listing(alloc: Global, from: &mut Cursor<'_>, who: Side) -> Result<Vec<Packed>, TextFault>
     ensures { GivesOn (λ v. v.items) result from.new (parts.listing_at who from.old) }
 {
     let n = read_count(from, b"list ", 1, MOST_LISTED)?;

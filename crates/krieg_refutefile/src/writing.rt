@@ -1,8 +1,8 @@
-ghost use Rattle.std.specs.Prelude.{◌≡◌, ◌<◌, ◌∷◌, [], Ok, length, map};
+ghost use Rattle.std.specs.Prelude.{◌≡◌, ◌<◌, ◌∷◌, [], Ok, IfOk, length, map, codes};
 ghost use Rattle.std.specs.List.{All, flat_map};
 ghost use Rattle.krieg_text.specs.Lines.{lines};
 ghost use Rattle.krieg_text.specs.Reading.{whole};
-ghost use Rattle.krieg_text.specs.Writing.{PutsPieces, PutsLines, Appends, alone};
+ghost use Rattle.krieg_text.specs.Writing.{PutsPieces, PutsLines, Wrote, alone, put_lines};
 ghost use Rattle.krieg_fen.specs.ListText.{position_line};
 ghost use Rattle.krieg_words.specs.ToldWords.{Fits};
 ghost use Rattle.krieg_words.specs.Versions.{dialect_line};
@@ -13,12 +13,14 @@ ghost use Rattle.krieg_refutefile.specs.Refutations.{state_of, state_from, claim
 ghost use Rattle.krieg_refutefile.specs.Writable.{IsToldWhy, CanBeWritten};
 ghost use Rattle.krieg_refutefile.specs.Parts.{IsTold, AreTold};
 
+use crate::pieces::Pieces;
 use krieg_board::{NoMemory, Side};
-use krieg_fen::{Ranks, put_list, put_move, put_next, put_side_line};
-use krieg_pack::{Belief, unpack};
-use krieg_refute::{Claim, Claims, Heard, Reason, Refutation, Why};
+use krieg_fen::{Ranks, put_move, put_next, put_side_line};
+use krieg_pack::{Belief, Packed, unpack};
+use krieg_refute::{Claim, Heard, Reason, Refutation, Why};
 use krieg_text::{Text, put_number};
 use krieg_words::{Dialect, dialect_name, put_words_in};
+use std::alloc::Global;
 
 /// Adds the line of a name and a number.
 fn put_numbered(name: &[u8], n: usize, text: &mut Text) -> Result<(), NoMemory>
@@ -38,8 +40,6 @@ fn put_dialect(d: Dialect, text: &mut Text) -> Result<(), NoMemory>
     text.end_line()
 }
 
-// ---- claims
-
 /// Adds the line before the positions of a claim.
 fn put_sizes(moves: u8, positions: usize, text: &mut Text) -> Result<(), NoMemory>
     ensures { PutsLines result text.old text.new (spec.claim_line moves positions ∷ []) }
@@ -49,18 +49,6 @@ fn put_sizes(moves: u8, positions: usize, text: &mut Text) -> Result<(), NoMemor
     text.put(b" ")?;
     put_number(positions as u64, text)?;
     text.end_line()
-}
-
-/// Adds the lines of the positions of a set.
-#[tactic(auto, using(krieg_text::proofs::Writings::writings))]
-fn put_set(set: &Belief, text: &mut Text) -> Result<(), NoMemory>
-    ensures { PutsLines result text.old text.new (map position_line set.now) }
-{
-    let mut ranks = Ranks::new();
-    for member in set.members() {
-        put_next(&unpack(member), &mut ranks, text)?;
-    }
-    Ok(())
 }
 
 /// Adds what a reason says of the claim that denies a class.
@@ -104,50 +92,6 @@ fn put_reason(d: Dialect, reason: &Reason, text: &mut Text) -> Result<(), NoMemo
     text.end_line()
 }
 
-/// Adds the lines of reasons.
-#[tactic(auto, using(krieg_text::proofs::Writings::writings))]
-fn put_reasons(d: Dialect, reasons: &[Reason], text: &mut Text) -> Result<(), NoMemory>
-    requires { All (IsTold d) reasons.now }
-    ensures { PutsLines result text.old text.new (map (spec.reason_line d) reasons.now) }
-{
-    for reason in reasons {
-        put_reason(d, reason, text)?;
-    }
-    Ok(())
-}
-
-/// Adds the lines of the claim with these parts.
-#[tactic(auto, using(krieg_text::proofs::Writings::writings))]
-fn put_claim(
-    d: Dialect,
-    moves: u8,
-    set: &Belief,
-    reasons: &[Reason],
-    text: &mut Text,
-) -> Result<(), NoMemory>
-    requires { All (IsTold d) reasons.now }
-    ensures { PutsLines result text.old text.new (spec.claim_lines d (record { moves = moves; set = set.now; reasons = reasons.now })) }
-{
-    put_sizes(moves, set.len(), text)?;
-    put_set(set, text)?;
-    put_numbered(b"tries ", reasons.len(), text)?;
-    put_reasons(d, reasons, text)
-}
-
-/// Adds the lines of claims.
-#[tactic(auto, using(krieg_text::proofs::Writings::writings, crate::proofs::WrittenClaims::flat_last))]
-fn put_claims(d: Dialect, claims: &[Claim], text: &mut Text) -> Result<(), NoMemory>
-    requires { All (λ c. AreTold d (claim_state_of c)) claims.now }
-    ensures { PutsLines result text.old text.new (flat_map (λ c. spec.claim_lines d (claim_state_of c)) claims.now) }
-{
-    for claim in claims {
-        put_claim(d, claim.moves, &claim.set, &claim.reasons, text)?;
-    }
-    Ok(())
-}
-
-// ---- the file
-
 /// Adds what stands before so many listed positions.
 fn put_head(
     d: Dialect,
@@ -165,98 +109,218 @@ fn put_head(
     put_numbered(b"list ", listed, text)
 }
 
-/// Adds what stands behind the listed positions.
-#[tactic(auto, using(krieg_text::proofs::Writings::writings, crate::proofs::WrittenClaims::states))]
-fn put_rest(d: Dialect, claims: &[Claim], text: &mut Text) -> Result<(), NoMemory>
-    requires { All (λ c. AreTold d (claim_state_of c)) claims.now }
-    ensures { PutsLines result text.old text.new (spec.rest_lines d (map claim_state_of claims.now)) }
+// ---- claims
+
+/// Adds the line of a name and a number.
+#[tactic(auto, using(crate::proofs::InPieces::added))]
+fn put_number_line(name: &[u8], n: usize, text: &mut Pieces) -> Result<(), NoMemory>
+    ensures { Wrote result text.new (put_lines text.old (spec.numbered name.now n ∷ [])) }
 {
-    put_numbered(b"claims ", claims.len(), text)?;
-    put_claims(d, claims, text)?;
-    text.line(b"end")
+    let mut last = text.take_last()?;
+    put_numbered(name, n, &mut last)?;
+    text.put_back(last)
 }
 
-/// Adds what stands behind the listed positions, where the claims stand over a table.
-#[tactic(auto, using(krieg_text::proofs::Writings::writings, crate::proofs::WrittenClaims::states))]
-fn put_rest_over(d: Dialect, claims: &Claims, text: &mut Text) -> Result<(), NoMemory>
-    requires { All (λ c. AreTold d (claim_state_of c)) claims.now }
-    ensures { PutsLines result text.old text.new (spec.rest_lines d (map claim_state_of claims.now)) }
+/// Adds the line of a position, after that of another board.
+#[tactic(auto, using(crate::proofs::InPieces::added))]
+fn put_member(member: &Packed, ranks: &mut Ranks, text: &mut Pieces) -> Result<(), NoMemory>
+    ensures { Wrote result text.new (put_lines text.old (position_line member.now ∷ [])) }
 {
-    put_numbered(b"claims ", claims.len(), text)?;
-    for i in 0..claims.len() {
-        let claim = claims.get(i);
-        put_claim(d, claim.moves, claim.set, claim.reasons, text)?;
+    let mut last = text.take_last()?;
+    put_next(&unpack(member), ranks, &mut last)?;
+    text.put_back(last)
+}
+
+/// Adds the lines of positions.
+#[tactic(auto, using(krieg_text::proofs::Writings::writings))]
+fn put_members(members: &[Packed], text: &mut Pieces) -> Result<(), NoMemory>
+    ensures { Wrote result text.new (put_lines text.old (map position_line members.now)) }
+{
+    let mut ranks = Ranks::new();
+    for member in members {
+        put_member(member, &mut ranks, text)?;
     }
-    text.line(b"end")
+    Ok(())
 }
 
-/// Adds the lines of the refutation.
-#[tactic(auto, using(krieg_text::proofs::Writings::writings))]
-fn put_refutation(f: &Refutation, text: &mut Text) -> Result<(), NoMemory>
-    requires { All (λ c. AreTold f.now.dialect (claim_state_of c)) f.now.claims.items }
-    ensures { PutsLines result text.old text.new (spec.refutation_lines (state_of f.now)) }
+/// Adds the line of a reason.
+fn put_reason_line(d: Dialect, reason: &Reason, text: &mut Pieces) -> Result<(), NoMemory>
+    requires { IsToldWhy d reason.now.why }
+    ensures { Wrote result text.new (put_lines text.old (spec.reason_line d reason.now ∷ [])) }
 {
-    put_head(f.dialect, f.side, f.moves, f.list.len(), text)?;
-    put_list(&f.list, text)?;
-    put_rest(f.dialect, &f.claims, text)
+    let mut last = text.take_last()?;
+    put_reason(d, reason, &mut last)?;
+    text.put_back(last)
 }
 
-/// Adds the lines of the refutation that lists the members of the set.
+/// Adds the lines of reasons.
 #[tactic(auto, using(krieg_text::proofs::Writings::writings))]
-fn put_denial(
+fn put_reasons(d: Dialect, reasons: &[Reason], text: &mut Pieces) -> Result<(), NoMemory>
+    requires { All (IsTold d) reasons.now }
+    ensures { Wrote result text.new (put_lines text.old (map (spec.reason_line d) reasons.now)) }
+{
+    for reason in reasons {
+        put_reason_line(d, reason, text)?;
+    }
+    Ok(())
+}
+
+/// Adds the line before the positions of a claim.
+#[tactic(auto, using(crate::proofs::InPieces::added))]
+fn put_claim_line(claim: &Claim, text: &mut Pieces) -> Result<(), NoMemory>
+    ensures { Wrote result text.new (put_lines text.old (spec.claim_line claim.now.moves (length claim.now.set) ∷ [])) }
+{
+    let mut last = text.take_last()?;
+    put_sizes(claim.moves, claim.set.len(), &mut last)?;
+    text.put_back(last)
+}
+
+/// Adds the lines of the claim.
+#[tactic(auto, using(krieg_text::proofs::Writings::writings))]
+fn put_claim(d: Dialect, claim: &Claim, text: &mut Pieces) -> Result<(), NoMemory>
+    requires { AreTold d (claim_state_of claim.now) }
+    ensures { Wrote result text.new (put_lines text.old (spec.claim_lines d (claim_state_of claim.now))) }
+{
+    put_claim_line(claim, text)?;
+    put_members(claim.set.members(), text)?;
+    put_number_line(b"tries ", claim.reasons.len(), text)?;
+    put_reasons(d, &claim.reasons, text)
+}
+
+/// Adds the lines of claims.
+#[tactic(auto, using(krieg_text::proofs::Writings::writings, crate::proofs::WrittenClaims::flat_last))]
+fn put_claims(d: Dialect, claims: &[Claim], text: &mut Pieces) -> Result<(), NoMemory>
+    requires { All (λ c. AreTold d (claim_state_of c)) claims.now }
+    ensures { Wrote result text.new (put_lines text.old (flat_map (λ c. spec.claim_lines d (claim_state_of c)) claims.now)) }
+{
+    for claim in claims {
+        put_claim(d, claim, text)?;
+    }
+    Ok(())
+}
+
+/// Adds the lines of claims, each of which is let go once its lines stand.
+#[tactic(auto, using(krieg_text::proofs::Writings::writings))]
+fn move_claims(d: Dialect, claims: Vec<Claim>, text: &mut Pieces) -> Result<(), NoMemory>
+    requires { All (λ c. AreTold d (claim_state_of c)) claims.items }
+    ensures { Wrote result text.new (put_lines text.old (flat_map (λ c. spec.claim_lines d (claim_state_of c)) claims.items)) }
+{
+    for claim in claims {
+        put_claim(d, &claim, text)?;
+    }
+    Ok(())
+}
+
+// ---- the file
+
+/// Adds what stands before so many listed positions.
+fn begin(
     d: Dialect,
     side: Side,
     moves: u8,
-    set: &Belief,
-    claims: &Claims,
-    text: &mut Text,
+    listed: usize,
+    text: &mut Pieces,
 ) -> Result<(), NoMemory>
-    requires { All (λ c. AreTold d (claim_state_of c)) claims.now }
-    ensures { PutsLines result text.old text.new (spec.refutation_lines (state_from d side moves set.now claims.now)) }
+    ensures { Wrote result text.new (put_lines text.old (spec.head_lines d side moves listed)) }
 {
-    put_head(d, side, moves, set.len(), text)?;
-    put_set(set, text)?;
-    put_rest_over(d, claims, text)
+    let mut last = text.take_last()?;
+    put_head(d, side, moves, listed, &mut last)?;
+    text.put_back(last)
 }
 
-/// Appends the text of the refutation in its one written form. Where memory runs out, nothing is appended.
+/// Adds the last line.
+#[tactic(auto, using(crate::proofs::InPieces::added))]
+fn end(text: &mut Pieces) -> Result<(), NoMemory>
+    ensures { Wrote result text.new (put_lines text.old (alone (codes "end") ∷ [])) }
+{
+    let mut last = text.take_last()?;
+    last.line(b"end")?;
+    text.put_back(last)
+}
+
+/// Adds the lines of the members of the set, which is let go. Where the last claim is of the same set, as at an own turn whose
+/// opening words are alike everywhere, it is let go before.
+fn move_set(set: Belief, claims: &[Claim], text: &mut Pieces) -> Result<(), NoMemory>
+    ensures { Wrote result text.new (put_lines text.old (map position_line set)) }
+{
+    if let Some(last) = claims.last() {
+        if last.set.same(&set) {
+            drop(set);
+            return put_members(last.set.members(), text);
+        }
+    }
+    put_members(set.members(), text)
+}
+
+/// The lines of the refutation.
+fn refutation_lines(alloc: Global, f: &Refutation) -> Result<Pieces, NoMemory>
+    requires { All (λ c. AreTold f.now.dialect (claim_state_of c)) f.now.claims.items }
+    ensures { IfOk result (λ text. text ≡ put_lines [] (spec.refutation_lines (state_of f.now))) }
+{
+    let mut text = Pieces::new(alloc);
+    begin(f.dialect, f.side, f.moves, f.list.len(), &mut text)?;
+    put_members(&f.list, &mut text)?;
+    put_number_line(b"claims ", f.claims.len(), &mut text)?;
+    put_claims(f.dialect, &f.claims, &mut text)?;
+    end(&mut text)?;
+    Ok(text)
+}
+
+/// The lines of the refutation with these claims that lists the members of the set.
+fn denial_lines(
+    alloc: Global,
+    d: Dialect,
+    side: Side,
+    moves: u8,
+    set: Belief,
+    claims: Vec<Claim>,
+) -> Result<Pieces, NoMemory>
+    requires { All (λ c. AreTold d (claim_state_of c)) claims.items }
+    ensures { IfOk result (λ text. text ≡ put_lines [] (spec.refutation_lines (state_from d side moves set claims.items))) }
+{
+    let mut text = Pieces::new(alloc);
+    begin(d, side, moves, set.len(), &mut text)?;
+    move_set(set, &claims, &mut text)?;
+    put_number_line(b"claims ", claims.len(), &mut text)?;
+    move_claims(d, claims, &mut text)?;
+    end(&mut text)?;
+    Ok(text)
+}
+
+/// The text of the refutation in its one written form.
 ///
 /// The refutation is within the limits of a text, its listed positions have one hand of its side, which is to move, and its
 /// words can be told in the dialect. Its claims cite those before them alone, and the moves of their reasons ascend. Whether
 /// the claims hold is not asked.
 #[tactic(auto, using(crate::proofs::Sizes::text_short), unfolding(crate::specs::RefutationText::refutation_text))]
-pub fn write_refutation(f: &Refutation, text: &mut Vec<u8>) -> Result<(), NoMemory>
+pub fn write_refutation(alloc: Global, f: &Refutation) -> Result<Pieces, NoMemory>
     requires { CanBeWritten (state_of f.now) }
-    ensures value { Appends result text.old.items text.new.items (spec.refutation_text (state_of f.now)) }
+    ensures value { IfOk result (λ text. text ≡ spec.refutation_text (state_of f.now)) }
     // The text spells the refutation, and is read as it again.
     ensures spelled { SpellsRefutation (state_of f.now) (lines (spec.refutation_text (state_of f.now))) }
     ensures again { whole refutation_at (lines (spec.refutation_text (state_of f.now))) ≡ Ok (state_of f.now) }
     // It is shorter than 64 MiB, so that it fits an input.
     ensures short { length (spec.refutation_text (state_of f.now)) < 67108864 }
 {
-    let mut all = Text::after(text);
-    let done = put_refutation(f, &mut all);
-    all.end(done, text)
+    refutation_lines(alloc, f)
 }
 
-/// Appends the text of the refutation with these claims that lists the members of the set: what `write_refutation` appends,
-/// with no list of positions beside the set, and no set beside those of the table of the search. Where memory runs out,
-/// nothing is appended.
+/// The text of the refutation with these claims that lists the members of the set: what `write_refutation` gives.
+///
+/// Each set is let go once its lines stand, and the text takes the memory that comes free: at no time are both there whole.
 #[tactic(auto, unfolding(crate::specs::RefutationText::refutation_text))]
 pub fn write_denial(
+    alloc: Global,
     d: Dialect,
     side: Side,
     moves: u8,
-    set: &Belief,
-    claims: &Claims,
-    text: &mut Vec<u8>,
-) -> Result<(), NoMemory>
-    requires { CanBeWritten (state_from d side moves set.now claims.now) }
-    ensures value { Appends result text.old.items text.new.items (spec.refutation_text (state_from d side moves set.now claims.now)) }
+    set: Belief,
+    claims: Vec<Claim>,
+) -> Result<Pieces, NoMemory>
+    requires { CanBeWritten (state_from d side moves set claims.items) }
+    ensures value { IfOk result (λ text. text ≡ spec.refutation_text (state_from d side moves set claims.items)) }
     // The text is read as that refutation again.
-    ensures again { whole refutation_at (lines (spec.refutation_text (state_from d side moves set.now claims.now))) ≡ Ok (state_from d side moves set.now claims.now) }
+    ensures again { whole refutation_at (lines (spec.refutation_text (state_from d side moves set claims.items))) ≡ Ok (state_from d side moves set claims.items) }
 {
-    let mut all = Text::after(text);
-    let done = put_denial(d, side, moves, set, claims, &mut all);
-    all.end(done, text)
+    denial_lines(alloc, d, side, moves, set, claims)
 }

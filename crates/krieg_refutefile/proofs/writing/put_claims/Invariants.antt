@@ -1,10 +1,10 @@
-use Rattle.std.proofs.Common.{take}
+use Rattle.std.proofs.Common.{◌≡◌, take}
 use Rattle.std.specs.List.{flat_map}
-use Rattle.krieg_text.specs.Writing.{HasLines}
+use Rattle.krieg_text.specs.Writing.{put_lines}
 use Rattle.krieg_refutefile.specs.RefutationText.{claim_lines}
 use Rattle.krieg_refutefile.specs.Refutations.{claim_state_of}
 use Rattle.krieg_refutefile.proofs.writing.put_claims.Given as goal
 
 -- the lines of the claims before this one
 abbrev pub invariant-loop-claim : goal.invariant-loop-claim
-invariant-loop-claim l = HasLines l.initial.text l.text (flat_map (λ c. claim_lines l.d (claim_state_of c)) (take l.claim-index l.claims))
+invariant-loop-claim l = l.text ≡ put_lines l.initial.text (flat_map (λ c. claim_lines l.d (claim_state_of c)) (take l.claim-index l.claims))

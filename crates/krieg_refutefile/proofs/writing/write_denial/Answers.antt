@@ -3,8 +3,8 @@ use Rattle.krieg_refutefile.proofs.RefutationTexts.{again}
 use Rattle.krieg_refutefile.proofs.WrittenClaims.{are_told}
 use Rattle.krieg_refutefile.proofs.writing.write_denial.Goals as goal
 
-pub put_denial-done-requires : goal.put_denial-done-requires
-put_denial-done-requires c = are_told c.args.d 1 c.args.claims.now c.requires.told
+pub denial_lines-requires : goal.denial_lines-requires
+denial_lines-requires c = are_told c.args.d 1 c.args.claims.items c.requires.told
 
 pub returns-clause-again : goal.returns-clause-again
-returns-clause-again c = again (state_from c.args.d c.args.side c.args.moves c.args.set.now c.args.claims.now) c.requires
+returns-clause-again c = again (state_from c.args.d c.args.side c.args.moves c.args.set c.args.claims.items) c.requires

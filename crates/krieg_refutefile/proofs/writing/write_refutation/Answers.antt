@@ -4,8 +4,8 @@ use Rattle.krieg_refutefile.proofs.RefutationTexts.{spelled, again}
 use Rattle.krieg_refutefile.proofs.WrittenClaims.{are_told}
 use Rattle.krieg_refutefile.proofs.writing.write_refutation.Goals as goal
 
-pub put_refutation-done-requires : goal.put_refutation-done-requires
-put_refutation-done-requires c = are_told c.args.f.now.dialect 1 c.args.f.now.claims.items c.requires.told
+pub refutation_lines-requires : goal.refutation_lines-requires
+refutation_lines-requires c = are_told c.args.f.now.dialect 1 c.args.f.now.claims.items c.requires.told
 
 pub returns-clause-spelled : goal.returns-clause-spelled
 returns-clause-spelled c = spelled (state_of c.args.f.now) c.requires

@@ -1,4 +1,4 @@
-use Rattle.krieg_cli.proofs.outcome.outcome.Goals as goal
+use Rattle.krieg_cli.proofs.outcome.whole_outcome.Goals as goal
 
 pub returns-in-Solve-clause-outcome : goal.returns-in-Solve-clause-outcome
 returns-in-Solve-clause-outcome g c = rw c.in-Solve.is c.answer.ensures
