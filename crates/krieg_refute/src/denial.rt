@@ -1,4 +1,4 @@
-ghost use Rattle.std.specs.Prelude.{◌≡◌, ◌-◌, ◌*◌, ◌<◌, ◌&&◌, true, false, [], List, All, Some, IfOk, IfSome, map};
+ghost use Rattle.std.specs.Prelude.{◌≡◌, ◌-◌, ◌*◌, ◌<◌, ◌&&◌, true, false, [], List, All, Some, IfOk, IfSome, IsTrue, map};
 ghost use Rattle.std.specs.List.{list_all};
 ghost use Rattle.krieg_board.specs.Men.{is_same_side};
 ghost use Rattle.krieg_board.specs.Pos.{Pos};
@@ -239,6 +239,30 @@ fn is_within_opening(d: Dialect, set: &Belief, listed: &Belief) -> bool
     }
 }
 
+/// Whether these are the members of the set, in their order.
+fn are_all_members(list: &[Packed], set: &Belief) -> bool
+    ensures { IsTrue result → IsSetOf set.now list.now }
+{
+    list == set.members()
+}
+
+/// Whether the set is within one of the opening sets of the listed positions, in which the player is to move. A set for them is made
+/// where they are not the members themselves.
+fn is_within_listed(
+    alloc: Global,
+    d: Dialect,
+    set: &Belief,
+    list: &[Packed],
+) -> Result<bool, NoMemory>
+    ensures { IfOk result (λ yes. (who : Side) → IsOwnTurn who list.now → yes ≡ within_opening d who list.now set.now) }
+{
+    if are_all_members(list, set) {
+        return Ok(is_within_opening(d, set, set));
+    }
+    let listed = Belief::from_packed(list.to_vec(alloc)?);
+    Ok(is_within_opening(d, set, &listed))
+}
+
 /// Whether the claim denies that some plan mates the listed positions within `moves`.
 fn denies(
     alloc: Global,
@@ -251,8 +275,7 @@ fn denies(
     requires { IsOwnTurn who list.now }
     ensures { IfOk result (λ yes. yes ≡ theory.denies (chess d) (outset d who) moves list.now (Some (claim_of d claim.now))) }
 {
-    let listed = Belief::from_packed(list.to_vec(alloc)?);
-    let within = is_within_opening(d, &claim.set, &listed);
+    let within = is_within_listed(alloc, d, &claim.set, list)?;
     Ok(both(claim.moves >= moves, within))
 }
 

@@ -5,6 +5,7 @@ mod RefutationLaws
 mod WrittenLines
 mod WrittenClaims
 mod InPieces
+mod OwnedLines
 mod Chains
 mod Writables
 mod Loops

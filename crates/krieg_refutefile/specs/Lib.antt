@@ -6,3 +6,4 @@ pub mod RefutationLines
 pub mod RefutationFormat
 pub mod Parts
 pub mod InPieces
+pub mod OwnedLines

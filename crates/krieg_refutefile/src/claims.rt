@@ -12,11 +12,12 @@ ghost use Rattle.krieg_refutefile.specs.RefutationLines.{a_tries, a_position, a_
 ghost use Rattle.krieg_refutefile.specs.Refutations.{claim_state_of};
 
 use crate::forms::{Sizes, claim_form, reason_form};
+use crate::owned_cursor::OwnedCursor;
 use krieg_board::{Move, Position};
 use krieg_fen::position_form;
 use krieg_pack::{Belief, Packed, pack};
 use krieg_refute::{Claim, MOST_CLAIMED, Reason, Why};
-use krieg_text::{Cursor, TextFault, TextKind, count_form};
+use krieg_text::{TextFault, TextKind, count_form};
 use krieg_words::Dialect;
 use std::alloc::Global;
 
@@ -51,16 +52,18 @@ fn member_form(set: &[Packed], line: &[u8]) -> Result<Packed, TextKind>
 
 /// The next line, as a position after the last one of the set.
 #[tactic(auto, using(krieg_text::proofs::ReadingLemmas::refused))]
-fn next_member(from: &mut Cursor<'_>, set: &[Packed]) -> Result<Packed, TextFault>
+fn next_member(from: &mut OwnedCursor, set: &[Packed]) -> Result<Packed, TextFault>
     ensures { GivesOn (λ p. p) result from.new (spec.member_at (last_in set.now) from.old) }
 {
     let line = from.number();
-    member_form(set, from.line()?).map_err(|kind| TextFault::At { line, kind })
+    let member = member_form(set, from.line()?);
+    from.pass();
+    member.map_err(|kind| TextFault::At { line, kind })
 }
 
 /// The next `n` lines as ascending positions.
 #[tactic(auto, using(crate::proofs::Loops::sets, krieg_text::proofs::ReadingLemmas::passed))]
-fn read_members(alloc: Global, from: &mut Cursor<'_>, n: usize) -> Result<Vec<Packed>, TextFault>
+fn read_members(alloc: Global, from: &mut OwnedCursor, n: usize) -> Result<Vec<Packed>, TextFault>
     ensures { GivesOn (λ v. v.items) result from.new (spec.set_at n from.old) }
 {
     let mut set: Vec<Packed> = Vec::with_capacity(alloc, n)?;
@@ -75,7 +78,7 @@ fn read_members(alloc: Global, from: &mut Cursor<'_>, n: usize) -> Result<Vec<Pa
 
 /// The next `n` lines as the ascending positions of a set.
 #[tactic(auto, using(crate::proofs::Loops::set_is))]
-fn read_set(alloc: Global, from: &mut Cursor<'_>, n: usize) -> Result<Belief, TextFault>
+fn read_set(alloc: Global, from: &mut OwnedCursor, n: usize) -> Result<Belief, TextFault>
     ensures { GivesOn (λ b. b) result from.new (spec.set_at n from.old) }
 {
     let members = read_members(alloc, from, n)?;
@@ -118,7 +121,7 @@ fn argued_form(d: Dialect, own: usize, reasons: &[Reason], line: &[u8]) -> Resul
 /// The next line, as a reason of the claim with the number `own`, after the last one of the reasons.
 #[tactic(auto, using(krieg_text::proofs::ReadingLemmas::refused))]
 fn next_reason(
-    from: &mut Cursor<'_>,
+    from: &mut OwnedCursor,
     d: Dialect,
     own: usize,
     reasons: &[Reason],
@@ -126,14 +129,16 @@ fn next_reason(
     ensures { GivesOn (λ r. r) result from.new (spec.reason_at d own (last_move reasons.now) from.old) }
 {
     let line = from.number();
-    argued_form(d, own, reasons, from.line()?).map_err(|kind| TextFault::At { line, kind })
+    let reason = argued_form(d, own, reasons, from.line()?);
+    from.pass();
+    reason.map_err(|kind| TextFault::At { line, kind })
 }
 
 /// The next `n` lines as reasons of the claim with the number `own`, in the order of their moves.
 #[tactic(auto, using(crate::proofs::Loops::reasons, krieg_text::proofs::ReadingLemmas::passed))]
 fn read_reasons(
     alloc: Global,
-    from: &mut Cursor<'_>,
+    from: &mut OwnedCursor,
     d: Dialect,
     own: usize,
     n: usize,
@@ -166,11 +171,13 @@ fn sizes_after(positions: usize, line: &[u8]) -> Result<Sizes, TextKind>
 
 /// The next line, as the sizes of a claim behind claims of so many positions.
 #[tactic(auto, using(krieg_text::proofs::ReadingLemmas::refused))]
-fn read_sizes(from: &mut Cursor<'_>, positions: usize) -> Result<Sizes, TextFault>
+fn read_sizes(from: &mut OwnedCursor, positions: usize) -> Result<Sizes, TextFault>
     ensures { GivesOn (λ h. h) result from.new (taken (with_test a_claim.form (λ h. in_all positions h.1)) from.old) }
 {
     let line = from.number();
-    sizes_after(positions, from.line()?).map_err(|kind| TextFault::At { line, kind })
+    let sizes = sizes_after(positions, from.line()?);
+    from.pass();
+    sizes.map_err(|kind| TextFault::At { line, kind })
 }
 
 /// The number of reasons of a claim, behind claims of so many reasons.
@@ -187,17 +194,19 @@ fn tries_after(reasons: usize, line: &[u8]) -> Result<usize, TextKind>
 
 /// The next line, as the number of reasons of a claim behind claims of so many reasons.
 #[tactic(auto, using(krieg_text::proofs::ReadingLemmas::refused))]
-fn read_tries(from: &mut Cursor<'_>, reasons: usize) -> Result<usize, TextFault>
+fn read_tries(from: &mut OwnedCursor, reasons: usize) -> Result<usize, TextFault>
     ensures { GivesOn (λ n. n) result from.new (taken (with_test a_tries.form (in_all reasons)) from.old) }
 {
     let line = from.number();
-    tries_after(reasons, from.line()?).map_err(|kind| TextFault::At { line, kind })
+    let tries = tries_after(reasons, from.line()?);
+    from.pass();
+    tries.map_err(|kind| TextFault::At { line, kind })
 }
 
 /// The next lines as a claim, behind claims of these totals.
 fn read_claim(
     alloc: Global,
-    from: &mut Cursor<'_>,
+    from: &mut OwnedCursor,
     d: Dialect,
     before: Totals,
 ) -> Result<Claim, TextFault>
@@ -232,7 +241,7 @@ fn with_claim(before: Totals, claim: &Claim) -> Totals
 /// The next `n` lines as claims, each of which cites those before it alone.
 pub(crate) fn read_claims(
     alloc: Global,
-    from: &mut Cursor<'_>,
+    from: &mut OwnedCursor,
     d: Dialect,
     n: usize,
 ) -> Result<Vec<Claim>, TextFault>

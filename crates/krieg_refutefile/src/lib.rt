@@ -8,27 +8,29 @@
 //! The rules are the definitions of `specs/`: what a refutation is to contracts and when it refutes (`Refutations`), which
 //! have a text (`Writable`), the forms of the lines of a claim (`LineForms`), the one written form (`RefutationText`), and the
 //! format, described once in the terms of krieg_format: its lines (`RefutationLines`), and their order, of which its reader,
-//! the lines that spell a file and the grammar are read off (`RefutationFormat`). `Parts` and `InPieces` are parts of the work.
+//! the lines that spell a file and the grammar are read off (`RefutationFormat`). `Parts`, `InPieces` and `OwnedLines` are parts of the work.
 //!
 //! A text is written into `Pieces` of 8 KiB: it is never copied, and takes the memory of the claims that are let go while it grows.
+//! One that is read is cut into pieces as well (`owned_cursor`), each of which is let go once its lines are read.
 //!
 //! ```
 //! let text = b"krieg refutation 1\ndialect wild16\nside w\nmoves 1\nlist 1\n7k/8/8/8/8/8/8/K7 w - -\nclaims 1\n\
 //!     claim 1 1\n7k/8/8/8/8/8/8/K7 w - -\ntries 3\na1b1 lives\na1a2 lives\na1b2 lives\nend\n";
-//! let file = read_refutation(alloc, text)?;
+//! let file = read_refutation(alloc, text.to_vec(alloc)?)?;
 //! let held = deny(alloc, &file, &mut units)?; // true: a king alone does not mate
 //! let written = write_refutation(alloc, &file)?; // the same bytes, in `written.pieces()`
 //! let set = Belief::from_packed(file.list.clone()?);
 //! if let Denied::Denial(claims) = refute(alloc, file.dialect, &set, file.moves, &mut units)? {
 //!     let found = write_denial(alloc, file.dialect, file.side, file.moves, set, claims)?; // a text of the claims that are found
 //! }
-//! let cut = read_refutation(alloc, b"krieg refutation 1\nside w\n");
+//! let cut = read_refutation(alloc, b"krieg refutation 1\nside w\n".to_vec(alloc)?);
 //! // Err(TextFault::At { line: 2, kind: TextKind::Syntax }): the dialect has a line
 //! ```
 #![tactic(auto)]
 
 mod claims;
 mod forms;
+mod owned_cursor;
 mod pieces;
 mod reading;
 mod writing;

@@ -1,40 +1,96 @@
-ghost use Rattle.std.specs.Prelude.{◌≡◌, IfOk, map};
+ghost use Rattle.std.specs.Prelude.{◌≡◌, ◌≤◌, IfOk, map};
 ghost use Rattle.std.specs.Option.{option_copied};
 ghost use Rattle.krieg_text.specs.Formats.{Always, IsReading};
+ghost use Rattle.krieg_text.specs.Forms.{number_form};
 ghost use Rattle.krieg_text.specs.Lines.{lines};
 ghost use Rattle.krieg_text.specs.Reading.{taken, whole, Gives, GivesOn};
 ghost use Rattle.krieg_format.specs.Lines.{tested};
+ghost use Rattle.krieg_refutefile.specs.OwnedLines as own;
 ghost use Rattle.krieg_refutefile.specs.Parts as parts;
 ghost use Rattle.krieg_refutefile.specs.RefutationFormat.{refutation_at, SpellsRefutation, RefutationGrammar};
-ghost use Rattle.krieg_refutefile.specs.RefutationLines.{a_moves, an_end, a_position, listed};
+ghost use Rattle.krieg_refutefile.specs.RefutationLines.{a_dialect, a_side, a_moves, an_end, a_position, listed};
 ghost use Rattle.krieg_refutefile.specs.Refutations.{state_of, claim_state_of};
 ghost use Rattle.krieg_refutefile.specs.Writable.{CanBeWritten};
 
 use crate::claims::read_claims;
+use crate::owned_cursor::OwnedCursor;
 use krieg_board::{MOST_MOVES, Position, Side};
 use krieg_fen::{MOST_LISTED, Turn, listed_form, read_side};
 use krieg_pack::{Packed, pack};
 use krieg_refute::{Claim, MOST_CLAIMS, Refutation};
-use krieg_text::{Cursor, TextFault, TextKind, is_name, read_count, read_version};
+use krieg_text::{TextFault, TextKind, is_name, number_form};
 use krieg_words::{Dialect, read_dialect_line};
 use std::alloc::Global;
 
-/// The format's name with its one version, and the dialect. It has a line here, as in version 2 of the other formats, whose
-/// version 1 names none.
-fn read_heading(from: &mut Cursor<'_>) -> Result<Dialect, TextFault>
+// ---- lines of one number, and of one word
+
+/// The next line, as a name and a number from `least` to `most`. A plain decimal outside the range is of the kind `outside`.
+#[tactic(auto, using(krieg_text::proofs::ReadingLemmas::refused))]
+fn next_number(
+    from: &mut OwnedCursor,
+    outside: TextKind,
+    name: &[u8],
+    least: u64,
+    most: u64,
+) -> Result<u64, TextFault>
+    ensures value { GivesOn (λ n. n) result from.new (taken (number_form outside name.now least most) from.old) }
+    ensures range { IfOk result (λ n. (least ≤ n) × (n ≤ most)) }
+{
+    let line = from.number();
+    let number = number_form(outside, name, least, most, from.line()?);
+    from.pass();
+    number.map_err(|kind| TextFault::At { line, kind })
+}
+
+/// The fault, at the line with that number.
+fn at_line(line: usize, fault: TextFault) -> TextFault
+    ensures { result ≡ own.at_line line fault }
+{
+    match fault {
+        TextFault::At { line: _, kind } => TextFault::At { line, kind },
+        TextFault::NoMemory => TextFault::NoMemory,
+    }
+}
+
+/// The next line, as the dialect. It has a line here, as in version 2 of the other formats, whose version 1 names none.
+#[tactic(auto, using(crate::proofs::OwnedLines::alone))]
+fn next_dialect(from: &mut OwnedCursor) -> Result<Dialect, TextFault>
+    ensures { GivesOn (λ d. d) result from.new (taken a_dialect.form from.old) }
+{
+    let line = from.number();
+    let dialect = read_dialect_line(&mut from.alone(), 2);
+    from.pass();
+    dialect.map_err(|fault| at_line(line, fault))
+}
+
+/// The next line, as the side whose plans are denied.
+#[tactic(auto, using(crate::proofs::OwnedLines::alone))]
+fn next_side(from: &mut OwnedCursor) -> Result<Side, TextFault>
+    ensures { GivesOn (λ s. s) result from.new (taken a_side.form from.old) }
+{
+    let line = from.number();
+    let side = read_side(&mut from.alone());
+    from.pass();
+    side.map_err(|fault| at_line(line, fault))
+}
+
+/// The format's name with its one version, and the dialect.
+fn read_heading(from: &mut OwnedCursor) -> Result<Dialect, TextFault>
     ensures { GivesOn (λ d. d) result from.new (parts.heading_at from.old) }
 {
-    read_version(from, b"krieg refutation ", 1)?;
-    read_dialect_line(from, 2)
+    next_number(from, TextKind::Version, b"krieg refutation ", 1, 1)?;
+    next_dialect(from)
 }
 
 /// The next line, as the number of own moves that is denied.
-fn read_moves(from: &mut Cursor<'_>) -> Result<u8, TextFault>
+fn read_moves(from: &mut OwnedCursor) -> Result<u8, TextFault>
     ensures { GivesOn (λ n. n) result from.new (taken a_moves.form from.old) }
 {
-    let moves = read_count(from, b"moves ", 1, u64::from(MOST_MOVES))?;
+    let moves = next_number(from, TextKind::Count, b"moves ", 1, u64::from(MOST_MOVES))?;
     Ok(moves as u8)
 }
+
+// ---- the listed positions
 
 /// The position of a line, after the first of the list.
 #[tactic(auto, unfolding(krieg_fen::specs::Forms::listed_form, krieg_fen::specs::Forms::position_form))]
@@ -47,21 +103,23 @@ fn listed(who: Side, first: Option<&Position>, line: &[u8]) -> Result<Position, 
 /// The next line, as a position that may stand in the list after its first.
 #[tactic(auto, using(krieg_text::proofs::ReadingLemmas::refused))]
 fn next_listed(
-    from: &mut Cursor<'_>,
+    from: &mut OwnedCursor,
     who: Side,
     first: Option<&Position>,
 ) -> Result<Position, TextFault>
     ensures { GivesOn (λ p. p) result from.new (parts.listed_at who (option_copied first.entry) from.old) }
 {
     let line = from.number();
-    listed(who, first, from.line()?).map_err(|kind| TextFault::At { line, kind })
+    let position = listed(who, first, from.line()?);
+    from.pass();
+    position.map_err(|kind| TextFault::At { line, kind })
 }
 
 /// The next `n` lines as positions with one hand, in which the side is to move.
 #[tactic(auto, using(crate::proofs::Loops::listing, krieg_text::proofs::ReadingLemmas::passed))]
 fn read_list(
     alloc: Global,
-    from: &mut Cursor<'_>,
+    from: &mut OwnedCursor,
     who: Side,
     n: usize,
 ) -> Result<Vec<Packed>, TextFault>
@@ -82,22 +140,24 @@ fn read_list(
 }
 
 /// The number of listed positions, and these.
-fn read_listing(alloc: Global, from: &mut Cursor<'_>, who: Side) -> Result<Vec<Packed>, TextFault>
+fn read_listing(alloc: Global, from: &mut OwnedCursor, who: Side) -> Result<Vec<Packed>, TextFault>
     ensures { GivesOn (λ v. v.items) result from.new (parts.listing_at who from.old) }
 {
-    let n = read_count(from, b"list ", 1, MOST_LISTED)?;
+    let n = next_number(from, TextKind::Count, b"list ", 1, MOST_LISTED)?;
     read_list(alloc, from, who, n as usize)
 }
+
+// ---- the claims, and the end
 
 /// The number of claims, and these.
 fn read_all_claims(
     alloc: Global,
-    from: &mut Cursor<'_>,
+    from: &mut OwnedCursor,
     d: Dialect,
 ) -> Result<Vec<Claim>, TextFault>
     ensures { GivesOn (λ v. map claim_state_of v.items) result from.new (parts.all_claims_at d from.old) }
 {
-    let n = read_count(from, b"claims ", 1, MOST_CLAIMS as u64)?;
+    let n = next_number(from, TextKind::Count, b"claims ", 1, MOST_CLAIMS as u64)?;
     read_claims(alloc, from, d, n as usize)
 }
 
@@ -113,20 +173,22 @@ fn end_form(line: &[u8]) -> Result<(), TextKind>
 
 /// The next line, as `end`.
 #[tactic(auto, using(krieg_text::proofs::ReadingLemmas::refused))]
-fn read_end(from: &mut Cursor<'_>) -> Result<(), TextFault>
+fn read_end(from: &mut OwnedCursor) -> Result<(), TextFault>
     ensures { GivesOn (λ u. u) result from.new (taken an_end.form from.old) }
 {
     let line = from.number();
-    end_form(from.line()?).map_err(|kind| TextFault::At { line, kind })
+    let end = end_form(from.line()?);
+    from.pass();
+    end.map_err(|kind| TextFault::At { line, kind })
 }
 
 /// The lines of a refutation.
 #[tactic(auto, unfolding(crate::specs::RefutationFormat::refutation_at))]
-fn read_parts(alloc: Global, from: &mut Cursor<'_>) -> Result<Refutation, TextFault>
+fn read_parts(alloc: Global, from: &mut OwnedCursor) -> Result<Refutation, TextFault>
     ensures { GivesOn (λ f. state_of f) result from.new (refutation_at from.old) }
 {
     let dialect = read_heading(from)?;
-    let side = read_side(from)?;
+    let side = next_side(from)?;
     let moves = read_moves(from)?;
     let list = read_listing(alloc, from, side)?;
     let claims = read_all_claims(alloc, from, dialect)?;
@@ -140,10 +202,10 @@ fn read_parts(alloc: Global, from: &mut Cursor<'_>) -> Result<Refutation, TextFa
     })
 }
 
-fn read_lines(alloc: Global, text: &[u8]) -> Result<Refutation, TextFault>
-    ensures { Gives (λ f. state_of f) result (whole refutation_at (lines text.now)) }
+fn read_lines(alloc: Global, text: Vec<u8>) -> Result<Refutation, TextFault>
+    ensures { Gives (λ f. state_of f) result (whole refutation_at (lines text.items)) }
 {
-    let mut from = Cursor::new(text);
+    let mut from = OwnedCursor::new(alloc, text)?;
     let file = read_parts(alloc, &mut from)?;
     from.end()?;
     Ok(file)
@@ -158,10 +220,11 @@ fn read_lines(alloc: Global, text: &[u8]) -> Result<Refutation, TextFault>
 /// position or a move of a claim that does not come after the one before it, and at a reason that cites no claim before its
 /// own. Whether the claims hold is not asked.
 ///
-/// The text is read once, and each position is packed as it is read.
+/// The text is read once, each position is packed as it is read, and the memory of the lines that are read is given back
+/// meanwhile.
 #[tactic(auto, using(crate::proofs::RefutationLaws::refutation_reading, crate::proofs::Writables::spelled_can))]
-pub fn read_refutation(alloc: Global, text: &[u8]) -> Result<Refutation, TextFault>
-    ensures reading { IsReading (λ f. state_of f) refutation_at Always SpellsRefutation RefutationGrammar (lines text.now) result }
+pub fn read_refutation(alloc: Global, text: Vec<u8>) -> Result<Refutation, TextFault>
+    ensures reading { IsReading (λ f. state_of f) refutation_at Always SpellsRefutation RefutationGrammar (lines text.items) result }
     // What is read can be written: it is within the limits, and its claims are in order.
     ensures written { IfOk result (λ f. CanBeWritten (state_of f)) }
 {

@@ -49,7 +49,6 @@ fn judged(alloc: Global, budget: u64, file: &Refutation) -> Result<Vec<u8>, Endi
 pub(crate) fn answer(alloc: Global, budget: u64, text: Vec<u8>) -> Result<Vec<u8>, Ending>
     ensures { Decides (λ answer. answer.items) result (spec.Denies budget text.items) }
 {
-    let file = read_refutation(alloc, &text)?;
-    drop(text);
+    let file = read_refutation(alloc, text)?;
     judged(alloc, budget, &file)
 }

@@ -1,0 +1,15 @@
+use Rattle.std.proofs.Common.{rules, ◌<◌, length, drop, ◌++◌, ap, ◌∙◌, arith, length-drop}
+use Rattle.krieg_text.specs.Lines.{lines}
+use Rattle.krieg_text.specs.Reading.{Place, ended}
+use Rattle.krieg_text.proofs.ReadingLemmas.{ended_some}
+use Rattle.krieg_refutefile.specs.OwnedLines.{lines_back}
+use Rattle.krieg_refutefile.proofs.OwnedLines.{left_some}
+use Rattle.krieg_refutefile.proofs.owned_cursor.OwnedCursor.end.Goals as goal
+
+pub returns-then-self-len : goal.returns-then-self-len
+returns-then-self-len c =
+    let inside = c.self.inside in
+    let rest = drop inside.at inside.piece.items in
+    let lt : inside.at < length inside.piece.items = search rules in
+    let other = left_some rest (lines_back inside.later.items) (omega (arith, lt, length-drop inside.at inside.piece.items)) in
+    ended_some tt inside.number (lines rest ++ lines_back inside.later.items) other ∙ ap (λ (p : Place). ended tt p.number p.left) c.self.view_is
