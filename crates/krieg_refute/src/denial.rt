@@ -25,7 +25,7 @@ use crate::stop::DenyStop;
 use crate::tried::{Tried, last_try};
 use krieg_board::{Move, NoMemory, Side, Units};
 use krieg_pack::{Belief, Packed, unpack};
-use krieg_split::{MOST_TALLIED, SplitStop, Tally, split, tally_all, tally_tries, tries};
+use krieg_split::{SplitStop, Tally, split, tally_all, tally_tries, tries};
 use krieg_words::{Dialect, Words, compare, opening, told};
 use std::alloc::Global;
 
@@ -129,12 +129,16 @@ fn moves_of(alloc: Global, tallies: &[Tally]) -> Result<Vec<Move>, NoMemory>
     Ok(tallies.iter().map(|tally| tally.mv).collect(alloc)?)
 }
 
+/// The most members of a set whose tries are counted while they are listed: the moves of all are kept for that, in 280 bytes a member.
+/// Those of larger sets are listed twice.
+const MOST_AT_ONCE: usize = 512;
+
 /// The tries of the claim's set, and where one move is left and the set is small, their tallies.
 fn tries_of(alloc: Global, claim: &Claim) -> Result<(Vec<Move>, Option<Vec<Tally>>), NoMemory>
     ensures moves { IfOk result (λ r. (d : Dialect) → r.0.items ≡ sets.tries (chess d) claim.now.set) }
     ensures tallies { IfOk result (λ r. IfSome r.1 (λ ys. AreTallies claim.now.set claim.now.set ys.items)) }
 {
-    if claim.moves > 1 || claim.set.len() > MOST_TALLIED {
+    if claim.moves > 1 || claim.set.len() > MOST_AT_ONCE {
         return Ok((tries(alloc, &claim.set)?, None));
     }
     let tallies = tally_tries(alloc, &claim.set)?;

@@ -46,11 +46,11 @@ fn are_members(members: &[Packed], set: &Belief) -> bool
     true
 }
 
-/// Whether each member of one set is one of another.
+/// Whether each member of one set is one of another. A claim that is cited was mostly written for all of the set.
 pub(crate) fn is_within(small: &Belief, set: &Belief) -> bool
     ensures { result ≡ theory.is_within position_lt small.now set.now }
 {
-    are_members(small.members(), set)
+    small.same(set) || are_members(small.members(), set)
 }
 
 /// The claim at a place, counted from 1.
