@@ -6,6 +6,7 @@ a reason for each try: a tuple of `lives`, `stale`, `class` with the texts of th
 
 import collections
 import functools
+import itertools
 import re
 
 import rules
@@ -157,6 +158,22 @@ def text_of(refutation):
         lines += [f"claim {claim.moves} {len(claim.positions)}", *map(rules.position_text, claim.positions), f"tries {len(claim.reasons)}"]
         lines += [reason_text(move, *reason) for move, reason in claim.reasons.items()]
     return "\n".join([*lines, "end", ""])
+
+
+def of_a_king_alone():
+    """A text of 0.4 megabytes: a king alone does not mate in one move, wherever Black's king and two knights stand on their side."""
+    squares = list(itertools.product("abcdefgh", (7, 6, 5, 4)))
+    found = []
+    for king, knights in itertools.product(itertools.product("abcdefgh", (8, 7)), itertools.combinations(squares, 2)):
+        if king in knights:
+            continue
+        men = {("a", 1): "K", king: "k", **dict.fromkeys(knights, "n")}
+        ranks = ["".join(men.get((file, rank), "1") for file in "abcdefgh") for rank in range(8, 0, -1)]
+        board = re.sub("1+", lambda empty: str(len(empty[0])), "/".join(ranks))
+        found.append(rules.read_position(f"{board} w - -"))
+    listed = rules.in_order(found)
+    lives = {rules.read_move(move): ("lives",) for move in ("a1b1", "a1a2", "a1b2")}
+    return text_of(Refutation("wild16", "w", 1, listed, [Claim(1, listed, lives)])).encode()
 
 
 def denied(text, budget):
