@@ -8,8 +8,10 @@ use Rattle.krieg_seeing.specs.Seen.{sees, escapes_in_some}
 use Rattle.krieg_game.specs.Chess.{chess}
 use Rattle.krieg_sight.specs.Seen.{mates_within, flees}
 
+-- mate by a player who sees the position is the same here and in the theory
 abbrev pub SeesIsMates : Type 0
 SeesIsMates = (d : Dialect) (j : ℕ) (p : Pos) → sees (chess d) j p ≡ mates_within j p
 
+-- so is a reply that escapes
 abbrev pub EscapesIsFlees : Type 0
 EscapesIsFlees = (d : Dialect) (j : ℕ) (B : List Pos) (t : Move) → escapes_in_some (chess d) j B t ≡ list_any (flees j t) B

@@ -1,5 +1,5 @@
--- What is known of positions.
-use Rattle.std.specs.Prelude.{◌≡◌, false, List}
+-- What is known of positions, and how many may be looked at yet.
+use Rattle.std.specs.Prelude.{◌≡◌, ℕ, false, List}
 use Rattle.krieg_board.specs.Pos.{Pos}
 use Rattle.krieg_theory.specs.Sets.{In}
 use Rattle.krieg_sight.specs.declared.memo.Told.{Told}
@@ -13,5 +13,11 @@ Memo = List (Pos × Told)
 abbrev pub IsRight : Pos → Told → Type 0
 IsRight p told = mates_within told.none p ≡ false
 
+-- all that is told is right
 abbrev pub AreRight : Memo → Type 0
 AreRight m = (e : Pos × Told) → In e m → IsRight e.0 e.1
+
+-- what a sight holds: what is told of positions, and how many may be looked at yet
+pub record SightState : Type 0 where
+  pub told : Memo
+  pub left : ℕ

@@ -1,4 +1,5 @@
-ghost use Rattle.std.specs.Prelude.{◌≡◌, [], false, Some};
+ghost use Rattle.std.specs.Prelude.{◌≡◌, ◌+◌, [], false, Some};
+ghost use Rattle.std.specs.Bool.{OnTrue, OnFalse};
 ghost use Rattle.krieg_sight.specs.Seen.{mates_within};
 ghost use Rattle.krieg_sight.specs.Memo.{IsRight};
 
@@ -23,11 +24,11 @@ pub struct Sight {
 }
 
 impl Model for Sight {
-    ghost use Rattle.krieg_sight.specs.Memo.{Memo, AreRight};
+    ghost use Rattle.krieg_sight.specs.Memo.{SightState, AreRight};
 
-    ghost Value = { Memo };
+    ghost Value = { SightState };
 
-    ghost view = { λ s. s.told.entries };
+    ghost view = { λ s. record { told = s.told.entries; left = s.left } };
 
     ghost invariant = { λ s. AreRight s.told.entries };
 }
@@ -35,7 +36,7 @@ impl Model for Sight {
 impl Sight {
     /// Nothing is known, and so many positions may be looked at. It takes no memory.
     pub fn new(alloc: Global, positions: u64) -> Sight
-        ensures { result ≡ [] }
+        ensures { result ≡ record { told = []; left = positions } }
     {
         Sight {
             told: IndexMap::new(alloc),
@@ -44,7 +45,11 @@ impl Sight {
     }
 
     /// One position less may be looked at; `false` where none may.
-    pub(crate) fn look(&mut self) -> bool {
+    pub(crate) fn look(&mut self) -> bool
+        ensures looked { OnTrue result (self.new.left + 1 ≡ self.old.left) }
+        ensures none { OnFalse result ((self.old.left ≡ 0) × (self.new.left ≡ 0)) }
+        ensures told { self.new.told ≡ self.old.told }
+    {
         if self.left == 0 {
             return false;
         }
@@ -79,6 +84,7 @@ impl Sight {
     /// Keeps what is known of the position, where there is memory for it.
     fn keep(&mut self, p: &Packed, told: Told)
         requires { IsRight p.now told }
+        ensures { self.new.left ≡ self.old.left }
     {
         match self.told.insert(*p, told) {
             Ok(_) => {}
@@ -89,6 +95,7 @@ impl Sight {
     /// Notes that there is no mate within so many moves.
     pub(crate) fn note_none(&mut self, p: &Packed, moves: u8)
         requires { mates_within moves p.now ≡ false }
+        ensures { self.new.left ≡ self.old.left }
     {
         let told = self.of(p);
         self.keep(
@@ -101,7 +108,9 @@ impl Sight {
     }
 
     /// Notes that there may be one.
-    pub(crate) fn note_some(&mut self, p: &Packed, moves: u8) {
+    pub(crate) fn note_some(&mut self, p: &Packed, moves: u8)
+        ensures { self.new.left ≡ self.old.left }
+    {
         let told = self.of(p);
         self.keep(
             p,

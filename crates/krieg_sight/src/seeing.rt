@@ -1,4 +1,4 @@
-ghost use Rattle.std.specs.Prelude.{◌≡◌, ◌-◌, ◌<◌, false};
+ghost use Rattle.std.specs.Prelude.{◌≡◌, ◌-◌, ◌<◌, ◌≤◌, false};
 ghost use Rattle.std.specs.List.{list_any, list_all};
 ghost use Rattle.krieg_moves.specs.After as change;
 ghost use Rattle.krieg_moves.specs.Moves as list;
@@ -16,7 +16,8 @@ use std::alloc::Global;
 /// and to keep them would take more than it saves.
 #[cycle(seeing)]
 pub(crate) fn may_mate(alloc: Global, sight: &mut Sight, p: &Position, moves: u8) -> bool
-    ensures { result ≡ false → mates_within moves p.now ≡ false }
+    ensures none { result ≡ false → mates_within moves p.now ≡ false }
+    ensures no_more { sight.new.left ≤ sight.old.left }
 {
     if moves < 2 {
         return may_mate_anew(alloc, sight, p, moves);
@@ -33,10 +34,12 @@ pub(crate) fn may_mate(alloc: Global, sight: &mut Sight, p: &Position, moves: u8
     false
 }
 
-/// The same, whatever is known.
+/// The same, whatever is known. It looks at the position, and where none may be looked at any more it tells nothing.
 #[cycle(seeing)]
 fn may_mate_anew(alloc: Global, sight: &mut Sight, p: &Position, moves: u8) -> bool
-    ensures { result ≡ false → mates_within moves p.now ≡ false }
+    ensures none { result ≡ false → mates_within moves p.now ≡ false }
+    ensures looked { result ≡ false → 0 < moves → sight.new.left < sight.old.left }
+    ensures no_more { sight.new.left ≤ sight.old.left }
 {
     if moves == 0 {
         return false;
@@ -54,7 +57,9 @@ fn may_mate_anew(alloc: Global, sight: &mut Sight, p: &Position, moves: u8) -> b
 #[cycle(seeing)]
 fn one_may_mate(alloc: Global, sight: &mut Sight, p: &Position, tries: &[Move], fewer: u8) -> bool
     requires { tries.now ≡ list.moves p.now }
-    ensures { result ≡ false → list_any (λ t. is_met (mates_within fewer) (change.after p.now t)) tries.now ≡ false }
+    ensures none { result ≡ false → list_any
+        (λ t. is_met (mates_within fewer) (change.after p.now t)) tries.now ≡ false }
+    ensures no_more { sight.new.left ≤ sight.old.left }
 {
     for mv in tries {
         if may_follow(alloc, sight, &after(p, *mv), fewer) {
@@ -67,7 +72,8 @@ fn one_may_mate(alloc: Global, sight: &mut Sight, p: &Position, tries: &[Move], 
 /// Whether the opponent, who is to move, is mated, or may be mated within so many moves after each of his.
 #[cycle(seeing)]
 fn may_follow(alloc: Global, sight: &mut Sight, q: &Position, moves: u8) -> bool
-    ensures { result ≡ false → is_met (mates_within moves) q.now ≡ false }
+    ensures none { result ≡ false → is_met (mates_within moves) q.now ≡ false }
+    ensures no_more { sight.new.left ≤ sight.old.left }
 {
     if moves == 0 {
         return is_mate(q);
@@ -86,7 +92,9 @@ fn may_follow(alloc: Global, sight: &mut Sight, q: &Position, moves: u8) -> bool
 fn all_may_mate(alloc: Global, sight: &mut Sight, q: &Position, replies: &[Move], moves: u8) -> bool
     requires some { 0 < moves }
     requires listed { replies.now ≡ list.moves q.now }
-    ensures { result ≡ false → list_all (λ r. mates_within moves (change.after q.now r)) replies.now ≡ false }
+    ensures none { result ≡ false → list_all (λ r. mates_within moves (change.after q.now r))
+        replies.now ≡ false }
+    ensures no_more { sight.new.left ≤ sight.old.left }
 {
     for mv in replies {
         if !may_mate(alloc, sight, &after(q, *mv), moves) {

@@ -1,5 +1,4 @@
-use Rattle.std.proofs.Common.{◌≡◌, ◌+◌, ◌*◌, drop}
-use Rattle.std.specs.Prelude.{⊤}
+use Rattle.std.proofs.Common.{◌≡◌, ◌+◌, ◌*◌, ◌≤◌, drop}
 use Rattle.std.specs.List.{list_any}
 use Rattle.krieg_moves.specs.After as change
 use Rattle.krieg_sight.specs.Seen.{is_met, mates_within}
@@ -21,7 +20,10 @@ abbrev pub decreases-one_may_mate : goal.decreases-one_may_mate
 decreases-one_may_mate l = 5 * l.fewer + 4
 
 abbrev pub invariant-all_may_mate-loop-mv : goal.invariant-all_may_mate-loop-mv
-invariant-all_may_mate-loop-mv l = ⊤
+invariant-all_may_mate-loop-mv l = l.sight.left ≤ l.fn.sight.left
 
 abbrev pub invariant-one_may_mate-loop-mv : goal.invariant-one_may_mate-loop-mv
-invariant-one_may_mate-loop-mv l = list_any (λ t. is_met (mates_within l.fewer) (change.after l.p t)) l.tries ≡ list_any (λ t. is_met (mates_within l.fewer) (change.after l.p t)) (drop l.mv-index l.tries)
+invariant-one_may_mate-loop-mv l = record {
+  rest : list_any (λ t. is_met (mates_within l.fewer) (change.after l.p t)) l.tries ≡ list_any (λ t. is_met (mates_within l.fewer) (change.after l.p t)) (drop l.mv-index l.tries);
+  no_more : l.sight.left ≤ l.fn.sight.left;
+}
