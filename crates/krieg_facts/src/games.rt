@@ -3,12 +3,13 @@
 use crate::answer::Answer;
 use crate::scene::Scene;
 use crate::stop::Stop;
-use crate::terms::{count_of, halves, move_of, side_of};
+use crate::terms::{bytes_of, count_of, halves, move_of, side_of};
 use krieg_board::{NoMemory, Side};
 use krieg_fen::put_list;
 use krieg_referee::{Event, Game, Judged, line_for};
-use krieg_sheet::{Sheet, SheetFault, put_end, put_head, write_sheet};
+use krieg_sheet::{Sheet, SheetFault, put_end, put_head, read_sheet, write_sheet};
 use krieg_text::Text;
+use krieg_why::{least_games, why, write_games, write_games_of};
 use krieg_words::{read_line_in, read_words_in, write_line};
 
 /// A try, as `w e2e4`.
@@ -133,6 +134,31 @@ fn say_list(scene: &Scene, who: Side, answer: &mut Answer) -> Result<(), Stop> {
     Ok(text.end(done, &mut answer.text)?)
 }
 
+/// The text of the least game behind each possible position of a sheet, made all at once and one by one.
+fn say_games(scene: &Scene, given: &str, answer: &mut Answer) -> Result<(), Stop> {
+    let alloc = scene.alloc;
+    let (limit, text) = halves(given, " ")?;
+    let limit = count_of(limit)? as usize;
+    let sheet = read_sheet(alloc, &bytes_of(alloc, text)?).map_err(|_| Stop::Unread)?;
+    write_games(
+        sheet.dialect(),
+        &why(alloc, &sheet, limit)?,
+        &mut answer.text,
+    )?;
+    let mut text = Vec::new(alloc);
+    write_games_of(
+        alloc,
+        sheet.dialect(),
+        &least_games(alloc, &sheet, limit)?,
+        &mut text,
+    )?;
+    if text.as_slice() == answer.told() {
+        Ok(())
+    } else {
+        Err(Stop::Unread)
+    }
+}
+
 /// Answers a question about a game from the position, or about a sheet over the list.
 pub fn ask(scene: &Scene, mark: &str, given: &str, answer: &mut Answer) -> Result<(), Stop> {
     match mark {
@@ -143,6 +169,7 @@ pub fn ask(scene: &Scene, mark: &str, given: &str, answer: &mut Answer) -> Resul
         "entered" => sheet_of(scene, given, answer).map(|_| ()),
         "sheet" => say_sheet(scene, given, answer),
         "list-alone" => say_list(scene, side_of(given)?, answer),
+        "why" => say_games(scene, given, answer),
         _ => Err(Stop::Unread),
     }
 }

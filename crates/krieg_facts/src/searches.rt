@@ -5,7 +5,9 @@ use crate::scene::Scene;
 use crate::stop::Stop;
 use crate::terms::{count_of, halves, number_of, side_of, small_of};
 use krieg_board::{MOST_MOVES, Side, Units};
+use krieg_checker::has_one_turn as lists_one_turn;
 use krieg_pack::Belief;
+use krieg_plan::{Plan, PlanFile};
 use krieg_search::{Answer as Solved, Stop2, find, has_one_turn, solve};
 
 /// What a search comes to.
@@ -124,8 +126,33 @@ fn say_between(scene: &Scene, task: Task, text: &str, answer: &mut Answer) -> Re
     )
 }
 
-/// Answers a question about a search.
+/// Whether the same side is to move in all listed positions, asked of their set and of a plan file that lists them.
+fn is_one_turn(scene: &Scene) -> Result<bool, Stop> {
+    let file = PlanFile {
+        dialect: scene.dialect,
+        side: Side::White,
+        list: scene.list.to_vec(scene.alloc)?,
+        worst: 1,
+        plan: Plan::make(Vec::new(scene.alloc)),
+    };
+    let is_one = has_one_turn(&scene.belief()?);
+    if lists_one_turn(&file) == is_one {
+        Ok(is_one)
+    } else {
+        Err(Stop::Unread)
+    }
+}
+
+/// Answers a question about a search, or about whose turn it is.
 pub fn ask(scene: &Scene, mark: &str, given: &str, answer: &mut Answer) -> Result<(), Stop> {
+    match mark {
+        "one-turn" => answer.yes_or_no(is_one_turn(scene)?),
+        _ => ask_search(scene, mark, given, answer),
+    }
+}
+
+/// Answers a question about a search.
+fn ask_search(scene: &Scene, mark: &str, given: &str, answer: &mut Answer) -> Result<(), Stop> {
     let call = if mark == "find" {
         Call::Find
     } else {

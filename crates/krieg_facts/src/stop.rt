@@ -4,6 +4,7 @@ use krieg_board::NoMemory;
 use krieg_fen::{FenFault, MoveFault};
 use krieg_sheet::SheetFault;
 use krieg_split::SplitStop;
+use krieg_why::WhyStop;
 use krieg_words::{LineFault, WordsFault};
 use std::alloc::{AllocError, AllocFailed};
 
@@ -74,6 +75,15 @@ impl From<SplitStop> for Stop {
         match error {
             SplitStop::Spent => Stop::Spent,
             SplitStop::NoMemory => Stop::Memory,
+        }
+    }
+}
+
+impl From<WhyStop> for Stop {
+    fn from(error: WhyStop) -> Stop {
+        match error {
+            WhyStop::NoMemory => Stop::Memory,
+            _ => Stop::Unread,
         }
     }
 }

@@ -6,6 +6,7 @@ use crate::stop::Stop;
 use crate::terms::{bytes_of, count_of, halves, number_of, side_of};
 use krieg_board::NoMemory;
 use krieg_fen::{Turn, put_list, put_listing, read_list, read_listing, read_move, write_move};
+use krieg_refutefile::{read_refutation, write_refutation};
 use krieg_session::{read_session, read_start, write_session};
 use krieg_text::{Cursor, NumberFault, Text, lines_of, put_number, read_number_between};
 use std::alloc::Global;
@@ -96,6 +97,18 @@ fn say_session(alloc: Global, text: &[u8], answer: &mut Answer) -> Result<(), St
     }
 }
 
+fn say_refutation(alloc: Global, text: Vec<u8>, answer: &mut Answer) -> Result<(), Stop> {
+    match read_refutation(alloc, text) {
+        Ok(file) => {
+            for piece in write_refutation(alloc, &file)?.pieces() {
+                answer.put(piece)?;
+            }
+            Ok(())
+        }
+        Err(fault) => answer.fault(fault),
+    }
+}
+
 /// Answers a question about a text of several lines.
 fn ask_lines(alloc: Global, mark: &str, given: &str, answer: &mut Answer) -> Result<(), Stop> {
     let text = bytes_of(alloc, given)?;
@@ -103,6 +116,7 @@ fn ask_lines(alloc: Global, mark: &str, given: &str, answer: &mut Answer) -> Res
         "lines" => answer.number(lines_of(&text).count() as u64),
         "start" => say_start(&text, answer),
         "session" => say_session(alloc, &text, answer),
+        "refutation" => say_refutation(alloc, text, answer),
         _ => Err(Stop::Unread),
     }
 }
