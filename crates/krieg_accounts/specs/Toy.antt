@@ -3,9 +3,11 @@ use Rattle.std.specs.Prelude.{ℕ, List, [], ◌∷◌, Option, Some, None}
 use Rattle.krieg_theory.specs.Toy.{toy}
 use Rattle.krieg_accounts.specs.Sound.{Table}
 
+-- a result: the set is lost within j moves
 abbrev pub lost_within : List ℕ → ℕ → (List ℕ × ℕ) × Option ℕ
 lost_within B j = ((B, j), None)
 
+-- a result: the set is won within j moves by that try
 abbrev pub won_within : List ℕ → ℕ → ℕ → (List ℕ × ℕ) × Option ℕ
 won_within B j t = ((B, j), Some t)
 

@@ -26,8 +26,10 @@ pub fn storing()
     ensures lost { known toy of_two (2 ∷ [], 1) ≡ Some None }
     ensures not_for_more { known toy of_two (2 ∷ [], 3) ≡ None }
     ensures not_for_a_part { known toy of_nought_and_five (0 ∷ [], 2) ≡ None }
-    ensures first_decides { known toy (won_within (0 ∷ []) 1 0 ∷ lost_within (0 ∷ []) 1 ∷ []) (0 ∷ [], 1) ≡ Some (Some 0) }
-    ensures stored_pairs { pairs of_two ≡ (2 ∷ [], 1) ∷ (0 ∷ [], 1) ∷ (1 ∷ [], 1) ∷ (2 ∷ [], 2) ∷ [] }
+    ensures first_decides { known toy (won_within (0 ∷ []) 1 0 ∷ lost_within (0 ∷ []) 1 ∷ [])
+        (0 ∷ [], 1) ≡ Some (Some 0) }
+    ensures stored_pairs { pairs of_two ≡ (2 ∷ [], 1) ∷ (0 ∷ [], 1) ∷ (1 ∷ [], 1) ∷ (2 ∷ [], 2)
+        ∷ [] }
     ensures openings { opening_sets toy toy_start (6 ∷ []) ≡ (0 ∷ 1 ∷ []) ∷ (2 ∷ []) ∷ [] }
 {}
 
@@ -50,14 +52,19 @@ pub fn standing()
     ensures won { IsSound toy false of_two }
     ensures lost { IsSound toy false of_nought_and_five }
     ensures a_later_try { IsSound toy false (won_within (8 ∷ []) 1 2 ∷ []) → ⊥ }
-    ensures lost_for_more { IsSound toy false (lost_within (2 ∷ []) 1 ∷ lost_within (2 ∷ []) 2 ∷ []) → ⊥ }
+    ensures lost_for_more { IsSound toy false (lost_within (2 ∷ []) 1 ∷ lost_within (2 ∷ []) 2
+        ∷ []) → ⊥ }
     ensures number_nought { IsSound toy false (lost_within (0 ∷ []) 0 ∷ []) → ⊥ }
-    ensures smaller_number_is_missing { IsSound toy false (won_within (0 ∷ []) 1 0 ∷ won_within (1 ∷ []) 1 1 ∷ won_within (2 ∷ []) 2 0 ∷ []) → ⊥ }
-    ensures class_is_missing { IsSound toy false (lost_within (2 ∷ []) 1 ∷ won_within (0 ∷ []) 1 0 ∷ won_within (2 ∷ []) 2 0 ∷ []) → ⊥ }
+    ensures smaller_number_is_missing { IsSound toy false (won_within (0 ∷ []) 1 0
+        ∷ won_within (1 ∷ []) 1 1 ∷ won_within (2 ∷ []) 2 0 ∷ []) → ⊥ }
+    ensures class_is_missing { IsSound toy false (lost_within (2 ∷ []) 1 ∷ won_within (0 ∷ []) 1 0
+        ∷ won_within (2 ∷ []) 2 0 ∷ []) → ⊥ }
     ensures refused_part_is_missing { IsSound toy false (won_within (0 ∷ 1 ∷ []) 1 0 ∷ []) → ⊥ }
-    ensures block_is_cut { IsSound toy true (lost_within (0 ∷ 5 ∷ []) 1 ∷ lost_within (0 ∷ 5 ∷ []) 2 ∷ []) }
+    ensures block_is_cut { IsSound toy true (lost_within (0 ∷ 5 ∷ []) 1 ∷ lost_within (0 ∷ 5 ∷ []) 2
+        ∷ []) }
     ensures smaller_number_is_cut { IsSound toy true (lost_within (0 ∷ 5 ∷ []) 2 ∷ []) → ⊥ }
-    ensures block_is_missing { IsSound toy false (lost_within (5 ∷ []) 1 ∷ lost_within (0 ∷ 5 ∷ []) 1 ∷ lost_within (0 ∷ 5 ∷ []) 2 ∷ []) → ⊥ }
+    ensures block_is_missing { IsSound toy false (lost_within (5 ∷ []) 1
+        ∷ lost_within (0 ∷ 5 ∷ []) 1 ∷ lost_within (0 ∷ 5 ∷ []) 2 ∷ []) → ⊥ }
 {}
 
 /// Which tables have the answer for a list of positions.
@@ -74,7 +81,8 @@ pub fn searching()
     ensures by_hand { IsStretch toy false (CoversSet toy (2 ∷ []) 2) 0 [] of_two 20 11 }
     ensures one_unit_less { IsStretch toy false (CoversSet toy (2 ∷ []) 2) 0 [] of_two 20 12 → ⊥ }
     ensures forgetting { IsStretch toy false (CoversSet toy (2 ∷ []) 2) 0 of_two [] 20 29 → ⊥ }
-    ensures another_set { IsStretch toy false (CoversSet toy (5 ∷ []) 2) 0 [] (won_within (0 ∷ []) 1 0 ∷ []) 20 19 → ⊥ }
+    ensures another_set { IsStretch toy false (CoversSet toy (5 ∷ []) 2) 0 []
+        (won_within (0 ∷ []) 1 0 ∷ []) 20 19 → ⊥ }
     ensures short { FallsShort toy (CoversSet toy (2 ∷ []) 2) 0 [] 14 }
     ensures enough { FallsShort toy (CoversSet toy (2 ∷ []) 2) 0 [] 15 → ⊥ }
 {}

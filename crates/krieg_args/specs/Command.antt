@@ -85,6 +85,7 @@ find n = Find n.0 n.1 n.2
 abbrev pub refute : ℕ × ℕ × ℕ → Command
 refute n = Refute n.0 n.1 n.2
 
+-- the words of `make`
 abbrev pub make : List ℕ → List ℕ → Option Command
 make what seed = do
   w ← made_input what
@@ -95,6 +96,7 @@ make what seed = do
 abbrev pub play : List ℕ → List ℕ → List ℕ → List ℕ → List ℕ → Option Command
 play asks win wout bin bout = if is_file win && is_file wout && is_file bin && is_file bout then option_map Play (asks_of asks) else None
 
+-- the words of `lead`
 abbrev pub lead_from : List ℕ → List ℕ → Option Command
 lead_from asks number = do
   a ← asks_of asks

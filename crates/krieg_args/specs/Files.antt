@@ -11,6 +11,7 @@ pub record Files : Type 0 where
   pub bin : List ℕ
   pub bout : List ℕ
 
+-- the command is `play`
 abbrev pub is_play : Option Command → Bool
 is_play (Some (Play asks)) = true
 is_play _ = false
@@ -21,6 +22,7 @@ seat_files (name ∷ asks ∷ win ∷ wout ∷ bin ∷ bout ∷ []) =
     if is_play (command_of (name ∷ asks ∷ win ∷ wout ∷ bin ∷ bout ∷ [])) then Some (record { win = win; wout = wout; bin = bin; bout = bout }) else None
 seat_files _ = None
 
+-- the command is `lead`
 abbrev pub is_lead : Option Command → Bool
 is_lead (Some (Lead asks number)) = true
 is_lead _ = false

@@ -18,7 +18,9 @@ pub struct SeatFiles<'a> {
 
 /// The files that the words name, exactly where they are those of a well-formed `play`.
 pub fn seat_files(words: &[String]) -> Option<SeatFiles<'_>>
-    ensures { option_map (λ files. record { win = files.win.now; wout = files.wout.now; bin = files.bin.now; bout = files.bout.now }) result
+    ensures { option_map (λ files. record
+        { win = files.win.now; wout = files.wout.now; bin = files.bin.now; bout = files.bout.now })
+        result
         ≡ spec.seat_files (map string_bytes words.now) }
 {
     match words {
@@ -39,7 +41,8 @@ pub fn seat_files(words: &[String]) -> Option<SeatFiles<'_>>
 /// from, and where he is told.
 #[tactic(auto, using(crate::proofs::OtherWords::other_files))]
 pub fn lead_files(words: &[String]) -> Option<(&str, &str)>
-    ensures { option_map (λ files. (files.0.now, files.1.now)) result ≡ spec.lead_files (map string_bytes words.now) }
+    ensures { option_map (λ files. (files.0.now, files.1.now)) result
+        ≡ spec.lead_files (map string_bytes words.now) }
 {
     match words {
         [_, _, _, tries, told] => match command_of(words) {

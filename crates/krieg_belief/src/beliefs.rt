@@ -48,7 +48,8 @@ fn go_through(
     requires fits { length start ≤ limit }
     requires room { behind + length lines.now < 2 ^ 64 }
     ensures value { IfOk result (λ b. b ≡ spec.run d who lines.now start) }
-    ensures within { OnOk result ((n : ℕ) → n ≤ length lines.now → length (spec.run d who (take n lines.now) start) ≤ limit) }
+    ensures within { OnOk result ((n : ℕ) → n ≤ length lines.now →
+        length (spec.run d who (take n lines.now) start) ≤ limit) }
     ensures stop { IfErr result (IsLateStop d who lines.now start limit behind) }
 {
     let mut b = start;
@@ -100,7 +101,8 @@ fn after_opening(
     requires { length listed ≤ limit }
     ensures value { IfOk result (λ b. b ≡ spec.after_opening d who opens.now listed) }
     ensures small { IfOk result (λ b. length b ≤ limit) }
-    ensures too_many { result ≡ Err stop.TooMany → limit < length (spec.after_opening d who opens.now listed) }
+    ensures too_many { result ≡ Err stop.TooMany →
+        limit < length (spec.after_opening d who opens.now listed) }
 {
     match opens {
         None => Ok(listed),

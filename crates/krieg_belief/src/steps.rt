@@ -47,7 +47,8 @@ fn push_heard(
     out: &mut Vec<Packed>,
 ) -> Result<(), NoMemory>
     requires { All (λ m. rule.is_legal p.now m ≡ true) moves.now }
-    ensures { OnOk result (out.new.items ≡ out.old.items ++ map (change.after p.now) (filter (are_told d w.now p.now) moves.now)) }
+    ensures { OnOk result (out.new.items ≡ out.old.items
+        ++ map (change.after p.now) (filter (are_told d w.now p.now) moves.now)) }
 {
     for mv in moves {
         if let Some(next) = after_told(d, w, p, *mv) {

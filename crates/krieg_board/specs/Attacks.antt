@@ -80,6 +80,7 @@ slides Rook = true
 slides Queen = true
 slides King = false
 
+-- the man on f, where there is one, attacks t: he can go so, and where he slides nobody stands between
 abbrev pub man_attacks : Board → Option Man → ℕ → ℕ → Bool
 man_attacks b None f t = false
 man_attacks b (Some m) f t = not (f == t) && (can_reach m.kind m.side f t && (not (slides m.kind) || is_clear b f t))

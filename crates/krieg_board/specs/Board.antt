@@ -13,6 +13,7 @@ Board = List (Option Man)
 abbrev pub man_at : Board → ℕ → Option Man
 man_at b s = slice_index_or b s None
 
+-- nobody stands there
 abbrev pub is_empty : Board → ℕ → Bool
 is_empty b s = is_none (man_at b s)
 

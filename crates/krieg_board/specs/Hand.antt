@@ -9,6 +9,7 @@ use Rattle.krieg_board.specs.declared.men.Side.TheVariants.{White, Black}
 use Rattle.krieg_board.specs.declared.men.Man.{Man}
 use Rattle.krieg_board.specs.declared.men.Rights.{Rights}
 
+-- both are the same man of the same side, or neither is a man
 abbrev pub is_same_man : Option Man → Option Man → Bool
 is_same_man None None = true
 is_same_man None (Some b) = false

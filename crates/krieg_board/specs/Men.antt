@@ -11,11 +11,13 @@ abbrev pub other : Side → Side
 other White = Black
 other Black = White
 
+-- both are White, or both are Black
 abbrev pub is_same_side : Side → Side → Bool
 is_same_side White White = true
 is_same_side Black Black = true
 is_same_side _ _ = false
 
+-- both are men of one kind
 abbrev pub is_same_kind : Kind → Kind → Bool
 is_same_kind Pawn Pawn = true
 is_same_kind Knight Knight = true
@@ -25,6 +27,7 @@ is_same_kind Queen Queen = true
 is_same_kind King King = true
 is_same_kind _ _ = false
 
+-- both are true, or both are false
 abbrev pub is_same_bool : Bool → Bool → Bool
 is_same_bool true true = true
 is_same_bool false false = true

@@ -26,6 +26,7 @@ count_side b side = count_by (is_of side) b
 abbrev pub has_kings : Board → Bool
 has_kings b = count_kind b White King == 1 && count_kind b Black King == 1
 
+-- a pawn of either side
 abbrev pub is_pawn : Option Man → Bool
 is_pawn m = is_man White Pawn m || is_man Black Pawn m
 

@@ -216,7 +216,8 @@ impl Bits {
 fn passed(set: u64, from: u8, to: u8, here: bool) -> u64
     requires from { from < 64 }
     requires to { to < 64 }
-    ensures { (k : ℕ) → k < 64 → spec.has result k ≡ cond (k == to) here (cond (k == from) false (spec.has set k)) }
+    ensures { (k : ℕ) → k < 64 → spec.has result k
+        ≡ cond (k == to) here (cond (k == from) false (spec.has set k)) }
 {
     set & !(only(from) | only(to)) | only_if(here, to)
 }

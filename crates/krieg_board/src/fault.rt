@@ -114,7 +114,8 @@ pub(crate) fn fault_of(
     rights: Rights,
     mark: &Option<Square>,
 ) -> Option<BadPosition>
-    ensures { result ≡ first_fault (record { board = b.now; side = side; rights = rights; mark = mark.now }) }
+    ensures { result ≡ first_fault (record
+        { board = b.now; side = side; rights = rights; mark = mark.now }) }
 {
     know_size(b);
     if !has_kings(b) {

@@ -9,7 +9,8 @@ use crate::position::Position;
 
 /// The squares that do not hold men of one kind, or nothing, on both boards.
 fn differing(a: &Bits, b: &Bits) -> u64
-    ensures { (k : ℕ) → k < 64 → has result k ≡ not (spec.is_alike (man_at a.now k) (man_at b.now k)) }
+    ensures { (k : ℕ) → k < 64 → has result k
+        ≡ not (spec.is_alike (man_at a.now k) (man_at b.now k)) }
 {
     let (a, b) = (a.sets(), b.sets());
     (a.pawns ^ b.pawns)

@@ -63,9 +63,11 @@ impl Position {
         rights: Rights,
         mark: Option<Square>,
     ) -> Result<Position, BadPosition>
-        ensures value { IfOk result (λ p. p ≡ record { board = board; side = side; rights = rights; mark = mark }) }
+        ensures value { IfOk result (λ p. p ≡ record
+            { board = board; side = side; rights = rights; mark = mark }) }
         ensures valid { IfOk result (λ p. IsValid p) }
-        ensures fault { IfErr result (λ e. first_fault (record { board = board; side = side; rights = rights; mark = mark }) ≡ Some e) }
+        ensures fault { IfErr result (λ e. first_fault
+            (record { board = board; side = side; rights = rights; mark = mark }) ≡ Some e) }
     {
         Position::of_bits(&Bits::from_board(&board), side, rights, mark)
     }
@@ -77,9 +79,11 @@ impl Position {
         rights: Rights,
         mark: Option<Square>,
     ) -> Result<Position, BadPosition>
-        ensures value { IfOk result (λ p. p ≡ record { board = bits.now; side = side; rights = rights; mark = mark }) }
+        ensures value { IfOk result (λ p. p ≡ record
+            { board = bits.now; side = side; rights = rights; mark = mark }) }
         ensures valid { IfOk result (λ p. IsValid p) }
-        ensures fault { IfErr result (λ e. first_fault (record { board = bits.now; side = side; rights = rights; mark = mark }) ≡ Some e) }
+        ensures fault { IfErr result (λ e. first_fault
+            (record { board = bits.now; side = side; rights = rights; mark = mark }) ≡ Some e) }
     {
         know_size(bits);
         match fault_of(bits, side, rights, &mark) {
@@ -92,8 +96,18 @@ impl Position {
     #[inline]
     pub fn from_valid(bits: &Bits, side: Side, rights: Rights, mark: Option<Square>) -> Position
         requires size { length bits.now ≡ 64 }
-        requires fault { first_fault (record { board = bits.now; side = side; rights = rights; mark = mark }) ≡ None }
-        ensures value { result ≡ record { board = bits.now; side = side; rights = rights; mark = mark } }
+        requires fault { first_fault (record {
+          board = bits.now;
+          side = side;
+          rights = rights;
+          mark = mark;
+        }) ≡ None }
+        ensures value { result ≡ record {
+          board = bits.now;
+          side = side;
+          rights = rights;
+          mark = mark;
+        } }
         ensures valid { IsValid result }
     {
         Position {

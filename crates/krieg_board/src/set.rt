@@ -47,7 +47,8 @@ pub fn lowest(set: u64) -> Square
 pub fn without_lowest(set: u64) -> u64
     requires { 0 < set }
     ensures less { result < set }
-    ensures others { (s : ℕ) → IsLowest set s → (k : ℕ) → k < 64 → spec.has result k ≡ (spec.has set k && not (k == s)) }
+    ensures others { (s : ℕ) → IsLowest set s → (k : ℕ) → k < 64 →
+        spec.has result k ≡ (spec.has set k && not (k == s)) }
 {
     set & (set - 1)
 }

@@ -16,6 +16,7 @@ use Rattle.krieg_checks.specs.declared.kinds.Kinds.{Kinds}
 pub data CheckKind : Type 0 where
   File Rank Long Short Leap : CheckKind
 
+-- a knight of either side
 abbrev pub is_knight : Option Man → Bool
 is_knight m = is_man White Knight m || is_man Black Knight m
 
@@ -28,6 +29,7 @@ kind_from man k s =
     else if is_long_diagonal k s then Long
     else Short
 
+-- both are checks of one kind
 abbrev pub is_same_check : CheckKind → CheckKind → Bool
 is_same_check File File = true
 is_same_check Rank Rank = true

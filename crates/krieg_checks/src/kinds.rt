@@ -77,7 +77,8 @@ pub fn kinds_of(p: &Position) -> Kinds
 pub fn kinds_by(p: &Position, king: u8, givers: u64) -> Kinds
     requires square { king < 64 }
     requires king { is_man p.now.side King (man_at p.now.board king) ≡ true }
-    requires givers { (k : ℕ) → k < 64 → has givers k ≡ (is_of (other p.now.side) (man_at p.now.board k) && attacks p.now.board k king) }
+    requires givers { (k : ℕ) → k < 64 → has givers k
+        ≡ (is_of (other p.now.side) (man_at p.now.board k) && attacks p.now.board k king) }
     ensures { result ≡ spec.kinds p.now }
 {
     know_valid(p);

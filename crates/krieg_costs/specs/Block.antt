@@ -7,6 +7,7 @@ use Rattle.krieg_theory.specs.Split.{refused, stale_in_some, keys, class, mates_
 use Rattle.krieg_theory.specs.Can.{can}
 use Rattle.krieg_costs.specs.Sums.{Pair}
 
+-- what blocks a try, in the order in which it is looked for; or that nothing does
 pub data Block (K : Type 0) : Type 0 where
   -- one move is left, and in some member the try is legal and does not mate
   Lives : Block K

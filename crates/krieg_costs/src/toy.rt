@@ -38,9 +38,12 @@ pub fn costs()
 
 /// What is reached and what is fresh.
 pub fn reaching()
-    ensures pairs { reach_of toy toy_start 2 (2 ∷ []) ≡ (2 ∷ [], 2) ∷ (2 ∷ [], 1) ∷ (0 ∷ [], 1) ∷ (1 ∷ [], 1) ∷ [] }
-    ensures with_repeats { reach_of toy toy_start 1 (0 ∷ 1 ∷ []) ≡ (0 ∷ 1 ∷ [], 1) ∷ (1 ∷ [], 1) ∷ (0 ∷ [], 1) ∷ (1 ∷ [], 1) ∷ [] }
-    ensures without { once toy (reach_of toy toy_start 1 (0 ∷ 1 ∷ [])) ≡ (0 ∷ 1 ∷ [], 1) ∷ (0 ∷ [], 1) ∷ (1 ∷ [], 1) ∷ [] }
+    ensures pairs { reach_of toy toy_start 2 (2 ∷ []) ≡ (2 ∷ [], 2) ∷ (2 ∷ [], 1) ∷ (0 ∷ [], 1)
+        ∷ (1 ∷ [], 1) ∷ [] }
+    ensures with_repeats { reach_of toy toy_start 1 (0 ∷ 1 ∷ []) ≡ (0 ∷ 1 ∷ [], 1) ∷ (1 ∷ [], 1)
+        ∷ (0 ∷ [], 1) ∷ (1 ∷ [], 1) ∷ [] }
+    ensures without { once toy (reach_of toy toy_start 1 (0 ∷ 1 ∷ [])) ≡ (0 ∷ 1 ∷ [], 1)
+        ∷ (0 ∷ [], 1) ∷ (1 ∷ [], 1) ∷ [] }
     ensures as_the_cost { fresh toy toy_start 2 (2 ∷ []) ≡ 15 }
     ensures below_the_cost { fresh toy toy_start 1 (0 ∷ 1 ∷ []) ≡ 17 }
     ensures with_first_replies { fresh toy toy_start 1 (7 ∷ []) ≡ 1 }
@@ -62,8 +65,10 @@ pub fn blocks()
 
 /// Backing and the floor.
 pub fn flooring()
-    ensures won { backing toy toy_start 3 (2 ∷ []) ≡ (2 ∷ [], 2) ∷ (2 ∷ [], 1) ∷ (0 ∷ [], 1) ∷ (1 ∷ [], 1) ∷ [] }
-    ensures lost { backing toy toy_start 2 (0 ∷ 5 ∷ []) ≡ (0 ∷ 5 ∷ [], 2) ∷ (5 ∷ [], 2) ∷ (5 ∷ [], 1) ∷ [] }
+    ensures won { backing toy toy_start 3 (2 ∷ []) ≡ (2 ∷ [], 2) ∷ (2 ∷ [], 1) ∷ (0 ∷ [], 1)
+        ∷ (1 ∷ [], 1) ∷ [] }
+    ensures lost { backing toy toy_start 2 (0 ∷ 5 ∷ []) ≡ (0 ∷ 5 ∷ [], 2) ∷ (5 ∷ [], 2)
+        ∷ (5 ∷ [], 1) ∷ [] }
     ensures over { backing toy toy_start 2 (6 ∷ 7 ∷ []) ≡ [] }
     ensures up_to_the_first { floor_price toy (0 ∷ 1 ∷ [], 1) ≡ 2 }
     ensures every_try { floor_price toy (2 ∷ [], 1) ≡ 4 }
@@ -76,19 +81,37 @@ pub fn flooring()
 /// Refutations.
 pub fn refuting()
     ensures no_try { refutes toy toy_start 3 (5 ∷ []) (claim 3 (5 ∷ []) [] ∷ []) ≡ true }
-    ensures lives { refutes toy toy_start 1 (2 ∷ []) (claim 1 (2 ∷ []) ((0, ByLife) ∷ (2, ByLife) ∷ []) ∷ []) ≡ true }
-    ensures one_move_more { refutes toy toy_start 2 (2 ∷ []) (claim 1 (2 ∷ []) ((0, ByLife) ∷ (2, ByLife) ∷ []) ∷ []) ≡ false }
-    ensures no_life_at_two { refutes toy toy_start 2 (2 ∷ []) (claim 2 (2 ∷ []) ((0, ByLife) ∷ (2, ByStalemate) ∷ []) ∷ []) ≡ false }
-    ensures a_reason_is_missing { refutes toy toy_start 1 (2 ∷ []) (claim 1 (2 ∷ []) ((0, ByLife) ∷ []) ∷ []) ≡ false }
-    ensures a_reason_too_many { refutes toy toy_start 1 (2 ∷ []) (claim 1 (2 ∷ []) ((0, ByLife) ∷ (1, ByLife) ∷ (2, ByLife) ∷ []) ∷ []) ≡ false }
+    ensures lives { refutes toy toy_start 1 (2 ∷ [])
+        (claim 1 (2 ∷ []) ((0, ByLife) ∷ (2, ByLife) ∷ []) ∷ []) ≡ true }
+    ensures one_move_more { refutes toy toy_start 2 (2 ∷ [])
+        (claim 1 (2 ∷ []) ((0, ByLife) ∷ (2, ByLife) ∷ []) ∷ []) ≡ false }
+    ensures no_life_at_two { refutes toy toy_start 2 (2 ∷ [])
+        (claim 2 (2 ∷ []) ((0, ByLife) ∷ (2, ByStalemate) ∷ []) ∷ []) ≡ false }
+    ensures a_reason_is_missing { refutes toy toy_start 1 (2 ∷ [])
+        (claim 1 (2 ∷ []) ((0, ByLife) ∷ []) ∷ []) ≡ false }
+    ensures a_reason_too_many { refutes toy toy_start 1 (2 ∷ [])
+        (claim 1 (2 ∷ []) ((0, ByLife) ∷ (1, ByLife) ∷ (2, ByLife) ∷ []) ∷ []) ≡ false }
     ensures no_claim { refutes toy toy_start 1 (5 ∷ []) [] ≡ false }
     ensures no_member { refutes toy toy_start 1 (5 ∷ []) (claim 1 [] [] ∷ []) ≡ false }
     ensures another_list { refutes toy toy_start 1 (0 ∷ []) (claim 1 (5 ∷ []) [] ∷ []) ≡ false }
-    ensures cited { refutes toy toy_start 2 (0 ∷ 5 ∷ []) (claim 2 (5 ∷ []) [] ∷ claim 2 (0 ∷ 5 ∷ []) ((0, ByRefused 1) ∷ (2, ByStalemate) ∷ (3, ByClass 0 1) ∷ []) ∷ []) ≡ true }
-    ensures cited_for_one_more { refutes toy toy_start 2 (0 ∷ 5 ∷ []) (claim 1 (5 ∷ []) [] ∷ claim 2 (0 ∷ 5 ∷ []) ((0, ByRefused 1) ∷ (2, ByStalemate) ∷ (3, ByClass 0 1) ∷ []) ∷ []) ≡ false }
-    ensures class_with_one_less { refutes toy toy_start 2 (0 ∷ []) (claim 1 (5 ∷ []) [] ∷ claim 2 (0 ∷ []) ((0, ByClass 0 1) ∷ (2, ByStalemate) ∷ (3, ByClass 0 1) ∷ []) ∷ []) ≡ false }
-    ensures the_smaller_number { refutes toy toy_start 2 (9 ∷ []) (claim 1 (9 ∷ []) ((0, ByLife) ∷ []) ∷ claim 2 (9 ∷ []) ((0, ByClass 4 1) ∷ []) ∷ []) ≡ true }
-    ensures itself { refutes toy toy_start 2 (9 ∷ []) (claim 2 (9 ∷ []) ((0, ByClass 4 1) ∷ []) ∷ []) ≡ false }
-    ensures a_later_one { refutes toy toy_start 1 (9 ∷ []) (claim 2 (9 ∷ []) ((0, ByClass 4 2) ∷ []) ∷ claim 1 (9 ∷ []) ((0, ByLife) ∷ []) ∷ []) ≡ false }
-    ensures place_nought { refutes toy toy_start 2 (0 ∷ 5 ∷ []) (claim 2 (5 ∷ []) [] ∷ claim 2 (0 ∷ 5 ∷ []) ((0, ByRefused 0) ∷ (2, ByStalemate) ∷ (3, ByClass 0 1) ∷ []) ∷ []) ≡ false }
+    ensures cited { refutes toy toy_start 2 (0 ∷ 5 ∷ [])
+        (claim 2 (5 ∷ []) [] ∷ claim 2 (0 ∷ 5 ∷ [])
+        ((0, ByRefused 1) ∷ (2, ByStalemate) ∷ (3, ByClass 0 1) ∷ []) ∷ []) ≡ true }
+    ensures cited_for_one_more { refutes toy toy_start 2 (0 ∷ 5 ∷ [])
+        (claim 1 (5 ∷ []) [] ∷ claim 2 (0 ∷ 5 ∷ [])
+        ((0, ByRefused 1) ∷ (2, ByStalemate) ∷ (3, ByClass 0 1) ∷ []) ∷ []) ≡ false }
+    ensures class_with_one_less { refutes toy toy_start 2 (0 ∷ [])
+        (claim 1 (5 ∷ []) [] ∷ claim 2 (0 ∷ [])
+        ((0, ByClass 0 1) ∷ (2, ByStalemate) ∷ (3, ByClass 0 1) ∷ []) ∷ []) ≡ false }
+    ensures the_smaller_number { refutes toy toy_start 2 (9 ∷ [])
+        (claim 1 (9 ∷ []) ((0, ByLife) ∷ []) ∷ claim 2 (9 ∷ []) ((0, ByClass 4 1) ∷ []) ∷ [])
+        ≡ true }
+    ensures itself { refutes toy toy_start 2 (9 ∷ [])
+        (claim 2 (9 ∷ []) ((0, ByClass 4 1) ∷ []) ∷ []) ≡ false }
+    ensures a_later_one { refutes toy toy_start 1 (9 ∷ [])
+        (claim 2 (9 ∷ []) ((0, ByClass 4 2) ∷ []) ∷ claim 1 (9 ∷ []) ((0, ByLife) ∷ []) ∷ [])
+        ≡ false }
+    ensures place_nought { refutes toy toy_start 2 (0 ∷ 5 ∷ [])
+        (claim 2 (5 ∷ []) [] ∷ claim 2 (0 ∷ 5 ∷ [])
+        ((0, ByRefused 0) ∷ (2, ByStalemate) ∷ (3, ByClass 0 1) ∷ []) ∷ []) ≡ false }
 {}

@@ -28,11 +28,13 @@ parts_at a b c d = do
   mark ← field 4 (mark_of d)
   Ok (record { board = board; side = side; rights = rights; mark = mark })
 
+-- both clocks are numbers in their fields
 abbrev pub clocks_at : List ℕ → List ℕ → Result (Unit {0}) FenFault
 clocks_at half full = do
   h ← clock 5 half
   clock 6 full
 
+-- the position, unless it has that fault
 abbrev pub unless : Pos → Option BadPosition → Result Pos FenFault
 unless p None = Ok p
 unless p (Some fault) = Err (Bad fault)

@@ -20,6 +20,7 @@ row_text n [] = run n
 row_text n (None ∷ row) = row_text (suc n) row
 row_text n (Some man ∷ row) = run n ++ (letter man.side man.kind ∷ row_text 0 row)
 
+-- the text of a rank, from its first file on
 abbrev pub rank_text : Row → List ℕ
 rank_text row = row_text 0 row
 
@@ -38,9 +39,11 @@ pub record AreRanks (texts : List (List ℕ)) (board : Board) : Type 0 where
   pub size : length board ≡ 64
   pub each : (k : ℕ) → k < 8 → slice_index_or texts k [] ≡ rank_text (rank_at board k)
 
+-- the text of a board: its ranks from the eighth on
 unfoldable pub board_text : Board → List ℕ
 board_text board = ranks_text 8 board
 
+-- the letter of the side to move
 abbrev pub side_text : Side → List ℕ
 side_text White = 119 ∷ []
 side_text Black = 98 ∷ []
@@ -58,9 +61,11 @@ abbrev pub or_dash : List ℕ → List ℕ
 or_dash [] = 45 ∷ []
 or_dash (b ∷ bs) = b ∷ bs
 
+-- the letters of the rights, or a dash
 unfoldable pub rights_text : Rights → List ℕ
 rights_text r = or_dash (held_text r)
 
+-- the square of the mark, or a dash
 abbrev pub mark_text : Option ℕ → List ℕ
 mark_text None = 45 ∷ []
 mark_text (Some s) = square_text s

@@ -17,6 +17,7 @@ abbrev pub letter_at : ℕ → List ℕ → Bool × List ℕ
 letter_at c [] = (false, [])
 letter_at c (b ∷ bs) = if b == c then (true, bs) else (false, b ∷ bs)
 
+-- nobody may castle
 abbrev pub no_rights : Rights
 no_rights = record { white_short = false; white_long = false; black_short = false; black_long = false }
 
@@ -33,6 +34,7 @@ rights_of (b ∷ bs) =
     if length bs == 0 && b == 45 then Some no_rights
     else (if length (letters_of (b ∷ bs)).1 == 0 then Some (letters_of (b ∷ bs)).0 else None)
 
+-- a mark on that square, where the square is one
 abbrev pub mark_at : Option ℕ → Option (Option ℕ)
 mark_at None = None
 mark_at (Some s) = Some (Some s)

@@ -39,6 +39,7 @@ kind_by alphabet b =
     else (if b == alphabet Queen then Some Queen
     else (if b == alphabet King then Some King else None)))))
 
+-- a man of that kind, where it is one
 abbrev pub man_as : Side → Option Kind → Option Man
 man_as side None = None
 man_as side (Some kind) = Some (record { side = side; kind = kind })

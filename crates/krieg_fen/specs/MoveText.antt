@@ -34,6 +34,7 @@ square_of file rank =
 abbrev pub promo_of : ℕ → Option Promo
 promo_of b = if b == 113 then Some Queen else (if b == 114 then Some Rook else (if b == 98 then Some Bishop else (if b == 110 then Some Knight else None)))
 
+-- a move of these parts, where none is missing
 abbrev pub move_with : Option ℕ → Option ℕ → Option Promo → Option Move
 move_with (Some from) (Some to) (Some promo) = Some (record { from = from; to = to; promo = promo })
 move_with _ _ _ = None

@@ -124,7 +124,8 @@ fn read_six(
     half: &[u8],
     full: &[u8],
 ) -> Result<Position, FenFault>
-    ensures { result ≡ spec.position_at (board.now ∷ side.now ∷ rights.now ∷ mark.now ∷ half.now ∷ full.now ∷ []) }
+    ensures { result ≡ spec.position_at
+        (board.now ∷ side.now ∷ rights.now ∷ mark.now ∷ half.now ∷ full.now ∷ []) }
 {
     match parts_of(board, side, rights, mark) {
         Ok(parts) => match clocks_at(half, full) {

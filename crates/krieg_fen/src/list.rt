@@ -20,7 +20,8 @@ fn next_listed(
     who: Side,
     list: &[Position],
 ) -> Result<Position, TextFault>
-    ensures value { GivesOn (λ p. p) result from.new (taken (spec.listed_form turn who (slice_get list.now 0)) from.old) }
+    ensures value { GivesOn (λ p. p) result from.new
+        (taken (spec.listed_form turn who (slice_get list.now 0)) from.old) }
     ensures rest { Passed from.old from.new }
 {
     let line = from.number();
@@ -36,7 +37,8 @@ fn list_at(
     n: usize,
     who: Side,
 ) -> Result<Vec<Position>, TextFault>
-    ensures value { GivesOn (λ v. v.items) result from.new (spec.positions_at turn who None n from.old) }
+    ensures value { GivesOn (λ v. v.items) result from.new
+        (spec.positions_at turn who None n from.old) }
     ensures rest { Passed from.old from.new }
 {
     let mut list: Vec<Position> = Vec::new(alloc);
@@ -62,14 +64,20 @@ pub fn read_list(
     who: Side,
 ) -> Result<Vec<Position>, TextFault>
     requires { line + n < 2 ^ 48 }
-    ensures exact { GivesOn (λ v. v.items) result (reached line from.old from.new) (spec.positions_at Either who None n (place line from.old)) }
+    ensures exact { GivesOn (λ v. v.items) result (reached line from.old from.new)
+        (spec.positions_at Either who None n (place line from.old)) }
     ensures rest { Passed (place line from.old) (reached line from.old from.new) }
     // What is read is spelled so, and what is spelled so is read.
-    ensures found { IfOk result (λ v. (length v.items ≡ n) × IsListed who from.old v.items from.new) }
-    ensures only { (listed rest : List (List ℕ)) (ps : List Pos) → length ps ≡ n → SpellList Either who None listed ps → from.old ≡ listed ++ rest
-        → GivesOn (λ v. v.items) result (reached line from.old from.new) (Ok (ps, place (line + n) rest)) }
+    ensures found { IfOk result (λ v. (length v.items ≡ n)
+        × IsListed who from.old v.items from.new) }
+    ensures only { (listed rest : List (List ℕ)) (ps : List Pos) → length ps ≡ n →
+        SpellList Either who None listed ps → from.old ≡ listed ++ rest
+        → GivesOn (λ v. v.items) result (reached line from.old from.new)
+        (Ok (ps, place (line + n) rest)) }
     // The fault is the first bad line.
-    ensures first_bad { IfErr result (λ e. e ≢ OutOfMemory → FirstBad (λ ls. spec.positions_at Either who None n (place line ls)) (ListGrammar n) line from.old e) }
+    ensures first_bad { IfErr result (λ e. e ≢ OutOfMemory →
+        FirstBad (λ ls. spec.positions_at Either who None n (place line ls)) (ListGrammar n) line
+        from.old e) }
 {
     let mut cursor = Cursor::starting(line, from);
     let list = list_at(alloc, &mut cursor, Turn::Either, n, who);
@@ -89,7 +97,8 @@ pub fn read_listing(
     from: &mut Cursor<'_>,
     turn: Turn,
 ) -> Result<(Side, Vec<Position>), TextFault>
-    ensures value { GivesOn (λ x. (x.0, x.1.items)) result from.new (spec.listing_at turn from.old) }
+    ensures value { GivesOn (λ x. (x.0, x.1.items)) result from.new
+        (spec.listing_at turn from.old) }
     ensures rest { Passed from.old from.new }
 {
     let side = read_side(from)?;

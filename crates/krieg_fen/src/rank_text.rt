@@ -113,7 +113,8 @@ fn letter_on(bits: &Bits, s: u8) -> u8
 fn men_on(bits: &Bits, rank: u8) -> u64
     requires rank { rank < 8 }
     requires squares { length bits.now ≡ 64 }
-    ensures { (k : ℕ) → k < 64 → sets.has result k ≡ is_some (man_at (spec.rank_at bits.now rank) k) }
+    ensures { (k : ℕ) → k < 64 → sets.has result k
+        ≡ is_some (man_at (spec.rank_at bits.now rank) k) }
 {
     bits.occupied() >> (8 * rank) & 0xFF
 }

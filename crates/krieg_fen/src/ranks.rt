@@ -41,8 +41,10 @@ fn put(bits: &mut Bits, rank: u8, file: u8, b: u8) -> Option<u8>
     requires file { file ≤ 8 }
     requires free { drop file (rank_at bits.old rank) ≡ replicate (8 - file) None }
     ensures others { KeepsOthers bits.old bits.new rank }
-    ensures some { IfSome result (λ next. (next ≤ 8) × (drop next (rank_at bits.new rank) ≡ replicate (8 - next) None)
-        × spec.AddsSquares (spec.squares_at b) (take file (rank_at bits.old rank)) (take next (rank_at bits.new rank))) }
+    ensures some { IfSome result (λ next. (next ≤ 8)
+        × (drop next (rank_at bits.new rank) ≡ replicate (8 - next) None)
+        × spec.AddsSquares (spec.squares_at b) (take file (rank_at bits.old rank))
+        (take next (rank_at bits.new rank))) }
     ensures none { IfNone result (spec.FailsAbove (8 - file) (spec.squares_at b)) }
 {
     if (b'1'..=b'8').contains(&b) {

@@ -30,6 +30,7 @@ opened d same p = ((told d (opening p), same), p)
 abbrev pub both_heard : Key × List Pos → RootKey × List Pos
 both_heard c = ((c.0.0, Some c.0.1), c.1)
 
+-- a class of a try that is heard as opening words: the words behind it are none
 abbrev pub first_heard : Key × List Pos → RootKey × List Pos
 first_heard c = ((c.0.0, None), c.1)
 

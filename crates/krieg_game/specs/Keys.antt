@@ -17,6 +17,7 @@ RootKey = Said × Option Said
 abbrev pub key_cmp : Key → Key → Ordering
 key_cmp = then_cmp (on (λ (k : Key). k.0) words_cmp) (on (λ (k : Key). k.1) words_cmp)
 
+-- the key stands before the other
 abbrev pub key_lt : Key → Key → Bool
 key_lt a b = is_lt (key_cmp a b)
 
@@ -31,5 +32,6 @@ heard_cmp (Some v) (Some w) = words_cmp v w
 abbrev pub root_cmp : RootKey → RootKey → Ordering
 root_cmp = then_cmp (on (λ (k : RootKey). k.0) words_cmp) (on (λ (k : RootKey). k.1) heard_cmp)
 
+-- the key of a root stands before the other
 abbrev pub root_lt : RootKey → RootKey → Bool
 root_lt a b = is_lt (root_cmp a b)

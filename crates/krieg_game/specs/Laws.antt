@@ -70,6 +70,7 @@ module _ (d : Dialect) where
     pub exact : (q : Pos) → In q (class (chess d) B t (own, reply)) ↔ ComesAbout B t own reply q
     pub occurs : In (own, reply) (keys (chess d) B t) ↔ (is_nil (class (chess d) B t (own, reply)) ≡ false)
 
+  -- each class holds just the positions that come about with its words
   abbrev pub ClassesComeAbout : Type 0
   ClassesComeAbout = (B : List Pos) (t : Move) (own reply : Said) → ClassIs B t own reply
 

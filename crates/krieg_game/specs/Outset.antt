@@ -25,6 +25,7 @@ starts d who p = if is_same_side p.side who then ((told d (opening p), None), p)
 unfoldable pub waits : Side → Pos → Bool
 waits who p = not (is_same_side p.side who)
 
+-- how a plan of that side begins: by the opening words, and by those of a first move where the opponent is to move
 abbrev pub outset : (d : Dialect) → Side → Outset (chess d)
 outset d who = record {
   Root = RootKey;

@@ -59,5 +59,6 @@ module _ (d : Dialect) (who : Side) where
     pub ascending : IsAscending (opening_set (chess d) (outset d who) S key)
     pub occurs : In key (openings (chess d) (outset d who) S) ↔ (is_nil (opening_set (chess d) (outset d who) S key) ≡ false)
 
+  -- each opening set holds just the positions that come about with its words
   abbrev pub OpeningsOccur : Type 0
   OpeningsOccur = (S : List Pos) (key : RootKey) → OpeningIs S key

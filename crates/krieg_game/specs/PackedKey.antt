@@ -4,9 +4,11 @@ use Rattle.krieg_game.specs.Keys.{Key}
 use Rattle.krieg_game.specs.KeyNumbers.{key_number, key_at, AreSaid}
 use Rattle.krieg_game.specs.declared.heard.Heard.TheInside.{Inside}
 
+-- the key of its number
 abbrev pub unpacked_key : Inside → Key
 unpacked_key h = key_at h.number
 
+-- its number in the place of a key
 abbrev pub packed_key : Key → Inside
 packed_key k = record { number = key_number k }
 

@@ -72,7 +72,8 @@ fn put_at(
     requires are { AreBuckets buckets.old.items }
     requires place { IsPlace buckets.old.items heard place }
     ensures are { AreBuckets buckets.new.items }
-    ensures added { OnOk result (Holds (outcomes_in buckets.new.items) (outcomes_in buckets.old.items ++ (heard, position) ∷ [])) }
+    ensures added { OnOk result (Holds (outcomes_in buckets.new.items)
+        (outcomes_in buckets.old.items ++ (heard, position) ∷ [])) }
 {
     match place {
         Ok(at) => buckets[at].push(position)?,
@@ -174,7 +175,8 @@ impl Pool {
         replies: &[Move],
     ) -> Result<(), NoMemory>
         requires { replies.now ≡ list.moves p.now }
-        ensures { OnOk result (Holds self.new (self.old ++ map (spec.outcome d own.now p.now) (list.moves p.now))) }
+        ensures { OnOk result (Holds self.new
+            (self.old ++ map (spec.outcome d own.now p.now) (list.moves p.now))) }
     {
         let own = told(d, *own);
         for r in replies {
@@ -197,7 +199,8 @@ impl Pool {
 
     /// The classes of the outcomes, ascending.
     pub fn into_classes(self, alloc: Global) -> Result<Vec<Class>, NoMemory>
-        ensures { IfOk result (λ v. (os : List KeyedPosition) → Holds self os → map class_pair v.items ≡ classes_in os) }
+        ensures { IfOk result (λ v. (os : List KeyedPosition) → Holds self os →
+            map class_pair v.items ≡ classes_in os) }
     {
         classes_of(alloc, self.buckets)
     }

@@ -32,6 +32,7 @@ pair_at q = slice_index_or pairs q (0, 1)
 abbrev pub board_with : List (ℕ × Man) → Board
 board_with men = fold (λ b on. slice_set b on.0 (Some on.1)) empty_board men
 
+-- a man of that side and kind
 abbrev pub man : Side → Kind → Man
 man side which = record { side = side; kind = which }
 

@@ -32,6 +32,7 @@ knight_move m = slice_index_or knight_moves (m % 4) (plain_move g1 f3)
 abbrev pub no_move : ℕ → ℕ → Move
 no_move s m = plain_move ((s + m) % 64) ((s + m) % 64)
 
+-- a try of that side
 abbrev pub event : Side → Move → Event
 event who m = record { who = who; mv = m }
 

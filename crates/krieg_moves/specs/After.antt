@@ -54,6 +54,7 @@ is_castling wing man m = is_same_kind man.kind King && (m.from == king_square ma
 abbrev pub with_rook : Wing → Side → Board → Board
 with_rook wing side b = slice_set (slice_set b (corner wing side) None) (crossing wing side) (Some (record { side = side; kind = Rook }))
 
+-- the board after a move: the man moved, with what castling and capturing in passing change beside it
 abbrev pub board_after : Board → Option ℕ → Man → Move → Board
 board_after b mark man m =
     if is_en_passant mark man m then slice_set (moved b man m) (passed_square m) None
@@ -67,6 +68,7 @@ keeps_right held wing side man m =
     held && (not (is_same_kind man.kind King && is_same_side man.side side)
     && (not (m.from == corner wing side) && not (m.to == corner wing side)))
 
+-- the rights after a move: each stays where neither its king nor its rook moved or was taken
 abbrev pub rights_after : Rights → Man → Move → Rights
 rights_after r man m = record {
   white_short = keeps_right r.white_short Short White man m;
@@ -87,6 +89,7 @@ crossed side s = square_at (file_of s) (crossed_rank side)
 abbrev pub mark_after : Man → Move → Option ℕ
 mark_after man m = if is_advance man m then Some (crossed man.side m.from) else None
 
+-- the position after a move of that man, or the same position where nobody stands there
 abbrev pub after_by : Pos → Option Man → Move → Pos
 after_by p None m = p
 after_by p (Some man) m = record {

@@ -42,6 +42,7 @@ is_pawn_capture p m = attacks p.board m.from m.to && (is_of (other p.side) (man_
 abbrev pub has_promotion : Side → Move → Bool
 has_promotion side m = if rank_of m.to == last_rank side then not (is_plain m.promo) else is_plain m.promo
 
+-- how a pawn goes: a step, two steps, or a capture, and it promotes exactly on the last rank
 abbrev pub is_pawn_move : Pos → Move → Bool
 is_pawn_move p m = has_promotion p.side m && (is_step p.board p.side m || (is_double_step p.board p.side m || is_pawn_capture p m))
 
@@ -64,6 +65,7 @@ can_castle wing p m =
     && (is_clear p.board (king_square p.side) (corner wing p.side)
     && (is_safe p (king_square p.side) && (is_safe p (crossing wing p.side) && is_safe p (arrival wing p.side))))))
 
+-- how a king goes: to a square that he attacks, or he castles
 abbrev pub is_king_move : Pos → Move → Bool
 is_king_move p m = is_plain m.promo && (attacks p.board m.from m.to || (can_castle Short p m || can_castle Long p m))
 
@@ -71,6 +73,7 @@ is_king_move p m = is_plain m.promo && (attacks p.board m.from m.to || (can_cast
 abbrev pub is_officer_move : Pos → Move → Bool
 is_officer_move p m = is_plain m.promo && attacks p.board m.from m.to
 
+-- how a man of that kind goes
 abbrev pub is_move_of_kind : Kind → Pos → Move → Bool
 is_move_of_kind Pawn p m = is_pawn_move p m
 is_move_of_kind Knight p m = is_officer_move p m

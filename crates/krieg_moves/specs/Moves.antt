@@ -55,6 +55,7 @@ moves p = filter (is_legal p) all_moves
 unfoldable pub in_check : Pos → Bool
 in_check p = is_king_attacked p.board p.side
 
+-- nothing stands in the list
 abbrev pub is_nil : {X : Type 0} → List X → Bool
 is_nil [] = true
 is_nil (x ∷ xs) = false

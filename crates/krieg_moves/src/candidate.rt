@@ -103,7 +103,8 @@ fn has_promotion(side: Side, mv: &Move) -> bool
 
 /// Whether a pawn steps so, one square or two.
 fn is_pawn_step(p: &Position, mv: &Move) -> bool
-    ensures { result ≡ (spec.is_step p.now.board p.now.side mv.now || spec.is_double_step p.now.board p.now.side mv.now) }
+    ensures { result ≡ (spec.is_step p.now.board p.now.side mv.now
+        || spec.is_double_step p.now.board p.now.side mv.now) }
 {
     know_squares(mv);
     has(pawn_moves(p.bits(), p.side(), mv.from), mv.to.number())

@@ -64,7 +64,8 @@ fn count_of_free_pawns(p: &Position, guard: &Guard, pawns: u64) -> usize
 
 /// Those of the squares where a man goes at which he is promoted.
 fn promoting(p: &Position, from: Square, targets: u64) -> u64
-    ensures { (t : ℕ) → t < 64 → sets.has result t ≡ (sets.has targets t && list.promotes p.now from t) }
+    ensures { (t : ℕ) → t < 64 → sets.has result t
+        ≡ (sets.has targets t && list.promotes p.now from t) }
 {
     if has(own_pawns(p), from.number()) {
         targets & last_rank_squares(p.side())
@@ -104,7 +105,8 @@ fn count_of_officer(p: &Position, guard: &Guard, man: Man, from: Square) -> usiz
 fn count_of_kind(p: &Position, guard: &Guard, man: Man, men: u64, of_kind: u64) -> usize
     requires guard { IsGuard p.now guard.now }
     requires men { (k : ℕ) → k < 64 → sets.has men k ≡ is_free_officer p.now k }
-    requires kind { (k : ℕ) → k < 64 → sets.has of_kind k ≡ is_kind man.kind (man_at p.now.board k) }
+    requires kind { (k : ℕ) → k < 64 → sets.has of_kind k
+        ≡ is_kind man.kind (man_at p.now.board k) }
     requires own { man.side ≡ p.now.side }
     requires officer { is_officer man.kind ≡ true }
     ensures { result ≡ length (list.moves_of p.now (bit_and men of_kind)) }
@@ -228,7 +230,8 @@ pub(crate) fn lone_king(b: &Bits, side: Side) -> Option<Square>
 #[inline(always)]
 pub(crate) fn count_steps(b: &Bits, side: Side, king: Square) -> usize
     requires { IsAlone b.now side king }
-    ensures { (p : Pos) → IsValid p → p.board ≡ b.now → p.side ≡ side → result ≡ length (list.moves p) }
+    ensures { (p : Pos) → IsValid p → p.board ≡ b.now → p.side ≡ side →
+        result ≡ length (list.moves p) }
 {
     king_steps(b, side, king.number()).count_ones() as usize
 }

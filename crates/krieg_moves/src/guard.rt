@@ -47,7 +47,8 @@ fn answers_to(attackers: u64, square: u8) -> u64
 /// of them.
 fn safe_one_by_one(b: &Bits, gone: u8, squares: u64, by: Side) -> u64
     requires { gone < 64 }
-    ensures { (t : ℕ) → t < 64 → sets.has result t ≡ (sets.has squares t && not (attack.is_attacked (slice_set b.now gone None) t by)) }
+    ensures { (t : ℕ) → t < 64 → sets.has result t
+        ≡ (sets.has squares t && not (attack.is_attacked (slice_set b.now gone None) t by)) }
 {
     let mut rest = squares;
     let mut safe = 0u64;
@@ -65,7 +66,8 @@ fn safe_one_by_one(b: &Bits, gone: u8, squares: u64, by: Side) -> u64
 #[inline(always)]
 pub(crate) fn safe_squares(b: &Bits, gone: u8, squares: u64, by: Side) -> u64
     requires { gone < 64 }
-    ensures { (t : ℕ) → t < 64 → sets.has result t ≡ (sets.has squares t && not (attack.is_attacked (slice_set b.now gone None) t by)) }
+    ensures { (t : ℕ) → t < 64 → sets.has result t
+        ≡ (sets.has squares t && not (attack.is_attacked (slice_set b.now gone None) t by)) }
 {
     if squares.count_ones() < b.men_of(by).count_ones() {
         return safe_one_by_one(b, gone, squares, by);
@@ -94,7 +96,9 @@ impl Guard {
     fn answers_without(&self, p: &Position, from: u8) -> u64
         requires square { from < 64 }
         requires guard { spec.IsGuard p.now self.now }
-        ensures { (t : ℕ) → t < 64 → sets.has result t ≡ spec.is_answered (slice_set p.now.board from None) (other p.now.side) self.now.king t }
+        ensures { (t : ℕ) → t < 64 → sets.has result t
+            ≡ spec.is_answered (slice_set p.now.board from None) (other p.now.side) self.now.king
+            t }
     {
         let bits = p.bits();
         let side = p.side();
@@ -109,7 +113,9 @@ impl Guard {
         requires square { from < 64 }
         requires guard { spec.IsGuard p.now self.now }
         requires own { is_of p.now.side (man_at p.now.board from) ≡ true }
-        ensures { (t : ℕ) → t < 64 → sets.has result t ≡ spec.is_answered (slice_set p.now.board from None) (other p.now.side) self.now.king t }
+        ensures { (t : ℕ) → t < 64 → sets.has result t
+            ≡ spec.is_answered (slice_set p.now.board from None) (other p.now.side) self.now.king
+            t }
     {
         know_valid(p);
         if has(self.pinned, from) {

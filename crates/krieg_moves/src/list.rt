@@ -21,9 +21,11 @@ fn push(
     moves: &mut SmallVec<Move, 64>,
 ) -> Result<(), NoMemory>
     requires room { 64 ≤ moves.old.capacity }
-    ensures pushed { OnOk result (moves.new.items ≡ moves.old.items ++ record { from = from; to = to; promo = promo } ∷ []) }
+    ensures pushed { OnOk result (moves.new.items ≡ moves.old.items
+        ++ record { from = from; to = to; promo = promo } ∷ []) }
     ensures room { 64 ≤ moves.new.capacity }
-    ensures full { OnErr result (64 < length (moves.old.items ++ record { from = from; to = to; promo = promo } ∷ [])) }
+    ensures full { OnErr result (64 < length
+        (moves.old.items ++ record { from = from; to = to; promo = promo } ∷ [])) }
 {
     moves.push(Move { from, to, promo })?;
     Ok(())
@@ -60,9 +62,11 @@ fn push_between(
 ) -> Result<(), NoMemory>
     requires legal { list.can_go p.now from to ≡ true }
     requires room { 64 ≤ moves.old.capacity }
-    ensures pushed { OnOk result (moves.new.items ≡ moves.old.items ++ filter (spec.is_legal p.now) (list.moves_between from to)) }
+    ensures pushed { OnOk result (moves.new.items ≡ moves.old.items
+        ++ filter (spec.is_legal p.now) (list.moves_between from to)) }
     ensures room { 64 ≤ moves.new.capacity }
-    ensures full { OnErr result (64 < length (moves.old.items ++ filter (spec.is_legal p.now) (list.moves_between from to))) }
+    ensures full { OnErr result (64 < length
+        (moves.old.items ++ filter (spec.is_legal p.now) (list.moves_between from to))) }
 {
     know_valid(p);
     let _from = from.number();
@@ -82,9 +86,11 @@ fn push_from(
 ) -> Result<(), NoMemory>
     requires guard { IsGuard p.now guard.now }
     requires room { 64 ≤ moves.old.capacity }
-    ensures pushed { OnOk result (moves.new.items ≡ moves.old.items ++ filter (spec.is_legal p.now) (list.moves_from from)) }
+    ensures pushed { OnOk result (moves.new.items ≡ moves.old.items
+        ++ filter (spec.is_legal p.now) (list.moves_from from)) }
     ensures room { 64 ≤ moves.new.capacity }
-    ensures full { OnErr result (64 < length (moves.old.items ++ filter (spec.is_legal p.now) (list.moves_from from))) }
+    ensures full { OnErr result (64 < length
+        (moves.old.items ++ filter (spec.is_legal p.now) (list.moves_from from))) }
 {
     let mut rest = targets(p, guard, from);
     while rest != 0 {

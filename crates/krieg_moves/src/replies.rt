@@ -40,7 +40,8 @@ fn count_on(p: &Position, man: Man, mv: &Move, next: &Bits) -> usize
 
 /// Whether the move of this man moves nobody else: it neither captures in passing nor castles.
 fn moves_alone(p: &Position, man: Man, mv: &Move) -> bool
-    ensures { IsTrue result → change.board_after p.now.board p.now.mark man mv.now ≡ change.moved p.now.board man mv.now }
+    ensures { IsTrue result → change.board_after p.now.board p.now.mark man mv.now
+        ≡ change.moved p.now.board man mv.now }
 {
     !(is_en_passant(&p.mark(), man, mv)
         || is_castling(Wing::Short, man, mv)
@@ -54,7 +55,8 @@ fn count_steps_behind(p: &Position, man: Man, mv: &Move, king: Square) -> usize
     requires man { man_at p.now.board mv.now.from ≡ Some man }
     requires legal { IsTrue (spec.is_legal p.now mv.now) }
     requires alone { IsAlone p.now.board (other p.now.side) king }
-    requires single { change.board_after p.now.board p.now.mark man mv.now ≡ change.moved p.now.board man mv.now }
+    requires single { change.board_after p.now.board p.now.mark man mv.now
+        ≡ change.moved p.now.board man mv.now }
     ensures { result ≡ length (list.moves (change.after p.now mv.now)) }
 {
     know_valid(p);
@@ -84,7 +86,8 @@ fn count_if_quiet(p: &Position, man: Man, mv: &Move, king: Square) -> Option<usi
     requires man { man_at p.now.board mv.now.from ≡ Some man }
     requires legal { IsTrue (spec.is_legal p.now mv.now) }
     requires pawns { HasOnlyPawns p.now.board (other p.now.side) king }
-    requires single { change.board_after p.now.board p.now.mark man mv.now ≡ change.moved p.now.board man mv.now }
+    requires single { change.board_after p.now.board p.now.mark man mv.now
+        ≡ change.moved p.now.board man mv.now }
     requires officer { is_same_kind man.kind Pawn ≡ false }
     ensures { IfSome result (λ n. n ≡ length (list.moves (change.after p.now mv.now))) }
 {

@@ -48,7 +48,9 @@ fn castle(p: &Position, from: Square, man: Man, wing: Wing) -> u64
     requires man { man_at p.now.board from ≡ Some man }
     requires own { man.side ≡ p.now.side }
     requires king { man.kind ≡ King }
-    ensures { (t : ℕ) → t < 64 → sets.has result t ≡ (spec.can_castle wing p.now (plain_move from t) && spec.is_legal p.now (plain_move from t)) }
+    ensures { (t : ℕ) → t < 64 → sets.has result t
+        ≡ (spec.can_castle wing p.now (plain_move from t)
+        && spec.is_legal p.now (plain_move from t)) }
 {
     let to = arrival_square(wing, p.side());
     let mv = &Move {
@@ -100,14 +102,17 @@ pub(crate) fn targets_of_king(p: &Position, from: Square) -> u64
 /// Whether a man in front of a pawn on the rank where pawns begin keeps it from stepping.
 fn is_blocked(b: &Bits, side: Side, from: u8) -> bool
     requires { from < 64 }
-    ensures { result ≡ (squares.rank_of from == squares.pawn_rank side && is_some (man_at b.now (change.crossed side from))) }
+    ensures { result ≡ (squares.rank_of from == squares.pawn_rank side
+        && is_some (man_at b.now (change.crossed side from))) }
 {
     rank_of(from) == pawn_rank(side) && has(b.occupied(), crossed(side, from))
 }
 
 /// Where a pawn may step: one square forward, or two from the rank where pawns begin, over empty squares.
 pub(crate) fn pawn_moves(b: &Bits, side: Side, from: Square) -> u64
-    ensures { (t : ℕ) → t < 64 → sets.has result t ≡ (spec.is_step b.now side (plain_move from t) || spec.is_double_step b.now side (plain_move from t)) }
+    ensures { (t : ℕ) → t < 64 → sets.has result t
+        ≡ (spec.is_step b.now side (plain_move from t)
+        || spec.is_double_step b.now side (plain_move from t)) }
 {
     let from = from.number();
     let occupied = b.occupied();
@@ -125,8 +130,10 @@ fn passes(p: &Position, man: Man, mv: &Move, attacked: u64) -> bool
     requires pawn { man.kind ≡ Pawn }
     requires plain { spec.is_plain mv.now.promo ≡ true }
     requires marked { change.is_marked p.now.mark mv.now.to ≡ true }
-    requires attacked { (t : ℕ) → t < 64 → sets.has attacked t ≡ attack.attacks p.now.board mv.now.from t }
-    ensures { result ≡ (attack.attacks p.now.board mv.now.from mv.now.to && spec.is_legal p.now mv.now) }
+    requires attacked { (t : ℕ) → t < 64 → sets.has attacked t
+        ≡ attack.attacks p.now.board mv.now.from t }
+    ensures { result ≡ (attack.attacks p.now.board mv.now.from mv.now.to
+        && spec.is_legal p.now mv.now) }
 {
     know_valid(p);
     know_squares(mv);
@@ -139,7 +146,9 @@ fn passing(p: &Position, from: Square, man: Man, attacked: u64) -> u64
     requires own { man.side ≡ p.now.side }
     requires pawn { man.kind ≡ Pawn }
     requires attacked { (t : ℕ) → t < 64 → sets.has attacked t ≡ attack.attacks p.now.board from t }
-    ensures { (t : ℕ) → t < 64 → sets.has result t ≡ (change.is_marked p.now.mark t && (attack.attacks p.now.board from t && spec.is_legal p.now (plain_move from t))) }
+    ensures { (t : ℕ) → t < 64 → sets.has result t
+        ≡ (change.is_marked p.now.mark t
+        && (attack.attacks p.now.board from t && spec.is_legal p.now (plain_move from t))) }
 {
     match p.mark() {
         None => 0,
@@ -161,7 +170,8 @@ fn captures(p: &Position, guard: &Guard, from: Square, man: Man) -> u64
     requires man { man_at p.now.board from ≡ Some man }
     requires own { man.side ≡ p.now.side }
     requires pawn { man.kind ≡ Pawn }
-    ensures { (t : ℕ) → t < 64 → sets.has result t ≡ targets.is_capture p.now from guard.now.king t }
+    ensures { (t : ℕ) → t < 64 → sets.has result t
+        ≡ targets.is_capture p.now from guard.now.king t }
 {
     let bits = p.bits();
     let side = p.side();
@@ -206,7 +216,8 @@ fn is_free(p: &Position, guard: &Guard, from: Square) -> bool
 fn free_captures(p: &Position, guard: &Guard, from: Square) -> u64
     requires guard { IsGuard p.now guard.now }
     requires free { IsFreePawn p.now from }
-    ensures { (t : ℕ) → t < 64 → sets.has result t ≡ targets.is_capture p.now from guard.now.king t }
+    ensures { (t : ℕ) → t < 64 → sets.has result t
+        ≡ targets.is_capture p.now from guard.now.king t }
 {
     let side = p.side();
     let by = side.other();
@@ -218,7 +229,8 @@ fn free_captures(p: &Position, guard: &Guard, from: Square) -> u64
 pub fn pawn_captures(p: &Position, guard: &Guard, from: Square) -> u64
     requires guard { IsGuard p.now guard.now }
     requires pawn { is_man p.now.side Pawn (man_at p.now.board from) ≡ true }
-    ensures { (t : ℕ) → t < 64 → sets.has result t ≡ (can_go p.now from t && not (squares.file_of from == squares.file_of t)) }
+    ensures { (t : ℕ) → t < 64 → sets.has result t
+        ≡ (can_go p.now from t && not (squares.file_of from == squares.file_of t)) }
 {
     let side = p.side();
     if is_free(p, guard, from) {

@@ -32,7 +32,8 @@ fn ahead_in(side: Side, set: u64) -> u64
 
 /// The squares from which a pawn may go two squares ahead, over an empty one to one of the set.
 fn two_ahead_in(side: Side, empty: u64, set: u64) -> u64
-    ensures { (k : ℕ) → k < 64 → sets.has result k ≡ (sets.has empty (spec.ahead side k) && sets.has set (spec.two_ahead side k)) }
+    ensures { (k : ℕ) → k < 64 → sets.has result k
+        ≡ (sets.has empty (spec.ahead side k) && sets.has set (spec.two_ahead side k)) }
 {
     let crossed = empty & ahead_in(side, set);
     pawn_rank_squares(side) & ahead_in(side, crossed)

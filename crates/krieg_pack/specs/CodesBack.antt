@@ -38,10 +38,12 @@ pub men_back : (ms : List (Option Man)) → map man_of (map man_code ms) ≡ ms
 men_back [] = refl
 men_back (m ∷ ms) = λ i. man_back m i ∷ men_back ms i
 
+-- the code of a side gives the side back
 pub side_back : (s : Side) → side_of (side_code s) ≡ s
 side_back White = refl
 side_back Black = refl
 
+-- the code of a mark gives the mark back
 pub mark_back : (m : Option ℕ) → mark_of (mark_code m) ≡ m
 mark_back None = refl
 mark_back (Some s) =
@@ -67,5 +69,6 @@ by_bits false false true false = refl
 by_bits false false false true = refl
 by_bits false false false false = refl
 
+-- the bits of rights give the rights back
 pub rights_back : (r : Rights) → rights_of (bits_of r) ≡ r
 rights_back r = by_bits r.white_short r.white_long r.black_short r.black_long

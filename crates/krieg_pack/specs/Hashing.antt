@@ -15,8 +15,10 @@ fed_by p =
     let k = packed p in
     fed.u64 k.ones ++ (fed.u64 k.twos ++ (fed.u64 k.fours ++ (fed.u64 k.eights ++ (k.rights ∷ k.mark ∷ k.side ∷ []) ∷ [])))
 
+-- the same positions feed a hasher alike
 pub positions_fed : fed.Alike position_eq fed_by
 positions_fed = record { fed = λ p q h. ap fed_by (equal_position p q h) }
 
+-- and so do the same sets
 pub sets_fed : fed.Alike (pointwise position_eq) (fed.slice fed_by)
 sets_fed = fed.items_Alike positions_fed

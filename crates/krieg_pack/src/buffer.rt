@@ -27,7 +27,8 @@ pub fn trim(packed: &mut Vec<Packed>, limit: usize) -> Result<(), TooMany>
     ensures same { set_of packed.new.items ≡ set_of packed.old.items }
     ensures too_many { IsErr result → limit < length (set_of packed.old.items) }
     ensures small { OnOk result (vec_len packed.new ≤ 2 * limit + 64) }
-    ensures sorted { OnOk result (2 * limit + 64 < vec_len packed.old → vec_len packed.new ≤ limit) }
+    ensures sorted { OnOk result (2 * limit + 64 < vec_len packed.old →
+        vec_len packed.new ≤ limit) }
 {
     if packed.len() <= limit.saturating_mul(2).saturating_add(64) {
         return Ok(());

@@ -134,7 +134,8 @@ impl Packed {
     /// The squares on which the codes differ.
     #[inline]
     fn differing(&self, other: &Packed) -> u64
-        ensures apart { (k : ℕ) → k < 64 → spec.has result k ≡ not (man_code (man_at self.now.board k) == man_code (man_at other.now.board k)) }
+        ensures apart { (k : ℕ) → k < 64 → spec.has result k
+            ≡ not (man_code (man_at self.now.board k) == man_code (man_at other.now.board k)) }
         ensures valid { IsValid self.now }
         ensures other_valid { IsValid other.now }
     {
@@ -146,7 +147,8 @@ impl Packed {
     /// The squares on which the code is smaller than the other's: the highest bit that differs tells.
     #[inline]
     fn smaller(&self, other: &Packed) -> u64
-        ensures { (k : ℕ) → k < 64 → spec.has result k ≡ nat_lt (man_code (man_at self.now.board k)) (man_code (man_at other.now.board k)) }
+        ensures { (k : ℕ) → k < 64 → spec.has result k
+            ≡ nat_lt (man_code (man_at self.now.board k)) (man_code (man_at other.now.board k)) }
     {
         let by_one = other.ones & !self.ones;
         let by_two = either(self.twos ^ other.twos, other.twos, by_one);

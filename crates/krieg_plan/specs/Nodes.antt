@@ -14,6 +14,7 @@ abbrev pub as_other : Option NodeTree → Maybe Move Key
 as_other None = Nothing
 as_other (Some n) = Just n
 
+-- keys with their trees as edges
 abbrev pub as_edges : List (Key × NodeTree) → Edges Move Key
 as_edges [] = NoEdges
 as_edges (e ∷ es) = On e.0 e.1 (as_edges es)

@@ -17,14 +17,17 @@ abbrev mutual
   pub is_ordered : NodeTree → Bool
   is_ordered (Try t other es) = is_ascending key_lt (edge_keys es) && (is_ordered_other other && are_ordered es)
 
+  -- the tree for the illegal case is ordered, if there is one
   pub is_ordered_other : Maybe Move Key → Bool
   is_ordered_other Nothing = true
   is_ordered_other (Just n) = is_ordered n
 
+  -- the trees behind these edges are ordered
   pub are_ordered : Edges Move Key → Bool
   are_ordered NoEdges = true
   are_ordered (Edge key n es) = is_ordered n && are_ordered es
 
+-- the trees of these roots are ordered
 abbrev pub are_ordered_roots : PlanTrees → Bool
 are_ordered_roots [] = true
 are_ordered_roots (r ∷ rs) = is_ordered r.1 && are_ordered_roots rs

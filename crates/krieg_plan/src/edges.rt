@@ -29,13 +29,17 @@ fn has_key(e: &Edge, own: &Words, reply: &Words) -> bool
 /// It looks at one edge after another. Where the keys ascend, as in every plan, `find_edge_in_order` is
 /// faster.
 pub fn find_edge(n: &Node, own: Words, reply: Words) -> Option<&Node>
-    ensures { MatchOption result (first_edge_in (tree_of n.now) (own, reply) ≡ Nothing) (λ r. first_edge_in (tree_of n.now) (own, reply) ≡ Just (tree_of r.now)) }
+    ensures { MatchOption result (first_edge_in (tree_of n.now) (own, reply) ≡ Nothing)
+        (λ r. first_edge_in (tree_of n.now) (own, reply) ≡ Just (tree_of r.now)) }
 {
     find_in(&n.edges, &own, &reply)
 }
 
 fn find_in<'a>(list: &'a [Edge], own: &Words, reply: &Words) -> Option<&'a Node>
-    ensures { MatchOption result (first_edge key_lt (as_edges (map edge_of list.now)) (own.now, reply.now) ≡ Nothing) (λ r. first_edge key_lt (as_edges (map edge_of list.now)) (own.now, reply.now) ≡ Just (tree_of r.now)) }
+    ensures { MatchOption result (first_edge key_lt (as_edges (map edge_of list.now))
+        (own.now, reply.now) ≡ Nothing)
+        (λ r. first_edge key_lt (as_edges (map edge_of list.now)) (own.now, reply.now)
+        ≡ Just (tree_of r.now)) }
 {
     for e in list {
         if has_key(e, own, reply) {
@@ -50,7 +54,8 @@ fn find_in<'a>(list: &'a [Edge], own: &Words, reply: &Words) -> Option<&'a Node>
 pub fn find_edge_in_order(n: &Node, own: Words, reply: Words) -> Option<&Node>
     requires { is_ordered (tree_of n.now) ≡ true }
     ensures ordered { IfSome result (λ r. is_ordered (tree_of r.now) ≡ true) }
-    ensures found { MatchOption result (first_edge_in (tree_of n.now) (own, reply) ≡ Nothing) (λ r. first_edge_in (tree_of n.now) (own, reply) ≡ Just (tree_of r.now)) }
+    ensures found { MatchOption result (first_edge_in (tree_of n.now) (own, reply) ≡ Nothing)
+        (λ r. first_edge_in (tree_of n.now) (own, reply) ≡ Just (tree_of r.now)) }
 {
     match n.edges.binary_search_by(|e| compare_key(e, &own, &reply)) {
         Ok(place) => Some(&n.edges[place].node),

@@ -35,7 +35,9 @@ impl Node {
         no: Option<Box<Node>>,
         edges: Vec<Edge>,
     ) -> Result<Box<Node>, NoMemory>
-        ensures { IfOk result (λ b. tree_of b.value ≡ Try mv (as_other (option_map (λ b. tree_of b.value) no)) (as_edges (map edge_of edges.items))) }
+        ensures { IfOk result (λ b. tree_of b.value
+            ≡ Try mv (as_other (option_map (λ b. tree_of b.value) no))
+            (as_edges (map edge_of edges.items))) }
     {
         Ok(Box::new(alloc, Node { mv, no, edges })?)
     }
@@ -79,7 +81,9 @@ impl Drop for Node {
 /// Puts an edge to a node, if there is one, into a place that is free.
 fn put_back(edges: &mut Vec<Edge>, own: Words, reply: Words, node: Option<Box<Node>>)
     requires { vec_len edges.old < vec_capacity edges.old }
-    ensures { size_edges (as_edges (map edge_of edges.new.items)) ≡ size_edges (as_edges (map edge_of edges.old.items)) + size_other (as_other (option_map (λ b. tree_of b.value) node)) }
+    ensures { size_edges (as_edges (map edge_of edges.new.items))
+        ≡ size_edges (as_edges (map edge_of edges.old.items))
+        + size_other (as_other (option_map (λ b. tree_of b.value) node)) }
 {
     if let Some(node) = node {
         edges.push_reserved(Edge { own, reply, node });

@@ -51,7 +51,8 @@ pub(crate) fn compare_root(r: &Root, opens: &Words, heard: &Option<Words>) -> Or
 /// The node at the root with these words, by bisection. The keys ascend in what is found and below it.
 pub fn find_root(p: &Plan, opens: Words, heard: Option<Words>) -> Option<&Node>
     ensures ordered { IfSome result (λ r. is_ordered (tree_of r.now) ≡ true) }
-    ensures found { MatchOption result (first_root_in (plan_of p.now) (opens, heard) ≡ Nothing) (λ r. first_root_in (plan_of p.now) (opens, heard) ≡ Just (tree_of r.now)) }
+    ensures found { MatchOption result (first_root_in (plan_of p.now) (opens, heard) ≡ Nothing)
+        (λ r. first_root_in (plan_of p.now) (opens, heard) ≡ Just (tree_of r.now)) }
 {
     match p
         .roots

@@ -17,7 +17,8 @@ pub fn size_within(p: &Plan, max: usize) -> bool
 
 /// How many nodes the plan has; none where they are more than `max`.
 pub fn size_up_to(p: &Plan, max: usize) -> Option<usize>
-    ensures { MatchOption result (max < plan_size (plan_of p.now)) (λ size. (size ≡ plan_size (plan_of p.now)) × (size ≤ max)) }
+    ensures { MatchOption result (max < plan_size (plan_of p.now))
+        (λ size. (size ≡ plan_size (plan_of p.now)) × (size ≤ max)) }
 {
     let left = left_of(&p.roots, max)?;
     Some(max - left)
@@ -25,7 +26,8 @@ pub fn size_up_to(p: &Plan, max: usize) -> Option<usize>
 
 /// What the nodes of all roots leave of `max`; none where they are more.
 fn left_of(roots: &[Root], max: usize) -> Option<usize>
-    ensures { MatchOption result (max < plan_size (map root_of roots.now)) (λ left. left + plan_size (map root_of roots.now) ≡ max) }
+    ensures { MatchOption result (max < plan_size (map root_of roots.now))
+        (λ left. left + plan_size (map root_of roots.now) ≡ max) }
 {
     let mut left = max;
     for r in roots {
@@ -39,7 +41,8 @@ fn left_of(roots: &[Root], max: usize) -> Option<usize>
 /// It goes on over `no` in a loop, and calls itself for the edges alone.
 #[cycle(counting)]
 fn left_after(n: &Node, max: usize) -> Option<usize>
-    ensures { MatchOption result (max < size (tree_of n.now)) (λ left. left + size (tree_of n.now) ≡ max) }
+    ensures { MatchOption result (max < size (tree_of n.now))
+        (λ left. left + size (tree_of n.now) ≡ max) }
 {
     let mut left = max;
     let mut here = n;
@@ -58,7 +61,8 @@ fn left_after(n: &Node, max: usize) -> Option<usize>
 /// What the nodes that edges lead to, and those below them, leave of `max`; none where they are more.
 #[cycle(counting)]
 fn left_below(edges: &[Edge], max: usize) -> Option<usize>
-    ensures { MatchOption result (max < size_edges (as_edges (map edge_of edges.now))) (λ left. left + size_edges (as_edges (map edge_of edges.now)) ≡ max) }
+    ensures { MatchOption result (max < size_edges (as_edges (map edge_of edges.now)))
+        (λ left. left + size_edges (as_edges (map edge_of edges.now)) ≡ max) }
 {
     let mut left = max;
     for e in edges {

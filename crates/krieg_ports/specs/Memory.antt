@@ -4,6 +4,7 @@ use Rattle.krieg_ports.specs.Faults.{one_more}
 
 -- ---- a source
 
+-- a source over bytes in memory: what is left, the most bytes of a call, the calls that fail, and how many calls and faults there were
 pub record SourceInMemory : Type 0 where
   -- the bytes that are left
   pub left : List ℕ
@@ -33,6 +34,8 @@ after_failed_read s = record s { calls = one_more s.calls; faults = one_more s.f
 
 -- ---- a sink
 
+-- a sink into memory: what it got, the room that is left, the most bytes of a call, the calls that fail, and how many calls and faults
+-- there were
 pub record SinkInMemory : Type 0 where
   -- the bytes that it got
   pub got : List ℕ

@@ -34,7 +34,8 @@ pub(crate) fn near_men(b: &Bits, s: u8, by: Side) -> u64
 fn attackers_among(b: &Bits, s: u8, by: Side, men: u64, occupied: u64) -> u64
     requires square { s < 64 }
     requires men { (f : ℕ) → f < 64 → has men f ≡ true → is_of by (man_at b.now f) ≡ true }
-    ensures { (k : ℕ) → k < 64 → has result k ≡ (has men k && reaches occupied (man_at b.now k) k s) }
+    ensures { (k : ℕ) → k < 64 → has result k
+        ≡ (has men k && reaches occupied (man_at b.now k) k s) }
 {
     let sets = b.sets();
     let straight = straight_among(s, occupied, (sets.rooks | sets.queens) & men);
@@ -65,7 +66,9 @@ fn left_out(set: u64, s: u8) -> u64
 pub fn attackers_without(b: &Bits, gone: u8, s: u8, by: Side) -> u64
     requires gone { gone < 64 }
     requires square { s < 64 }
-    ensures { (k : ℕ) → k < 64 → has result k ≡ (is_of by (man_at (slice_set b.now gone None) k) && attacks (slice_set b.now gone None) k s) }
+    ensures { (k : ℕ) → k < 64 → has result k
+        ≡ (is_of by (man_at (slice_set b.now gone None) k)
+        && attacks (slice_set b.now gone None) k s) }
 {
     let men = left_out(b.men_of(by), gone);
     let occupied = left_out(b.occupied(), gone);
@@ -119,7 +122,8 @@ pub fn attacked_from(b: &Bits, man: Man, from: u8) -> u64
 /// The squares that such a man attacks from one of these squares, where those squares are occupied.
 #[inline]
 fn attacked_by_each(man: Man, men: u64, occupied: u64) -> u64
-    ensures { (k : ℕ) → k < 64 → has result k ≡ some_square (λ f. has men f && reaches occupied (Some man) f k) }
+    ensures { (k : ℕ) → k < 64 → has result k
+        ≡ some_square (λ f. has men f && reaches occupied (Some man) f k) }
 {
     let mut rest = men;
     let mut attacked = 0;
@@ -136,7 +140,8 @@ fn attacked_by_each(man: Man, men: u64, occupied: u64) -> u64
 #[inline(always)]
 fn attacked_among(b: &Bits, side: Side, men: u64, occupied: u64) -> u64
     requires { (f : ℕ) → f < 64 → has men f ≡ true → is_of side (man_at b.now f) ≡ true }
-    ensures { (k : ℕ) → k < 64 → has result k ≡ some_square (λ f. has men f && reaches occupied (man_at b.now f) f k) }
+    ensures { (k : ℕ) → k < 64 → has result k
+        ≡ some_square (λ f. has men f && reaches occupied (man_at b.now f) f k) }
 {
     let sets = b.sets();
     attacked_by_each(
@@ -211,7 +216,9 @@ pub fn attacked_behind(b: &Bits, gone: u8, from: u8, to: u8, man: Man) -> u64
     requires from { from < 64 }
     requires to { to < 64 }
     requires apart { to ≢ gone }
-    ensures { (k : ℕ) → k < 64 → has result k ≡ spec.is_attacked (slice_set (slice_set (slice_set b.now from None) to (Some man)) gone None) k man.side }
+    ensures { (k : ℕ) → k < 64 → has result k
+        ≡ spec.is_attacked (slice_set (slice_set (slice_set b.now from None) to (Some man)) gone
+        None) k man.side }
 {
     let others = left_out(left_out(b.men_of(man.side), from), gone);
     let squares = left_out(left_out(b.occupied(), from), gone);

@@ -93,7 +93,8 @@ pub fn straight_from(s: u8, occupied: u64) -> u64
 #[inline]
 pub fn diagonal_from(s: u8, occupied: u64) -> u64
     requires { s < 64 }
-    ensures { (k : ℕ) → k < 64 → has result k ≡ (goes Bishop White s k && spec.is_open occupied s k) }
+    ensures { (k : ℕ) → k < 64 → has result k
+        ≡ (goes Bishop White s k && spec.is_open occupied s k) }
 {
     let on_rising = seen_on(rising_through(s), occupied, s);
     let on_falling = seen_on(falling_through(s), occupied, s);
@@ -105,7 +106,8 @@ pub fn diagonal_from(s: u8, occupied: u64) -> u64
 #[inline]
 pub(crate) fn straight_among(s: u8, occupied: u64, men: u64) -> u64
     requires { s < 64 }
-    ensures { (k : ℕ) → k < 64 → has result k ≡ ((goes Rook White s k && spec.is_open occupied s k) && has men k) }
+    ensures { (k : ℕ) → k < 64 → has result k
+        ≡ ((goes Rook White s k && spec.is_open occupied s k) && has men k) }
 {
     if (file_through(s) | rank_through(s)) & men == 0 {
         return 0;
@@ -118,7 +120,8 @@ pub(crate) fn straight_among(s: u8, occupied: u64, men: u64) -> u64
 #[inline]
 pub(crate) fn diagonal_among(s: u8, occupied: u64, men: u64) -> u64
     requires { s < 64 }
-    ensures { (k : ℕ) → k < 64 → has result k ≡ ((goes Bishop White s k && spec.is_open occupied s k) && has men k) }
+    ensures { (k : ℕ) → k < 64 → has result k
+        ≡ ((goes Bishop White s k && spec.is_open occupied s k) && has men k) }
 {
     if (rising_through(s) | falling_through(s)) & men == 0 {
         return 0;

@@ -31,7 +31,8 @@ pub fn king_lines(b: &Bits, king: u8, who: Side) -> KingLines
     requires square { king < 64 }
     requires king { is_man who King (man_at b.now king) ≡ true }
     requires alone { count_kind b.now who King ≡ 1 }
-    ensures checkers { (k : ℕ) → k < 64 → has result.checkers k ≡ (is_of (other who) (man_at b.now k) && attacks b.now k king) }
+    ensures checkers { (k : ℕ) → k < 64 → has result.checkers k
+        ≡ (is_of (other who) (man_at b.now k) && attacks b.now k king) }
     ensures pinned { (k : ℕ) → k < 64 → has result.pinned k ≡ is_pinned b.now who k }
 {
     let by = who.other();
@@ -91,8 +92,10 @@ pub fn may_pin_behind(b: &Bits, king: u8, from: u8, to: u8, man: Man) -> bool
     requires king { king < 64 }
     requires from { from < 64 }
     requires to { to < 64 }
-    ensures { result ≡ false → (c : Board) → c ≡ slice_set (slice_set b.now from None) to (Some man) → (who : Who) → other who ≡ man.side
-        → count_kind c who King ≡ 1 → is_man who King (man_at c king) ≡ true → (k : ℕ) → k < 64 → is_pinned c who k ≡ false }
+    ensures { result ≡ false → (c : Board) →
+        c ≡ slice_set (slice_set b.now from None) to (Some man) → (who : Who) → other who ≡ man.side
+        → count_kind c who King ≡ 1 → is_man who King (man_at c king) ≡ true → (k : ℕ) → k < 64 →
+        is_pinned c who k ≡ false }
 {
     let sets = b.sets();
     let sliders = (sets.rooks | sets.bishops | sets.queens) & b.men_of(man.side);

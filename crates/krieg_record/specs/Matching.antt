@@ -23,11 +23,13 @@ use Rattle.krieg_record.specs.NotationText.{Says}
 use Rattle.krieg_record.specs.MoveTraits.{kind_of, is_own, castling, captures}
 use Rattle.krieg_record.specs.Disambiguation.{fits}
 
+-- the castling is to that wing
 abbrev pub is_wing : Wing → Option Wing → Bool
 is_wing Short (Some Short) = true
 is_wing Long (Some Long) = true
 is_wing _ _ = false
 
+-- both promote to the same kind, or neither does
 abbrev pub is_same_promo : Promo → Promo → Bool
 is_same_promo promo.Plain promo.Plain = true
 is_same_promo promo.Queen promo.Queen = true

@@ -20,6 +20,7 @@ kind_of Rook = kind.Rook
 kind_of Bishop = kind.Bishop
 kind_of Knight = kind.Knight
 
+-- the officer of that kind: every man but a pawn is one
 abbrev pub officer_of : Kind → Option Officer
 officer_of kind.Pawn = None
 officer_of kind.Knight = Some Knight
@@ -28,6 +29,7 @@ officer_of kind.Rook = Some Rook
 officer_of kind.Queen = Some Queen
 officer_of kind.King = Some King
 
+-- the officer that a man is, if he is one
 abbrev pub officer_by : Option Man → Option Officer
 officer_by None = None
 officer_by (Some man) = officer_of man.kind
@@ -40,6 +42,7 @@ officer_at p s = officer_by (man_at p.board s)
 abbrev pub is_own : Pos → Kind → ℕ → Bool
 is_own p which s = is_man p.side which (man_at p.board s)
 
+-- the wing to which the man castles by the move, if he does
 abbrev pub castling_by : Option Man → Move → Option Wing
 castling_by None m = None
 castling_by (Some man) m = if is_castling Short man m then Some Short else if is_castling Long man m then Some Long else None
@@ -48,6 +51,7 @@ castling_by (Some man) m = if is_castling Short man m then Some Short else if is
 abbrev pub castling : Pos → Move → Option Wing
 castling p m = castling_by (man_at p.board m.from) m
 
+-- the man captures by the move, perhaps in passing
 abbrev pub captures_by : Pos → Option Man → Move → Bool
 captures_by p None m = false
 captures_by p (Some man) m = not (is_empty p.board m.to) || is_en_passant p.mark man m

@@ -42,6 +42,7 @@ square_told _ _ = None
 abbrev pub both_told : ℕ → ℕ → Option Origin
 both_told a b = square_told (file_named a) (rank_named b)
 
+-- an officer's movement of these parts, where none is missing
 abbrev pub officer_with : Officer → Bool → Option Origin → Option ℕ → Option Movement
 officer_with officer captures (Some o) (Some to) = Some (ByOfficer (record { officer = officer; origin = o; captures = captures; to = to }))
 officer_with officer captures _ _ = None
@@ -60,10 +61,12 @@ officer_movement officer _ = None
 abbrev pub promo_named : ℕ → Option Promo
 promo_named b = if b == 81 then Some promo.Queen else (if b == 82 then Some promo.Rook else (if b == 66 then Some promo.Bishop else (if b == 78 then Some promo.Knight else None)))
 
+-- a pawn's movement of these parts, where none is missing
 abbrev pub pawn_with : Option ℕ → Option ℕ → Option Promo → Option Movement
 pawn_with file (Some to) (Some r) = Some (ByPawn (record { file = file; to = to; promo = r }))
 pawn_with file _ _ = None
 
+-- a pawn's capture, which names the file that it comes from
 abbrev pub pawn_taking : Option ℕ → Option ℕ → Option Promo → Option Movement
 pawn_taking (Some f) to r = pawn_with (Some f) to r
 pawn_taking None to r = None
@@ -95,10 +98,12 @@ movement_from a rest =
     else if a == 79 then castling_movement rest
     else pawn_movement (a ∷ rest)
 
+-- the movement that a text spells, if it does
 abbrev pub movement_of : List ℕ → Option Movement
 movement_of [] = None
 movement_of (a ∷ rest) = movement_from a rest
 
+-- the movement with that ending, where it is one
 abbrev pub with_ending : Option Movement → Ending → Option Notation
 with_ending None e = None
 with_ending (Some movement) e = Some (record { movement = movement; ending = e })
@@ -115,10 +120,12 @@ front_of [] = []
 front_of (b ∷ []) = []
 front_of (b ∷ c ∷ bs) = b ∷ front_of (c ∷ bs)
 
+-- what a text spells that has this ending: the sign of check or mate is its last byte
 abbrev pub notation_by : List ℕ → Ending → Option Notation
 notation_by text Nothing = with_ending (movement_of text) Nothing
 notation_by text Check = with_ending (movement_of (front_of text)) Check
 notation_by text Mate = with_ending (movement_of (front_of text)) Mate
 
+-- what a text spells, if it does
 unfoldable pub notation_of : List ℕ → Option Notation
 notation_of text = notation_by text (ending_of text)

@@ -63,6 +63,7 @@ officer_text o = file_text o.origin.file ++ (rank_text o.origin.rank ++ (capture
 abbrev pub pawn_text : PawnMove → List ℕ
 pawn_text w = pawn_capture_text w.file ++ (square_text w.to ++ promotion_text w.promo)
 
+-- the text of how a man moves: castling, an officer, or a pawn
 abbrev pub movement_text : Movement → List ℕ
 movement_text (Castles Short) = codes "O-O"
 movement_text (Castles Long) = codes "O-O-O"
@@ -75,6 +76,7 @@ ending_text Nothing = []
 ending_text Check = 43 ∷ []
 ending_text Mate = 35 ∷ []
 
+-- the text of a move: how the man moves, and then check or mate
 unfoldable pub notation_text : Notation → List ℕ
 notation_text n = movement_text n.movement ++ ending_text n.ending
 

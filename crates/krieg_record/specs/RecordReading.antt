@@ -41,6 +41,7 @@ in_turn false r = Err OutOfPlace
 in_turn true (Err e) = Err OutOfPlace
 in_turn true (Ok m) = Ok m
 
+-- the move that a line means, by the side of its mark
 abbrev pub move_by : Pos → Option (Side × List ℕ) → Result Move TextKind
 move_by p None = Err Syntax
 move_by p (Some s) = in_turn (is_same_side s.0 p.side) (meant p s.1)
@@ -58,6 +59,7 @@ abbrev pub led : List Move → RecordLine → Step (List Move) (List Move × Uni
 led ms End = stops (ms, tt)
 led ms (Played m) = goes_on (ms ++ m ∷ [])
 
+-- the next line of a record behind these moves: one more move, or the end
 abbrev pub step_form : Pos → List Move → List ℕ → Result (Step (List Move) (List Move × Unit {0})) TextKind
 step_form start ms line = line_form (after_all start ms) line >>= λ l. Ok (led ms l)
 

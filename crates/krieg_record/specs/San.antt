@@ -30,5 +30,6 @@ ending q = if is_mate q then Mate else if in_check q then Check else Nothing
 unfoldable pub san : Pos → Move → Notation
 san p m = record { movement = movement_by p m (castling p m) (officer_at p m.from); ending = ending (after p m) }
 
+-- the one text of a legal move
 unfoldable pub san_text : Pos → Move → List ℕ
 san_text p m = notation_text (san p m)

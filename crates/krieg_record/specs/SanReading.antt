@@ -49,11 +49,13 @@ goes_from p n s = is_legal p (move_from p n.movement s) && is_matched p n (move_
 unfoldable pub leaving : Pos → Notation → ℕ → List ℕ
 leaving p n set = filter (λ s. has set s && goes_from p n s) squares
 
+-- the movement from the one square that fits; unknown where none does, several where more do
 abbrev pub the_only : Pos → Movement → List ℕ → Result Move SanFault
 the_only p movement [] = Err Unknown
 the_only p movement (s ∷ []) = Ok (move_from p movement s)
 the_only p movement (s ∷ t ∷ more) = Err Several
 
+-- the one move that fits what a text spells
 abbrev pub meant_by : Pos → Option Notation → Result Move SanFault
 meant_by p None = Err Syntax
 meant_by p (Some n) = the_only p n.movement (filter (goes_from p n) squares)

@@ -52,7 +52,8 @@ pub(crate) fn is_own(p: &Position, kind: Kind, s: Square) -> bool
 
 /// The squares of the men of a kind, of either side.
 fn men_of_kind(sets: &Sets, kind: Kind) -> u64
-    ensures { (b : Board) (k : ℕ) → Show sets.now b → k < 64 → has result k ≡ is_kind kind (man_at b k) }
+    ensures { (b : Board) (k : ℕ) → Show sets.now b → k < 64 →
+        has result k ≡ is_kind kind (man_at b k) }
 {
     match kind {
         Kind::Pawn => sets.pawns,

@@ -147,7 +147,8 @@ fn read_lines(alloc: Global, text: &[u8]) -> Result<Record, TextFault>
 /// `OutOfPlace`.
 #[tactic(auto, using(crate::proofs::RecordReadings::records))]
 pub fn read_record(alloc: Global, text: &[u8]) -> Result<Record, TextFault>
-    ensures reading { IsReading (λ r. state_of r) spec.record_at Always SpellsRecord RecordGrammar (lines text.now) result }
+    ensures reading { IsReading (λ r. state_of r) spec.record_at Always SpellsRecord RecordGrammar
+        (lines text.now) result }
     // It begins in a valid position, and its moves are legal.
     ensures game { IfOk result (λ r. IsRecord (state_of r)) }
 {

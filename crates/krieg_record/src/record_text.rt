@@ -55,7 +55,8 @@ fn put_record(r: &Record, text: &mut Text) -> Result<(), NoMemory>
 fn know_text(r: &Record)
     requires { AreLegal r.now.start r.now.moves.items }
     ensures spelled { SpellsRecord (state_of r.now) (lines (spec.record_text (state_of r.now))) }
-    ensures again { whole record_at (lines (spec.record_text (state_of r.now))) ≡ Ok (state_of r.now) }
+    ensures again { whole record_at (lines (spec.record_text (state_of r.now)))
+        ≡ Ok (state_of r.now) }
 {
     know_valid(&r.start);
 }
@@ -64,10 +65,12 @@ fn know_text(r: &Record)
 #[tactic(auto, unfolding(crate::specs::RecordText::record_text))]
 pub fn write_record(r: &Record, text: &mut Vec<u8>) -> Result<(), NoMemory>
     requires { AreLegal r.now.start r.now.moves.items }
-    ensures value { Appends result text.old.items text.new.items (spec.record_text (state_of r.now)) }
+    ensures value { Appends result text.old.items text.new.items
+        (spec.record_text (state_of r.now)) }
     // The text spells the record, and is read as it again.
     ensures spelled { SpellsRecord (state_of r.now) (lines (spec.record_text (state_of r.now))) }
-    ensures again { whole record_at (lines (spec.record_text (state_of r.now))) ≡ Ok (state_of r.now) }
+    ensures again { whole record_at (lines (spec.record_text (state_of r.now)))
+        ≡ Ok (state_of r.now) }
 {
     know_text(r);
     let mut all = Text::after(text);

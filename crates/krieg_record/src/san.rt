@@ -15,7 +15,8 @@ use krieg_text::Text;
 
 /// What the text of the move says of the move itself.
 fn movement(p: &Position, mv: &Move) -> Movement
-    ensures { result ≡ spec.movement_by p.now mv.now (traits.castling p.now mv.now) (traits.officer_at p.now mv.now.from) }
+    ensures { result ≡ spec.movement_by p.now mv.now (traits.castling p.now mv.now)
+        (traits.officer_at p.now mv.now.from) }
 {
     if let Some(wing) = castling(p, mv) {
         return Movement::Castles(wing);

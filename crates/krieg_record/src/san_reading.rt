@@ -88,7 +88,8 @@ fn goes_from(p: &Position, n: &Notation, from: Square) -> bool
 
 /// The first of these squares from which a move goes that the text may mean, and the squares behind it.
 fn first_from(p: &Position, n: &Notation, squares: u64) -> Option<(Square, u64)>
-    ensures some { IfSome result (λ r. spec.leaving p.now n.now squares ≡ r.0 ∷ spec.leaving p.now n.now r.1) }
+    ensures some { IfSome result (λ r. spec.leaving p.now n.now squares ≡ r.0
+        ∷ spec.leaving p.now n.now r.1) }
     ensures none { IfNone result (spec.leaving p.now n.now squares ≡ []) }
 {
     let mut rest = squares;

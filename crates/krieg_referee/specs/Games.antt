@@ -5,6 +5,7 @@ use Rattle.krieg_referee.specs.declared.verdict.Event.{Event}
 use Rattle.krieg_referee.specs.declared.verdict.Judged.{Judged}
 use Rattle.krieg_referee.specs.Verdicts.{verdict, next}
 
+-- a try with its verdict
 abbrev pub judged : Pos → Event → Judged
 judged p e = record { event = e; verdict = verdict p e.who e.mv }
 

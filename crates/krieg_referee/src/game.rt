@@ -68,7 +68,8 @@ impl Game {
     #[tactic(auto, using(crate::proofs::Ends::ends), unfolding(crate::specs::Verdicts::verdict))]
     pub fn judge(&mut self, e: &Event) -> Verdict
         ensures verdict { result ≡ verdict self.old.position e.now.who e.now.mv }
-        ensures state { self.new ≡ record self.old { position = next self.old.position e.now.who e.now.mv } }
+        ensures state { self.new ≡ record self.old
+            { position = next self.old.position e.now.who e.now.mv } }
     {
         if self.over {
             return Verdict::Over;
@@ -129,7 +130,12 @@ impl Game {
 /// The game of these tries, judged one after another. The places of all of them are taken before the first one is judged:
 /// `NoMemory` comes only for want of these, and never where there is no try.
 pub fn judge(alloc: Global, start: &Position, events: &[Event]) -> Result<Game, NoMemory>
-    ensures value { IfOk result (λ game. game ≡ record { position = last start.now events.now; log = judge start.now events.now; spare = 0 }) }
+    ensures value { IfOk result (λ game. game
+        ≡ record {
+          position = last start.now events.now;
+          log = judge start.now events.now;
+          spare = 0;
+        }) }
     ensures no_memory { OnErr result (0 < length events.now) }
 {
     let mut game = Game::start(alloc, *start);

@@ -20,9 +20,11 @@ use std::alloc::Global;
 /// The position after the try, where it is done: its player is to move, and its move is legal. Where the
 /// game is over, no move is legal.
 fn after_try(p: &Position, event: &Event) -> Option<Position>
-    ensures done { IfSome result (λ q. (is_same_side event.now.who p.now.side && is_legal p.now event.now.mv) ≡ true) }
+    ensures done { IfSome result (λ q. (is_same_side event.now.who p.now.side
+        && is_legal p.now event.now.mv) ≡ true) }
     ensures position { IfSome result (λ q. q ≡ change.after p.now event.now.mv) }
-    ensures other { IfNone result ((is_same_side event.now.who p.now.side && is_legal p.now event.now.mv) ≡ false) }
+    ensures other { IfNone result ((is_same_side event.now.who p.now.side
+        && is_legal p.now event.now.mv) ≡ false) }
 {
     if event.who != p.side() {
         return None;
@@ -33,7 +35,9 @@ fn after_try(p: &Position, event: &Event) -> Option<Position>
 /// Makes the try, and adds its move to the moves, where it is done.
 #[tactic(auto, using(crate::proofs::DoneMoves::done))]
 fn add_try(event: &Event, p: &mut Position, moves: &mut Vec<Move>) -> Result<(), NoMemory>
-    ensures { OnOk result ((es : List EventState) → moves.new.items ++ spec.done_moves (judge p.new es) ≡ moves.old.items ++ spec.done_moves (judge p.old (event.now ∷ es))) }
+    ensures { OnOk result ((es : List EventState) →
+        moves.new.items ++ spec.done_moves (judge p.new es) ≡ moves.old.items
+        ++ spec.done_moves (judge p.old (event.now ∷ es))) }
 {
     match after_try(p, event) {
         None => Ok(()),

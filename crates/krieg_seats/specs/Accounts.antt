@@ -8,6 +8,7 @@ use Rattle.krieg_seats.specs.declared.seat.Say.TheVariants.{Try, Leave}
 use Rattle.krieg_seats.specs.declared.seat.SeatFault.{SeatFault}
 use Rattle.krieg_seats.specs.declared.seat.SeatFault.TheVariants.{Failed, NoMemory}
 
+-- what a seat has said and heard, and how often it was asked, failed and left
 pub record Account : Type 0 where
   -- the moves that it said and the lines that it heard, in order
   pub said : List Move

@@ -7,6 +7,7 @@ use Rattle.krieg_seats.specs.Accounts.{Account, once_asked}
 use Rattle.krieg_seats.specs.declared.seat.Say.{Say}
 use Rattle.krieg_seats.specs.declared.seat.Say.TheVariants.{Try, Leave}
 
+-- a seat that says the moves of a script: its account, the moves that are left, which calls fail, and how many calls there were
 pub record Script : Type 0 where
   -- what it has said and heard, and its counts
   pub account : Account
@@ -34,6 +35,7 @@ abbrev pub next_say : List Move → Say
 next_say [] = Leave
 next_say (m ∷ ms) = Try m
 
+-- the seat once it has said its next move, or has left where none is left
 abbrev pub after_saying : Script → List Move → Script
 after_saying s [] = record s { account = record s.account { leaves = one_more s.account.leaves }; calls = one_more s.calls }
 after_saying s (m ∷ ms) = record s { account = record s.account { said = s.account.said ++ m ∷ [] }; left = ms; calls = one_more s.calls }

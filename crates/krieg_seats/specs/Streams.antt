@@ -57,6 +57,7 @@ stream_account s = record { said = s.said.items; heard = s.heard.items; asks = s
 abbrev pub has_reader : {R W : Type 0} → StreamSeat R W → Bool
 has_reader s = is_some s.from
 
+-- the seat has something to be told into
 abbrev pub has_writer : {R W : Type 0} → StreamSeat R W → Bool
 has_writer s = is_some s.to
 

@@ -60,7 +60,8 @@ fn pass_line<S: Source>(source: &mut S) -> Result<(), Failed>
 
 /// Goes to the next line, where it stands inside one.
 fn begin_line<S: Source>(source: &mut S, inside: &mut bool) -> Result<(), Failed>
-    ensures begun { OnOk result (Keeps (lines_left inside.old (S.left source.old)) (S.left source.new)) }
+    ensures begun { OnOk result (Keeps (lines_left inside.old (S.left source.old))
+        (S.left source.new)) }
     ensures outside { OnOk result (inside.new ≡ false) }
     ensures failed { OnErr result
         (Rose (S.faults source.old) (S.faults source.new) ⊎ IsEndless (S.left source.old)) }
@@ -82,7 +83,8 @@ fn read_line<S: Source>(
     line: &mut [u8; MOST_BYTES],
 ) -> Result<LineRead, Failed>
     requires { inside.old ≡ false }
-    ensures read { IfOk result (λ how. ReadsLine (said_so how line.new) (S.left source.old) (lines_left inside.new (S.left source.new))) }
+    ensures read { IfOk result (λ how. ReadsLine (said_so how line.new) (S.left source.old)
+        (lines_left inside.new (S.left source.new))) }
     ensures within { IfOk result IsWithin }
     ensures failed { OnErr result (Rose (S.faults source.old) (S.faults source.new)) }
 {
@@ -123,7 +125,8 @@ fn try_of(text: &[u8]) -> Result<Say, Failed>
 /// What the next line says. A line of more than five bytes says nothing; no more than six of them are read, and
 /// the rest is passed over in the next call, of which `inside` tells.
 pub(crate) fn next_say<S: Source>(source: &mut S, inside: &mut bool) -> Result<Say, Failed>
-    ensures says { IfOk result (λ say. ReadsLine (Some say) (lines_left inside.old (S.left source.old))
+    ensures says { IfOk result (λ say. ReadsLine (Some say)
+        (lines_left inside.old (S.left source.old))
         (lines_left inside.new (S.left source.new))) }
     ensures failed { OnErr result (ReadsLine None (lines_left inside.old (S.left source.old))
         (lines_left inside.new (S.left source.new))

@@ -101,7 +101,8 @@ impl Seat for ScriptSeat {
 
         // What becomes of the seat.
         ensures ok { OnOk result (self.new ≡ after_asked self.old) }
-        ensures failed { result ≡ Err SeatFault.Failed → self.new ≡ after_failed (when_asked self.old) }
+        ensures failed { result ≡ Err SeatFault.Failed →
+            self.new ≡ after_failed (when_asked self.old) }
     {
         self.asks = self.asks.saturating_add(1);
         if fails_now(&mut self.calls, &mut self.faults, &self.fails) {

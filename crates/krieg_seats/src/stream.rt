@@ -72,9 +72,11 @@ fn fail(faults: &mut u64) -> SeatFault
 
 /// What the player says next, where there is a reader.
 fn say_from<R: Read + Drop>(from: &mut Option<Adapter<R>>, inside: &mut bool) -> Result<Say, Failed>
-    ensures says { IfOk result (λ say. ReadsLine (Some say) (lines_left inside.old (bytes_from R.remaining from.old))
+    ensures says { IfOk result (λ say. ReadsLine (Some say)
+        (lines_left inside.old (bytes_from R.remaining from.old))
         (lines_left inside.new (bytes_from R.remaining from.new))) }
-    ensures nothing { OnErr result (SaysNothing R.remaining inside.old inside.new from.old from.new) }
+    ensures nothing { OnErr result (SaysNothing R.remaining inside.old inside.new from.old
+        from.new) }
     ensures missing { is_some from.old ≡ false → IsErr result }
     ensures kept { is_some from.new ≡ is_some from.old }
 {
@@ -102,8 +104,10 @@ fn put_line(line: Line, text: &mut Vec<u8>) -> Result<(), SeatFault>
 
 /// Writes the text, where there is a writer.
 fn write_to<W: Write + Drop>(to: &mut Option<AdapterOut<W>>, text: &[u8]) -> Result<(), Failed>
-    ensures all { OnOk result (Appends (bytes_to W.contents to.old) (bytes_to W.contents to.new) text.now) }
-    ensures front { OnErr result (AppendsPrefix (bytes_to W.contents to.old) (bytes_to W.contents to.new) text.now) }
+    ensures all { OnOk result (Appends (bytes_to W.contents to.old) (bytes_to W.contents to.new)
+        text.now) }
+    ensures front { OnErr result (AppendsPrefix (bytes_to W.contents to.old)
+        (bytes_to W.contents to.new) text.now) }
     ensures fault { OnErr result (FailsToWrite to.old to.new) }
     ensures missing { is_some to.old ≡ false → IsErr result }
     ensures kept { is_some to.new ≡ is_some to.old }
@@ -131,9 +135,12 @@ impl<R: Read + Drop, W: Write + Drop> Seat for StreamSeat<R, W> {
         ensures asked { Asked result (stream_account self.old) (stream_account self.new) }
 
         // What the reader gave, where it tells its bytes.
-        ensures says { IfOk result (λ say. ReadsLine (Some say) (lines_of R.remaining self.old) (lines_of R.remaining self.new)) }
-        ensures nothing { result ≡ Err SeatFault.Failed → HearsNothing R.remaining self.old self.new }
-        ensures unread { result ≡ Err SeatFault.NoMemory → lines_of R.remaining self.new ≡ lines_of R.remaining self.old }
+        ensures says { IfOk result (λ say. ReadsLine (Some say) (lines_of R.remaining self.old)
+            (lines_of R.remaining self.new)) }
+        ensures nothing { result ≡ Err SeatFault.Failed →
+            HearsNothing R.remaining self.old self.new }
+        ensures unread { result ≡ Err SeatFault.NoMemory →
+            lines_of R.remaining self.new ≡ lines_of R.remaining self.old }
 
         ensures missing { has_reader self.old ≡ false → IsErr result }
         ensures ends { KeepsEnds self.old self.new }
@@ -166,7 +173,8 @@ impl<R: Read + Drop, W: Write + Drop> Seat for StreamSeat<R, W> {
         ensures told { Told line result (stream_account self.old) (stream_account self.new) }
 
         // What the writer got, where it tells its bytes.
-        ensures writes { Writes result (written_of W.contents self.old) (written_of W.contents self.new)
+        ensures writes { Writes result (written_of W.contents self.old)
+            (written_of W.contents self.new)
             (ended_line (line_text Wild16 line)) }
         ensures fault { result ≡ Err SeatFault.Failed → FailsToWrite self.old.to self.new.to }
 

@@ -63,6 +63,7 @@ all_lines d p events = lines_of_log d p (judge p events)
 abbrev pub if_of : Side → Side × Line → Option Line
 if_of who l = if is_same_side l.0 who then Some l.1 else None
 
+-- the lines of that side
 abbrev pub lines_of : Side → List (Side × Line) → List Line
 lines_of who ls = filter_map (if_of who) ls
 

@@ -146,7 +146,8 @@ fn read_lines(alloc: Global, text: &[u8]) -> Result<Session, TextFault>
 /// complete, the number of lines plus 1 with `Syntax`. Its kinds are `Version`, `Syntax` and `Position`.
 #[tactic(auto, using(crate::proofs::SessionFormat::sessions))]
 pub fn read_session(alloc: Global, text: &[u8]) -> Result<Session, TextFault>
-    ensures reading { IsReading (λ s. state_of s) spec.session_at Always SpellsSession SessionGrammar (lines text.now) result }
+    ensures reading { IsReading (λ s. state_of s) spec.session_at Always SpellsSession
+        SessionGrammar (lines text.now) result }
     // It begins in a valid position, and each try is a move between two squares of the board.
     ensures game { IfOk result (λ s. IsGame (state_of s)) }
 {
@@ -178,7 +179,8 @@ fn read_one_line(text: &[u8]) -> Result<Position, TextFault>
 /// line 2, where there is a second one.
 #[tactic(auto, using(crate::proofs::SessionFormat::starts))]
 pub fn read_start(text: &[u8]) -> Result<Position, TextFault>
-    ensures reading { IsReading (λ p. p) spec.start_at Always SpellsStart StartGrammar (lines text.now) result }
+    ensures reading { IsReading (λ p. p) spec.start_at Always SpellsStart StartGrammar
+        (lines text.now) result }
     ensures memory { IfErr result (λ e. e ≢ OutOfMemory) }
 {
     read_one_line(text)

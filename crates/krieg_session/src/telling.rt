@@ -46,7 +46,8 @@ fn put_tries(
     who: Side,
     text: &mut Text,
 ) -> Result<(), NoMemory>
-    ensures { PutsLines result text.old text.new (spec.heard_lines d who (judge game.position events.now)) }
+    ensures { PutsLines result text.old text.new
+        (spec.heard_lines d who (judge game.position events.now)) }
 {
     for event in events {
         let verdict = game.judge(event);
@@ -65,7 +66,8 @@ fn put_player(
     who: Side,
     text: &mut Text,
 ) -> Result<(), NoMemory>
-    ensures { PutsLines result text.old text.new (sheet_lines (spec.sheet_of d game.position events.now who)) }
+    ensures { PutsLines result text.old text.new
+        (sheet_lines (spec.sheet_of d game.position events.now who)) }
 {
     put_head(d, who, 1, text)?;
     put_listed(game.position(), text)?;
@@ -86,7 +88,8 @@ fn put_marked(d: Dialect, who: Side, line: Line, text: &mut Text) -> Result<(), 
 
 /// Adds the player's line of a judged try with his mark, where he has one.
 fn put_players(d: Dialect, who: Side, judged: &Judged, text: &mut Text) -> Result<(), NoMemory>
-    ensures { PutsLines result text.old text.new (map (spec.marked_line d) (spec.players_line d who (line_for who judged.now))) }
+    ensures { PutsLines result text.old text.new
+        (map (spec.marked_line d) (spec.players_line d who (line_for who judged.now))) }
 {
     match line_for(who, judged) {
         None => Ok(()),
@@ -97,7 +100,8 @@ fn put_players(d: Dialect, who: Side, judged: &Judged, text: &mut Text) -> Resul
 /// Adds White's line of a judged try and then Black's.
 #[tactic(auto, using(krieg_text::proofs::Writings::writings, crate::proofs::Tellings::logs))]
 fn put_both(d: Dialect, judged: &Judged, text: &mut Text) -> Result<(), NoMemory>
-    ensures { PutsLines result text.old text.new (map (spec.marked_line d) (spec.both_lines d judged.now)) }
+    ensures { PutsLines result text.old text.new
+        (map (spec.marked_line d) (spec.both_lines d judged.now)) }
 {
     put_players(d, Side::White, judged, text)?;
     put_players(d, Side::Black, judged, text)
@@ -111,7 +115,8 @@ fn put_all_tries(
     events: &[Event],
     text: &mut Text,
 ) -> Result<(), NoMemory>
-    ensures { PutsLines result text.old text.new (map (spec.marked_line d) (flat_map (spec.both_lines d) (judge game.position events.now))) }
+    ensures { PutsLines result text.old text.new
+        (map (spec.marked_line d) (flat_map (spec.both_lines d) (judge game.position events.now))) }
 {
     for event in events {
         let verdict = game.judge(event);
@@ -124,7 +129,8 @@ fn put_all_tries(
 /// Adds the lines of both players of a game that begins so.
 #[tactic(auto, using(krieg_text::proofs::Writings::writings, crate::proofs::Tellings::logs), unfolding(crate::specs::Telling::marked_lines))]
 fn put_all(d: Dialect, game: Game, events: &[Event], text: &mut Text) -> Result<(), NoMemory>
-    ensures { PutsLines result text.old text.new (spec.marked_lines d game.position (judge game.position events.now)) }
+    ensures { PutsLines result text.old text.new
+        (spec.marked_lines d game.position (judge game.position events.now)) }
 {
     put_marked(d, Side::White, Line::Opens(opening(game.position())), text)?;
     put_marked(d, Side::Black, Line::Opens(opening(game.position())), text)?;
@@ -139,7 +145,8 @@ fn put_telling(
     who: Option<Side>,
     text: &mut Text,
 ) -> Result<(), NoMemory>
-    ensures { PutsText result text.old text.new (spec.umpire_text s.now.dialect s.now.start s.now.events.items who) }
+    ensures { PutsText result text.old text.new
+        (spec.umpire_text s.now.dialect s.now.start s.now.events.items who) }
 {
     let game = Game::start(alloc, s.start);
     match who {
@@ -160,9 +167,11 @@ pub fn umpire(
     who: Option<Side>,
     text: &mut Vec<u8>,
 ) -> Result<(), NoMemory>
-    ensures told { Appends result text.old.items text.new.items (spec.umpire_text s.now.dialect s.now.start s.now.events.items who) }
+    ensures told { Appends result text.old.items text.new.items
+        (spec.umpire_text s.now.dialect s.now.start s.now.events.items who) }
     // The other player's tries that are not done change nothing of a player's sheet.
-    ensures stripped { IfSome who (λ w. Appends result text.old.items text.new.items (spec.umpire_text s.now.dialect s.now.start (strip s.now.start s.now.events.items w) who)) }
+    ensures stripped { IfSome who (λ w. Appends result text.old.items text.new.items
+        (spec.umpire_text s.now.dialect s.now.start (strip s.now.start s.now.events.items w) who)) }
 {
     let mut all = Text::after(text);
     let done = put_telling(alloc, s, who, &mut all);

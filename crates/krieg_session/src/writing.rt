@@ -55,7 +55,8 @@ pub fn put_session(s: &Session, text: &mut Text) -> Result<(), NoMemory>
 #[tactic(auto, using(crate::proofs::SessionFormat::writes))]
 fn know_text(s: &Session)
     ensures spelled { SpellsSession (state_of s.now) (lines (spec.session_text (state_of s.now))) }
-    ensures again { whole session_at (lines (spec.session_text (state_of s.now))) ≡ Ok (state_of s.now) }
+    ensures again { whole session_at (lines (spec.session_text (state_of s.now)))
+        ≡ Ok (state_of s.now) }
     ensures game { IsGame (state_of s.now) }
 {
     know_game(s);
@@ -65,10 +66,12 @@ fn know_text(s: &Session)
 /// otherwise version 2. Where memory runs out, nothing is appended.
 #[tactic(auto, unfolding(crate::specs::SessionText::session_text))]
 pub fn write_session(s: &Session, text: &mut Vec<u8>) -> Result<(), NoMemory>
-    ensures value { Appends result text.old.items text.new.items (spec.session_text (state_of s.now)) }
+    ensures value { Appends result text.old.items text.new.items
+        (spec.session_text (state_of s.now)) }
     // The text spells the session, and is read as it again.
     ensures spelled { SpellsSession (state_of s.now) (lines (spec.session_text (state_of s.now))) }
-    ensures again { whole session_at (lines (spec.session_text (state_of s.now))) ≡ Ok (state_of s.now) }
+    ensures again { whole session_at (lines (spec.session_text (state_of s.now)))
+        ≡ Ok (state_of s.now) }
     ensures game { IsGame (state_of s.now) }
 {
     know_text(s);

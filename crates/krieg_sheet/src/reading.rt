@@ -80,7 +80,8 @@ fn read_lines(alloc: Global, text: &[u8]) -> Result<Sheet, TextFault>
 /// `Position`, `Differs` and `OutOfPlace`.
 #[tactic(auto, using(crate::proofs::SheetGrammars::reading))]
 pub fn read_sheet(alloc: Global, text: &[u8]) -> Result<Sheet, TextFault>
-    ensures reading { IsReading (λ s. s) spec.sheet_at IsSheet SpellsSheet SheetGrammar (lines text.now) result }
+    ensures reading { IsReading (λ s. s) spec.sheet_at IsSheet SpellsSheet SheetGrammar
+        (lines text.now) result }
     // What is read is a sheet: its positions have one hand, its words can be told, its entries are in place.
     ensures sheet { IfOk result (λ s. IsSheet s) }
 {

@@ -243,8 +243,10 @@ impl Sheet {
     pub fn push(&mut self, line: Line) -> Result<(), SheetFault>
         requires { LineFits self.old.dialect line }
         ensures ok { OnOk result (self.new ≡ entered self.old line) }
-        ensures out { result ≡ Err SheetFault.OutOfPlace ↔ (turns.is_in_place self.old line ≡ false) }
-        ensures others { (result ≢ Err SheetFault.Count) × ((i : ℕ) → result ≢ Err (SheetFault.Differs i)) }
+        ensures out { result ≡ Err SheetFault.OutOfPlace
+            ↔ (turns.is_in_place self.old line ≡ false) }
+        ensures others { (result ≢ Err SheetFault.Count)
+            × ((i : ℕ) → result ≢ Err (SheetFault.Differs i)) }
         ensures err { OnErr result (self.new ≡ self.old) }
     {
         if !self.is_in_place(&line) {

@@ -35,6 +35,7 @@ RunsSo entry words code before after err err' =
 abbrev pub HasNoMemory : ℕ → World → World → Stream → Stream → Type 0
 HasNoMemory code before after err err' = (code ≡ 11) × (after ≡ before) × Gets (codes "krieg: want of memory\n") err err'
 
+-- a run of these words with these players, or that memory was wanting
 abbrev pub StartsAt : Sides Account → List (List ℕ) → ℕ → World → World → Stream → Stream → Type 0
 StartsAt entry words code before after err err' = RunsSo entry words code before after err err' ⊎ HasNoMemory code before after err err'
 

@@ -68,7 +68,8 @@ fn know_player<P: Players>(players: &P, seat: &Box<dyn Seat>, tries: &str, told:
 {}
 
 fn tell_memory<E: Sink>(err: &mut E) -> u8
-    ensures line { let heard = stream E.got E.faults in Gets (codes "krieg: want of memory\n") (heard err.old) (heard err.new) }
+    ensures line { let heard = stream E.got E.faults in
+        Gets (codes "krieg: want of memory\n") (heard err.old) (heard err.new) }
     ensures status { result ≡ 11 }
 {
     let _ = write_all(err, b"krieg: want of memory\n");
@@ -86,8 +87,16 @@ fn start_playing<P: Players, S: Source, O: Sink, E: Sink>(
     out: &mut O,
     err: &mut E,
 ) -> u8
-    ensures { let seen = world S.left S.faults O.got O.faults in let heard = stream E.got E.faults in
-        StartsAt (both_at P.made (record { win = files.now.win.now; wout = files.now.wout.now; bin = files.now.bin.now; bout = files.now.bout.now })) (map string_bytes words.now) result (seen input.old out.old) (seen input.new out.new)
+    ensures { let seen = world S.left S.faults O.got O.faults in
+        let heard = stream E.got E.faults in
+        StartsAt (both_at P.made
+        (record {
+          win = files.now.win.now;
+          wout = files.now.wout.now;
+          bin = files.now.bin.now;
+          bout = files.now.bout.now;
+        })) (map string_bytes words.now) result (seen input.old out.old)
+        (seen input.new out.new)
         (heard err.old) (heard err.new) }
 {
     let mut bench = Bench::new(alloc);
@@ -120,8 +129,10 @@ fn start_leading<P: Players, S: Source, O: Sink, E: Sink>(
     out: &mut O,
     err: &mut E,
 ) -> u8
-    ensures { let seen = world S.left S.faults O.got O.faults in let heard = stream E.got E.faults in
-        StartsAt (one_at P.made (tries.now, told.now)) (map string_bytes words.now) result (seen input.old out.old) (seen input.new out.new)
+    ensures { let seen = world S.left S.faults O.got O.faults in
+        let heard = stream E.got E.faults in
+        StartsAt (one_at P.made (tries.now, told.now)) (map string_bytes words.now) result
+        (seen input.old out.old) (seen input.new out.new)
         (heard err.old) (heard err.new) }
 {
     let mut bench = Bench::new(alloc);
@@ -144,8 +155,10 @@ fn start_alone<S: Source, O: Sink, E: Sink>(
     out: &mut O,
     err: &mut E,
 ) -> u8
-    ensures { let seen = world S.left S.faults O.got O.faults in let heard = stream E.got E.faults in
-        StartsAt (sides (team [] []) (team [] [])) (map string_bytes words.now) result (seen input.old out.old) (seen input.new out.new)
+    ensures { let seen = world S.left S.faults O.got O.faults in
+        let heard = stream E.got E.faults in
+        StartsAt (sides (team [] []) (team [] [])) (map string_bytes words.now) result
+        (seen input.old out.old) (seen input.new out.new)
         (heard err.old) (heard err.new) }
 {
     run(alloc, words, input, out, err, &mut Bench::new(alloc))
@@ -160,8 +173,10 @@ fn start_with<P: Players, S: Source, O: Sink, E: Sink>(
     out: &mut O,
     err: &mut E,
 ) -> u8
-    ensures { let seen = world S.left S.faults O.got O.faults in let heard = stream E.got E.faults in
-        StartsWith P.made (map string_bytes words.now) result (seen input.old out.old) (seen input.new out.new)
+    ensures { let seen = world S.left S.faults O.got O.faults in
+        let heard = stream E.got E.faults in
+        StartsWith P.made (map string_bytes words.now) result (seen input.old out.old)
+        (seen input.new out.new)
         (heard err.old) (heard err.new) }
 {
     if let Some(files) = seat_files(words) {

@@ -14,6 +14,7 @@ Row = List Pos × Results
 abbrev pub Interned : Type 0
 Interned = List Row
 
+-- the sets of a table, by their numbers
 abbrev pub sets : Interned → List (List Pos)
 sets T = map (λ r. r.0) T
 

@@ -7,6 +7,7 @@ use Rattle.krieg_table.specs.declared.known.Known.{Known}
 abbrev pub Results : Type 0
 Results = List (Option Known)
 
+-- nothing is known, whatever the number of moves
 abbrev pub nothing : Results
 nothing = replicate MOST_MOVES None
 

@@ -97,7 +97,8 @@ impl Table {
     pub fn result(&self, id: u32, moves: u8) -> Option<Known>
         requires { id < length self.now }
         ensures value { result ≡ known_at self.now id moves }
-        ensures by_sets { option_map try_of result ≡ stored position_lt (entries self.now) (set_at self.now id, moves) }
+        ensures by_sets { option_map try_of result
+            ≡ stored position_lt (entries self.now) (set_at self.now id, moves) }
     {
         self.rows[id as usize].get(moves)
     }

@@ -13,6 +13,7 @@ ranged outside (Ok n) = Ok n
 ranged outside (Err NotPlain) = Err Syntax
 ranged outside (Err OutOfRange) = Err outside
 
+-- a number in a range behind a name, or the kind of fault where it is outside; syntax where the name is missing
 abbrev pub number_behind : TextKind → ℕ → ℕ → Option (List ℕ) → Result ℕ TextKind
 number_behind outside least most None = Err Syntax
 number_behind outside least most (Some text) = ranged outside (number_between text least most)

@@ -25,6 +25,7 @@ pub record Then (P Q : Language) (ls : List (List ℕ)) : Type 0 where
   pub second : Q back
 
 infixr 5 ◌⨾◌
+-- lines of the first, and behind them lines of the second
 abbrev pub ◌⨾◌ : Language → Language → Language
 P ⨾ Q = Then P Q
 

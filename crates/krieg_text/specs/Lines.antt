@@ -24,6 +24,7 @@ with_ends ls = flat_map ended_line ls
 abbrev pub is_line : List ℕ → Bool
 is_line l = list_all (λ b. not (b == 10)) l
 
+-- none of them has a line feed in it
 abbrev pub AreLines : List (List ℕ) → Type 0
 AreLines [] = Unit {0}
 AreLines (l ∷ ls) = (is_line l ≡ true) × AreLines ls

@@ -12,6 +12,7 @@ pub record Place : Type 0 where
   pub number : ℕ
   pub left : List (List ℕ)
 
+-- so many lines were taken, and these are left
 abbrev pub place : ℕ → List (List ℕ) → Place
 place number left = record { number = number; left = left }
 
@@ -47,6 +48,7 @@ abbrev pub next_line : ℕ → List (List ℕ) → Result (List ℕ × Place) Te
 next_line number [] = Err (At number Syntax)
 next_line number (l ∷ ls) = Ok (l, place (number + 1) ls)
 
+-- the next line
 abbrev pub line_at : LineReader (List ℕ)
 line_at p = next_line p.number p.left
 

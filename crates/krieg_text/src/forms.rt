@@ -52,7 +52,8 @@ pub fn count_form(name: &[u8], least: u64, most: u64, text: &[u8]) -> Result<u64
 /// The next line, as a format's name and its version.
 #[tactic(auto, using(crate::proofs::ReadingLemmas::refused))]
 pub fn read_version(from: &mut Cursor<'_>, name: &[u8], newest: u64) -> Result<u64, TextFault>
-    ensures value { GivesOn (λ n. n) result from.new (taken (spec.version_form name.now newest) from.old) }
+    ensures value { GivesOn (λ n. n) result from.new
+        (taken (spec.version_form name.now newest) from.old) }
     ensures range { IfOk result (λ n. (1 ≤ n) × (n ≤ newest)) }
     ensures rest { Passed from.old from.new }
     ensures memory { IfErr result (λ e. e ≢ OutOfMemory) }
@@ -69,7 +70,8 @@ pub fn read_count(
     least: u64,
     most: u64,
 ) -> Result<u64, TextFault>
-    ensures value { GivesOn (λ n. n) result from.new (taken (spec.count_form name.now least most) from.old) }
+    ensures value { GivesOn (λ n. n) result from.new
+        (taken (spec.count_form name.now least most) from.old) }
     ensures range { IfOk result (λ n. (least ≤ n) × (n ≤ most)) }
     ensures rest { Passed from.old from.new }
     ensures memory { IfErr result (λ e. e ≢ OutOfMemory) }

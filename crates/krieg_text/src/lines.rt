@@ -85,8 +85,10 @@ impl<'a> Lines<'a> {
 
 /// Where the first line feed stands.
 fn line_end(text: &[u8]) -> Option<usize>
-    ensures none { IfNone result ((k : ℕ) → k < length text.now → (slice_index text.now k == 10) ≡ false) }
-    ensures some { IfSome result (λ i. (i < length text.now) × ((slice_index text.now i == 10) ≡ true)
+    ensures none { IfNone result ((k : ℕ) → k < length text.now →
+        (slice_index text.now k == 10) ≡ false) }
+    ensures some { IfSome result (λ i. (i < length text.now)
+        × ((slice_index text.now i == 10) ≡ true)
         × ((k : ℕ) → k < i → (slice_index text.now k == 10) ≡ false)) }
 {
     memchr(b'\n', text)

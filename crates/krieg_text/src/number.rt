@@ -36,7 +36,8 @@ pub fn is_plain(text: &[u8]) -> bool
 /// The number with one digit more, where it has 64 bits.
 fn with_digit(number: u64, digit: u8) -> Option<u64>
     requires { is_ascii_digit digit ≡ true }
-    ensures { result ≡ (if nat_lt (number * 10 + digit_value digit) (2 ^ 64) then Some (number * 10 + digit_value digit) else None) }
+    ensures { result ≡ (if nat_lt (number * 10 + digit_value digit) (2 ^ 64) then Some
+        (number * 10 + digit_value digit) else None) }
 {
     number.checked_mul(10)?.checked_add(u64::from(digit - b'0'))
 }
@@ -45,7 +46,8 @@ fn with_digit(number: u64, digit: u8) -> Option<u64>
 #[tactic(auto, using(crate::proofs::Numbers::digits))]
 fn value_of(digits: &[u8]) -> Option<u64>
     requires { list_all is_ascii_digit digits.now ≡ true }
-    ensures { result ≡ (if nat_lt (digits_value 10 digits.now) (2 ^ 64) then Some (digits_value 10 digits.now) else None) }
+    ensures { result ≡ (if nat_lt (digits_value 10 digits.now) (2 ^ 64) then Some
+        (digits_value 10 digits.now) else None) }
 {
     let mut number: u64 = 0;
     for digit in digits {

@@ -5,8 +5,10 @@ ghost use Rattle.krieg_text.specs.Pieces.{pieces, pieces_left};
 
 /// Where the separator stands for the first time.
 fn first_of(text: &[u8], separator: u8) -> Option<usize>
-    ensures none { IfNone result ((k : ℕ) → k < length text.now → (slice_index text.now k == separator) ≡ false) }
-    ensures some { IfSome result (λ i. (i < length text.now) × ((slice_index text.now i == separator) ≡ true)
+    ensures none { IfNone result ((k : ℕ) → k < length text.now →
+        (slice_index text.now k == separator) ≡ false) }
+    ensures some { IfSome result (λ i. (i < length text.now)
+        × ((slice_index text.now i == separator) ≡ true)
         × ((k : ℕ) → k < i → (slice_index text.now k == separator) ≡ false)) }
 {
     text.iter().position(|b| *b == separator)
@@ -17,7 +19,8 @@ fn first_of(text: &[u8], separator: u8) -> Option<usize>
 pub fn cut(separator: u8, text: &[u8]) -> (&[u8], Option<&[u8]>)
     ensures exact { (result.0.now, option_copied result.1) ≡ names.cut separator text.now }
     // It is the first of the pieces into which the separators cut the text.
-    ensures first { pieces separator text.now ≡ result.0.now ∷ pieces_left separator (option_copied result.1) }
+    ensures first { pieces separator text.now ≡ result.0.now
+        ∷ pieces_left separator (option_copied result.1) }
 {
     match first_of(text, separator) {
         None => (text, None),

@@ -29,27 +29,32 @@ verdicts =
     ∷ (Illegal ∷ Replies ((0, 0) ∷ []) ∷ Mate ∷ Illegal ∷ [])
     ∷ []
 
+-- what becomes of a try in a position of the toy game
 abbrev pub verdict : ℕ → ℕ → Verdict
 verdict p t = slice_index_or (slice_index_or verdicts p []) t Illegal
 
+-- the try is legal
 abbrev pub is_legal : Verdict → Bool
 is_legal Illegal = false
 is_legal Mate = true
 is_legal Stalemate = true
 is_legal (Replies os) = true
 
+-- the try stalemates
 abbrev pub is_stalemate : Verdict → Bool
 is_stalemate Illegal = false
 is_stalemate Mate = false
 is_stalemate Stalemate = true
 is_stalemate (Replies os) = false
 
+-- what is heard and where the game stands after each reply
 abbrev pub replies : Verdict → List (ℕ × ℕ)
 replies Illegal = []
 replies Mate = []
 replies Stalemate = []
 replies (Replies os) = os
 
+-- a game of eleven positions and four tries, all by number
 abbrev pub toy : Game
 toy = record {
   Position = ℕ;
@@ -80,6 +85,7 @@ first_heard =
     ∷ ((0, 10) ∷ [])
     ∷ []
 
+-- how it begins: what is heard first, and whose turn it is
 abbrev pub toy_start : Outset toy
 toy_start = record {
   Root = ℕ;
@@ -88,6 +94,7 @@ toy_start = record {
   root_lt = nat_lt;
 }
 
+-- a node of its plans
 abbrev pub Node : Type 0
 Node = Tree ℕ ℕ
 

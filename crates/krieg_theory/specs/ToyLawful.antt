@@ -15,6 +15,7 @@ nat_order = record {
   total = λ a b h k. (let x = ltb-false a b h in let y = ltb-false b a k in omega arith);
 }
 
+-- a number below four is one of its tries
 below_four : (t : ℕ) → nat_lt t 4 ≡ true → In t toy.moves
 below_four zero h = inl refl
 below_four (suc zero) h = inr (inl refl)
@@ -28,6 +29,7 @@ below_all x [] h y i = absurd i
 below_all x (z ∷ ys) h y (inl e) = subst (λ w. nat_lt x w ≡ true) e (and_parts _ _ h).0
 below_all x (z ∷ ys) h y (inr i) = below_all x ys (and_parts _ _ h).1 y i
 
+-- it keeps the laws of a game
 pub lawful : IsGame toy
 lawful = record {
   listed = λ p t h. below_four t (and_parts _ _ h).0;
@@ -37,5 +39,6 @@ lawful = record {
   key_order = nat_order;
 }
 
+-- and those of a start
 pub start_lawful : IsOutset toy toy_start
 start_lawful = record { root_order = nat_order }

@@ -8,10 +8,12 @@ mutual
   pub data Tree (M K : Type 0) : Type 0 where
     Try : M → Maybe M K → Edges M K → Tree M K
 
+  -- a tree, or none
   pub data Maybe (M K : Type 0) : Type 0 where
     Nothing : Maybe M K
     Just : Tree M K → Maybe M K
 
+  -- trees by what is heard, in order
   pub data Edges (M K : Type 0) : Type 0 where
     NoEdges : Edges M K
     Edge : K → Tree M K → Edges M K → Edges M K
@@ -31,10 +33,12 @@ abbrev mutual
   pub size : {M K : Type 0} → Tree M K → ℕ
   size (Try t other es) = 1 + (size_other other + size_edges es)
 
+  -- how many nodes the tree for the illegal case has
   pub size_other : {M K : Type 0} → Maybe M K → ℕ
   size_other Nothing = 0
   size_other (Just n) = size n
 
+  -- how many nodes stand behind these edges
   pub size_edges : {M K : Type 0} → Edges M K → ℕ
   size_edges NoEdges = 0
   size_edges (Edge key n es) = size n + size_edges es
@@ -44,10 +48,12 @@ abbrev mutual
   pub depth : {M K : Type 0} → Tree M K → ℕ
   depth (Try t other es) = 1 + max (depth_other other) (depth_edges es)
 
+  -- how many nodes stand on the longest path of the tree for the illegal case
   pub depth_other : {M K : Type 0} → Maybe M K → ℕ
   depth_other Nothing = 0
   depth_other (Just n) = depth n
 
+  -- how many nodes stand on the longest path behind these edges
   pub depth_edges : {M K : Type 0} → Edges M K → ℕ
   depth_edges NoEdges = 0
   depth_edges (Edge key n es) = max (depth n) (depth_edges es)

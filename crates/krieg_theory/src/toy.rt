@@ -54,9 +54,12 @@ pub fn winning()
     ensures not_one { wins toy by_ear 2 1 ≡ false }
     ensures an_edge_is_missing { wins toy (Try 0 Nothing (Edge 0 (only 0) NoEdges)) 2 2 ≡ false }
     ensures every_reply { wins toy (Try 1 Nothing (Edge 0 (only 0) NoEdges)) 3 2 ≡ false }
-    ensures one_node_for_both { wins toy (Try 1 Nothing (Edge 0 (or_else 0 (only 1)) NoEdges)) 3 2 ≡ true }
-    ensures first_edge_decides { wins toy (Try 1 Nothing (Edge 0 (only 0) (Edge 0 (or_else 0 (only 1)) NoEdges))) 3 2 ≡ false }
-    ensures not_the_last { wins toy (Try 1 Nothing (Edge 0 (or_else 0 (only 1)) (Edge 0 (only 0) NoEdges))) 3 2 ≡ true }
+    ensures one_node_for_both { wins toy (Try 1 Nothing (Edge 0 (or_else 0 (only 1)) NoEdges)) 3 2
+        ≡ true }
+    ensures first_edge_decides { wins toy (Try 1 Nothing
+        (Edge 0 (only 0) (Edge 0 (or_else 0 (only 1)) NoEdges))) 3 2 ≡ false }
+    ensures not_the_last { wins toy (Try 1 Nothing
+        (Edge 0 (or_else 0 (only 1)) (Edge 0 (only 0) NoEdges))) 3 2 ≡ true }
 {}
 
 /// The size and the depth of a tree.
@@ -117,27 +120,35 @@ pub fn canonical_nodes()
     ensures no_useless_try { IsCanon toy (or_else 0 (only 1)) (8 ∷ []) → ⊥ }
     ensures no_spare_node { IsCanon toy (or_else 1 (only 2)) (8 ∷ []) → ⊥ }
     ensures no_spare_edge { IsCanon toy (Try 1 Nothing (Edge 0 (only 0) NoEdges)) (8 ∷ []) → ⊥ }
-    ensures in_order { IsCanon toy (Try 0 Nothing (Edge 1 (only 1) (Edge 0 (only 0) NoEdges))) (2 ∷ []) → ⊥ }
+    ensures in_order { IsCanon toy (Try 0 Nothing (Edge 1 (only 1) (Edge 0 (only 0) NoEdges)))
+        (2 ∷ []) → ⊥ }
 {}
 
 /// Canonical nodes and plans, as they are computed.
 pub fn canonical()
     ensures in_one { canon toy 2 (0 ∷ 1 ∷ []) ≡ Just (or_else 0 (only 1)) }
     ensures in_two { canon toy 2 (2 ∷ []) ≡ Just by_ear }
-    ensures with_refused { canon toy 2 (1 ∷ 2 ∷ []) ≡ Just (Try 0 (Just (only 1)) (Edge 0 (only 0) (Edge 1 (only 1) NoEdges))) }
-    ensures refused_at_its_least { canon toy 2 (2 ∷ 10 ∷ []) ≡ Just (Try 0 (Just (only 2)) (Edge 0 (only 0) (Edge 1 (only 1) NoEdges))) }
+    ensures with_refused { canon toy 2 (1 ∷ 2 ∷ [])
+        ≡ Just (Try 0 (Just (only 1)) (Edge 0 (only 0) (Edge 1 (only 1) NoEdges))) }
+    ensures refused_at_its_least { canon toy 2 (2 ∷ 10 ∷ [])
+        ≡ Just (Try 0 (Just (only 2)) (Edge 0 (only 0) (Edge 1 (only 1) NoEdges))) }
     ensures nothing { canon toy 3 (5 ∷ []) ≡ Nothing }
     ensures one_opening { openings toy toy_start (0 ∷ 1 ∷ []) ≡ 0 ∷ [] }
     ensures two_openings { openings toy toy_start (0 ∷ 4 ∷ []) ≡ 0 ∷ 9 ∷ [] }
     ensures set_of_one { opening_set toy toy_start (0 ∷ 4 ∷ []) 9 ≡ 4 ∷ [] }
     ensures first_classes { opening_set toy toy_start (6 ∷ []) 1 ≡ 0 ∷ 1 ∷ [] }
-    ensures after_the_reply { canon_plan toy toy_start 2 (6 ∷ []) ≡ (1, or_else 0 (only 1)) ∷ (2, by_ear) ∷ [] }
+    ensures after_the_reply { canon_plan toy toy_start 2 (6 ∷ []) ≡ (1, or_else 0 (only 1))
+        ∷ (2, by_ear) ∷ [] }
     ensures worst { canon_worst toy toy_start 3 (6 ∷ []) ≡ 2 }
     ensures worst_of_all { canon_worst toy toy_start 3 (0 ∷ 4 ∷ []) ≡ 3 }
-    ensures mates_all { mates toy toy_start ((1, or_else 0 (only 1)) ∷ (2, by_ear) ∷ []) (6 ∷ []) 2 ≡ true }
-    ensures not_in_fewer { mates toy toy_start ((1, or_else 0 (only 1)) ∷ (2, by_ear) ∷ []) (6 ∷ []) 1 ≡ false }
-    ensures a_root_is_missing { mates toy toy_start ((1, or_else 0 (only 1)) ∷ []) (6 ∷ []) 2 ≡ false }
-    ensures first_root_decides { mates toy toy_start ((0, only 1) ∷ (0, only 0) ∷ []) (0 ∷ []) 1 ≡ false }
+    ensures mates_all { mates toy toy_start ((1, or_else 0 (only 1)) ∷ (2, by_ear) ∷ []) (6 ∷ []) 2
+        ≡ true }
+    ensures not_in_fewer { mates toy toy_start ((1, or_else 0 (only 1)) ∷ (2, by_ear) ∷ []) (6 ∷ [])
+        1 ≡ false }
+    ensures a_root_is_missing { mates toy toy_start ((1, or_else 0 (only 1)) ∷ []) (6 ∷ []) 2
+        ≡ false }
+    ensures first_root_decides { mates toy toy_start ((0, only 1) ∷ (0, only 0) ∷ []) (0 ∷ []) 1
+        ≡ false }
     ensures over { mates toy toy_start ((0, only 0) ∷ []) (7 ∷ []) 3 ≡ false }
     ensures over_with_another { can_plan toy toy_start 3 (6 ∷ 7 ∷ []) ≡ false }
     ensures can_start { can_plan toy toy_start 2 (6 ∷ []) ≡ true }

@@ -28,7 +28,8 @@ fn trace(alloc: Global, starts: &Belief, links: &[Link], number: usize) -> Resul
     requires grounded { Grounded (length starts.now) links.now }
     requires number { number < length starts.now + length links.now }
     ensures start { IfOk result (λ t. t.start ≡ (numbered_tale starts.now links.now number).start) }
-    ensures replies { IfOk result (λ t. reverse t.replies.items ≡ (numbered_tale starts.now links.now number).replies) }
+    ensures replies { IfOk result (λ t. reverse t.replies.items
+        ≡ (numbered_tale starts.now links.now number).replies) }
 {
     let mut replies = Vec::new(alloc);
     let mut at = number;

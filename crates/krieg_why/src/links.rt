@@ -56,7 +56,8 @@ fn stays(d: Dialect, who: Side, line: &Line, p: &Position) -> bool
 /// Adds a game where none stands in its position.
 fn add(tales: &mut Tales, p: &Position, number: usize) -> Result<bool, NoMemory>
     ensures entries { OnOk result (tales.new.entries ≡ with_entry tales.old.entries p.now number) }
-    ensures added { IfOk result (λ b. b ≡ not (is_some (lookup (position_eq p.now) tales.old.entries))) }
+    ensures added { IfOk result (λ b. b ≡ not
+        (is_some (lookup (position_eq p.now) tales.old.entries))) }
 {
     let k = pack(p);
     if tales.contains_key(&k) {
@@ -80,7 +81,10 @@ fn add_replies(
     requires legal { All (λ m. rule.is_legal p.now m ≡ true) moves.now }
     requires kept { AreKept starts.now links.old.items tales.old.entries }
     requires number { number < length starts.now + length links.old.items }
-    ensures { OnOk result (Adds starts.now links.old.items links.new.items tales.old.entries tales.new.entries (map (after_reply (tale_of (kept (map begun starts.now) links.old.items) (p.now, number))) (filter (spoken.are_told d w.now p.now) moves.now))) }
+    ensures { OnOk result (Adds starts.now links.old.items links.new.items tales.old.entries
+        tales.new.entries (map
+        (after_reply (tale_of (kept (map begun starts.now) links.old.items) (p.now, number)))
+        (filter (spoken.are_told d w.now p.now) moves.now))) }
 {
     for mv in moves {
         if let Some(next) = after_told(d, w, p, *mv) {
@@ -111,7 +115,9 @@ fn add_next(
 ) -> Result<(), NoMemory>
     requires kept { AreKept starts.now links.old.items tales.old.entries }
     requires number { number < length starts.now + length links.old.items }
-    ensures { OnOk result (Adds starts.now links.old.items links.new.items tales.old.entries tales.new.entries (tales_after d who line.now (tale_of (kept (map begun starts.now) links.old.items) (p.now, number)))) }
+    ensures { OnOk result (Adds starts.now links.old.items links.new.items tales.old.entries
+        tales.new.entries (tales_after d who line.now
+        (tale_of (kept (map begun starts.now) links.old.items) (p.now, number)))) }
 {
     match line {
         Line::Done(mv, w) => {
@@ -151,7 +157,8 @@ pub(crate) fn tell(
 ) -> Result<Tales, NoMemory>
     requires { AreKept starts.now links.old.items tales.now.entries }
     ensures kept { IfOk result (λ t. AreKept starts.now links.new.items t.entries) }
-    ensures tales { IfOk result (λ t. tales_of starts.now links.new.items t.entries ≡ tales_spec.tell d who line.now (tales_of starts.now links.old.items tales.now.entries)) }
+    ensures tales { IfOk result (λ t. tales_of starts.now links.new.items t.entries
+        ≡ tales_spec.tell d who line.now (tales_of starts.now links.old.items tales.now.entries)) }
 {
     let mut after = IndexMap::new(alloc);
     for i in 0..tales.len() {

@@ -37,7 +37,8 @@ fn tell_lines(
 ) -> Result<Tales, NoMemory>
     requires { links.old.items ≡ [] }
     ensures kept { IfOk result (λ t. AreKept starts.now links.new.items t.entries) }
-    ensures tales { IfOk result (λ t. tales_of starts.now links.new.items t.entries ≡ tell_all d who entries.now (map begun starts.now)) }
+    ensures tales { IfOk result (λ t. tales_of starts.now links.new.items t.entries
+        ≡ tell_all d who entries.now (map begun starts.now)) }
 {
     let mut tales = begin(alloc, starts)?;
     for line in entries {

@@ -50,7 +50,8 @@ fn put_head(d: Dialect, count: usize, text: &mut Text) -> Result<(), NoMemory>
 /// Adds the lines of each game.
 #[tactic(auto, using(krieg_text::proofs::Writings::writings))]
 fn put_each(games: &[Shown], text: &mut Text) -> Result<(), NoMemory>
-    ensures { PutsLines result text.old text.new (flat_map spec.game_lines (map state_of games.now)) }
+    ensures { PutsLines result text.old text.new
+        (flat_map spec.game_lines (map state_of games.now)) }
 {
     for game in games {
         put_game(game, text)?;
@@ -71,7 +72,8 @@ fn put_games(d: Dialect, games: &[Shown], text: &mut Text) -> Result<(), NoMemor
 /// Appends the text of the games in its one written form. Where memory runs out, nothing is appended.
 #[tactic(auto, unfolding(crate::specs::GamesText::games_text))]
 pub fn write_games(d: Dialect, games: &[Shown], text: &mut Vec<u8>) -> Result<(), NoMemory>
-    ensures { Appends result text.old.items text.new.items (spec.games_text d (map state_of games.now)) }
+    ensures { Appends result text.old.items text.new.items
+        (spec.games_text d (map state_of games.now)) }
 {
     let mut all = Text::after(text);
     let done = put_games(d, games, &mut all);

@@ -30,6 +30,7 @@ told_line d (Over m) = Over m
 abbrev pub LineFits : Dialect → Line → Type 0
 LineFits d l = told_line d l ≡ l
 
+-- the one text of a line in a dialect
 unfoldable pub line_text : Dialect → Line → List ℕ
 line_text d (Opens w) = codes "opens " ++ words_text d w
 line_text d (Illegal m) = codes "try " ++ (move_text m ++ codes " illegal")

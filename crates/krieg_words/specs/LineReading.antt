@@ -15,6 +15,7 @@ use Rattle.krieg_words.specs.WordsReading.{words_in}
 abbrev pub words_as : Dialect → (Said → Line) → List ℕ → Option Line
 words_as d kind text = option_map kind (words_in d text)
 
+-- the line of a try that was done, with the words of the text
 abbrev pub done_in : Dialect → Move → Option (List ℕ) → Option Line
 done_in d m None = None
 done_in d m (Some text) = words_as d (Done m) text
@@ -27,6 +28,7 @@ judged_in d m text =
     else (if bytes_eq text (codes "over") then Some (Over m)
     else done_in d m (behind (codes "ok ") text)))
 
+-- the line of a try, by what is said of it behind the move
 abbrev pub tried_in : Dialect → Option Move → Option (List ℕ) → Option Line
 tried_in d None rest = None
 tried_in d (Some m) None = None
@@ -37,10 +39,12 @@ abbrev pub try_in : Dialect → Option (List ℕ) → Option Line
 try_in d None = None
 try_in d (Some text) = tried_in d (move_of (cut 32 text).0) (cut 32 text).1
 
+-- the line of what was heard of the other side, or else that of a try
 abbrev pub heard_in : Dialect → Option (List ℕ) → List ℕ → Option Line
 heard_in d (Some text) line = words_as d Heard text
 heard_in d None line = try_in d (behind (codes "try ") line)
 
+-- the line of the opening words, or else another line
 abbrev pub opens_in : Dialect → Option (List ℕ) → List ℕ → Option Line
 opens_in d (Some text) line = words_as d Opens text
 opens_in d None line = heard_in d (behind (codes "heard ") line) line

@@ -6,6 +6,7 @@ use Rattle.krieg_text.specs.Names.{behind, cut}
 abbrev pub Part : Type 0
 Part = Bool × List ℕ
 
+-- the text as a part, where it is there
 abbrev pub text_if : Bool → List ℕ → List (List ℕ)
 text_if there text = if there then text ∷ [] else []
 
@@ -56,9 +57,11 @@ left_by mark gap false rest = rest
 abbrev pub PartsReader : Type 0 → Type 0
 PartsReader A = Option (List ℕ) → Option A
 
+-- nothing is left
 abbrev pub no_more : PartsReader (Unit {0})
 no_more rest = if is_none rest then Some tt else None
 
+-- both, where the second is there
 abbrev pub with : {A B : Type 0} → A → Option B → Option (A × B)
 with x None = None
 with x (Some y) = Some (x, y)

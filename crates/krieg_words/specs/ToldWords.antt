@@ -25,6 +25,7 @@ abbrev pub took_told : MenTold → Took → Took
 took_told Apart took = took
 took_told Alike took = as_piece took
 
+-- no check
 abbrev pub no_kinds : Kinds
 no_kinds = record { knight = false; short = false; long = false; rank = false; file = false }
 

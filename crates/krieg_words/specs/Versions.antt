@@ -23,6 +23,7 @@ first_version name = (name ++ codes "1") ∷ []
 abbrev pub second_version : List ℕ → Dialect → List (List ℕ)
 second_version name d = (name ++ codes "2") ∷ dialect_line d ∷ []
 
+-- the first lines of a text of that version
 abbrev pub lines_of_version : TextVersion → List ℕ → Dialect → List (List ℕ)
 lines_of_version First name d = first_version name
 lines_of_version Second name d = second_version name d
@@ -41,6 +42,7 @@ abbrev pub dialect_or_syntax : Option Dialect → Result Dialect TextKind
 dialect_or_syntax None = Err Syntax
 dialect_or_syntax (Some d) = Ok d
 
+-- the dialect of the name behind `dialect`
 abbrev pub dialect_behind : Option (List ℕ) → Result Dialect TextKind
 dialect_behind None = Err Syntax
 dialect_behind (Some name) = dialect_or_syntax (dialect_of name)

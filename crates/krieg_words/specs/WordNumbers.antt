@@ -13,12 +13,15 @@ use Rattle.krieg_words.specs.Words.{Said, end_rank, took_rank, took_square}
 unfoldable pub words_number : Said → ℕ
 words_number w = (((end_rank w.end * 3 + took_rank w.took) * 64 + took_square w.took) * 32 + bits_of w.checks) * 32 + w.tries
 
+-- the end of that number
 abbrev pub end_at : ℕ → End
 end_at n = if n == 0 then Goes else if n == 1 then Mate else Stalemate
 
+-- the capture of that number, on that square
 abbrev pub took_at : ℕ → ℕ → Took
 took_at n s = if n == 0 then Nothing else if n == 1 then Pawn s else Piece s
 
+-- the kinds of check of that number, a bit each
 abbrev pub kinds_at : ℕ → Kinds
 kinds_at n = record {
   knight = n / 16 == 1;

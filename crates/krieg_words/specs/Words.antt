@@ -28,16 +28,19 @@ IsTaken (Piece s) = s < 64
 abbrev pub IsSaid : Said → Type 0
 IsSaid w = (w.tries ≤ MOST_TRIES) × IsTaken w.took
 
+-- ends in order: the game goes on, mate, stalemate
 abbrev pub end_rank : End → ℕ
 end_rank Goes = 0
 end_rank Mate = 1
 end_rank Stalemate = 2
 
+-- captures in order: nothing, a pawn, a piece
 abbrev pub took_rank : Took → ℕ
 took_rank Nothing = 0
 took_rank (Pawn s) = 1
 took_rank (Piece s) = 2
 
+-- the square of the capture, or 0
 abbrev pub took_square : Took → ℕ
 took_square Nothing = 0
 took_square (Pawn s) = s

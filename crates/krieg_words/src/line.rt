@@ -83,7 +83,8 @@ fn put_heard(word: &[u8], d: Dialect, w: &Words, text: &mut Text) -> Result<(), 
 
 /// A try, and what became of it.
 fn put_try(mv: &Move, verdict: &[u8], text: &mut Text) -> Result<(), NoMemory>
-    ensures { PutsText result text.old text.new (codes "try " ++ (move_text mv.now ++ verdict.now)) }
+    ensures { PutsText result text.old text.new
+        (codes "try " ++ (move_text mv.now ++ verdict.now)) }
 {
     text.put(b"try ")?;
     put_move(*mv, text)?;
@@ -92,7 +93,8 @@ fn put_try(mv: &Move, verdict: &[u8], text: &mut Text) -> Result<(), NoMemory>
 
 /// A try that was made, and its words.
 fn put_done(mv: &Move, d: Dialect, w: &Words, text: &mut Text) -> Result<(), NoMemory>
-    ensures { PutsText result text.old text.new (codes "try " ++ (move_text mv.now ++ (codes " ok " ++ words_text d w.now))) }
+    ensures { PutsText result text.old text.new
+        (codes "try " ++ (move_text mv.now ++ (codes " ok " ++ words_text d w.now))) }
 {
     put_try(mv, b" ok ", text)?;
     put_said(d, w, text)

@@ -94,7 +94,8 @@ pub fn read_line_in(d: Dialect, text: &[u8]) -> Result<Line, LineFault>
     ensures exact { Reads result (spec.line_in d text.now) }
     // What is read is spelled so, and what is spelled so is read.
     ensures found { IfOk result (λ l. IsLine l × LineFits d l × (text.now ≡ line_text d l)) }
-    ensures only { (l : SomeLine) → IsLine l → LineFits d l → text.now ≡ line_text d l → result ≡ Ok l }
+    ensures only { (l : SomeLine) → IsLine l → LineFits d l → text.now ≡ line_text d l →
+        result ≡ Ok l }
 {
     line_in(d, text).ok_or(LineFault)
 }

@@ -65,7 +65,8 @@ fn tries_of(tries: TriesTold, p: &Position, guard: &Guard) -> u8
 
 /// Whether the dialect tells this end and these tries of a move after which the position is `p`.
 fn are_moves_told(d: Dialect, w: &Words, p: &Position) -> bool
-    ensures { result ≡ (spec.has_end w.now.end p.now && w.now.tries == tries_told (dialects.dialect_rules d).tries (pawns.tries p.now)) }
+    ensures { result ≡ (spec.has_end w.now.end p.now
+        && w.now.tries == tries_told (dialects.dialect_rules d).tries (pawns.tries p.now)) }
 {
     let guard = &Guard::of(p);
     has_end(w.end, p, guard) && w.tries == tries_of(dialect_rules(d).tries, p, guard)

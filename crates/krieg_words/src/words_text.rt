@@ -90,7 +90,8 @@ fn put_checks(
     kinds: Kinds,
     text: &mut Text,
 ) -> Result<(), NoMemory>
-    ensures { PutsText result text.old text.new (piece (codes ", ") before (spec.is_check kinds) (spec.checks_text checks kinds)) }
+    ensures { PutsText result text.old text.new
+        (piece (codes ", ") before (spec.is_check kinds) (spec.checks_text checks kinds)) }
 {
     if !is_check(kinds) {
         return Ok(());
@@ -115,7 +116,8 @@ pub(crate) fn are_tries(tries: TriesTold, n: u8) -> bool
 }
 
 fn put_tries(tries: TriesTold, before: bool, n: u8, text: &mut Text) -> Result<(), NoMemory>
-    ensures { PutsText result text.old text.new (piece (codes ", ") before (spec.are_tries tries n) (spec.tries_text tries n)) }
+    ensures { PutsText result text.old text.new
+        (piece (codes ", ") before (spec.are_tries tries n) (spec.tries_text tries n)) }
 {
     if !are_tries(tries, n) {
         return Ok(());
@@ -170,7 +172,8 @@ fn put_parts(
     end: End,
     text: &mut Text,
 ) -> Result<(), NoMemory>
-    ensures { PutsText result text.old text.new (words_text d (record { end = end; took = took.now; checks = kinds; tries = tries })) }
+    ensures { PutsText result text.old text.new
+        (words_text d (record { end = end; took = took.now; checks = kinds; tries = tries })) }
 {
     let dialect = dialect_rules(d);
     put_took(dialect.men, took, text)?;
