@@ -65,6 +65,7 @@ some_nil (p ∷ B) other = refl
 pub record IsWalked (d : Dialect) (n here : NodeTree) (all B : List Pos) (need : Option ℕ) (units old : ℕ) : Type 0 where
   pub found : (k : ℕ) → k ≤ MOST_COUNTED → within need k && all_won (chess d) here B k ≡ all_won (chess d) n all k
   pub taken : units + node_cost (chess d) n all ≡ old + node_cost (chess d) here B
+  pub fewer : units ≤ old
 
 and_true : (b : Bool) → b ≡ (b && true)
 and_true true = refl
@@ -134,6 +135,7 @@ module _ (d : Dialect) (here : NodeTree) (B : List Pos) (r : Tried) (p : IsTried
       goes_on next more on taken e = record {
         found = λ k small. ap (λ x. within x k && all_won (chess d) next r.refused k) e ∙ ap (λ o. within (worse need (own_need r.fails c)) k && all_won_other (chess d) o r.refused k) (sym on) ∙ own_found w.found k small;
         taken = omega (arith, w.taken, parted, taken, p.cost_part, ap (λ o. other_cost (chess d) o r.refused) on);
+        fewer = omega (arith, w.fewer, parted, taken);
       }
 
       -- or ends where there is none

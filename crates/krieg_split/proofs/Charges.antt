@@ -13,5 +13,5 @@ unpaid {A = A} {B = B} Q (Err x) e holds cost all units old now passed_on fails 
     go x (subst (λ (y : PartStop). Charged {A = A} (Err y) holds cost old now) (passed_on x fails) h)
   where
     go : (y : PartStop) → Charged {A = A} (Err y) holds cost old now → IsPaid {A = B} (Err y) all units units
-    go Spent k = (omega (arith, same, start, k), refl)
+    go Spent k = (omega (arith, same, start, k.0), refl)
     go NoMemory k = refl

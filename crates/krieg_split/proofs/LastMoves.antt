@@ -23,8 +23,8 @@ use Rattle.krieg_parting.proofs.LastMoves.{stale_lives}
 
 module _ (d : Dialect) where
   -- where some member lives the try does not begin to win: it stalemates, or what can be heard cannot be won
-  fails : (B : List Pos) (t : Move) → lives_in_some (chess d) B t ≡ true → begins (chess d) 1 B t ≡ false
-  fails B t h = false_from_ne_true _ (λ e. wrong e (lives_how (chess d) (chess_is_game d) B t h))
+  pub life_fails : (B : List Pos) (t : Move) → lives_in_some (chess d) B t ≡ true → begins (chess d) 1 B t ≡ false
+  life_fails B t h = false_from_ne_true _ (λ e. wrong e (lives_how (chess d) (chess_is_game d) B t h))
     where
       conditions : begins (chess d) 1 B t ≡ true → (stale_in_some (chess d) B t ≡ false) × (list_all (λ key. can (chess d) 0 (class (chess d) B t key)) (keys (chess d) B t) ≡ true)
       conditions e =
@@ -65,7 +65,7 @@ module _ (d : Dialect) where
   last_move B t found r up m is = subst (IsLastMove d B t) (sym is) (go found.lives refl)
     where
       go : (b : Bool) → found.lives ≡ b → IsLastMove d B t (cond b None (Some (set_of found.refused.items)))
-      go true e = let l = sym m.lives_part ∙ e in record { lives = l; fails = fails B t l }
+      go true e = let l = sym m.lives_part ∙ e in record { lives = l; fails = life_fails B t l }
       go false e =
           all_mate B (set_of found.refused.items) t
           (ap set_of (m.refused_part (ap not e)) ∙ set_of_ascending (refused (chess d) B t) (refused_ascends d B t up))

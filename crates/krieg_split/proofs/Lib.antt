@@ -1,6 +1,6 @@
 mod Charges
 mod PartSizes
-mod LastMoves
+pub mod LastMoves
 mod Renaming
 mod FirstMoves
 mod TryLists

@@ -1,6 +1,7 @@
 //! Tallies of the tries in a set that may be too large for the moves of all its members to be kept.
 
-ghost use Rattle.std.specs.Prelude.{◌≡◌, ◌<◌, ◌≤◌, [], length, IfOk, IfSome, OnOk};
+ghost use Rattle.std.specs.Option.{is_none};
+ghost use Rattle.std.specs.Prelude.{◌≡◌, ◌<◌, ◌≤◌, ◌↔◌, [], length, IfOk, IfSome, IsTrue, OnOk};
 ghost use Rattle.krieg_words.specs.declared.dialects.Dialect.{Dialect};
 ghost use Rattle.krieg_theory.specs.Split as theory;
 ghost use Rattle.krieg_game.specs.Chess.{chess};
@@ -73,13 +74,14 @@ fn are_all_made(
     )
 }
 
-/// The tallies of all tries in a set. `None` where it has more than 100,000,000 members.
+/// The tallies of all tries in a set. `None` exactly where it has more than 100,000,000 members.
 ///
 /// The legal moves of each member are listed, and each move is made once.
 #[inline(never)]
 pub fn tally_all(alloc: Global, b: &Belief, tries: &[Move]) -> Result<Option<Vec<Tally>>, NoMemory>
     requires { (d : Dialect) → tries.now ≡ theory.tries (chess d) b.now }
-    ensures { IfOk result (λ o. IfSome o (λ ys. AreTallies b.now b.now ys.items)) }
+    ensures tallies { IfOk result (λ o. IfSome o (λ ys. AreTallies b.now b.now ys.items)) }
+    ensures none { IfOk result (λ o. IsTrue (is_none o) ↔ (MOST_COUNTED < length b.now)) }
 {
     let members = b.members();
     if members.len() > MOST_COUNTED {

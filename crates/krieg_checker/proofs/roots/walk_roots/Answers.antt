@@ -21,5 +21,6 @@ loop-class-preserved c =
           ∙ root_more c.args.d plan (heard_of c.args.own (class_pair c.in-Some.class)) rest c.loop-class.need c.in_ok-walk_root.field-0 (roots_won c.args.d plan (map (heard_of c.args.own) (map class_pair (into_iter_items c.into_iter-class-iterator.result))))
           (λ k small. ap (λ xs. within c.loop-class.need k && roots_won c.args.d plan xs k) (sym more) ∙ c.loop-class.invariant.found k small) w.0 k small;
       taken = omega (arith, w.1, c.loop-class.invariant.taken, ap (roots_cost c.args.d plan) more);
+      fewer = omega (arith, w.1, c.loop-class.invariant.fewer);
       counted = omega (arith, c.loop-class.invariant.counted, steps.1, ap length steps.0);
     }

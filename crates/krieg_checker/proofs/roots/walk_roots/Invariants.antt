@@ -12,5 +12,6 @@ abbrev pub invariant-loop-class : goal.invariant-loop-class
 invariant-loop-class l = record {
   found : (k : ℕ) → k ≤ MOST_COUNTED → within l.need k && roots_won l.d (plan_of l.plan) (map (heard_of l.own) (map class_pair (into_iter_items l.class-iterator))) k ≡ roots_won l.d (plan_of l.plan) (map (heard_of l.own) (map class_pair (into_iter_items l.initial.class-iterator))) k;
   taken : l.units + roots_cost l.d (plan_of l.plan) (map (heard_of l.own) (map class_pair (into_iter_items l.initial.class-iterator))) ≡ l.initial.units + roots_cost l.d (plan_of l.plan) (map (heard_of l.own) (map class_pair (into_iter_items l.class-iterator)));
+  fewer : l.units ≤ l.initial.units;
   counted : into_iter_len l.class-iterator ≡ length (into_iter_items l.class-iterator);
 }

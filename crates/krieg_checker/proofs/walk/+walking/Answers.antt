@@ -21,9 +21,9 @@ pub walk-returns-in_err-below : goal.walk-returns-in_err-below
 walk-returns-in_err-below t c =
     let h = c.nodes.here.now in
     let p = c.in_ok-refused.ensures in
-    stopped _ c.from_residual-in_err-below.result c.in_err-below.field-0.0 _ _ _ _ _ _ _ _ (λ x h. cc) c.from_residual-in_err-below.ensures.1
+    stopped _ c.from_residual-in_err-below.result c.in_err-below.field-0.0 _ _ _ _ _ _ _ (λ x h. cc) c.from_residual-in_err-below.ensures.1
     (over c.args.d (tree_of h) c.nodes.set c.in_ok-refused.field-0 p.0 (tree_of c.args.n.now) c.args.b c.nodes.need c.nodes.units c.args.units.now c.try_node.new.units c.nodes.invariant.walked p.1)
-    c.in_err-below.ensures
+    (omega (arith, c.nodes.invariant.walked.fewer, p.1)) c.in_err-below.ensures
 
 pub walk-nodes-preserved : goal.walk-nodes-preserved
 walk-nodes-preserved t c =
@@ -79,5 +79,6 @@ walk_classes-loop-class-preserved t c =
           ∙ class_more c.args.d es (class_pair c.in-Some.class) rest c.loop-class.need c.in_ok-walk_class.field-0 (classes_won c.args.d es (map class_pair (into_iter_items c.into_iter-class-iterator.result)))
           (λ k small. ap (λ xs. within c.loop-class.need k && classes_won c.args.d es xs k) (sym more) ∙ c.loop-class.invariant.found k small) w.0 k small;
       taken = omega (arith, w.1, c.loop-class.invariant.taken, ap (classes_cost c.args.d es) more);
+      fewer = omega (arith, w.1, c.loop-class.invariant.fewer);
       counted = omega (arith, c.loop-class.invariant.counted, steps.1, ap length steps.0);
     }

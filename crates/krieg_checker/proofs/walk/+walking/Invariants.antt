@@ -26,6 +26,7 @@ abbrev pub invariant-walk_classes-loop-class : goal.invariant-walk_classes-loop-
 invariant-walk_classes-loop-class l = record {
   found : (k : ℕ) → k ≤ MOST_COUNTED → within l.need k && classes_won l.d (edges_in (tree_of l.n)) (map class_pair (into_iter_items l.class-iterator)) k ≡ classes_won l.d (edges_in (tree_of l.n)) (map class_pair (into_iter_items l.initial.class-iterator)) k;
   taken : l.units + classes_cost l.d (edges_in (tree_of l.n)) (map class_pair (into_iter_items l.initial.class-iterator)) ≡ l.initial.units + classes_cost l.d (edges_in (tree_of l.n)) (map class_pair (into_iter_items l.class-iterator));
+  fewer : l.units ≤ l.initial.units;
   counted : into_iter_len l.class-iterator ≡ length (into_iter_items l.class-iterator);
 }
 

@@ -1,4 +1,4 @@
-use Rattle.std.proofs.Common.{◌≡◌, ◌+◌, length, drop}
+use Rattle.std.proofs.Common.{◌≡◌, ◌+◌, ◌≤◌, length, drop}
 use Rattle.krieg_moves.specs.Moves.{moves}
 use Rattle.krieg_costs.specs.Sums.{total}
 use Rattle.krieg_parting.proofs.Advancing.{IsLeft}
@@ -8,4 +8,5 @@ abbrev pub invariant-loop-member : goal.invariant-loop-member
 invariant-loop-member l = record {
   left : IsLeft l.d l.found (drop l.member-index l.members) l.members;
   taken : l.units + total (λ p. length (moves p)) l.members ≡ l.initial.units + total (λ p. length (moves p)) (drop l.member-index l.members);
+  fewer : l.units ≤ l.initial.units;
 }

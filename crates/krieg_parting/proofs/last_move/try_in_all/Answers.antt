@@ -7,13 +7,13 @@ use Rattle.krieg_parting.proofs.Trying.{IsLeft, left_all, left_more, left_none}
 use Rattle.krieg_parting.proofs.last_move.try_in_all.Goals as goal
 
 pub loop-member-init : goal.loop-member-init
-loop-member-init c = record { left = left_all c.args.always _ c.args.members.now c.args.mv.now (search rules) (search rules); taken = search rules }
+loop-member-init c = record { left = left_all c.args.always _ c.args.members.now c.args.mv.now (search rules) (search rules); taken = search rules; fewer = omega arith }
 
 pub returns-in_err-try_in : goal.returns-in_err-try_in
 returns-in_err-try_in c =
     let here = drop_item c.args.members.now c.loop-member.member-index c.member-item.result (omega arith) c.member-item.is in
     let more = ap (λ (xs : List Pos). looked_at xs c.args.mv.now) here in
-    stopped _ c.from_residual.result c.in_err-try_in.field-0.0 _ _ _ _ _ _ _ _ (λ x h. cc) c.from_residual.ensures.1 (omega (arith, more, c.loop-member.invariant.taken)) c.in_err-try_in.ensures
+    stopped _ c.from_residual.result c.in_err-try_in.field-0.0 _ _ _ _ _ _ _ (λ x h. cc) c.from_residual.ensures.1 (omega (arith, more, c.loop-member.invariant.taken)) c.loop-member.invariant.fewer c.in_err-try_in.ensures
 
 pub loop-member-preserved : goal.loop-member-preserved
 loop-member-preserved c =
@@ -24,6 +24,7 @@ loop-member-preserved c =
     record {
       left = left_more c.args.always c.loop-member.found _ c.member-item.result rest c.args.members.now c.args.mv.now a.0 (subst (λ (xs : List Pos). IsLeft c.args.always c.loop-member.found xs c.args.members.now c.args.mv.now) here c.loop-member.invariant.left);
       taken = omega (arith, a.1, more, c.loop-member.invariant.taken);
+      fewer = omega (arith, a.1, c.loop-member.invariant.fewer);
     }
 
 pub returns : goal.returns

@@ -1,4 +1,4 @@
-use Rattle.std.proofs.Common.{◌≡◌, ◌+◌, drop}
+use Rattle.std.proofs.Common.{◌≡◌, ◌+◌, ◌≤◌, drop}
 use Rattle.krieg_costs.specs.Cost.{made}
 use Rattle.krieg_game.specs.Chess.{chess}
 use Rattle.krieg_parting.proofs.Gathering.{IsLeft}
@@ -8,4 +8,5 @@ abbrev pub invariant-loop-member : goal.invariant-loop-member
 invariant-loop-member l = record {
   left : IsLeft l.d l.always l.parts (drop l.member-index l.members) l.members l.mv;
   taken : l.units + made (chess l.d) l.members l.mv ≡ l.initial.units + made (chess l.d) (drop l.member-index l.members) l.mv;
+  fewer : l.units ≤ l.initial.units;
 }
