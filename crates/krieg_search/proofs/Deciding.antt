@@ -74,14 +74,14 @@ module _ (d : Dialect) (cut : Bool) (who : Side) (S : List Pos) (n : ℕ) where
   first_within = omega arith
 
   -- the openings were stopped
-  pub openings_stopped : {A : Type 0} (P : Stop2 → Type 0) (r : Result Decided Stop2) (stop : SplitStop) (holds : A → Type 0) (u0 u1 u2 : ℕ)
-      → ((x : Stop2) → P x → stop_of stop ≡ x) → IsErrAnd r P → Charged {A = A} (Err stop) holds (first_made (chess d) (outset d who) S) u0 u1 → IsDecided d who S n cut r u0 u2
-  openings_stopped P (Ok x) stop holds u0 u1 u2 same fails k = absurd fails
-  openings_stopped {A = A} P (Err x) stop holds u0 u1 u2 same fails k = subst (λ (y : Stop2). IsDecided d who S n cut (Err y) u0 u2) (same x fails) (go stop k)
+  pub openings_stopped : {A : Type 0} (P : Stop2 → Type 0) (r : Result Decided Stop2) (stop : SplitStop) (holds : A → Type 0) (u0 u1 : ℕ)
+      → ((x : Stop2) → P x → stop_of stop ≡ x) → IsErrAnd r P → Charged {A = A} (Err stop) holds (first_made (chess d) (outset d who) S) u0 u1 → IsDecided d who S n cut r u0 u1
+  openings_stopped P (Ok x) stop holds u0 u1 same fails k = absurd fails
+  openings_stopped {A = A} P (Err x) stop holds u0 u1 same fails k = subst (λ (y : Stop2). IsDecided d who S n cut (Err y) u0 u1) (same x fails) (go stop k)
     where
-      go : (stop : SplitStop) → Charged {A = A} (Err stop) holds (first_made (chess d) (outset d who) S) u0 u1 → IsDecided d who S n cut (Err (stop_of stop)) u0 u2
-      go split.Spent v = let w = first_within in omega arith
-      go split.NoMemory v = tt
+      go : (stop : SplitStop) → Charged {A = A} (Err stop) holds (first_made (chess d) (outset d who) S) u0 u1 → IsDecided d who S n cut (Err (stop_of stop)) u0 u1
+      go split.Spent v = ((let w = first_within in omega (arith, v.0)), v.1)
+      go split.NoMemory v = v
 
   -- the openings are there
   pub are_opened : (T T1 : Interned) (r : Option (Vec Opening Global)) (os : Vec Opening Global) → T ≡ [] → r ≡ Some os → IsOpened d who S T T1 r → (list_any (is_over (chess d) (outset d who)) S ≡ false) × AreAdded [] T1 os.items (game.opening_sets d who S)
@@ -118,19 +118,19 @@ module _ (d : Dialect) (cut : Bool) (who : Side) (S : List Pos) (n : ℕ) where
     none_stored = a.sets.noted ∙ no_entries
 
     -- they were stopped
-    pub search_stopped : {A : Type 0} (P : Stop2 → Type 0) (r : Result Decided Stop2) (e : Stop2) (holds : A → Type 0) (T2 : Interned) (u0 u1 u2 u3 : ℕ)
-        → ((x : Stop2) → P x → e ≡ x) → IsErrAnd r P → u1 + first_made (chess d) (outset d who) S ≡ u0 → Searches d cut {A = A} (Err e) holds (CoversSets (chess d) (sets_in T1 os) n) 0 T1 T2 u1 u2 → IsDecided d who S n cut r u0 u3
-    search_stopped P (Ok x) e holds T2 u0 u1 u2 u3 same fails taken k = absurd fails
-    search_stopped {A = A} P (Err x) e holds T2 u0 u1 u2 u3 same fails taken k =
+    pub search_stopped : {A : Type 0} (P : Stop2 → Type 0) (r : Result Decided Stop2) (e : Stop2) (holds : A → Type 0) (T2 : Interned) (u0 u1 u2 : ℕ)
+        → ((x : Stop2) → P x → e ≡ x) → IsErrAnd r P → u1 + first_made (chess d) (outset d who) S ≡ u0 → Searches d cut {A = A} (Err e) holds (CoversSets (chess d) (sets_in T1 os) n) 0 T1 T2 u1 u2 → IsDecided d who S n cut r u0 u2
+    search_stopped P (Ok x) e holds T2 u0 u1 u2 same fails taken k = absurd fails
+    search_stopped {A = A} P (Err x) e holds T2 u0 u1 u2 same fails taken k =
         go x (subst (λ (y : Stop2). Searches d cut {A = A} (Err y) holds (CoversSets (chess d) (sets_in T1 os) n) 0 T1 T2 u1 u2) (same x fails) k)
       where
-        go : (y : Stop2) → Searches d cut {A = A} (Err y) holds (CoversSets (chess d) (sets_in T1 os) n) 0 T1 T2 u1 u2 → IsDecided d who S n cut (Err y) u0 u3
+        go : (y : Stop2) → Searches d cut {A = A} (Err y) holds (CoversSets (chess d) (sets_in T1 os) n) 0 T1 T2 u1 u2 → IsDecided d who S n cut (Err y) u0 u2
         go Spent v =
-            let w = subst (λ E. FallsShort (chess d) (CoversSets (chess d) (opening_sets (chess d) (outset d who) S) n) 0 E u1) none_stored (subst (λ (Cs : List (List Pos)). FallsShort (chess d) (CoversSets (chess d) Cs n) 0 (entries T1) u1) at_sets v) in
+            let w = subst (λ E. FallsShort (chess d) (CoversSets (chess d) (opening_sets (chess d) (outset d who) S) n) 0 E u1) none_stored (subst (λ (Cs : List (List Pos)). FallsShort (chess d) (CoversSets (chess d) Cs n) 0 (entries T1) u1) at_sets v.0) in
             let f = short_is_below_fresh (chess d) (chess_is_game d) (outset d who) (outset_is_lawful d who) n S u1 w in
-            omega arith
+            (omega arith, omega (arith, v.1))
         go Large v = absurd v
-        go NoMemory v = tt
+        go NoMemory v = omega arith
 
     module _ (T2 : Interned) (yes : Bool) (u0 u1 u2 : ℕ) (none : list_any (is_over (chess d) (outset d who)) S ≡ false) (taken : u1 + first_made (chess d) (outset d who) S ≡ u0) (w : TellsSets d T2 (sets_in T1 os) n yes) (s : IsSearched d cut (CoversSets (chess d) (sets_in T1 os) n) 0 T1 T2 u1 u2) (o : IsOnce (pairs (entries T2))) where
       stretch : IsStretch (chess d) cut (CoversSets (chess d) (opening_sets (chess d) (outset d who) S) n) 0 [] (entries T2) u1 u2

@@ -1,5 +1,5 @@
 pub mod Searching
-mod Leaving
+pub mod Leaving
 pub mod Blocked
 mod PackedHeards
 pub mod Noted

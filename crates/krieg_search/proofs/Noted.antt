@@ -14,6 +14,7 @@ use Rattle.krieg_board.specs.declared.men.Move.{Move}
 use Rattle.krieg_words.specs.declared.dialects.Dialect.{Dialect}
 use Rattle.krieg_theory.specs.Sets.{In}
 use Rattle.krieg_theory.specs.Split.{refused, class, tries}
+use Rattle.krieg_theory.specs.Can.{can}
 use Rattle.krieg_costs.specs.Block as theory
 use Rattle.krieg_game.specs.Keys.{Key}
 use Rattle.krieg_game.specs.Chess.{chess}
@@ -23,7 +24,7 @@ use Rattle.krieg_search.specs.declared.notes.Asked.{Asked}
 use Rattle.krieg_search.specs.declared.notes.Note.{Note}
 use Rattle.krieg_search.specs.declared.notes.Block.{Block}
 use Rattle.krieg_search.specs.declared.notes.Block.TheVariants.{AtOnce, Class, Refused}
-use Rattle.krieg_search.specs.Notes.{Rows, same_asked, IsLostPart, IsBlock, IsRow, AreNotes}
+use Rattle.krieg_search.specs.Notes.{Rows, Noted, notes_in, same_asked, IsLostPart, IsBlock, IsRow, AreNotes}
 
 equal_asked : (a b : Asked) → same_asked a b ≡ true → a ≡ b
 equal_asked a b h =
@@ -35,9 +36,26 @@ equal_asked a b h =
 more_part : (d : Dialect) (T T' : Interned) (B : List Pos) (j : ℕ) (t : Move) (by : theory.Block Key) (part : List Pos) (set : ℕ) → IsMore T T' → IsLostPart d T B j t by part set → IsLostPart d T' B j t by part set
 more_part d T T' B j t by part set m h = record { blocks = h.blocks; within = (let l = m.longer in let w = h.within in omega arith); at = m.same set h.within ∙ h.at }
 
+-- a row that is kept adds at most its notes
+pub kept_few : (N : Rows) (a : Asked) (ns : Vec Note Global) → notes_in (insert_entry same_asked N a ns) ≤ notes_in N + length ns.items
+kept_few [] a ns = omega arith
+kept_few (x ∷ N) a ns = go (cases_Bool (same_asked a x.0)) (kept_few N a ns)
+  where
+    go : (same_asked a x.0 ≡ true) ⊎ (same_asked a x.0 ≡ false) → notes_in (insert_entry same_asked N a ns) ≤ notes_in N + length ns.items → notes_in (insert_entry same_asked (x ∷ N) a ns) ≤ notes_in (x ∷ N) + length ns.items
+    go (inl t) few = omega (arith, ap notes_in (cond-true (same_asked a x.0) ((x.0, ns) ∷ N) (x ∷ insert_entry same_asked N a ns) t))
+    go (inr t) few = omega (arith, few, ap notes_in (cond-false (same_asked a x.0) ((x.0, ns) ∷ N) (x ∷ insert_entry same_asked N a ns) t))
+
 module _ (d : Dialect) (cut : Bool) where
+  -- each row is right
+  abbrev pub AreRows : Interned → Rows → Type 0
+  AreRows T N = (e : Asked × Vec Note Global) → In e N → IsRow d cut T e.0 e.1.items
+
+  -- there is none yet
+  pub none_kept : (T : Interned) (most : ℕ) → AreNotes d cut T (record { rows = []; most = most; left = most })
+  none_kept T most = record { rows = λ e i. absurd i; few = omega arith }
+
   -- what is found is right
-  pub found_row : (T : Interned) (a : Asked) (N : Rows) (ns : Vec Note Global) → AreNotes d cut T N → lookup (same_asked a) N ≡ Some ns → IsRow d cut T a ns.items
+  pub found_row : (T : Interned) (a : Asked) (N : Rows) (ns : Vec Note Global) → AreRows T N → lookup (same_asked a) N ≡ Some ns → IsRow d cut T a ns.items
   found_row T a [] ns r e = absurd (let k : ◌≡◌ {A = Option (Vec Note Global)} None (Some ns) = e in cc)
   found_row T a (x ∷ N) ns r e = go (cases_Bool (same_asked a x.0)) (found_row T a N ns (λ y i. r y (inr i)))
     where
@@ -48,7 +66,7 @@ module _ (d : Dialect) (cut : Bool) where
       go (inr t) f = f (sym (cond-false (same_asked a x.0) (Some x.1) (lookup (same_asked a) N) t) ∙ e)
 
   -- what is kept is right
-  pub kept_row : (T : Interned) (a : Asked) (N : Rows) (ns : Vec Note Global) → AreNotes d cut T N → IsRow d cut T a ns.items → AreNotes d cut T (insert_entry same_asked N a ns)
+  pub kept_row : (T : Interned) (a : Asked) (N : Rows) (ns : Vec Note Global) → AreRows T N → IsRow d cut T a ns.items → AreRows T (insert_entry same_asked N a ns)
   kept_row T a [] ns r h y (inl e) = subst (λ (z : Asked × Vec Note Global). IsRow d cut T z.0 z.1.items) e h
   kept_row T a [] ns r h y (inr i) = absurd i
   kept_row T a (x ∷ N) ns r h y i = go (cases_Bool (same_asked a x.0)) (kept_row T a N ns (λ z k. r z (inr k)) h y)
@@ -71,16 +89,20 @@ module _ (d : Dialect) (cut : Bool) where
   more_block T T' B j t (Class heard set) m h = more_part d T T' B j t (theory.LostClass heard) (class (chess d) B t heard) set m h
   more_block T T' B j t (Refused set) m h = more_part d T T' B j t theory.LostRefused (refused (chess d) B t) set m h
 
-  pub more_notes : {T T' : Interned} (N : Rows) → IsMore T T' → AreNotes d cut T N → AreNotes d cut T' N
-  more_notes {T = T} {T' = T'} N m r e i =
-      let h = r e i in
-      let same = m.same e.0.set h.within in
-      record {
-        within = (let l = m.longer in let w = h.within in omega arith);
-        tries_part = h.tries_part ∙ ap (tries (chess d)) (sym same);
-        blocks = subst (λ (B : List Pos). All (λ n. IsBlock d cut T' B e.0.moves n.mv n.block) e.1.items) (sym same)
-            (All-weaker (λ n. IsBlock d cut T (set_at T e.0.set) e.0.moves n.mv n.block) (λ n. IsBlock d cut T' (set_at T e.0.set) e.0.moves n.mv n.block) (λ n. more_block T T' (set_at T e.0.set) e.0.moves n.mv n.block m) e.1.items h.blocks);
-      }
+  pub more_notes : {T T' : Interned} (N : Noted) → IsMore T T' → AreNotes d cut T N → AreNotes d cut T' N
+  more_notes {T = T} {T' = T'} N m r = record { rows = more_rows; few = r.few }
+    where
+      more_rows : AreRows T' N.rows
+      more_rows e i =
+          let h = r.rows e i in
+          let same = m.same e.0.set h.within in
+          record {
+            within = (let l = m.longer in let w = h.within in omega arith);
+            lost = ap (can (chess d) e.0.moves) same ∙ h.lost;
+            tries_part = h.tries_part ∙ ap (tries (chess d)) (sym same);
+            blocks = subst (λ (B : List Pos). All (λ n. IsBlock d cut T' B e.0.moves n.mv n.block) e.1.items) (sym same)
+                (All-weaker (λ n. IsBlock d cut T (set_at T e.0.set) e.0.moves n.mv n.block) (λ n. IsBlock d cut T' (set_at T e.0.set) e.0.moves n.mv n.block) (λ n. more_block T T' (set_at T e.0.set) e.0.moves n.mv n.block m) e.1.items h.blocks);
+          }
 
   -- the notes on the first k tries
   pub record IsRowTo (T : Interned) (B : List Pos) (j : ℕ) (ts : List Move) (k : ℕ) (ns : List Note) : Type 0 where
@@ -103,10 +125,11 @@ module _ (d : Dialect) (cut : Bool) where
     })
 
     -- all
-    pub all_noted : {T' : Interned} (k set : ℕ) (o : Option (List Note)) → IsMore T T' → set < length T' → set_at T' set ≡ B → ts ≡ tries (chess d) B → length ts ≤ k → IfSome o (IsRowTo T B j ts k) → IfSome o (IsRow d cut T' (record { set = set; moves = j }))
-    all_noted k set None m w at are l r = tt
-    all_noted {T' = T'} k set (Some ns) m w at are l r = record {
+    pub all_noted : {T' : Interned} (k set : ℕ) (o : Option (List Note)) → IsMore T T' → set < length T' → set_at T' set ≡ B → ts ≡ tries (chess d) B → can (chess d) j B ≡ false → length ts ≤ k → IfSome o (IsRowTo T B j ts k) → IfSome o (IsRow d cut T' (record { set = set; moves = j }))
+    all_noted k set None m w at are lost l r = tt
+    all_noted {T' = T'} k set (Some ns) m w at are lost l r = record {
       within = w;
+      lost = ap (can (chess d) j) at ∙ lost;
       tries_part = r.tries_part ∙ take_all k ts l ∙ are ∙ ap (tries (chess d)) (sym at);
       blocks = subst (λ (X : List Pos). All (λ x. IsBlock d cut T' X j x.mv x.block) ns) (sym at) (All-weaker (λ x. IsBlock d cut T B j x.mv x.block) (λ x. IsBlock d cut T' B j x.mv x.block) (λ x. more_block T T' B j x.mv x.block m) ns r.blocks);
     }

@@ -74,9 +74,9 @@ module _ (d : Dialect) (cut : Bool) where
   pub pair_stopped : {A : Type 0} (P : Stop2 → Type 0) (r : Result A Stop2) (wanted : A → Type 0) (B : List Pos) (j : ℕ) (T0 T : Interned) (u0 u : ℕ) → IsErrAnd r P → known (chess d) (entries T0) (B, j) ≡ None
       → Searches d cut r wanted (CoversTries (chess d) B j) (price (chess d) B) T0 T u0 u → Searches d cut r wanted (CoversPair (chess d) B j) 0 T0 T u0 u
   pair_stopped P (Ok x) wanted B j T0 T u0 u fails none k = absurd fails
-  pair_stopped P (Err Spent) wanted B j T0 T u0 u fails none k = short_noted (chess d) (chess_is_game d) (entries T0) B j u0 none k
+  pair_stopped P (Err Spent) wanted B j T0 T u0 u fails none k = (short_noted (chess d) (chess_is_game d) (entries T0) B j u0 none k.0, k.1)
   pair_stopped P (Err Large) wanted B j T0 T u0 u fails none k = absurd k
-  pair_stopped P (Err NoMemory) wanted B j T0 T u0 u fails none k = tt
+  pair_stopped P (Err NoMemory) wanted B j T0 T u0 u fails none k = k
 
   -- the tries are through, and the result is noted
   pub noted : (T0 T1 T2 : Interned) (set j : ℕ) (k : Known) (o : Option Move) (u0 u1 : ℕ) → 0 < j → set < length T0
@@ -85,7 +85,7 @@ module _ (d : Dialect) (cut : Bool) where
       → TellsSet d T2 (set_at T0 set) j (is_some o) × IsSearched d cut (CoversPair (chess d) (set_at T0 set) j) 0 T0 T2 u0 u1
   noted T0 T1 T2 set j k o u0 u1 pos w s none n is f b = (
     stored_tells T2 B j o (record { counted = counted; sound = sound.sound }) adds.here,
-    record { counted = counted; more = more; stretch = sound },
+    record { counted = counted; more = more; fewer = s.fewer; stretch = sound },
   )
     where
       B : List Pos

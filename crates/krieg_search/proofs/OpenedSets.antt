@@ -61,15 +61,15 @@ module _ (d : Dialect) (who : Side) where
       both
 
 -- a split was stopped whose cost is known otherwise
-pub stopped_first : (A : Type 0) {B : Type 0} (P : SplitStop → Type 0) (r : Result B SplitStop) (stop : SplitStop) (wanted : B → Type 0) (cost all old mid new : ℕ)
-    → ((x : SplitStop) → P x → stop ≡ x) → IsErrAnd r P → cost ≡ all → IsPaid {A = A} (Err stop) cost old mid → Charged r wanted all old new
-stopped_first A P (Ok x) stop wanted cost all old mid new same fails e k = absurd fails
-stopped_first A {B = B} P (Err x) stop wanted cost all old mid new same fails e k =
-    go x (subst (λ (y : SplitStop). IsPaid {A = A} (Err y) cost old mid) (same x fails) k)
+pub stopped_first : (A : Type 0) {B : Type 0} (P : SplitStop → Type 0) (r : Result B SplitStop) (stop : SplitStop) (wanted : B → Type 0) (cost all old new : ℕ)
+    → ((x : SplitStop) → P x → stop ≡ x) → IsErrAnd r P → cost ≡ all → IsPaid {A = A} (Err stop) cost old new → Charged r wanted all old new
+stopped_first A P (Ok x) stop wanted cost all old new same fails e k = absurd fails
+stopped_first A {B = B} P (Err x) stop wanted cost all old new same fails e k =
+    go x (subst (λ (y : SplitStop). IsPaid {A = A} (Err y) cost old new) (same x fails) k)
   where
-    go : (y : SplitStop) → IsPaid {A = A} (Err y) cost old mid → Charged {A = B} (Err y) wanted all old new
-    go Spent v = let h = v.0 in omega arith
-    go NoMemory v = tt
+    go : (y : SplitStop) → IsPaid {A = A} (Err y) cost old new → Charged {A = B} (Err y) wanted all old new
+    go Spent v = ((let h = v.0 in omega arith), (let e = v.1 in omega arith))
+    go NoMemory v = omega arith
 
 -- openings have the same sets in a table with more
 pub same_openings : (T T' : Interned) (os : List Opening) → IsMore T T' → AreNumbered T os → map (opening_in T') os ≡ map (opening_in T) os

@@ -4,9 +4,6 @@ use Rattle.std.specs.Result.{IsErrAnd}
 use Rattle.krieg_board.specs.Pos.{Pos}
 use Rattle.krieg_board.specs.declared.men.Move.{Move}
 use Rattle.krieg_words.specs.declared.dialects.Dialect.{Dialect}
-use Rattle.krieg_parting.specs.declared.stop.PartStop.{PartStop as SplitStop}
-use Rattle.krieg_parting.specs.declared.stop.PartStop.TheVariants as split
-use Rattle.krieg_split.specs.Units.{IsPaid}
 use Rattle.krieg_accounts.specs.Stored.{Entries}
 use Rattle.krieg_accounts.specs.Stretch.{IsStretch, FallsShort}
 use Rattle.krieg_accounts.proofs.Stretches.{stretch_of_nothing, stretch_of_split, stretch_then, short_then, stretch_cost, short_cost}
@@ -16,7 +13,6 @@ use Rattle.krieg_table.specs.Entries.{entries}
 use Rattle.krieg_table.specs.Table.{IsMore}
 use Rattle.krieg_search.specs.declared.stop.Stop2.{Stop2}
 use Rattle.krieg_search.specs.declared.stop.Stop2.TheVariants.{Spent, Large, NoMemory}
-use Rattle.krieg_search.specs.Stops.{stop_of}
 use Rattle.krieg_search.specs.Searched.{IsNumbered, IsReady, IsSearched, Searches}
 
 pub more_itself : (T : Interned) → IsMore T T
@@ -30,15 +26,16 @@ module _ (d : Dialect) (cut : Bool) where
   ready_from s = record { counted = s.counted; sound = s.stretch.sound }
 
   pub searched_nothing : (Q : List (List Pos × ℕ) → Type 0) (T : Interned) (u : ℕ) → IsReady d cut T → IsSearched d cut Q 0 T T u u
-  searched_nothing Q T u r = record { counted = r.counted; more = more_itself T; stretch = stretch_of_nothing (chess d) cut Q (entries T) u r.sound }
+  searched_nothing Q T u r = record { counted = r.counted; more = more_itself T; fewer = omega arith; stretch = stretch_of_nothing (chess d) cut Q (entries T) u r.sound }
 
   pub searched_split : (Q : List (List Pos × ℕ) → Type 0) (T : Interned) (m had has : ℕ) → IsReady d cut T → has + m ≡ had → IsSearched d cut Q m T T had has
-  searched_split Q T m had has r e = record { counted = r.counted; more = more_itself T; stretch = stretch_of_split (chess d) cut Q (entries T) m had has r.sound e }
+  searched_split Q T m had has r e = record { counted = r.counted; more = more_itself T; fewer = omega arith; stretch = stretch_of_split (chess d) cut Q (entries T) m had has r.sound e }
 
   pub searched_then : (Q Q' : List (List Pos × ℕ) → Type 0) (a b all : ℕ) (T0 T1 T2 : Interned) (u0 u1 u2 : ℕ) → ((R : List (List Pos × ℕ)) → Q R → Q' R) → IsSearched d cut Q a T0 T1 u0 u1 → a + b ≡ all → IsSearched d cut Q' b T1 T2 u1 u2 → IsSearched d cut Q all T0 T2 u0 u2
   searched_then Q Q' a b all T0 T1 T2 u0 u1 u2 f s e t = record {
     counted = t.counted;
     more = more_then T0 T1 T2 s.more t.more;
+    fewer = (let a = s.fewer in let b = t.fewer in omega arith);
     stretch = stretch_cost (chess d) cut Q (a + b) all (entries T0) (entries T2) u0 u2 e (stretch_then (chess d) cut Q Q' a b (entries T0) (entries T1) (entries T2) u0 u1 u2 f s.stretch t.stretch);
   }
 
@@ -47,6 +44,7 @@ module _ (d : Dialect) (cut : Bool) where
   searched_number {Q = Q} {a = a} {T0 = T0} {T1 = T1} {T2 = T2} {u0 = u0} {u1 = u1} s n = record {
     counted = n.counted;
     more = more_then T0 T1 T2 s.more n.interned.more;
+    fewer = s.fewer;
     stretch = subst (λ (E : Entries Pos Move). IsStretch (chess d) cut Q a (entries T0) E u0 u1) (sym n.interned.noted) s.stretch;
   }
 
@@ -54,24 +52,13 @@ module _ (d : Dialect) (cut : Bool) where
   short_behind Q Q' a b all T0 T1 u0 u1 f s h v = short_cost (chess d) Q (a + b) all (entries T0) u0 h (short_then (chess d) cut Q Q' a b (entries T0) (entries T1) u0 u1 f s.stretch v)
 
   -- a step was stopped, behind others
-  pub stopped : {A B : Type 0} {P : Stop2 → Type 0} (r : Result B Stop2) (e : Stop2) (holds : A → Type 0) (wanted : B → Type 0) {Q Q' : List (List Pos × ℕ) → Type 0} {a : ℕ} (b : ℕ) {all : ℕ} {T0 T1 : Interned} (T2 T3 : Interned) {u0 u1 : ℕ} (u2 u3 : ℕ)
-      → ((x : Stop2) → P x → e ≡ x) → IsErrAnd r P → ((R : List (List Pos × ℕ)) → Q R → Q' R) → IsSearched d cut Q a T0 T1 u0 u1 → a + b ≤ all → Searches d cut (Err e) holds Q' b T1 T2 u1 u2 → Searches d cut r wanted Q all T0 T3 u0 u3
-  stopped (Ok x) e holds wanted b T2 T3 u2 u3 same fails f s h k = absurd fails
-  stopped {A = A} {B = B} (Err x) e holds wanted {Q = Q} {Q' = Q'} {a = a} b {all = all} {T0 = T0} {T1 = T1} T2 T3 {u0 = u0} {u1 = u1} u2 u3 same fails f s h k =
+  pub stopped : {A B : Type 0} {P : Stop2 → Type 0} (r : Result B Stop2) (e : Stop2) (holds : A → Type 0) (wanted : B → Type 0) {Q Q' : List (List Pos × ℕ) → Type 0} {a : ℕ} (b : ℕ) {all : ℕ} {T0 T1 : Interned} (T2 T3 : Interned) {u0 u1 : ℕ} (u2 : ℕ)
+      → ((x : Stop2) → P x → e ≡ x) → IsErrAnd r P → ((R : List (List Pos × ℕ)) → Q R → Q' R) → IsSearched d cut Q a T0 T1 u0 u1 → a + b ≤ all → Searches d cut (Err e) holds Q' b T1 T2 u1 u2 → Searches d cut r wanted Q all T0 T3 u0 u2
+  stopped (Ok x) e holds wanted b T2 T3 u2 same fails f s h k = absurd fails
+  stopped {A = A} {B = B} (Err x) e holds wanted {Q = Q} {Q' = Q'} {a = a} b {all = all} {T0 = T0} {T1 = T1} T2 T3 {u0 = u0} {u1 = u1} u2 same fails f s h k =
       go x (subst (λ (y : Stop2). Searches d cut {A = A} (Err y) holds Q' b T1 T2 u1 u2) (same x fails) k)
     where
-      go : (y : Stop2) → Searches d cut {A = A} (Err y) holds Q' b T1 T2 u1 u2 → Searches d cut {A = B} (Err y) wanted Q all T0 T3 u0 u3
-      go Spent v = short_behind Q Q' a b all T0 T1 u0 u1 f s h v
+      go : (y : Stop2) → Searches d cut {A = A} (Err y) holds Q' b T1 T2 u1 u2 → Searches d cut {A = B} (Err y) wanted Q all T0 T3 u0 u2
+      go Spent v = (short_behind Q Q' a b all T0 T1 u0 u1 f s h v.0, (let a = s.fewer in let b = v.1 in omega arith))
       go Large v = absurd v
-      go NoMemory v = tt
-
-  -- a first split was stopped
-  pub unpaid : (A : Type 0) {B : Type 0} (P : Stop2 → Type 0) (r : Result B Stop2) (stop : SplitStop) (wanted : B → Type 0) (Q : List (List Pos × ℕ) → Type 0) (m : ℕ) (T0 T3 : Interned) (u0 u1 u3 : ℕ)
-      → ((x : Stop2) → P x → stop_of stop ≡ x) → IsErrAnd r P → IsPaid {A = A} (Err stop) m u0 u1 → Searches d cut r wanted Q m T0 T3 u0 u3
-  unpaid A P (Ok x) stop wanted Q m T0 T3 u0 u1 u3 same fails k = absurd fails
-  unpaid A {B = B} P (Err x) stop wanted Q m T0 T3 u0 u1 u3 same fails k =
-      subst (λ (y : Stop2). Searches d cut {A = B} (Err y) wanted Q m T0 T3 u0 u3) (same x fails) (go stop k)
-    where
-      go : (stop : SplitStop) → IsPaid {A = A} (Err stop) m u0 u1 → Searches d cut {A = B} (Err (stop_of stop)) wanted Q m T0 T3 u0 u3
-      go split.Spent v = λ R q. (let h = v.0 in omega arith)
-      go split.NoMemory v = tt
+      go NoMemory v = let a = s.fewer in omega arith

@@ -51,7 +51,7 @@ module _ (d : Dialect) (cut : Bool) where
           blocked = λ c y. subst (λ o. IfSome o (λ q. StoredLost (chess d) (entries T) q)) (sym (f.no_pair c)) tt;
         };
       };
-      blocked = f.no_pair;
+      blocked = f;
     },
     searched_split d cut (CoversTry (chess d) B j t) T (made (chess d) B t) u0 u1 r e,
   )

@@ -30,11 +30,17 @@ use Rattle.krieg_search.specs.declared.stop.Stop2.TheVariants.{Spent, Large, NoM
 use Rattle.krieg_search.specs.Searched.{IsReady}
 use Rattle.krieg_search.specs.Opened.{AreNumbered, opening_in}
 use Rattle.krieg_search.specs.Built.{WonBy}
-use Rattle.krieg_search.specs.Notes.{AreNotes}
+use Rattle.krieg_search.specs.Notes.{AreNotes, notes_in}
 
 -- the sets of openings
 abbrev pub sets_in : Interned → List Opening → List (List Pos)
 sets_in T os = map (λ o. set_at T o.set) os
+
+-- at most so many notes are kept
+abbrev pub AreFewNotes : Decided → ℕ → Type 0
+AreFewNotes Over most = ⊤
+AreFewNotes (Lost w) most = notes_in w.notes.rows ≤ most
+AreFewNotes (Won w) most = notes_in w.notes.rows ≤ most
 
 -- where the search may cut tries, no block of a try is stored for certain, and what was taken has no floor
 module _ (d : Dialect) (who : Side) (S : List Pos) (n : ℕ) where
@@ -75,10 +81,11 @@ module _ (d : Dialect) (who : Side) (S : List Pos) (n : ℕ) where
     pub found : IsFound cut w had
     pub won : (C : List Pos) → In C (sets_in w.table w.openings.items) → WonBy w.table C n
 
+  -- whether some plan mates; an account that adds up takes no more than there is, and after an error no units are new
   abbrev pub IsDecided : Bool → Result Decided Stop2 → ℕ → ℕ → Type 0
   IsDecided cut (Ok Over) had has = (list_any (is_over (chess d) (outset d who)) S ≡ true) × (can_plan (chess d) (outset d who) n S ≡ false) × IsAccount cut had has
   IsDecided cut (Ok (Lost w)) had has = IsLost cut w had × IsAccount cut had has
   IsDecided cut (Ok (Won w)) had has = IsWon cut w had × IsAccount cut had has
-  IsDecided cut (Err Spent) had has = had < fresh (chess d) (outset d who) n S
+  IsDecided cut (Err Spent) had has = (had < fresh (chess d) (outset d who) n S) × (has ≤ had)
   IsDecided cut (Err Large) had has = ⊥
-  IsDecided cut (Err NoMemory) had has = ⊤
+  IsDecided cut (Err NoMemory) had has = has ≤ had

@@ -1,5 +1,5 @@
 -- A stretch of the search, over a table in which sets have numbers.
-use Rattle.std.specs.Prelude.{◌≡◌, ℕ, ◌<◌, ◌^◌, Bool, List, length, map, Result, Ok, Err, ⊤}
+use Rattle.std.specs.Prelude.{◌≡◌, ℕ, ◌<◌, ◌≤◌, ◌^◌, Bool, List, length, map, Result, Ok, Err}
 use Rattle.std.specs.List.{list_all}
 use Rattle.krieg_board.specs.Pos.{Pos}
 use Rattle.krieg_board.specs.declared.men.Move.{Move}
@@ -36,19 +36,21 @@ module _ (d : Dialect) (cut : Bool) where
     pub counted : AreCounted T
     pub sound : IsSound (chess d) cut (entries T)
 
-  -- From one table and number of units to others. No set has lost its number, and the results and the units are those
-  -- of a stretch.
+  -- From one table and number of units to others. No set has lost its number, no units are new, and the results and the
+  -- units are those of a stretch.
   pub record IsSearched (Q : List (List Pos × ℕ) → Type 0) (cost : ℕ) (T T' : Interned) (had has : ℕ) : Type 0 where
     pub counted : AreCounted T'
     pub more : IsMore T T'
+    pub fewer : has ≤ had
     pub stretch : IsStretch (chess d) cut Q cost (entries T) (entries T') had has
 
-  -- an answer that holds, with the stretch that led to it; or too few units for it
+  -- An answer that holds, with the stretch that led to it; or too few units for it. After an error some units may be gone,
+  -- and none are new.
   abbrev pub Searches : {A : Type 0} → Result A Stop2 → (A → Type 0) → (List (List Pos × ℕ) → Type 0) → ℕ → Interned → Interned → ℕ → ℕ → Type 0
   Searches (Ok x) holds Q cost T T' had has = holds x × IsSearched Q cost T T' had has
-  Searches (Err Spent) holds Q cost T T' had has = FallsShort (chess d) Q cost (entries T) had
+  Searches (Err Spent) holds Q cost T T' had has = FallsShort (chess d) Q cost (entries T) had × (has ≤ had)
   Searches (Err Large) holds Q cost T T' had has = ⊥
-  Searches (Err NoMemory) holds Q cost T T' had has = ⊤
+  Searches (Err NoMemory) holds Q cost T T' had has = has ≤ had
 
   -- whether the try begins to win the set within j, and that the table has it
   pub record TellsTry (T : Interned) (B : List Pos) (j : ℕ) (t : Move) (yes : Bool) : Type 0 where

@@ -1,11 +1,11 @@
-ghost use Rattle.std.specs.Prelude.{◌≤◌, ◌⊎◌, OnOk, map};
+ghost use Rattle.std.specs.Prelude.{◌≡◌, ◌≤◌, ◌⊎◌, IfOk, OnOk, map};
 ghost use Rattle.krieg_accounts.specs.Stretch.{CoversSets};
 ghost use Rattle.krieg_game.specs.Chess.{chess};
 ghost use Rattle.krieg_split.specs.Turns.{IsOwnTurn, IsOthersTurn};
 ghost use Rattle.krieg_search.specs.Searched.{IsReady, Searches, TellsSets};
 ghost use Rattle.krieg_search.specs.Opened.{AreNumbered};
 ghost use Rattle.krieg_search.specs.Notes.{AreNotes};
-ghost use Rattle.krieg_search.specs.Decided.{IsDecided, sets_in};
+ghost use Rattle.krieg_search.specs.Decided.{IsDecided, AreFewNotes, sets_in};
 
 use crate::notes::Notes;
 use crate::openings::{Opening, find_openings};
@@ -55,6 +55,7 @@ fn all_openings_win(
     requires noted { AreNotes d cut table.old kept.old.notes }
     ensures searched { Searches d cut result (TellsSets d table.new (sets_in table.old openings.now) moves) (CoversSets (chess d) (sets_in table.old openings.now) moves) 0 table.old table.new units.old units.new }
     ensures noted { OnOk result (AreNotes d cut table.new kept.new.notes) }
+    ensures most { kept.new.notes.most ≡ kept.old.notes.most }
 {
     for o in openings {
         if !can_win(alloc, d, cut, kept, table, o.set, moves, units)? {
@@ -82,7 +83,8 @@ pub fn decide(
 ) -> Result<Decided, Stop2>
     requires most { moves ≤ MOST_MOVES }
     requires turn { IsOwnTurn who b.now ⊎ IsOthersTurn who b.now }
-    ensures { IsDecided d who b.now moves cut result units.old units.new }
+    ensures decided { IsDecided d who b.now moves cut result units.old units.new }
+    ensures noted { IfOk result (λ r. AreFewNotes r noted) }
 {
     let mut table = Table::new(alloc);
     let mut kept = Kept {

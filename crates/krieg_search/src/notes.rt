@@ -1,4 +1,4 @@
-ghost use Rattle.std.specs.Prelude.{◌≡◌, ◌≤◌, ◌++◌, ◌∷◌, [], Bool, IfOk, OnOk, IfSome, option_map};
+ghost use Rattle.std.specs.Prelude.{◌≡◌, ◌+◌, ◌≤◌, ◌++◌, ◌∷◌, [], Bool, IfOk, OnOk, IfSome, option_map};
 ghost use Rattle.krieg_words.specs.declared.dialects.Dialect.{Dialect};
 ghost use Rattle.krieg_table.specs.Interned.{Interned};
 ghost use Rattle.krieg_search.specs.Notes.{AreNotes, IsRow, row_of, items_of};
@@ -40,7 +40,8 @@ pub struct Asked {
 
 /// Notes on sets that cannot be won, as far as there was room for them.
 ///
-/// In contracts they are a list: what was asked, each with its notes, one for each try.
+/// In contracts they are a list of rows, what was asked with its notes, one for each try; how many notes may be kept; and how
+/// many of these may be added yet.
 #[derive(Drop)]
 pub struct Notes {
     rows: IndexMap<Asked, Vec<Note>>,
@@ -51,11 +52,11 @@ pub struct Notes {
 }
 
 impl Model for Notes {
-    ghost use Rattle.krieg_search.specs.Notes.{Rows};
+    ghost use Rattle.krieg_search.specs.Notes.{Noted};
 
-    ghost Value = { Rows };
+    ghost Value = { Noted };
 
-    ghost view = { λ n. n.rows.entries };
+    ghost view = { λ n. record { rows = n.rows.entries; most = n.most; left = n.left } };
 }
 
 /// The notes on one set, while its tries are tried: nothing where they are not to be kept.
@@ -83,7 +84,7 @@ pub(crate) fn add(row: &mut Row, mv: Move, block: Block) -> Result<(), NoMemory>
 impl Notes {
     /// Nothing is noted, and at most so many notes will be kept. It takes no memory.
     pub fn new(alloc: Global, most: usize) -> Notes
-        ensures { result ≡ [] }
+        ensures { result ≡ record { rows = []; most = most; left = most } }
     {
         Notes {
             rows: IndexMap::new(alloc),
@@ -95,7 +96,7 @@ impl Notes {
     /// What is noted of the tries of the set with so many moves: each try that makes sense in it, in order, or nothing where
     /// it was not noted.
     pub fn of(&self, set: u32, moves: u8) -> Option<&[Note]>
-        ensures value { option_map (λ ns. ns.now) result ≡ row_of self.now (record { set = set; moves = moves }) }
+        ensures value { option_map (λ ns. ns.now) result ≡ row_of self.now.rows (record { set = set; moves = moves }) }
         ensures right { (d : Dialect) (cut : Bool) (T : Interned) → AreNotes d cut T self.now → IfSome result (λ ns. IsRow d cut T (record { set = set; moves = moves }) ns.now) }
     {
         match self.rows.get(&Asked { set, moves }) {
@@ -109,6 +110,7 @@ impl Notes {
     /// by those with three, and so on.
     fn left_behind(&self, moves: u8, tries: usize) -> Option<usize>
         requires { moves ≤ MOST_MOVES }
+        ensures { IfSome result (λ left. left + tries ≡ self.now.left) }
     {
         let left = self.left.checked_sub(tries)?;
         if left < self.most >> moves {
@@ -134,7 +136,10 @@ impl Notes {
     #[inline(never)]
     pub(crate) fn keep(&mut self, set: u32, moves: u8, row: Row) -> Result<(), NoMemory>
         requires { moves ≤ MOST_MOVES }
-        ensures { (d : Dialect) (cut : Bool) (T : Interned) → AreNotes d cut T self.old → IfSome (items_of row) (IsRow d cut T (record { set = set; moves = moves })) → OnOk result (AreNotes d cut T self.new) }
+        ensures noted { (d : Dialect) (cut : Bool) (T : Interned) → AreNotes d cut T self.old
+            → IfSome (items_of row) (IsRow d cut T (record { set = set; moves = moves }))
+            → OnOk result (AreNotes d cut T self.new) }
+        ensures most { self.new.most ≡ self.old.most }
     {
         let Some(notes) = row else {
             return Ok(());

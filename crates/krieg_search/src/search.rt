@@ -56,6 +56,7 @@ pub(crate) fn can_win(
     requires noted { AreNotes d cut table.old kept.old.notes }
     ensures searched { Searches d cut result (TellsSet d table.new (set_at table.old set) moves) (CoversSet (chess d) (set_at table.old set) moves) 0 table.old table.new units.old units.new }
     ensures noted { OnOk result (AreNotes d cut table.new kept.new.notes) }
+    ensures most { kept.new.notes.most ≡ kept.old.notes.most }
 {
     for fewer in 0..moves {
         if can_win_in(alloc, d, cut, kept, table, set, fewer + 1, units)? {
@@ -86,6 +87,7 @@ fn can_win_in(
     requires noted { AreNotes d cut table.old kept.old.notes }
     ensures searched { Searches d cut result (TellsSet d table.new (set_at table.old set) moves) (CoversPair (chess d) (set_at table.old set) moves) 0 table.old table.new units.old units.new }
     ensures noted { OnOk result (AreNotes d cut table.new kept.new.notes) }
+    ensures most { kept.new.notes.most ≡ kept.old.notes.most }
 {
     match table.result(set, moves) {
         Some(Known::Wins(_)) => return Ok(true),
@@ -133,6 +135,7 @@ fn block_of(
     requires noted { AreNotes d cut table.old kept.old.notes }
     ensures searched { Searches d cut result (TellsBlock d cut table.new (set_at table.old set) moves (move_of tried.now)) (CoversTry (chess d) (set_at table.old set) moves (move_of tried.now)) (made (chess d) (set_at table.old set) (move_of tried.now)) table.old table.new units.old units.new }
     ensures noted { OnOk result (AreNotes d cut table.new kept.new.notes) }
+    ensures most { kept.new.notes.most ≡ kept.old.notes.most }
 {
     let Some(Left { classes, refused }) = left_of(
         alloc,
@@ -179,6 +182,7 @@ fn first_lost(
     requires noted { AreNotes d cut table.old kept.old.notes }
     ensures searched { Searches d cut result (TellsFirst d table.new classes.items moves) (CoversSets (chess d) (sets_of classes.items) moves) 0 table.old table.new units.old units.new }
     ensures noted { OnOk result (AreNotes d cut table.new kept.new.notes) }
+    ensures most { kept.new.notes.most ≡ kept.old.notes.most }
 {
     for class in classes {
         let set = number_of(table, class.belief)?;

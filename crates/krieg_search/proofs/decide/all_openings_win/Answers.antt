@@ -1,4 +1,4 @@
-use Rattle.std.proofs.Common.{List, subst, arith}
+use Rattle.std.proofs.Common.{List, refl, subst, ◌∙◌, arith}
 use Rattle.krieg_search.specs.declared.openings.Opening.{Opening}
 use Rattle.krieg_search.specs.Decided.{sets_in}
 use Rattle.krieg_search.proofs.Searching.{ready_from, stopped}
@@ -10,6 +10,7 @@ pub loop-o-init : goal.loop-o-init
 loop-o-init c = record {
   checking = none_checked c.args.d c.args.cut c.args.table.now (sets_in c.args.table.now c.args.openings.now) c.args.moves c.args.units.now c.requires.ready;
   noted = c.requires.noted;
+  most = refl;
 }
 
 pub can_win-requires-clause-within : goal.can_win-requires-clause-within
@@ -22,7 +23,7 @@ pub returns-in_err-can_win-clause-searched : goal.returns-in_err-can_win-clause-
 returns-in_err-can_win-clause-searched c =
     let d = c.args.d in
     let covers = opening_covers d c.args.cut c.args.openings.now c.loop-o.o-index c.o-item.result c.loop-o-test.true c.o-item.is c.requires.numbered c.loop-o.invariant.checking in
-    stopped d c.args.cut c.from_residual.result c.in_err-can_win.field-0.0 _ _ _ _ _ _ _ (λ x h. cc) c.from_residual.ensures.1 covers c.loop-o.invariant.checking.searched (omega arith) c.in_err-can_win.ensures.searched
+    stopped d c.args.cut c.from_residual.result c.in_err-can_win.field-0.0 _ _ _ _ _ _ (λ x h. cc) c.from_residual.ensures.1 covers c.loop-o.invariant.checking.searched (omega arith) c.in_err-can_win.ensures.searched
 
 pub returns-then-not-branch-clause-searched : goal.returns-then-not-branch-clause-searched
 returns-then-not-branch-clause-searched c =
@@ -32,7 +33,7 @@ returns-then-not-branch-clause-searched c =
 pub loop-o-preserved : goal.loop-o-preserved
 loop-o-preserved c =
     let w = c.in_ok-can_win.ensures.searched in
-    record { checking = opening_won c.args.d c.args.cut c.args.openings.now c.loop-o.o-index c.o-item.result c.loop-o-test.true c.o-item.is c.requires.numbered c.loop-o.invariant.checking w.1 (rw c.if-not-branch.false at w.0); noted = c.in_ok-can_win.ensures.noted }
+    record { checking = opening_won c.args.d c.args.cut c.args.openings.now c.loop-o.o-index c.o-item.result c.loop-o-test.true c.o-item.is c.requires.numbered c.loop-o.invariant.checking w.1 (rw c.if-not-branch.false at w.0); noted = c.in_ok-can_win.ensures.noted; most = c.can_win.ensures.most ∙ c.loop-o.invariant.most }
 
 pub returns-clause-searched : goal.returns-clause-searched
 returns-clause-searched c =

@@ -1,6 +1,5 @@
 use Rattle.std.proofs.Common.{Bool, Err, refl, sym, subst, List, Option, Vec}
 use Rattle.std.specs.declared.alloc.Global.{Global}
-use Rattle.krieg_theory.specs.Sets.{In}
 use Rattle.krieg_accounts.specs.Stretch.{CoversSets}
 use Rattle.krieg_game.specs.Chess.{chess}
 use Rattle.krieg_search.specs.declared.openings.Opening.{Opening}
@@ -8,23 +7,25 @@ use Rattle.krieg_search.specs.declared.decide.Found.{Found}
 use Rattle.krieg_search.specs.Searched.{AreCounted, IsSearched, Searches, TellsSets}
 use Rattle.krieg_search.specs.Opened.{AreNumbered, IsOpened}
 use Rattle.krieg_search.specs.Decided.{sets_in}
+use Rattle.krieg_search.specs.Notes.{AreNotes}
+use Rattle.krieg_search.proofs.Noted.{none_kept}
 use Rattle.krieg_search.proofs.Deciding.{empty_counted, are_opened, openings_stopped, over, opened_ready, search_stopped, not_won, all_are_won}
 use Rattle.krieg_search.proofs.decide.decide.Goals as goal
 
 pub find_openings-requires-clause-counted : goal.find_openings-requires-clause-counted
 find_openings-requires-clause-counted c = subst AreCounted (sym c.new-table.ensures) empty_counted
 
-pub returns-in_err-openings : goal.returns-in_err-openings
-returns-in_err-openings c =
+pub returns-in_err-openings-clause-decided : goal.returns-in_err-openings-clause-decided
+returns-in_err-openings-clause-decided c =
     let d = c.args.d in
     let who = c.args.who in
     let S = c.args.b.now in
     let u0 = c.args.units.now in
     let u1 = c.find_openings.new.units in
-    openings_stopped d c.args.cut who S c.args.moves _ c.from_residual.result c.in_err-openings.field-0.0 (IsOpened d who S c.new-table.result c.find_openings.new.table) u0 u1 u1 (λ x h. cc) c.from_residual.ensures.1 c.in_err-openings.ensures
+    openings_stopped d c.args.cut who S c.args.moves _ c.from_residual.result c.in_err-openings.field-0.0 (IsOpened d who S c.new-table.result c.find_openings.new.table) u0 u1 (λ x h. cc) c.from_residual.ensures.1 c.in_err-openings.ensures
 
-pub returns-in_default : goal.returns-in_default
-returns-in_default c =
+pub returns-in_default-clause-decided : goal.returns-in_default-clause-decided
+returns-in_default-clause-decided c =
     let d = c.args.d in
     let who = c.args.who in
     let S = c.args.b.now in
@@ -53,8 +54,8 @@ all_openings_win-requires-clause-numbered c =
     let o = are_opened d c.args.cut who S n c.new-table.result T1 c.in_ok-openings.field-0 os c.new-table.ensures c.in-Some.is c.in_ok-openings.ensures.0 in
     subst (λ (xs : List Opening). AreNumbered T1 xs) (sym c.deref.ensures.value) o.1.numbered
 
-pub returns-in_err-all_win : goal.returns-in_err-all_win
-returns-in_err-all_win c =
+pub returns-in_err-all_win-clause-decided : goal.returns-in_err-all_win-clause-decided
+returns-in_err-all_win-clause-decided c =
     let d = c.args.d in
     let who = c.args.who in
     let S = c.args.b.now in
@@ -66,12 +67,12 @@ returns-in_err-all_win c =
     let u2 = c.all_openings_win.new.units in
     let os = c.in-Some.openings in
     let o = are_opened d c.args.cut who S n c.new-table.result T1 c.in_ok-openings.field-0 os c.new-table.ensures c.in-Some.is c.in_ok-openings.ensures.0 in
-    search_stopped d c.args.cut who S n T1 os.items o.1 _ c.from_residual-in_err-all_win.result c.in_err-all_win.field-0.0 (TellsSets d T2 (sets_in T1 os.items) n) T2 u0 u1 u2 u2 (λ x h. cc) c.from_residual-in_err-all_win.ensures.1
+    search_stopped d c.args.cut who S n T1 os.items o.1 _ c.from_residual-in_err-all_win.result c.in_err-all_win.field-0.0 (TellsSets d T2 (sets_in T1 os.items) n) T2 u0 u1 u2 (λ x h. cc) c.from_residual-in_err-all_win.ensures.1
     c.in_ok-openings.ensures.1
     (subst (λ (xs : List Opening). Searches d c.args.cut {A = Bool} (Err c.in_err-all_win.field-0.0) (TellsSets d T2 (sets_in T1 xs) n) (CoversSets (chess d) (sets_in T1 xs) n) 0 T1 T2 u1 u2) c.deref.ensures.value c.in_err-all_win.ensures.searched)
 
-pub returns-then-not-all_win : goal.returns-then-not-all_win
-returns-then-not-all_win c =
+pub returns-then-not-all_win-clause-decided : goal.returns-then-not-all_win-clause-decided
+returns-then-not-all_win-clause-decided c =
     let d = c.args.d in
     let who = c.args.who in
     let S = c.args.b.now in
@@ -87,8 +88,8 @@ returns-then-not-all_win c =
     let w = subst (λ (xs : List Opening). TellsSets d T2 (sets_in T1 xs) n c.in_ok-all_win.all_win × IsSearched d c.args.cut (CoversSets (chess d) (sets_in T1 xs) n) 0 T1 T2 u1 u2) c.deref.ensures.value c.in_ok-all_win.ensures.searched in
     not_won d c.args.cut who S n T1 os.items o.1 T2 c.in_ok-all_win.all_win u0 u1 u2 o.0 c.in_ok-openings.ensures.1 w.0 w.1 c.know_once.ensures.results c.if-not-all_win.true lost refl refl c.in_ok-all_win.ensures.noted
 
-pub returns : goal.returns
-returns c =
+pub returns-clause-decided : goal.returns-clause-decided
+returns-clause-decided c =
     let d = c.args.d in
     let who = c.args.who in
     let S = c.args.b.now in
@@ -105,4 +106,4 @@ returns c =
     all_are_won d c.args.cut who S n T1 os.items o.1 T2 c.in_ok-all_win.all_win u0 u1 u2 o.0 c.in_ok-openings.ensures.1 w.0 w.1 c.know_once.ensures.results c.if-not-all_win.false won refl refl c.in_ok-all_win.ensures.noted
 
 pub all_openings_win-requires-clause-noted : goal.all_openings_win-requires-clause-noted
-all_openings_win-requires-clause-noted c = λ e i. absurd (subst (In e) c.new-2.ensures i)
+all_openings_win-requires-clause-noted c = subst (AreNotes c.args.d c.args.cut c.find_openings.new.table) (sym c.new-2.ensures) (none_kept c.args.d c.args.cut c.find_openings.new.table c.args.noted)

@@ -36,7 +36,7 @@ returns-in_err-ended c =
     let turn : IsOthersTurn who S = λ p i. c.is_own_turn.ensures p i ∙ c.if-is_own_turn.false in
     let u0 = c.args.units.now in
     let u1 = c.first_replies.new.units in
-    stopped_first Firsts _ c.from_residual-in_err-ended.result c.in_err-ended.field-0.0 (IsOpened d who S T T) (first_cost S) (first_made (chess d) (outset d who) S) u0 u1 u1 (λ x h. cc) c.from_residual-in_err-ended.ensures.1
+    stopped_first Firsts _ c.from_residual-in_err-ended.result c.in_err-ended.field-0.0 (IsOpened d who S T T) (first_cost S) (first_made (chess d) (outset d who) S) u0 u1 (λ x h. cc) c.from_residual-in_err-ended.ensures.1
     (sym (c.first_replies.ensures.cost who turn)) c.in_err-ended.ensures.units
 
 pub returns-then-ended : goal.returns-then-ended

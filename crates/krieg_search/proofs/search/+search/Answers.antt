@@ -41,7 +41,7 @@ can_win-returns-in_err-can_win_in-clause-searched t c =
     let a = c.loop-fewer.invariant.counting in
     let same = a.searched.more.same c.args.set c.requires.within in
     let covers = next_covers d c.args.cut (set_at c.args.table.now c.args.set) c.args.moves c.loop-fewer.fewer c.loop-fewer-test.true in
-    stopped d c.args.cut c.from_residual.result c.in_err-can_win_in.field-0.0 _ _ _ _ _ _ _ (λ x h. cc) c.from_residual.ensures.1 covers a.searched (omega arith) (rw same at c.in_err-can_win_in.ensures.searched)
+    stopped d c.args.cut c.from_residual.result c.in_err-can_win_in.field-0.0 _ _ _ _ _ _ (λ x h. cc) c.from_residual.ensures.1 covers a.searched (omega arith) (rw same at c.in_err-can_win_in.ensures.searched)
 
 pub can_win-returns-then-branch-clause-searched : goal.can_win-returns-then-branch-clause-searched
 can_win-returns-then-branch-clause-searched t c =
@@ -53,13 +53,14 @@ pub can_win-loop-fewer-init : goal.can_win-loop-fewer-init
 can_win-loop-fewer-init t c = record {
   counting = no_number c.args.d c.args.cut c.args.table.now (set_at c.args.table.now c.args.set) c.args.moves c.args.units.now c.requires.ready;
   noted = c.requires.noted;
+  most = refl;
 }
 
 pub can_win-loop-fewer-preserved : goal.can_win-loop-fewer-preserved
 can_win-loop-fewer-preserved t c =
     let a = c.loop-fewer.invariant.counting in
     let w = rw (a.searched.more.same c.args.set c.requires.within) at c.in_ok-can_win_in.ensures.searched in
-    record { counting = number_fails c.args.d c.args.cut a c.loop-fewer-test.true w.1 (rw c.if-branch.false at w.0); noted = c.in_ok-can_win_in.ensures.noted }
+    record { counting = number_fails c.args.d c.args.cut a c.loop-fewer-test.true w.1 (rw c.if-branch.false at w.0); noted = c.in_ok-can_win_in.ensures.noted; most = c.can_win_in.ensures.most ∙ c.loop-fewer.invariant.most }
 
 pub can_win-returns-clause-searched : goal.can_win-returns-clause-searched
 can_win-returns-clause-searched t c = all_fail c.args.d c.args.cut c.loop-fewer.invariant.counting c.loop-fewer-test.false
@@ -76,6 +77,7 @@ pub can_win_in-loop-tried-init : goal.can_win_in-loop-tried-init
 can_win_in-loop-tried-init t c = record {
   trying = none_tried c.args.d c.args.cut c.args.table.now (set_at c.args.table.now c.args.set) c.args.moves (map move_of c.deref-tried-items.result.now) c.args.units.now c.requires.ready;
   noted = c.requires.noted;
+  most = refl;
   row = no_notes c.args.d c.args.cut c.args.table.now (set_at c.args.table.now c.args.set) c.args.moves (map move_of c.deref-tried-items.result.now) (items_of c.in_ok-row.row) c.in_ok-row.ensures;
 }
 
@@ -105,7 +107,7 @@ can_win_in-returns-in_err-block-clause-searched t c =
     let fails = c.from_residual-in_err-block.ensures.1 in
     let same = a.searched.more.same c.args.set c.requires.within in
     pair_stopped d c.args.cut _ r _ _ _ _ _ _ _ fails (none_found d c.args.cut _ _ c.in-None.is c.result.ensures.by_sets)
-    (stopped d c.args.cut r c.in_err-block.field-0.0 _ _ _ _ _ _ _ (λ x h. cc) fails (tries.next_covers d c.args.cut are l e a) a.searched (next_within d c.args.cut are l e a) (rw same at c.in_err-block.ensures.searched))
+    (stopped d c.args.cut r c.in_err-block.field-0.0 _ _ _ _ _ _ (λ x h. cc) fails (tries.next_covers d c.args.cut are l e a) a.searched (next_within d c.args.cut are l e a) (rw same at c.in_err-block.ensures.searched))
 
 pub can_win_in-returns-in-None-2-clause-searched : goal.can_win_in-returns-in-None-2-clause-searched
 can_win_in-returns-in-None-2-clause-searched t c =
@@ -136,6 +138,7 @@ can_win_in-loop-tried-preserved t c =
     record {
       trying = fails d c.args.cut are at.0 at.1 a v.1 v.0.tells;
       noted = c.in_ok-block.ensures.noted;
+      most = c.block_of.ensures.most ∙ c.loop-tried.invariant.most;
       row = one_noted d c.args.cut c.loop-tried.table (set_at c.args.table.now c.args.set) c.args.moves (map move_of c.deref-tried-items.result.now) c.loop-tried.tried-index (items_of c.loop-tried.row) (items_of c.add.new.row) (record { mv = move_of c.tried-item.result; block = c.in-Some.block })
           v.1.more at.0 at.1 v.0.blocked (rw c.move_of_try.ensures at c.in_ok-add-in-Some.ensures) c.loop-tried.invariant.row;
     }
@@ -164,15 +167,15 @@ can_win_in-returns-clause-noted t c =
     let w = c.requires.within in
     let longer = a.longer in
     let still = more.longer in
-    c.in_ok-keep.ensures d c.args.cut c.note-2.new.self (more_notes d c.args.cut c.loop-tried.kept.notes more c.loop-tried.invariant.noted)
+    c.in_ok-keep.ensures.noted d c.args.cut c.note-2.new.self (more_notes d c.args.cut c.loop-tried.kept.notes more c.loop-tried.invariant.noted)
     (all_noted d c.args.cut c.loop-tried.table (set_at c.args.table.now c.args.set) c.args.moves (map move_of c.deref-tried-items.result.now) c.loop-tried.tried-index c.args.set (items_of c.loop-tried.row)
-    more (omega arith) (more.same c.args.set (omega arith) ∙ a.same c.args.set w) are l c.loop-tried.invariant.row)
+    more (omega arith) (more.same c.args.set (omega arith) ∙ a.same c.args.set w) are (sym (can_win_in-returns-clause-searched t c).0.right) l c.loop-tried.invariant.row)
 
 pub block_of-returns-in_err-lost-clause-searched : goal.block_of-returns-in_err-lost-clause-searched
 block_of-returns-in_err-lost-clause-searched t c =
     let d = c.args.d in
     let a = tried_at d c.args.cut (move_of c.args.tried.now) c.args.moves c.args.units.now c.left_of.new.units c.belief.ensures c.in-Some.is c.requires.some c.requires.ready c.requires.legal c.in_ok-classes.ensures.left c.in_ok-classes.ensures.units in
-    stopped d c.args.cut c.from_residual-in_err-lost.result c.in_err-lost.field-0.0 _ _ _ _ _ _ _ (λ x h. cc) c.from_residual-in_err-lost.ensures.1 (covers_classes d c.args.cut a) (after_split d c.args.cut a) (omega arith) c.in_err-lost.ensures.searched
+    stopped d c.args.cut c.from_residual-in_err-lost.result c.in_err-lost.field-0.0 _ _ _ _ _ _ (λ x h. cc) c.from_residual-in_err-lost.ensures.1 (covers_classes d c.args.cut a) (after_split d c.args.cut a) (omega arith) c.in_err-lost.ensures.searched
 
 pub block_of-returns-in-Some-lost-clause-searched : goal.block_of-returns-in-Some-lost-clause-searched
 block_of-returns-in-Some-lost-clause-searched t c =
@@ -206,7 +209,7 @@ block_of-returns-in_err-can_win-clause-searched t c =
     let w = rw c.in_default-lost.is at c.in_ok-lost.ensures.searched in
     let n = some_is c.in-Some.field-0.refused c.is_empty.result c.is_empty.ensures c.if-is_empty.false in
     let i = c.in_ok-rest.ensures in
-    stopped d c.args.cut c.from_residual-in_err-can_win.result c.in_err-can_win.field-0.0 _ _ _ _ _ _ _ (λ x h. cc) c.from_residual-in_err-can_win.ensures.1 (covers_rest d c.args.cut a w.0 w.1 n i) (before_rest d c.args.cut a w.0 w.1 n i) (omega arith) c.in_err-can_win.ensures.searched
+    stopped d c.args.cut c.from_residual-in_err-can_win.result c.in_err-can_win.field-0.0 _ _ _ _ _ _ (λ x h. cc) c.from_residual-in_err-can_win.ensures.1 (covers_rest d c.args.cut a w.0 w.1 n i) (before_rest d c.args.cut a w.0 w.1 n i) (omega arith) c.in_err-can_win.ensures.searched
 
 pub block_of-returns-then-branch-clause-searched : goal.block_of-returns-then-branch-clause-searched
 block_of-returns-then-branch-clause-searched t c =
@@ -239,6 +242,7 @@ first_lost-loop-class-init t c =
       counted = omega (arith, gives.1, ap length gives.0);
       first = ap (λ cs. find (is_lost d c.args.moves) (map class_pair cs)) (sym gives.0);
       noted = c.requires.noted;
+      most = refl;
     }
 
 pub first_lost-can_win-requires : goal.first_lost-can_win-requires
@@ -254,7 +258,7 @@ first_lost-returns-in_err-can_win-clause-searched t c =
     let i = c.in_ok-set.ensures in
     let a = rw c.in-Some.ensures.steps.0 at c.loop-class.invariant.checking in
     let before = searched_number d c.args.cut a.searched i in
-    stopped d c.args.cut c.from_residual-in_err-can_win.result c.in_err-can_win.field-0.0 _ _ _ _ _ _ _ (λ x h. cc) c.from_residual-in_err-can_win.ensures.1 (sets.next_covers d c.args.cut a i.interned.at i.interned.noted before) before (omega arith) c.in_err-can_win.ensures.searched
+    stopped d c.args.cut c.from_residual-in_err-can_win.result c.in_err-can_win.field-0.0 _ _ _ _ _ _ (λ x h. cc) c.from_residual-in_err-can_win.ensures.1 (sets.next_covers d c.args.cut a i.interned.at i.interned.noted before) before (omega arith) c.in_err-can_win.ensures.searched
 
 pub first_lost-returns-then-not-branch-clause-searched : goal.first_lost-returns-then-not-branch-clause-searched
 first_lost-returns-then-not-branch-clause-searched t c =
@@ -283,6 +287,7 @@ first_lost-loop-class-preserved t c =
       counted = omega (arith, c.loop-class.invariant.counted, steps.1, ap length steps.0);
       first = first_later d c.args.moves c.args.classes.items c.in-Some.class (into_iter_items c.next.new.self) (c.loop-class.invariant.first ∙ ap (λ cs. find (is_lost d c.args.moves) (map class_pair cs)) steps.0) (sym (w.0.right ∙ ap (can (chess d) c.args.moves) i.interned.at));
       noted = c.in_ok-can_win.ensures.noted;
+      most = c.can_win.ensures.most ∙ c.loop-class.invariant.most;
     }
 
 pub first_lost-returns-clause-searched : goal.first_lost-returns-clause-searched

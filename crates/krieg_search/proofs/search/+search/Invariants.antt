@@ -30,12 +30,14 @@ abbrev pub invariant-can_win-loop-fewer : goal.invariant-can_win-loop-fewer
 invariant-can_win-loop-fewer l = record {
   counting : IsCounting l.d l.cut l.initial.table l.table (set_at l.initial.table l.set) l.moves l.fewer l.initial.units l.units;
   noted : AreNotes l.d l.cut l.table l.kept.notes;
+  most : l.kept.notes.most ≡ l.initial.kept.notes.most;
 }
 
 abbrev pub invariant-can_win_in-loop-tried : goal.invariant-can_win_in-loop-tried
 invariant-can_win_in-loop-tried l = record {
   trying : IsTrying l.d l.cut l.initial.table l.table (set_at l.initial.table l.set) l.moves (map move_of l.tried-items) l.tried-index l.initial.units l.units;
   noted : AreNotes l.d l.cut l.table l.kept.notes;
+  most : l.kept.notes.most ≡ l.initial.kept.notes.most;
   row : IfSome (items_of l.row) (IsRowTo l.d l.cut l.table (set_at l.initial.table l.set) l.moves (map move_of l.tried-items) l.tried-index);
 }
 
@@ -45,4 +47,5 @@ invariant-first_lost-loop-class l = record {
   counted : into_iter_len l.class-iterator ≡ length (into_iter_items l.class-iterator);
   first : find (is_lost l.d l.moves) (map class_pair l.fn.classes.items) ≡ find (is_lost l.d l.moves) (map class_pair (into_iter_items l.class-iterator));
   noted : AreNotes l.d l.cut l.table l.kept.notes;
+  most : l.kept.notes.most ≡ l.initial.kept.notes.most;
 }
