@@ -1,5 +1,5 @@
 -- What blocks a try, as stored results tell it.
-use Rattle.std.specs.Prelude.{◌≡◌, ℕ, ◌<◌, false, List, Option, Some, None}
+use Rattle.std.specs.Prelude.{◌≡◌, ℕ, ◌<◌, false, List, Some}
 use Rattle.krieg_board.specs.Pos.{Pos}
 use Rattle.krieg_board.specs.declared.men.Move.{Move}
 use Rattle.krieg_words.specs.declared.dialects.Dialect.{Dialect}
@@ -12,8 +12,6 @@ use Rattle.krieg_claims.specs.Written as written
 use Rattle.krieg_game.specs.Keys.{Key}
 use Rattle.krieg_game.specs.Chess.{chess}
 use Rattle.krieg_table.specs.Interned.{Interned}
-use Rattle.krieg_search.specs.Leaving.{Leaves}
-use Rattle.krieg_search.specs.declared.left.Left.{Left}
 use Rattle.krieg_search.specs.declared.notes.Asked.{Asked}
 use Rattle.krieg_search.specs.declared.notes.Block.{Block}
 use Rattle.krieg_search.specs.declared.notes.Note.{Note}
@@ -22,11 +20,6 @@ use Rattle.krieg_search.specs.Opened.{AddsSets}
 use Rattle.krieg_refute.specs.Claiming.{IsLost}
 
 module _ (d : Dialect) where
-  -- what a try leaves to be won, or that no pair of a set and a number blocks it: it fails at once
-  abbrev pub LeavesAgain : List Pos → Move → ℕ → Option Left → Type 0
-  LeavesAgain B t j (Some l) = Leaves d B t j l
-  LeavesAgain B t j None = block_pair (chess d) j B t ≡ None
-
   -- A try of a set at the number i + 1, which is j, is blocked by the pair, which is stored as lost: what is claimed of the pair
   -- is what the try adds, and r is the reason at the place of its claim.
   pub record IsBlockedBy (T : Interned) (B : List Pos) (t : Move) (i j : ℕ) (q : List Pos × ℕ) (r : ℕ → Reason Key) : Type 0 where

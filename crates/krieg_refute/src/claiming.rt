@@ -13,8 +13,9 @@ ghost use Rattle.krieg_table.specs.Interned.{set_at};
 ghost use Rattle.krieg_table.specs.Entries.{entries};
 ghost use Rattle.krieg_claims.specs.Losses.{is_loss};
 ghost use Rattle.krieg_search.specs.Built.{IsPaidFor};
+ghost use Rattle.krieg_search.specs.Leaving.{IsLeft};
 ghost use Rattle.krieg_search.specs.Notes.{IsBlock, IsRow, AreNotes};
-ghost use Rattle.krieg_refute.specs.Blocking.{HasBlock, HasRow, LeavesAgain};
+ghost use Rattle.krieg_refute.specs.Blocking.{HasBlock, HasRow};
 ghost use Rattle.krieg_refute.specs.Claiming.{at_once_reason, IsLost, IsFirstLost, IsClaimed, IsNext, IsPushed, Claims, Reasons, Blocks};
 ghost use Rattle.krieg_refute.specs.Refutations.{why_of, reason_of, most_claims, most_claimed};
 ghost use Rattle.krieg_search.specs.Searched.{AreCounted};
@@ -89,7 +90,7 @@ fn left_again(
 ) -> Result<Option<Left>, NoMemory>
     requires some { 0 < moves }
     requires paid { made (chess d) b.now mv < 2 ^ 64 }
-    ensures { IfOk result (LeavesAgain d b.now mv moves) }
+    ensures { IfOk result (IsLeft d false b.now mv moves) }
 {
     if moves == 1 && lives_in_some(b.members(), &mv) {
         return Ok(None);

@@ -238,7 +238,7 @@ why-returns-in-AtOnce t c =
     let T = c.args.table.now in
     let B = set_at T c.args.asked.set in
     let none = rw c.in-AtOnce.is at c.requires.blocked in
-    fails_blocks d T B B c.args.note.now.mv c.args.asked.moves c.requires.some refl c.requires.paid.ready c.requires.lost c.requires.legal c.args.claimed.now c.at_once.result (none refl) c.requires.claimed c.at_once.ensures
+    fails_blocks d T B B c.args.note.now.mv c.args.asked.moves c.requires.some refl c.requires.paid.ready c.requires.lost c.requires.legal c.args.claimed.now c.at_once.result (none.no_pair refl) c.requires.claimed c.at_once.ensures
 
 pub why-claim-requires : goal.why-claim-requires
 why-claim-requires t c =

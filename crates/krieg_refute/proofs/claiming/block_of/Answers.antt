@@ -29,7 +29,7 @@ left_again-requires-clause-paid c =
     rw c.belief.ensures fits
 
 pub returns-in_default : goal.returns-in_default
-returns-in_default c = (adds_nothing c.args.table.now c.requires.paid.ready.counted, λ _. rw (c.in_default.is, c.belief.ensures) at c.in_ok-classes.ensures)
+returns-in_default c = (adds_nothing c.args.table.now c.requires.paid.ready.counted, rw (c.in_default.is, c.belief.ensures) at c.in_ok-classes.ensures)
 
 pub returns-in-Some-2 : goal.returns-in-Some-2
 returns-in-Some-2 c =

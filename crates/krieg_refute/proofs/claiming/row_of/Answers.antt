@@ -1,9 +1,11 @@
-use Rattle.std.proofs.Common.{◌≡◌, true, false, List, Some, sym, ap, subst, ◌∙◌}
+use Rattle.std.proofs.Common.{◌≡◌, true, false, List, None, Some, sym, ap, subst, ◌∙◌}
 use Rattle.krieg_board.specs.Pos.{Pos}
 use Rattle.krieg_theory.specs.Split.{legal_in_some, tries}
+use Rattle.krieg_accounts.proofs.Tables.{result_can}
 use Rattle.krieg_accounts.proofs.TryWalk.{legal_at}
 use Rattle.krieg_game.specs.Chess.{chess}
 use Rattle.krieg_game.proofs.ChessLaws.{chess_is_game}
+use Rattle.krieg_table.specs.Entries.{entries}
 use Rattle.krieg_table.specs.Interned.{set_at}
 use Rattle.krieg_search.specs.Notes.{IsBlock}
 use Rattle.krieg_search.specs.declared.notes.Note.{Note}
@@ -56,4 +58,5 @@ returns c =
     let are = c.deref-mv-items.ensures.value ∙ c.in_ok-tries.ensures d ∙ ap (tries (chess d)) c.belief.ensures in
     let longer = inv.sets.more.longer in
     let within = c.requires.within in
-    (inv.sets, all_noted d false c.loop-mv.table B c.args.asked.moves c.deref-mv-items.result.now {T' = c.loop-mv.table} c.loop-mv.mv-index c.args.asked.set (Some c.loop-mv.row.items) (more_itself c.loop-mv.table) (omega Rattle.std.proofs.Common.arith) (inv.sets.more.same c.args.asked.set within) are c.loop-mv-test.false inv.row)
+    let lost = result_can (chess d) (chess_is_game d) false (entries T) c.requires.paid.ready.sound B c.args.asked.moves None c.requires.lost in
+    (inv.sets, all_noted d false c.loop-mv.table B c.args.asked.moves c.deref-mv-items.result.now {T' = c.loop-mv.table} c.loop-mv.mv-index c.args.asked.set (Some c.loop-mv.row.items) (more_itself c.loop-mv.table) (omega Rattle.std.proofs.Common.arith) (inv.sets.more.same c.args.asked.set within) are lost c.loop-mv-test.false inv.row)

@@ -36,7 +36,7 @@ pub returns-then-not-is_one_for_each : goal.returns-then-not-is_one_for_each
 returns-then-not-is_one_for_each c =
     let B = c.args.claim.now.set in
     let few : c.args.units.now < length B * length c.args.moves.now = subst (λ n. c.args.units.now < n * length c.args.moves.now) c.len.ensures.value (c.is_one_for_each.ensures c.if-not-is_one_for_each.true) in
-    omega (arith, few, members_paid c.args.d B c.args.moves.now)
+    (omega (arith, few, members_paid c.args.d B c.args.moves.now), omega arith)
 
 are_of : (B : List Pos) (o : Option (Vec Tally Global)) (ys : Vec Tally Global) (zs : List Tally) → o ≡ Some ys → IfSome o (λ ys. AreTallies B B ys.items) → zs ≡ ys.items → AreTallies B B zs
 are_of B o ys zs is found same d = same ∙ subst (λ o. IfSome o (λ ys. AreTallies B B ys.items)) is found d
@@ -55,10 +55,10 @@ returns-in-Some c =
 pub last_tries_hold-requires-in-Some-2 : goal.last_tries_hold-requires-in-Some-2
 last_tries_hold-requires-in-Some-2 c =
     let B = c.args.claim.now.set in
-    subst (All (λ y. y ≡ tally_of B y.mv)) (sym (are_of B c.in_ok-tally_all.field-0 c.in-Some-2.tallies c.as_slice-in-Some-2.result.now c.in-Some-2.is c.in_ok-tally_all.ensures c.as_slice-in-Some-2.ensures.value c.args.d)) (are_tallies B _)
+    subst (All (λ y. y ≡ tally_of B y.mv)) (sym (are_of B c.in_ok-tally_all.field-0 c.in-Some-2.tallies c.as_slice-in-Some-2.result.now c.in-Some-2.is c.in_ok-tally_all.ensures.tallies c.as_slice-in-Some-2.ensures.value c.args.d)) (are_tallies B _)
 
 pub returns-in-Some-2 : goal.returns-in-Some-2
 returns-in-Some-2 c =
     let B = c.args.claim.now.set in
     hold_by_tallies c.args.d B c.args.claim.now.moves (omega (arith, c.if-claim-gt1.false)) (claims_of c.args.d c.args.before.now) (map reason_of c.args.claim.now.reasons.items) c.args.moves.now c.as_slice-in-Some-2.result.now (c.requires.moves c.args.d)
-    (are_of B c.in_ok-tally_all.field-0 c.in-Some-2.tallies c.as_slice-in-Some-2.result.now c.in-Some-2.is c.in_ok-tally_all.ensures c.as_slice-in-Some-2.ensures.value) c.last_tries_hold-in-Some-2.result c.args.units.now c.last_tries_hold-in-Some-2.new.units c.last_tries_hold-in-Some-2.ensures
+    (are_of B c.in_ok-tally_all.field-0 c.in-Some-2.tallies c.as_slice-in-Some-2.result.now c.in-Some-2.is c.in_ok-tally_all.ensures.tallies c.as_slice-in-Some-2.ensures.value) c.last_tries_hold-in-Some-2.result c.args.units.now c.last_tries_hold-in-Some-2.new.units c.last_tries_hold-in-Some-2.ensures

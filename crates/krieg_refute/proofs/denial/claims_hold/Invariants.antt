@@ -1,4 +1,4 @@
-use Rattle.std.proofs.Common.{◌≡◌, ◌+◌, ◌&&◌, [], take, drop}
+use Rattle.std.proofs.Common.{◌≡◌, ◌+◌, ◌≤◌, ◌&&◌, [], take, drop}
 use Rattle.krieg_costs.specs.Refutation as theory
 use Rattle.krieg_game.specs.Chess.{chess}
 use Rattle.krieg_refute.specs.Refutations.{claims_of, claims_price}
@@ -8,4 +8,5 @@ abbrev pub invariant-loop-place : goal.invariant-loop-place
 invariant-loop-place l = record {
   answer : (l.all && theory.claims_hold (chess l.d) (claims_of l.d (take l.place l.claims)) (claims_of l.d (drop l.place l.claims))) ≡ theory.claims_hold (chess l.d) [] (claims_of l.d l.claims);
   taken : l.units + claims_price l.d l.claims ≡ l.initial.units + claims_price l.d (drop l.place l.claims);
+  fewer : l.units ≤ l.initial.units;
 }

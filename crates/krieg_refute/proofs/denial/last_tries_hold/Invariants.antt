@@ -1,4 +1,4 @@
-use Rattle.std.proofs.Common.{◌≡◌, ◌+◌, ◌&&◌, map, drop}
+use Rattle.std.proofs.Common.{◌≡◌, ◌+◌, ◌≤◌, ◌&&◌, map, drop}
 use Rattle.std.specs.List.{list_all}
 use Rattle.krieg_costs.specs.Sums.{total}
 use Rattle.krieg_costs.specs.Cost.{made}
@@ -12,4 +12,5 @@ invariant-loop-tally l = record {
   answer : (l.all && list_all (λ y. try_holds l.d (claims_of l.d l.before) 0 l.claim.set y.mv (map reason_of l.claim.reasons.items)) (drop l.tally-index l.tallies))
       ≡ list_all (λ y. try_holds l.d (claims_of l.d l.before) 0 l.claim.set y.mv (map reason_of l.claim.reasons.items)) l.tallies;
   taken : l.units + total (λ y. made (chess l.d) l.claim.set y.mv) l.tallies ≡ l.initial.units + total (λ y. made (chess l.d) l.claim.set y.mv) (drop l.tally-index l.tallies);
+  fewer : l.units ≤ l.initial.units;
 }

@@ -1,4 +1,4 @@
-use Rattle.std.proofs.Common.{◌≡◌, ◌+◌, ◌-◌, ◌&&◌, map, drop}
+use Rattle.std.proofs.Common.{◌≡◌, ◌+◌, ◌≤◌, ◌-◌, ◌&&◌, map, drop}
 use Rattle.std.specs.List.{list_all}
 use Rattle.krieg_costs.specs.Sums.{total}
 use Rattle.krieg_costs.specs.Cost.{made}
@@ -12,4 +12,5 @@ invariant-loop-mv l = record {
   answer : (l.all && list_all (λ t. try_holds l.d (claims_of l.d l.before) (l.claim.moves - 1) l.claim.set t (map reason_of l.claim.reasons.items)) (drop l.mv-index l.moves))
       ≡ list_all (λ t. try_holds l.d (claims_of l.d l.before) (l.claim.moves - 1) l.claim.set t (map reason_of l.claim.reasons.items)) l.moves;
   taken : l.units + total (made (chess l.d) l.claim.set) l.moves ≡ l.initial.units + total (made (chess l.d) l.claim.set) (drop l.mv-index l.moves);
+  fewer : l.units ≤ l.initial.units;
 }

@@ -9,8 +9,8 @@ pub returns-in_err-take-2 : goal.returns-in_err-take-2
 returns-in_err-take-2 c =
     let y = c.args.tally.now in
     let B = c.args.set.now in
-    stopped _ c.from_residual-in_err-take-2.result c.in_err-take-2.field-0.0 _ _ y.replies _ _ c.take.new.units _ _ (λ x h. cc) c.from_residual-in_err-take-2.ensures.1
-    (omega (arith, looked_is_made c.args.d B y.mv, ap (λ (y : Tally). y.replies) c.requires, c.len.ensures.value, c.in_ok-take.ensures.1)) c.in_err-take-2.ensures
+    stopped _ c.from_residual-in_err-take-2.result c.in_err-take-2.field-0.0 _ _ y.replies _ _ c.take.new.units _ (λ x h. cc) c.from_residual-in_err-take-2.ensures.1
+    (omega (arith, looked_is_made c.args.d B y.mv, ap (λ (y : Tally). y.replies) c.requires, c.len.ensures.value, c.in_ok-take.ensures.1)) (omega (arith, c.in_ok-take.ensures.1)) c.in_err-take-2.ensures
 
 pub returns : goal.returns
 unfolding IsTried
