@@ -14,3 +14,6 @@ mod NodeWriting
 mod PlansAgain
 mod HeardLines
 mod HeardSpellings
+pub mod TextSizes
+mod PlanSizes
+pub mod ReadSizes

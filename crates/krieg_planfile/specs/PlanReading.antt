@@ -92,3 +92,7 @@ plan_at p = do
   heading ← heading_at p
   listing ← listing_at (turn_in heading.0.0) heading.1
   claim_at heading.0.0 heading.0.1 listing.0.0 listing.0.1 listing.1
+
+-- a text that is read as a plan file has fewer bytes, however its positions are spelled
+abbrev pub read_bound : ℕ
+read_bound = 38000000

@@ -42,3 +42,7 @@ plan_lines s = map alone (heading s.dialect (waits s.side s.list)) ++ (listing_l
 -- a line feed stands after every line
 unfoldable pub plan_text : PlanState → List ℕ
 plan_text s = put_lines [] (plan_lines s)
+
+-- the text of a plan file that can be written has fewer bytes
+abbrev pub text_bound : ℕ
+text_bound = 36000000

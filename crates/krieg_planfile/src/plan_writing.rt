@@ -1,4 +1,4 @@
-ghost use Rattle.std.specs.Prelude.{◌≡◌, ◌∷◌, [], Ok, map, codes};
+ghost use Rattle.std.specs.Prelude.{◌≡◌, ◌<◌, ◌∷◌, [], Ok, map, codes, length};
 ghost use Rattle.krieg_text.specs.Lines.{lines};
 ghost use Rattle.krieg_text.specs.Reading.{whole};
 ghost use Rattle.krieg_text.specs.Writing.{PutsLines, Appends, alone};
@@ -69,6 +69,8 @@ pub fn write_plan(f: &PlanFile, text: &mut Vec<u8>) -> Result<(), NoMemory>
     // The text spells the plan file, and is read as it again.
     ensures spelled { SpellsPlan (state_of f.now) (lines (spec.plan_text (state_of f.now))) }
     ensures again { whole plan_at (lines (spec.plan_text (state_of f.now))) ≡ Ok (state_of f.now) }
+    // It has fewer than 36,000,000 bytes, so that it fits an input.
+    ensures short { length (spec.plan_text (state_of f.now)) < spec.text_bound }
 {
     know_ordered(&f.plan);
     let mut all = Text::after(text);

@@ -1,4 +1,4 @@
-ghost use Rattle.std.specs.Prelude.{◌≡◌, IfErr, IfOk, ◌≢◌, ◌≤◌, None};
+ghost use Rattle.std.specs.Prelude.{◌≡◌, IfErr, IfOk, ◌≢◌, ◌<◌, ◌≤◌, None, length};
 ghost use Rattle.krieg_text.specs.Lines.{lines};
 ghost use Rattle.krieg_text.specs.Reading.{taken, whole, Gives, GivesOn};
 ghost use Rattle.krieg_plan.specs.Plans.{plan_of};
@@ -165,11 +165,13 @@ fn read_lines(alloc: Global, text: &[u8]) -> Result<PlanFile, TextFault>
 /// root of the other form, and in version 1 at a first position where the opponent is to move.
 ///
 /// The text is read once, and no more than 2,500 calls stand on one another, whatever the text.
-#[tactic(auto, using(crate::proofs::PlanSpellings::reading))]
+#[tactic(auto, using(crate::proofs::PlanSpellings::reading, crate::proofs::ReadSizes::read_fits))]
 pub fn read_plan(alloc: Global, text: &[u8]) -> Result<PlanFile, TextFault>
     ensures reading { IsReading (λ f. state_of f) spec.plan_at IsPlanFile SpellsPlan PlanGrammar (lines text.now) result }
     // What is read is a plan file: it is within the limits, its words can be told, its keys ascend.
     ensures plan { IfOk result (λ f. IsPlanFile (state_of f)) }
+    // It has fewer than 38,000,000 bytes, so that no plan file is too long for an input.
+    ensures short { IfOk result (λ f. length text.now < spec.read_bound) }
 {
     read_lines(alloc, text)
 }
