@@ -54,3 +54,7 @@ refutation_lines s = head_lines s.dialect s.side s.moves (length s.list) ++ (map
 -- a line feed stands after every line
 unfoldable pub refutation_text : RefutationState → List ℕ
 refutation_text s = put_lines [] (refutation_lines s)
+
+-- the text of a refutation that can be written has fewer bytes
+abbrev pub text_bound : ℕ
+text_bound = 66000000

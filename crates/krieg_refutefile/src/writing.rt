@@ -299,8 +299,8 @@ pub fn write_refutation(alloc: Global, f: &Refutation) -> Result<Pieces, NoMemor
     // The text spells the refutation, and is read as it again.
     ensures spelled { SpellsRefutation (state_of f.now) (lines (spec.refutation_text (state_of f.now))) }
     ensures again { whole refutation_at (lines (spec.refutation_text (state_of f.now))) ≡ Ok (state_of f.now) }
-    // It is shorter than 64 MiB, so that it fits an input.
-    ensures short { length (spec.refutation_text (state_of f.now)) < 67108864 }
+    // It has fewer than 66,000,000 bytes, so that it fits an input.
+    ensures short { length (spec.refutation_text (state_of f.now)) < spec.text_bound }
 {
     refutation_lines(alloc, f)
 }
@@ -321,6 +321,8 @@ pub fn write_denial(
     ensures value { IfOk result (λ text. text ≡ spec.refutation_text (state_from d side moves set claims.items)) }
     // The text is read as that refutation again.
     ensures again { whole refutation_at (lines (spec.refutation_text (state_from d side moves set claims.items))) ≡ Ok (state_from d side moves set claims.items) }
+    // It has fewer than 66,000,000 bytes, so that it fits an input.
+    ensures short { length (spec.refutation_text (state_from d side moves set claims.items)) < spec.text_bound }
 {
     denial_lines(alloc, d, side, moves, set, claims)
 }

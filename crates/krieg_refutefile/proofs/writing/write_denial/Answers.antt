@@ -1,4 +1,5 @@
 use Rattle.krieg_refutefile.specs.Refutations.{state_from}
+use Rattle.krieg_refutefile.proofs.Sizes.{text_short}
 use Rattle.krieg_refutefile.proofs.RefutationTexts.{again}
 use Rattle.krieg_refutefile.proofs.WrittenClaims.{are_told}
 use Rattle.krieg_refutefile.proofs.writing.write_denial.Goals as goal
@@ -8,3 +9,6 @@ denial_lines-requires c = are_told c.args.d 1 c.args.claims.items c.requires.tol
 
 pub returns-clause-again : goal.returns-clause-again
 returns-clause-again c = again (state_from c.args.d c.args.side c.args.moves c.args.set c.args.claims.items) c.requires
+
+pub returns-clause-short : goal.returns-clause-short
+returns-clause-short c = text_short (state_from c.args.d c.args.side c.args.moves c.args.set c.args.claims.items) c.requires
