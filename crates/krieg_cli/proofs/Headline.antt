@@ -1,5 +1,5 @@
 -- A run of `solve` or of `find` that answers keeps the promise of the headline.
-use Rattle.std.proofs.Common.{◌≡◌, ◌⊎◌, inl, inr, ℕ, Bool, true, false, List, Option, Some, Result, Ok, Err, refl, sym, subst, ◌∙◌}
+use Rattle.std.proofs.Common.{◌≡◌, ◌⊎◌, inl, inr, ℕ, Bool, true, false, List, length, ◌≤◌, Option, Some, Result, Ok, Err, refl, sym, subst, ◌∙◌}
 use Rattle.std.specs.Io.KnownBytes.{Appends}
 use Rattle.krieg_board.specs.Pos.{Pos}
 use Rattle.krieg_text.specs.Lines.{lines}
@@ -20,6 +20,7 @@ use Rattle.krieg_cli.specs.Parts.{SearchedBy, SolvedBy}
 use Rattle.krieg_cli.specs.Outcome.{LiveOutcome}
 use Rattle.krieg_cli.specs.Top.{Answers, Ends, Runs, Reports}
 use Rattle.krieg_cli.specs.Headline.{WritesPlan, WritesNone, AnswersSheet}
+use Rattle.krieg_cli.specs.declared.input.TheConstants.{MOST_INPUT}
 use Rattle.krieg_cli.specs.declared.ending.Ending.{Ending}
 use Rattle.krieg_cli.proofs.WholeGames.{answered}
 
@@ -36,6 +37,7 @@ told n s S before after answer written (inl t) = inl (record {
   least = t.best.least;
   written = subst (Appends before.out.bytes after.out.bytes) t.text written;
   again = subst (λ text. whole plan_at (lines text) ≡ Ok t.file) t.text t.again;
+  short = subst (λ (text : List ℕ). length text ≤ MOST_INPUT) t.text t.short;
 })
 told n s S before after answer written (inr (none, text)) = inr (record { none_mates = none; written = subst (Appends before.out.bytes after.out.bytes) text written })
 

@@ -13,6 +13,7 @@ mod LedGames
 mod Pieces
 mod Playing
 mod Ranges
+mod Limits
 mod Refuting
 mod Reports
 mod Searching

@@ -1,5 +1,5 @@
 -- What a search for claims finds, as the answer to a sheet.
-use Rattle.std.proofs.Common.{◌≡◌, ℕ, ◌≤◌, Bool, true, false, not, List, [], ◌∷◌, Vec, Global, length, map, Ok, Err, refl, sym, ap, subst, inl, ◌∙◌, arith}
+use Rattle.std.proofs.Common.{◌≡◌, ℕ, ◌<◌, ◌≤◌, Bool, true, false, not, List, [], ◌∷◌, Vec, Global, length, map, Ok, Err, refl, sym, ap, subst, inl, ◌∙◌, arith}
 use Rattle.std.specs.Prelude.{◌||◌}
 use Rattle.std.proofs.lemmas.List.{length-map}
 use Rattle.std.proofs.lemmas.Bool.{both_ways, and_parts, and_from, false_from_ne_true}
@@ -33,7 +33,7 @@ use Rattle.krieg_refute.specs.Refutations.{most_claims, most_claimed}
 use Rattle.krieg_refutefile.specs.Refutations.{RefutationState, state_from, is_refutation, claim_from}
 use Rattle.krieg_refutefile.specs.Writable.{CanBeWritten, IsTurnOf}
 use Rattle.krieg_refutefile.specs.RefutationFormat.{refutation_at}
-use Rattle.krieg_refutefile.specs.RefutationText.{refutation_text}
+use Rattle.krieg_refutefile.specs.RefutationText.{refutation_text, text_bound}
 use Rattle.krieg_refutefile.proofs.Agreeing.{states_from, claims_again, positions_same, reasons_same}
 use Rattle.krieg_claims.specs.Sizes.{AreFew}
 use Rattle.krieg_claims.specs.Written.{denial}
@@ -95,12 +95,14 @@ module _ (d : Dialect) (who : Side) (S : List Pos) (n : ℕ) (cs : List Claim) (
       (subst (λ (xs : List (theory.Claim (chess d))). theory.refutes (chess d) (outset d who) n S xs ≡ true) (sym (claims_again d claims)) holds)
 
   -- its text is the answer
-  pub text_told : (answer : List ℕ) → IsOwnTurn who S → answer ≡ refutation_text found_file → whole refutation_at (lines (refutation_text found_file)) ≡ Ok found_file → IsDenialText d who S n answer
-  text_told answer own is again =
+  pub text_told : (answer : List ℕ) → IsOwnTurn who S → answer ≡ refutation_text found_file → whole refutation_at (lines (refutation_text found_file)) ≡ Ok found_file → length (refutation_text found_file) < text_bound →
+      IsDenialText d who S n answer
+  text_told answer own is again fits =
       let text : answer ≡ refutation_text (denial_file d who S n) = is ∙ ap refutation_text file_is in
       record {
         text = text;
         again = ap (λ (t : List ℕ). whole refutation_at (lines t)) text ∙ subst (λ (f : RefutationState). whole refutation_at (lines (refutation_text f)) ≡ Ok f) file_is again;
+        short = omega (arith, fits, ap (λ (t : List ℕ). length t) is);
         refutes = file_refutes own;
         none_mates = found.no_plan;
       }

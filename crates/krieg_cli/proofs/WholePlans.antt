@@ -6,6 +6,7 @@ use Rattle.krieg_text.specs.Lines.{lines}
 use Rattle.krieg_text.specs.Reading.{whole}
 use Rattle.krieg_planfile.specs.PlanFiles.{PlanState}
 use Rattle.krieg_planfile.specs.PlanReading.{plan_at}
+use Rattle.krieg_planfile.proofs.ReadSizes.{read_within}
 use Rattle.krieg_args.specs.declared.command.Command.{Command}
 use Rattle.krieg_args.specs.declared.command.Command.TheVariants.{Check}
 use Rattle.krieg_cli.specs.World.{World}
@@ -44,7 +45,7 @@ ends_on_solution : (plays : LiveOutcome) (e : Ending) (budget : ℕ) (f : PlanSt
 ends_on_solution plays ending.Answered budget f text before after solution holds (answer, comes, written, kept) =
     subst (Appends before.out.bytes after.out.bytes) (same_worst f budget text answer solution (checked plays budget f text before after (Ok answer) solution holds comes)) written
 ends_on_solution plays ending.TooLong budget f text before after solution holds ((takes, (took, consumed, long), kept), out) =
-    omega (arith, long, given_le before.input.bytes after.input.bytes text took holds consumed)
+    absurd (omega (arith, long, given_le before.input.bytes after.input.bytes text took holds consumed, read_within text f solution.read))
 ends_on_solution plays ending.ReadFault budget f text before after solution holds ((takes, came, rose), out) = rose
 ends_on_solution plays ending.WriteFault budget f text before after solution holds (answer, comes, front, rose) = rose
 ends_on_solution plays ending.NoMemory budget f text before after solution holds e = tt

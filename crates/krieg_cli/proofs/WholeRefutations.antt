@@ -1,5 +1,5 @@
 -- A run of `refute` that answers writes a refutation, and one like those is judged by `deny` with its number of moves.
-use Rattle.std.proofs.Common.{◌≡◌, ℕ, List, Option, Some, Result, Ok, Err, refl, sym, ap, subst, ◌∙◌, arith}
+use Rattle.std.proofs.Common.{◌≡◌, ℕ, ◌<◌, ◌≤◌, List, length, Option, Some, Result, Ok, Err, refl, sym, ap, subst, ◌∙◌, arith}
 use Rattle.std.proofs.lemmas.Bool.{both_ways}
 use Rattle.std.specs.Io.KnownBytes.{Appends}
 use Rattle.krieg_board.specs.Pos.{Pos}
@@ -11,6 +11,7 @@ use Rattle.krieg_sheet.specs.Sheets.{SheetState}
 use Rattle.krieg_sheet.specs.SheetReading.{sheet_at}
 use Rattle.krieg_refutefile.specs.Refutations.{RefutationState}
 use Rattle.krieg_refutefile.specs.RefutationFormat.{refutation_at}
+use Rattle.krieg_refutefile.proofs.Sizes.{read_short}
 use Rattle.krieg_args.specs.declared.command.Command.{Command}
 use Rattle.krieg_args.specs.declared.command.Command.TheVariants.{Refute, Deny}
 use Rattle.krieg_cli.specs.World.{World}
@@ -23,6 +24,7 @@ use Rattle.krieg_cli.specs.Headline.{HasSheet}
 use Rattle.krieg_cli.specs.Outcome.{LiveOutcome}
 use Rattle.krieg_cli.specs.Top.{ComesTo, Answers, Ends, Runs}
 use Rattle.krieg_cli.specs.WholeRefutations.{IsRefutation, sheet_file, WritesRefutation, RefutesSheets, EndsOnRefutation, DeniesRefutations}
+use Rattle.krieg_cli.specs.declared.input.TheConstants.{MOST_INPUT}
 use Rattle.krieg_cli.specs.declared.refusal.Refusal.{Refusal}
 use Rattle.krieg_cli.specs.declared.refusal.Refusal.TheVariants.{BudgetSpent, RefutationFails}
 use Rattle.krieg_cli.specs.declared.ending.Ending.{Ending}
@@ -38,6 +40,7 @@ told n s S before after answer written t = record {
   refutation = record { read = subst (λ text. whole refutation_at (lines text) ≡ Ok (sheet_file n s S)) t.text t.again; holds = t.refutes };
   none_mates = t.none_mates;
   written = subst (Appends before.out.bytes after.out.bytes) t.text written;
+  short = subst (λ (text : List ℕ). length text ≤ MOST_INPUT) t.text t.short;
 }
 
 abbrev Keeps : ℕ → World → World → Type 0
@@ -78,7 +81,8 @@ ends_on_refutation plays ending.Answered budget f text before after refutation h
     let is = judged plays budget f text before after (Ok answer) refutation holds comes in
     (subst (Appends before.out.bytes after.out.bytes) is.3 written, is.2)
 ends_on_refutation plays ending.TooLong budget f text before after refutation holds ((takes, (took, consumed, long), kept), out) =
-    omega (arith, long, given_le before.input.bytes after.input.bytes text took holds consumed)
+    let more : MOST_INPUT < length text = omega (arith, long, given_le before.input.bytes after.input.bytes text took holds consumed) in
+    (more, λ own. let few = read_short (lines text) f refutation.read in omega (arith, more, few, ap (λ (t : List ℕ). length t) own))
 ends_on_refutation plays ending.ReadFault budget f text before after refutation holds ((takes, came, rose), out) = rose
 ends_on_refutation plays ending.WriteFault budget f text before after refutation holds (answer, comes, front, rose) = rose
 ends_on_refutation plays ending.NoMemory budget f text before after refutation holds e = tt

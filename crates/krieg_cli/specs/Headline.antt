@@ -2,7 +2,7 @@
 -- plan by which he mates wherever the hidden men are and whatever the opponent plays, within the number of own moves that the
 -- plan states; no plan needs fewer at worst; and it writes that there is none only where no plan mates within the number of
 -- moves that was asked for.
-use Rattle.std.specs.Prelude.{◌≡◌, ◌≤◌, ◌⊎◌, ℕ, true, false, List, Option, Some, Ok}
+use Rattle.std.specs.Prelude.{◌≡◌, ◌≤◌, ◌⊎◌, ℕ, true, false, List, length, Option, Some, Ok}
 use Rattle.std.specs.Io.KnownBytes.{Appends}
 use Rattle.krieg_board.specs.Pos.{Pos}
 use Rattle.krieg_text.specs.Lines.{lines}
@@ -20,6 +20,7 @@ use Rattle.krieg_args.specs.declared.command.Command.TheVariants.{Solve, Find}
 use Rattle.krieg_cli.specs.World.{Stream, World}
 use Rattle.krieg_cli.specs.Input.{WasRead}
 use Rattle.krieg_cli.specs.Solve.{none_text, mates_all}
+use Rattle.krieg_cli.specs.declared.input.TheConstants.{MOST_INPUT}
 
 -- The input was the text of this sheet, and these are the positions that are consistent with it, each once: there is one.
 pub record HasSheet (s : SheetState) (S : List Pos) (before after : World) : Type 0 where
@@ -29,9 +30,9 @@ pub record HasSheet (s : SheetState) (S : List Pos) (before after : World) : Typ
   pub possible : IsPossible s S
   pub some : is_nil S ≡ false
 
--- The answer is a plan file for these positions, in the sheet's dialect and for its player, and is read as that file again. The
--- plan mates from each of them, against every reply, within the number that the file states, which is at most n; and no plan
--- has a smaller worst case.
+-- The answer is a plan file for these positions, in the sheet's dialect and for its player, is read as that file again, and is
+-- short enough to be the input of `check`. The plan mates from each of the positions, against every reply, within the number
+-- that the file states, which is at most n; and no plan has a smaller worst case.
 pub record WritesPlan (n : ℕ) (s : SheetState) (S : List Pos) (before after : World) : Type 0 where
   pub file : PlanState
   pub dialect : file.dialect ≡ s.dialect
@@ -42,6 +43,7 @@ pub record WritesPlan (n : ℕ) (s : SheetState) (S : List Pos) (before after : 
   pub least : (plan : PlanTrees) (k : ℕ) → mates_all s.dialect s.side S plan k ≡ true → file.worst ≤ k
   pub written : Appends before.out.bytes after.out.bytes (plan_text file)
   pub again : whole plan_at (lines (plan_text file)) ≡ Ok file
+  pub short : length (plan_text file) ≤ MOST_INPUT
 
 -- The answer is that there is none, and no plan mates from each of these positions within n own moves.
 pub record WritesNone (n : ℕ) (s : SheetState) (S : List Pos) (before after : World) : Type 0 where

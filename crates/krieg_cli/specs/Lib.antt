@@ -30,5 +30,6 @@ pub mod WholePlans
 pub mod WholeRefutations
 pub mod LedGames
 pub mod Headline
+pub mod Limits
 pub mod Complete
 pub mod Parts

@@ -24,6 +24,7 @@ use Rattle.krieg_refutefile.specs.RefutationText.{refutation_text}
 use Rattle.krieg_cli.specs.Asked.{has_no_turn, OfPossible}
 use Rattle.krieg_cli.specs.Refusal.{OfText}
 use Rattle.krieg_cli.specs.Solve.{mates_all, NoneMates, least_units, fresh_units}
+use Rattle.krieg_cli.specs.declared.input.TheConstants.{MOST_INPUT}
 use Rattle.krieg_cli.specs.declared.refusal.Refusal.{Refusal}
 use Rattle.krieg_cli.specs.declared.refusal.Refusal.TheVariants.{BudgetSpent, PlanTooLarge, PlanExists}
 
@@ -40,10 +41,11 @@ module _ (d : Dialect) (who : Side) (S : List Pos) where
   abbrev pub denial_file : ℕ → RefutationState
   denial_file n = file_of d who n S (denial (chess d) (outset d who) n S)
 
-  -- the answer is the text of that file, and is read as that file again; the file is a refutation, and no plan mates
+  -- the answer is the text of that file, is read as that file again, and may be an input; the file is a refutation, and no plan mates
   pub record IsDenialText (n : ℕ) (answer : List ℕ) : Type 0 where
     pub text : answer ≡ refutation_text (denial_file n)
     pub again : whole refutation_at (lines answer) ≡ Ok (denial_file n)
+    pub short : length answer ≤ MOST_INPUT
     pub refutes : is_refutation (denial_file n) ≡ true
     pub none_mates : NoneMates d who S n
 

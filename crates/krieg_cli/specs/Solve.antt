@@ -1,5 +1,5 @@
 -- What `solve` answers to a sheet: the best plan for all that is possible, or that no plan mates within the moves that were asked.
-use Rattle.std.specs.Prelude.{◌≡◌, ◌⊎◌, ℕ, ◌<◌, ◌≤◌, Bool, true, false, List, [], ◌∷◌, Result, Ok, Err, codes}
+use Rattle.std.specs.Prelude.{◌≡◌, ◌⊎◌, ℕ, ◌<◌, ◌≤◌, Bool, true, false, List, [], ◌∷◌, length, Result, Ok, Err, codes}
 use Rattle.krieg_board.specs.Pos.{Pos}
 use Rattle.krieg_board.specs.declared.men.Side.{Side}
 use Rattle.krieg_text.specs.Decimals.{number_text}
@@ -22,6 +22,7 @@ use Rattle.krieg_planfile.specs.PlanReading.{plan_at}
 use Rattle.krieg_planfile.specs.PlanText.{plan_text}
 use Rattle.krieg_cli.specs.Asked.{OfPossible}
 use Rattle.krieg_cli.specs.Refusal.{OfText}
+use Rattle.krieg_cli.specs.declared.input.TheConstants.{MOST_INPUT}
 use Rattle.krieg_cli.specs.declared.refusal.Refusal.{Refusal}
 use Rattle.krieg_cli.specs.declared.refusal.Refusal.TheVariants.{BudgetSpent, PlanTooLarge}
 
@@ -69,12 +70,13 @@ module _ (d : Dialect) (who : Side) (S : List Pos) where
   abbrev pub fresh_units : ℕ → ℕ
   fresh_units n = fresh (chess d) (outset d who) n S
 
-  -- the answer is the text of the best file, and is read as that file again
+  -- the answer is the text of the best file, is read as that file again, and may be an input
   pub record IsBestText (n : ℕ) (answer : List ℕ) : Type 0 where
     pub file : PlanState
     pub best : IsBestFile n file
     pub text : answer ≡ plan_text file
     pub again : whole plan_at (lines answer) ≡ Ok file
+    pub short : length answer ≤ MOST_INPUT
 
   -- the text of the best file, or the line that no plan mates
   abbrev pub Tells : ℕ → List ℕ → Type 0

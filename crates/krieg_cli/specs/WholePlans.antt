@@ -1,5 +1,5 @@
 -- `solve` and `check` together: a plan file that one writes is judged by the other.
-use Rattle.std.specs.Prelude.{◌≡◌, ◌<◌, ◌≤◌, ℕ, true, List, length, Option, Some, Ok}
+use Rattle.std.specs.Prelude.{◌≡◌, ◌<◌, ◌≤◌, ℕ, true, List, Option, Some, Ok}
 use Rattle.std.specs.Io.KnownBytes.{Appends}
 use Rattle.krieg_text.specs.Lines.{lines}
 use Rattle.krieg_text.specs.Reading.{whole}
@@ -14,8 +14,7 @@ use Rattle.krieg_cli.specs.Check.{check_cost, worst_text}
 use Rattle.krieg_cli.specs.Ending.{EndsSo}
 use Rattle.krieg_cli.specs.declared.refusal.Refusal.TheVariants.{BudgetSpent}
 use Rattle.krieg_cli.specs.declared.ending.Ending.{Ending}
-use Rattle.krieg_cli.specs.declared.ending.Ending.TheVariants.{Answered, TooLong, ReadFault, WriteFault, NoMemory, Refused}
-use Rattle.krieg_cli.specs.declared.input.TheConstants.{MOST_INPUT}
+use Rattle.krieg_cli.specs.declared.ending.Ending.TheVariants.{Answered, ReadFault, WriteFault, NoMemory, Refused}
 
 -- the text is read as a file like those that `solve` writes: its plan mates from each listed position within the number that the
 -- file states, and no plan has a smaller worst case
@@ -24,12 +23,11 @@ pub record IsSolution (f : PlanState) (text : List ℕ) : Type 0 where
   pub mates : mates_all f.dialect f.side f.list f.plan f.worst ≡ true
   pub least : (plan : PlanTrees) (k : ℕ) → mates_all f.dialect f.side f.list plan k ≡ true → f.worst ≤ k
 
--- How `check` ends on such a text: with the number that the file states, unless the budget is less than the check takes, the
--- text is too long for an input, a stream fails, or memory runs out.
+-- How `check` ends on such a text: with the number that the file states, unless the budget is less than the check takes, a stream
+-- fails, or memory runs out. No such text is too long for an input.
 abbrev pub EndsOnSolution : Ending → ℕ → PlanState → List ℕ → World → World → Type 0
 EndsOnSolution Answered budget f text before after = Appends before.out.bytes after.out.bytes (worst_text f.worst)
 EndsOnSolution (Refused BudgetSpent) budget f text before after = budget < check_cost f
-EndsOnSolution TooLong budget f text before after = MOST_INPUT < length text
 EndsOnSolution ReadFault budget f text before after = FaultsRose before.input after.input
 EndsOnSolution WriteFault budget f text before after = FaultsRose before.out after.out
 EndsOnSolution NoMemory budget f text before after = Unit {0}

@@ -1,5 +1,5 @@
 -- `refute` and `deny` together: what one writes of a sheet, and how the other judges it.
-use Rattle.std.specs.Prelude.{◌≡◌, ◌<◌, ℕ, true, List, length, Option, Some, Ok}
+use Rattle.std.specs.Prelude.{◌≡◌, ◌<◌, ◌≤◌, ℕ, true, List, length, Option, Some, Ok}
 use Rattle.std.specs.Io.KnownBytes.{Appends}
 use Rattle.krieg_board.specs.Pos.{Pos}
 use Rattle.krieg_text.specs.Lines.{lines}
@@ -29,11 +29,13 @@ pub record IsRefutation (f : RefutationState) (text : List ℕ) : Type 0 where
 abbrev pub sheet_file : ℕ → SheetState → List Pos → RefutationState
 sheet_file n s S = denial_file s.dialect s.side S n
 
--- The answer is the text of that file, which is such a file, and no plan mates from each of these positions within n own moves.
+-- The answer is the text of that file, which is such a file, and is short enough to be the input of `deny`; and no plan mates from
+-- each of these positions within n own moves.
 pub record WritesRefutation (n : ℕ) (s : SheetState) (S : List Pos) (before after : World) : Type 0 where
   pub refutation : IsRefutation (sheet_file n s S) (refutation_text (sheet_file n s S))
   pub none_mates : NoneMates (sheet_file n s S)
   pub written : Appends before.out.bytes after.out.bytes (refutation_text (sheet_file n s S))
+  pub short : length (refutation_text (sheet_file n s S)) ≤ MOST_INPUT
 
 -- with the words of `refute`, status 0 answers a sheet so
 abbrev pub RefutesSheets : Option Command → ℕ → World → World → Type 0
@@ -42,11 +44,11 @@ RefutesSheets asked code before after =
     (s : SheetState) × (S : List Pos) × HasSheet s S before after × WritesRefutation n s S before after
 
 -- How `deny` ends on such a text: with the number of moves of the file, within which no plan mates, unless the budget is less than
--- its look takes, the text is too long for an input, a stream fails, or memory runs out.
+-- its look takes, the text is too long for an input, as none is that `refute` writes, a stream fails, or memory runs out.
 abbrev pub EndsOnRefutation : Ending → ℕ → RefutationState → List ℕ → World → World → Type 0
 EndsOnRefutation Answered budget f text before after = Appends before.out.bytes after.out.bytes (refuted_text f.moves) × NoneMates f
 EndsOnRefutation (Refused BudgetSpent) budget f text before after = budget < refutation_price f
-EndsOnRefutation TooLong budget f text before after = MOST_INPUT < length text
+EndsOnRefutation TooLong budget f text before after = (MOST_INPUT < length text) × (text ≡ refutation_text f → ⊥)
 EndsOnRefutation ReadFault budget f text before after = FaultsRose before.input after.input
 EndsOnRefutation WriteFault budget f text before after = FaultsRose before.out after.out
 EndsOnRefutation NoMemory budget f text before after = Unit {0}

@@ -10,7 +10,7 @@
 //! `Headline` is the promise of `solve` and of `find` on one page. `WholePlans` says that `check` finds what `solve` states, `WholeRefutations`
 //! that `refute` writes a refutation and that `deny` finds that such a one holds, `WholeGames` that `believe` lists where a game
 //! stands, given what `umpire` writes of it, `WholeRecords` what comes back of a session by `san` and `unsan`, and `LedGames` that
-//! a plan that mates leads to a mate. `Complete` says when there must be an answer.
+//! a plan that mates leads to a mate. `Complete` says when there must be an answer, and `Limits` what each limit is in numbers.
 //!
 //! `commands` has a file for each command, `outcome` chooses among them, and `answers` has what they answer: one text, or one in pieces.
 //!
@@ -32,6 +32,7 @@ mod answers;
 mod commands;
 mod ending;
 mod input;
+mod laws;
 mod live;
 mod outcome;
 mod refusal;
@@ -42,5 +43,6 @@ pub use input::MOST_INPUT;
 pub use krieg_args::{SeatFiles, lead_files, seat_files};
 pub use krieg_play::PlayFault;
 pub(crate) use krieg_play::{Turn, fault_of, relieved_turn};
+pub use laws::limits_law;
 pub use live::{Bench, Played, play};
 pub use top::{run, run_find};

@@ -15,6 +15,7 @@ ghost use Rattle.krieg_cli.specs.Solve as spec;
 use crate::commands::asked::{asked, listed};
 use crate::commands::counted::counted;
 use crate::ending::Ending;
+use crate::input::MOST_INPUT;
 use crate::refusal::Refusal;
 use krieg_board::{MOST_MOVES, NoMemory, Position, Side, Units};
 use krieg_fen::MOST_LISTED;
@@ -52,6 +53,7 @@ fn file_text(
     requires { CanBeWritten (spec.file_of dialect side list.items worst (plan_of plan)) }
     ensures text { IfOk result (λ text. text.items ≡ plan_text (spec.file_of dialect side list.items worst (plan_of plan))) }
     ensures again { IfOk result (λ text. whole plan_at (lines text.items) ≡ Ok (spec.file_of dialect side list.items worst (plan_of plan))) }
+    ensures short { IfOk result (λ text. length text.items ≤ MOST_INPUT) }
 {
     let file = PlanFile {
         dialect,

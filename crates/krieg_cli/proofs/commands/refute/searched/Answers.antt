@@ -39,4 +39,5 @@ returns-in_ok-write_denial-in-Denial c =
     let taken = subst (λ a. IsTaken c.args.d (side_of c.args.set) c.args.set c.args.moves (Ok a) c.new-units.result c.refute.new.units) c.in-Denial.is c.in_ok-claims.ensures.units in
     claims_told c.args.d c.args.who c.args.set c.args.moves c.args.budget c.new-units.result c.refute.new.units c.new-units.ensures (side_is c.args.who c.args.set c.requires.listed.some c.requires.listed.turn) cs
     c.in_ok-write_denial-in-Denial.field-0 taken
-    (text_told c.args.d c.args.who c.args.set c.args.moves cs.items found c.in_ok-write_denial-in-Denial.field-0 c.requires.listed.turn c.in_ok-write_denial-in-Denial.ensures.value c.in_ok-write_denial-in-Denial.ensures.again)
+    (text_told c.args.d c.args.who c.args.set c.args.moves cs.items found c.in_ok-write_denial-in-Denial.field-0 c.requires.listed.turn c.in_ok-write_denial-in-Denial.ensures.value c.in_ok-write_denial-in-Denial.ensures.again
+    c.in_ok-write_denial-in-Denial.ensures.short)

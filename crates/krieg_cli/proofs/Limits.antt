@@ -1,0 +1,12 @@
+-- What the limits are in numbers.
+use Rattle.std.proofs.Common.{refl, lit≤}
+use Rattle.krieg_cli.specs.Limits.{AreLimits, FitInputs}
+
+pub numbers : AreLimits
+numbers =
+    record { input = refl; listed = refl; moves = refl; job = refl; budget = refl; asks = refl; seed = refl; tries = refl; nodes = refl; path = refl; claims = refl; claimed = refl }
+
+pub fit : FitInputs
+fit = record { plans = lit≤ tt; refutations = lit≤ tt }
+
+pub ruleset limits = (numbers, fit)
