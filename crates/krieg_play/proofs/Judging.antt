@@ -1,5 +1,5 @@
 -- One more try of a game.
-use Rattle.std.proofs.Common.{◌≡◌, ℕ, ◌+◌, ◌≤◌, List, [], ◌∷◌, ◌++◌, length, length-append, refl, sym, ap, ◌∙◌, subst, arith, Result, Ok, Err, Option, None, option_to_list}
+use Rattle.std.proofs.Common.{◌≡◌, ℕ, ◌+◌, ◌≤◌, List, [], ◌∷◌, ◌++◌, length, length-append, refl, sym, ap, ◌∙◌, subst, inr, arith, Result, Ok, Err, Option, None, option_to_list}
 use Rattle.std.proofs.lemmas.List.Elements.{filter_map-append}
 use Rattle.krieg_board.specs.Pos.{Pos}
 use Rattle.krieg_board.specs.declared.men.Side.{Side}
@@ -13,14 +13,15 @@ use Rattle.krieg_referee.specs.Hearing.{line_for, lines_for}
 use Rattle.krieg_referee.specs.declared.verdict.Event.{Event}
 use Rattle.krieg_referee.specs.declared.verdict.Judged.{Judged}
 use Rattle.krieg_seats.specs.Accounts.{Account}
-use Rattle.krieg_play.specs.Teams.{Team, turns_of, Stays, Course}
-use Rattle.krieg_play.specs.Games.{event_of, events_of, tries_of, AreOnTurn, IsGameFrom}
-use Rattle.krieg_play.specs.Played.{Sides, by_side}
+use Rattle.krieg_play.specs.Teams.{Turns, Stays, Course}
+use Rattle.krieg_play.specs.Games.{events_of, AreOnTurn, IsGameFrom}
+use Rattle.krieg_play.specs.Played.{Sides, by_side, Courses, lines_of, turns_so_far, last_turns, LastAsk}
+use Rattle.krieg_play.specs.Broken.{Breaks}
 use Rattle.krieg_play.specs.Calls.{lines_to}
-use Rattle.krieg_play.specs.Passes.{turns_so_far, seat_count, HasTried, AfterBoth, TellsBoth, Judges}
+use Rattle.krieg_play.specs.Passes.{seat_count, HasTried, AfterBoth, TellsBoth, Judges}
 use Rattle.krieg_play.specs.declared.outcome.PlayFault.{PlayFault}
 use Rattle.krieg_play.proofs.Courses.{course_grows, both_counted}
-use Rattle.krieg_play.proofs.HeardLines.{is_broken}
+use Rattle.krieg_play.proofs.HeardLines.{heard_is, lines_are}
 use Rattle.krieg_play.proofs.Tellings.{lone}
 
 -- ---- the judgement of one more try, and where it leads
@@ -61,16 +62,11 @@ lines_end : (start : Pos) (who : Side) (log : List Judged) (j : Judged) → line
 lines_end start who log j = ap (λ (ls : List Line). Opens (opening start) ∷ ls)
     (ap (λ (ls : List Line). lines_for who log ++ ls) (sym (lone who j)) ∙ sym (filter_map-append (line_for who) log (j ∷ [])))
 
--- a side's course where its line of the try is due
-due_next : {X : Type 0} (account : X → Account) (start : Pos) (who : Side) (entry now : Team X) (log log' : List Judged) (j : Judged) (e : Event) (asks : ℕ) → j.event ≡ e → log' ≡ log ++ j ∷ [] →
-    Course account Stays entry now (lines_to start who log) [] (turns_of asks (tries_of who (events_of log ++ e ∷ []))) →
-    Course account Stays entry now (lines_to start who log') (option_to_list (line_for who j)) (turns_of asks (tries_of who (events_of log')))
-due_next account start who entry now log log' j e asks is_e log_is c =
-    let lines_is : lines_to start who log ++ option_to_list (line_for who j) ≡ lines_to start who log' = lines_end start who log j ∙ ap (lines_to start who) (sym log_is) in
-    let events_is : events_of log ++ e ∷ [] ≡ events_of log' = ap (λ (x : Event). events_of log ++ x ∷ []) (sym is_e) ∙ (sym (events_end log j) ∙ ap events_of (sym log_is)) in
-    subst (λ (ls : List Line). Course account Stays entry now ls (option_to_list (line_for who j)) (turns_of asks (tries_of who (events_of log')))) lines_is
-    (subst (λ (es : List Event). Course account Stays entry now (lines_to start who log ++ option_to_list (line_for who j)) (option_to_list (line_for who j)) (turns_of asks (tries_of who es))) events_is
-    (course_grows (option_to_list (line_for who j)) c))
+pub news_of : (start : Pos) (asks : ℕ) (game game' : GameState) (j : Judged) (who : Side) → IsGameFrom start asks game → IsGameFrom start asks game' → game'.log ≡ game.log ++ j ∷ [] →
+    lines_of start game who ++ option_to_list (line_for who j) ≡ lines_of start game' who
+news_of start asks game game' j who g g' log_is =
+    ap (λ (ls : List Line). ls ++ option_to_list (line_for who j)) (sym (heard_is start who game.log g.log))
+    ∙ (lines_end start who game.log j ∙ (ap (lines_to start who) (sym log_is) ∙ heard_is start who game'.log g'.log))
 
 -- a try was judged, and both sides were told what they hear of it, or not
 pub record IsJudged {X : Type 0} (account : X → Account) (r : Result (Unit {0}) PlayFault) (start : Pos) (e : Event) (before now : Sides X) (game game' : GameState) : Type 0 where
@@ -82,15 +78,40 @@ pub record IsJudged {X : Type 0} (account : X → Account) (r : Result (Unit {0}
   no_more : seat_count now ≤ seat_count before
   tells : TellsBoth account r before now (λ who. lines_to start who game'.log) (by_side (option_to_list (line_for White judgement)) (option_to_list (line_for Black judgement)))
 
-told_of : {X : Type 0} (account : X → Account) (r : Result (Unit {0}) PlayFault) (start : Pos) (e : Event) (before now : Sides X) (game game' : GameState) → IsJudged account r start e before now game game' →
-    (asks : ℕ) (entry : Sides X) (h : HasTried account start asks entry before game e) →
-    AfterBoth account r entry now (λ who. lines_to start who game'.log) (turns_so_far h.white_asks h.black_asks (events_of game'.log))
-told_of account r start e before now game game' i asks entry h =
-    let is_e : i.judgement.event ≡ e = ap event_of i.is_judged in
-    let more : game'.log ≡ game.log ++ i.judgement ∷ [] = i.log ∙ ap (λ (y : Judged). game.log ++ y ∷ []) (sym i.is_judged) in
-    i.tells entry (turns_so_far h.white_asks h.black_asks (events_of game'.log))
-    (due_next account start White entry.white before.white game.log game'.log i.judgement e h.white_asks is_e more h.white)
-    (due_next account start Black entry.black before.black game.log game'.log i.judgement e h.black_asks is_e more h.black)
+module _ {X : Type 0} {account : X → Account} {r : Result (Unit {0}) PlayFault} {start : Pos} {e : Event} {before now : Sides X} {game game' : GameState} (i : IsJudged account r start e before now game game') {asks : ℕ} {entry : Sides X}
+    (h : HasTried account start asks entry before game e) where
+  abbrev news : Side → List Line
+  news who = option_to_list (line_for who i.judgement)
+
+  more : game'.log ≡ game.log ++ i.judgement ∷ []
+  more = i.log ∙ ap (λ (y : Judged). game.log ++ y ∷ []) (sym i.is_judged)
+
+  events_are : events_of game'.log ≡ events_of game.log ++ e ∷ []
+  events_are = ap events_of i.log ∙ events_end game.log (judged game.position e)
+
+  stepped : IsGameFrom start asks game'
+  stepped = game_stepped start asks game game' e h.is_game h.on_turn i.log i.position i.spare
+
+  news_are : (who : Side) → lines_of start game who ++ news who ≡ lines_of start game' who
+  news_are who = news_of start asks game game' i.judgement who h.is_game stepped more
+
+  -- what both sides did since any state, once they were told
+  told_since : (then : Sides X) (turns : Side → Turns) → Courses account None then before (lines_of start game) turns → AfterBoth account r (news Black) then now (lines_of start game') turns
+  told_since then turns c =
+      subst (λ (lines : Side → List Line). TellsBoth account r before now lines (by_side (news White) (news Black))) (lines_are start asks game' stepped) i.tells then turns
+      (subst (λ (ls : List Line). Course account Stays then.white before.white ls (news White) (turns White)) (news_are White) (course_grows (news White) c.white))
+      (subst (λ (ls : List Line). Course account Stays then.black before.black ls (news Black) (turns Black)) (news_are Black) (course_grows (news Black) c.black))
+
+  told_so_far : AfterBoth account r (news Black) entry now (lines_of start game') (turns_so_far h.white_asks h.black_asks (events_of game'.log))
+  told_so_far = subst (λ (es : List Event). AfterBoth account r (news Black) entry now (lines_of start game') (turns_so_far h.white_asks h.black_asks es)) (sym events_are)
+      (told_since entry (turns_so_far h.white_asks h.black_asks (events_of game.log ++ e ∷ [])) h.courses)
+
+  told_then : AfterBoth account r (news Black) h.sides_then now (lines_of start game') (last_turns game.position.side (lines_of start game) (e ∷ []))
+  told_then = told_since h.sides_then (last_turns game.position.side (lines_of start game) (e ∷ [])) h.since
+
+  -- the ask of which the try came
+  abbrev ask_of_try : LastAsk account start asks entry game'
+  ask_of_try = record { sides_then = h.sides_then; game_then = game; whole = h.whole; fewer = h.fewer; tried = e ∷ []; at_most_one = omega arith; events = events_are }
 
 pub is_judged : {X : Type 0} (account : X → Account) (r : Result (Unit {0}) PlayFault) (start : Pos) (e : Event) (before now : Sides X) (game game' : GameState) (j : Judged) (logged : List Judged) (w b : Option Line) →
     j ≡ judged game.position e → game'.log ≡ game.log ++ judged game.position e ∷ [] → game'.position ≡ next game.position e.who e.mv → game'.spare + 1 ≡ game.spare →
@@ -111,25 +132,32 @@ is_judged account r start e before now game game' j logged w b j_is log_is posit
 
 pub judges_ok : {X : Type 0} (account : X → Account) (r : Result (Unit {0}) PlayFault) (start : Pos) (e : Event) (before now : Sides X) (game game' : GameState) → r ≡ Ok tt →
     IsJudged account r start e before now game game' → Judges account (Ok None) start e before now game game'
-judges_ok account r start e before now game game' r_is i asks entry h =
-    let told = subst (λ (x : Result (Unit {0}) PlayFault). AfterBoth account x entry now (λ who. lines_to start who game'.log) (turns_so_far h.white_asks h.black_asks (events_of game'.log))) r_is
-    (told_of account r start e before now game game' i asks entry h) in
-    let g = game_stepped start asks game game' e h.is_game h.on_turn i.log i.position i.spare in
+judges_ok {X} account r start e before now game game' r_is i asks entry h =
+    let came = λ (then : Sides X) (turns : Side → Turns) (x : Result (Unit {0}) PlayFault). AfterBoth account x (news i h Black) then now (lines_of start game') turns in
+    let told : Courses account None entry now (lines_of start game') (turns_so_far h.white_asks h.black_asks (events_of game'.log)) = subst (came entry _) r_is (told_so_far i h) in
     record {
-      is_game = g;
-      white_asks = h.white_asks;
-      black_asks = h.black_asks;
-      white = told.0;
-      black = told.1;
-      asked = (h.asked.0, omega (arith, h.asked.1, g.places, h.is_game.places, i.spare, i.no_more, both_counted h.white h.black, both_counted told.0 told.1));
+      whole = record {
+        is_game = stepped i h;
+        white_asks = h.white_asks;
+        black_asks = h.black_asks;
+        courses = told;
+        asked = (h.asked.0, omega (arith, h.asked.1, (stepped i h).places, h.is_game.places, i.spare, i.no_more, both_counted h.courses.white h.courses.black, both_counted told.white told.black));
+      };
+      in_time = inr (ask_of_try i h, subst (came h.sides_then _) r_is (told_then i h));
     }
 
 pub judges_err : {X : Type 0} (account : X → Account) (r : Result (Unit {0}) PlayFault) (fault : PlayFault) (start : Pos) (e : Event) (before now : Sides X) (game game' : GameState) → r ≡ Err fault →
     IsJudged account r start e before now game game' → Judges account (Err fault) start e before now game game'
-judges_err account r fault start e before now game game' r_is i asks entry h =
-    let told = subst (λ (x : Result (Unit {0}) PlayFault). AfterBoth account x entry now (λ who. lines_to start who game'.log) (turns_so_far h.white_asks h.black_asks (events_of game'.log))) r_is
-    (told_of account r start e before now game game' i asks entry h) in
-    let g = game_stepped start asks game game' e h.is_game h.on_turn i.log i.position i.spare in
-    is_broken account start asks entry now fault game' h.white_asks h.black_asks g
-    (h.asked.0, omega (arith, h.asked.1, g.places, h.is_game.places, i.spare, i.no_more, both_counted h.white h.black, both_counted told.white.1 told.black.1))
-    told
+judges_err {X} account r fault start e before now game game' r_is i asks entry h =
+    let came = λ (then : Sides X) (turns : Side → Turns) (x : Result (Unit {0}) PlayFault). AfterBoth account x (news i h Black) then now (lines_of start game') turns in
+    let told : Breaks account fault (news i h Black) entry now (lines_of start game') (turns_so_far h.white_asks h.black_asks (events_of game'.log)) = subst (came entry _) r_is (told_so_far i h) in
+    record {
+      game = game';
+      is_game = stepped i h;
+      white_asks = h.white_asks;
+      black_asks = h.black_asks;
+      news = news i h Black;
+      breaks = told;
+      asked = (h.asked.0, omega (arith, h.asked.1, (stepped i h).places, h.is_game.places, i.spare, i.no_more, both_counted h.courses.white h.courses.black, both_counted told.white.1 told.black.1));
+      at_once = inr (ask_of_try i h, news_are i h Black, subst (came h.sides_then _) r_is (told_then i h));
+    }

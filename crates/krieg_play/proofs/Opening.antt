@@ -1,23 +1,25 @@
 -- How a game begins: both sides are told the opening words.
-use Rattle.std.proofs.Common.{◌≡◌, ℕ, ◌+◌, ◌<◌, List, [], ◌∷◌, length, refl, sym, ap, ◌∙◌, subst, arith, Result, Ok, Err, Some, None, option_to_list}
+use Rattle.std.proofs.Common.{◌≡◌, ℕ, ◌+◌, ◌<◌, List, [], ◌∷◌, length, refl, sym, ap, ◌∙◌, subst, inl, arith, Result, Ok, Err, Some, None, option_to_list}
 use Rattle.krieg_board.specs.Pos.{Pos}
 use Rattle.krieg_words.specs.WordsOfMoves.{opening}
 use Rattle.krieg_words.specs.declared.line.Line.{Line}
 use Rattle.krieg_words.specs.declared.line.Line.TheVariants.{Opens}
+use Rattle.krieg_board.specs.declared.men.Side.{Side}
+use Rattle.krieg_board.specs.declared.men.Side.TheVariants.{White, Black}
 use Rattle.krieg_referee.specs.Games.{GameState}
 use Rattle.krieg_referee.specs.declared.verdict.Judged.{Judged}
 use Rattle.krieg_referee.specs.declared.verdict.Stop.{Stop}
 use Rattle.krieg_seats.specs.Accounts.{Account}
 use Rattle.krieg_play.specs.Teams.{team}
 use Rattle.krieg_play.specs.Games.{IsGameFrom}
-use Rattle.krieg_play.specs.Played.{Sides, sides, by_side, IsPlayed, IsBroken, Refuses}
+use Rattle.krieg_play.specs.Played.{Sides, sides, by_side, Courses, lines_of, turns_so_far, IsUnderway, IsPlayed}
+use Rattle.krieg_play.specs.Broken.{Breaks, IsBroken, Refuses}
 use Rattle.krieg_play.specs.Calls.{lines_to}
-use Rattle.krieg_play.specs.Passes.{turns_so_far, IsUnderway, AfterBoth, TellsBoth, PlaysOn, ComesTo}
+use Rattle.krieg_play.specs.Passes.{AfterBoth, TellsBoth, PlaysOn, ComesTo}
 use Rattle.krieg_play.specs.declared.outcome.PlayFault.{PlayFault}
 use Rattle.krieg_play.specs.declared.outcome.PlayFault.TheVariants.{Vacant, Seat, NoMemory}
 use Rattle.krieg_play.proofs.BothSides.{short_course}
 use Rattle.krieg_play.proofs.Courses.{course_starts}
-use Rattle.krieg_play.proofs.HeardLines.{is_broken}
 
 -- the game with which it begins
 abbrev pub fresh_game : Pos → ℕ → GameState
@@ -30,18 +32,21 @@ fresh_by start game e f =
 is_fresh : (start : Pos) (asks : ℕ) → IsGameFrom start asks (fresh_game start asks)
 is_fresh start asks = record { log = refl; position = refl; on_turn = tt; places = omega arith }
 
--- when the opening words are told, all lines are due
-opened : {X : Type 0} (account : X → Account) (r : Result (Unit {0}) PlayFault) (start : Pos) (before now : Sides X) (logged : List Judged) (w b : Line) →
+abbrev first_lines : Pos → ℕ → Side → List Line
+first_lines start asks who = lines_of start (fresh_game start asks) who
+
+-- what telling the opening words makes of both sides
+opened : {X : Type 0} (account : X → Account) (r : Result (Unit {0}) PlayFault) (start : Pos) (asks : ℕ) (before now : Sides X) (logged : List Judged) (w b : Line) →
     logged ≡ [] → w ≡ Opens (opening start) → b ≡ Opens (opening start) → 0 < length before.white.seats → 0 < length before.black.seats →
     TellsBoth account r before now (λ who. lines_to start who logged) (by_side (option_to_list (Some w)) (option_to_list (Some b))) →
-    AfterBoth account r before now (λ who. lines_to start who []) (turns_so_far 0 0 [])
-opened account r start before now logged w b logged_is w_is b_is white black tells =
+    AfterBoth account r (first_lines start asks Black) before now (first_lines start asks) (turns_so_far 0 0 [])
+opened account r start asks before now logged w b logged_is w_is b_is white black tells =
     let told = subst (λ (ls : List Judged). TellsBoth account r before now (λ who. lines_to start who ls) (by_side (Opens (opening start) ∷ []) (Opens (opening start) ∷ []))) logged_is
     (subst (λ (l : Line). TellsBoth account r before now (λ who. lines_to start who logged) (by_side (l ∷ []) (Opens (opening start) ∷ []))) w_is
     (subst (λ (l : Line). TellsBoth account r before now (λ who. lines_to start who logged) (by_side (w ∷ []) (l ∷ []))) b_is tells)) in
     told before (turns_so_far 0 0 [])
-    (course_starts account before.white.seats before.white.out (Opens (opening start) ∷ []) white)
-    (course_starts account before.black.seats before.black.out (Opens (opening start) ∷ []) black)
+    (course_starts account before.white.seats before.white.out [] (Opens (opening start) ∷ []) white)
+    (course_starts account before.black.seats before.black.out [] (Opens (opening start) ∷ []) black)
 
 -- the opening words were told, and the game was played on
 pub opens_and_plays : {X : Type 0} (account : X → Account) (r : Result (Unit {0}) PlayFault) (s : Result Stop PlayFault) (start : Pos) (asks seats : ℕ) (before middle now : Sides X) (game game' : GameState) (logged : List Judged) (w b : Line) →
@@ -50,29 +55,45 @@ pub opens_and_plays : {X : Type 0} (account : X → Account) (r : Result (Unit {
     TellsBoth account r before middle (λ who. lines_to start who logged) (by_side (option_to_list (Some w)) (option_to_list (Some b))) →
     PlaysOn account s start seats middle now game game' → ComesTo account s start asks before now game'
 opens_and_plays account r s start asks seats before middle now game game' logged w b game_is logged_is w_is b_is white black seats_is ok tells plays =
-    let told = subst (λ (x : Result (Unit {0}) PlayFault). AfterBoth account x before middle (λ who. lines_to start who []) (turns_so_far 0 0 [])) ok
-    (opened account r start before middle logged w b logged_is w_is b_is white black tells) in
-    let under : IsUnderway account None start asks before middle (fresh_game start asks) = record { is_game = is_fresh start asks; white_asks = 0; black_asks = 0; white = told.0; black = told.1; asked = (omega arith, omega arith) } in
+    let told : Courses account None before middle (first_lines start asks) (turns_so_far 0 0 []) =
+    subst (λ (x : Result (Unit {0}) PlayFault). AfterBoth account x (first_lines start asks Black) before middle (first_lines start asks) (turns_so_far 0 0 [])) ok
+    (opened account r start asks before middle logged w b logged_is w_is b_is white black tells) in
+    let under : IsUnderway account None start asks before middle (fresh_game start asks) =
+    record { whole = record { is_game = is_fresh start asks; white_asks = 0; black_asks = 0; courses = told; asked = (omega arith, omega arith) }; in_time = inl refl } in
     plays asks before (subst (λ (x : GameState). IsUnderway account None start asks before middle x) (sym game_is) under) (sym seats_is)
+
+-- no seat was asked
+unasked : {X : Type 0} (account : X → Account) (fault : PlayFault) (start : Pos) (asks : ℕ) (before now : Sides X) →
+    Breaks account fault (first_lines start asks Black) before now (first_lines start asks) (turns_so_far 0 0 []) → IsBroken account start asks before now fault
+unasked account fault start asks before now h = record {
+  game = fresh_game start asks;
+  is_game = is_fresh start asks;
+  white_asks = 0;
+  black_asks = 0;
+  news = first_lines start asks Black;
+  breaks = h;
+  asked = (omega arith, omega arith);
+  at_once = inl (refl, refl);
+}
 
 -- the opening words could not be told to both
 pub opens_not : {X : Type 0} (account : X → Account) (r : Result (Unit {0}) PlayFault) (fault : PlayFault) (start : Pos) (asks : ℕ) (before now : Sides X) (logged : List Judged) (w b : Line) →
     logged ≡ [] → w ≡ Opens (opening start) → b ≡ Opens (opening start) → 0 < length before.white.seats → 0 < length before.black.seats → r ≡ Err fault →
     TellsBoth account r before now (λ who. lines_to start who logged) (by_side (option_to_list (Some w)) (option_to_list (Some b))) → IsBroken account start asks before now fault
 opens_not account r fault start asks before now logged w b logged_is w_is b_is white black e tells =
-    is_broken account start asks before now fault (fresh_game start asks) 0 0 (is_fresh start asks) (omega arith, omega arith)
-    (subst (λ (x : Result (Unit {0}) PlayFault). AfterBoth account x before now (λ who. lines_to start who []) (turns_so_far 0 0 [])) e
-    (opened account r start before now logged w b logged_is w_is b_is white black tells))
+    unasked account fault start asks before now
+    (subst (λ (x : Result (Unit {0}) PlayFault). AfterBoth account x (first_lines start asks Black) before now (first_lines start asks) (turns_so_far 0 0 [])) e
+    (opened account r start asks before now logged w b logged_is w_is b_is white black tells))
 
 -- no seat was called
 pub unbegun : {X : Type 0} (account : X → Account) (start : Pos) (asks : ℕ) (before now : Sides X) → now ≡ before → 0 < length before.white.seats → 0 < length before.black.seats → IsBroken account start asks before now NoMemory
 unbegun account start asks before now same white black =
     subst (λ (x : Sides _). IsBroken account start asks before x NoMemory) (sym same)
-    (is_broken account start asks before before NoMemory (fresh_game start asks) 0 0 (is_fresh start asks) (omega arith, omega arith)
+    (unasked account NoMemory start asks before before
     (record {
-      white = (Opens (opening start) ∷ [], short_course (course_starts account before.white.seats before.white.out (Opens (opening start) ∷ []) white));
-      black = (Opens (opening start) ∷ [], short_course (course_starts account before.black.seats before.black.out (Opens (opening start) ∷ []) black));
-      told_first = tt;
+      white = (first_lines start asks White, short_course (course_starts account before.white.seats before.white.out [] (first_lines start asks White) white));
+      black = (first_lines start asks Black, short_course (course_starts account before.black.seats before.black.out [] (first_lines start asks Black) black));
+      told_first = inl refl;
       ends = tt;
     }))
 
@@ -87,7 +108,7 @@ played_by account start asks spare entry before now game stop e f h =
     subst (λ (n : ℕ). IsPlayed account start n entry now game stop) e (subst (λ (x : Sides _). IsPlayed account start spare x now game stop) f h)
 
 refuses : {X : Type 0} (account : X → Account) (start : Pos) (asks : ℕ) (entry now : Sides X) (fault : PlayFault) → IsBroken account start asks entry now fault → Refuses account start asks entry now fault
-refuses account start asks entry now (Vacant who) h = absurd h.ends
+refuses account start asks entry now (Vacant who) h = absurd h.breaks.ends
 refuses account start asks entry now (Seat who) h = h
 refuses account start asks entry now NoMemory h = h
 

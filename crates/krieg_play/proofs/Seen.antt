@@ -1,17 +1,19 @@
 -- What seats did, told by their accounts alone: what holds of the seats holds of what they mean.
-use Rattle.std.proofs.Common.{◌≡◌, ℕ, ◌+◌, ◌<◌, List, [], ◌∷◌, ◌++◌, length, map, refl, sym, ap, ◌∙◌, subst}
+use Rattle.std.proofs.Common.{◌≡◌, ℕ, ◌+◌, ◌<◌, List, [], ◌∷◌, ◌++◌, length, map, refl, sym, ap, ◌∙◌, subst, ◌⊎◌, inl, inr, Option, None}
 use Rattle.std.proofs.lemmas.List.{length-map}
 use Rattle.std.specs.List.{flat_map}
 use Rattle.krieg_board.specs.Pos.{Pos}
 use Rattle.krieg_board.specs.declared.men.Move.{Move}
+use Rattle.krieg_board.specs.declared.men.Side.{Side}
 use Rattle.krieg_board.specs.declared.men.Side.TheVariants.{White, Black}
 use Rattle.krieg_words.specs.declared.line.Line.{Line}
 use Rattle.krieg_referee.specs.Games.{GameState}
 use Rattle.krieg_referee.specs.declared.verdict.Stop.{Stop}
 use Rattle.krieg_referee.specs.declared.verdict.Stop.TheVariants.{Ended, Left, AsksUsed}
 use Rattle.krieg_seats.specs.Accounts.{Account}
-use Rattle.krieg_play.specs.Teams.{Team, Service, entry_of, now_of, all_asks, said_of, Turns, AreRelieved, Course}
-use Rattle.krieg_play.specs.Played.{Sides, seen_team, seen, relieved, used_up, IsAskedWithin, leaver, last_ask, StopsBy, IsPlayed, EndsAt, IsBroken, Refuses}
+use Rattle.krieg_play.specs.Teams.{Team, Service, entry_of, now_of, asks_of, all_asks, said_of, known_behind, Turns, AreRelieved, Course}
+use Rattle.krieg_play.specs.Played.{Sides, seen_team, seen, relieved, used_up, IsAskedWithin, leaver, last_ask, Courses, lines_of, IsWhole, LastAsk, turns_then, StopsBy, IsPlayed}
+use Rattle.krieg_play.specs.Broken.{EndsAt, Breaks, IsBroken, Refuses}
 use Rattle.krieg_play.specs.declared.outcome.PlayFault.{PlayFault}
 use Rattle.krieg_play.specs.declared.outcome.PlayFault.TheVariants.{Vacant, Seat, NoMemory}
 
@@ -19,7 +21,7 @@ abbrev itself : Account → Account
 itself a = a
 
 abbrev seen_service : {X : Type 0} → (X → Account) → Service X → Service Account
-seen_service account s = record { entry = account s.entry; now = account s.now; asks = s.asks; said = s.said; heard = s.heard }
+seen_service account s = record { entry = account s.entry; now = account s.now; said = s.said; heard = s.heard; vain = s.vain }
 
 entries_seen : {X : Type 0} (account : X → Account) (ss : List (Service X)) (x : X) (ys : List X) →
     map account (map entry_of ss ++ x ∷ ys) ≡ map entry_of (map (seen_service account) ss) ++ account x ∷ map account ys
@@ -37,14 +39,17 @@ said_seen account (s ∷ ss) = ap (λ (t : List Move). s.said ++ t) (said_seen a
 
 asks_seen : {X : Type 0} (account : X → Account) (ss : List (Service X)) → all_asks (map (seen_service account) ss) ≡ all_asks ss
 asks_seen account [] = refl
-asks_seen account (s ∷ ss) = ap (λ (n : ℕ). s.asks + n) (asks_seen account ss)
+asks_seen account (s ∷ ss) = ap (λ (n : ℕ). asks_of s + n) (asks_seen account ss)
 
-relieved_seen : {X : Type 0} (account : X → Account) (lines : List Line) (ss : List (Service X)) → AreRelieved account lines ss → AreRelieved itself lines (map (seen_service account) ss)
-relieved_seen account lines [] h = tt
-relieved_seen account lines (s ∷ ss) h =
-    (record { serves = record { asks = h.0.serves.asks; said = h.0.serves.said; heard = h.0.serves.heard }; due = h.0.due; heard = h.0.heard; gone = h.0.gone }, relieved_seen account lines ss h.1)
+known_seen : {X : Type 0} (account : X → Account) (ss : List (Service X)) (known : List Line) → known_behind (map (seen_service account) ss) known ≡ known_behind ss known
+known_seen account [] known = refl
+known_seen account (s ∷ ss) known = refl
 
-course_seen : {X : Type 0} (account : X → Account) (C : Account → Account → Type 0) (entry now : Team X) (lines due : List Line) (turns : Turns) →
+relieved_seen : {X : Type 0} (account : X → Account) (known lines : List Line) (ss : List (Service X)) → AreRelieved account known lines ss → AreRelieved itself known lines (map (seen_service account) ss)
+relieved_seen account known lines [] h = tt
+relieved_seen account known lines (s ∷ ss) h = (record { serves = h.0.serves; due = h.0.due; heard = h.0.heard; gone = h.0.gone }, relieved_seen account [] lines ss h.1)
+
+course_seen : {X : Type 0} (account : X → Account) (C : ℕ → Account → Account → Type 0) (entry now : Team X) (lines due : List Line) (turns : Turns) →
     Course account C entry now lines due turns → Course itself C (seen_team account entry) (seen_team account now) lines due turns
 course_seen {X} account C entry now lines due turns c = record {
   relieved = map (seen_service account) c.relieved;
@@ -53,10 +58,10 @@ course_seen {X} account C entry now lines due turns c = record {
   seats_then = ap (map account) c.seats_then ∙ entries_seen account c.relieved c.sitting.entry c.behind;
   seats_now = ap (map account) c.seats_now;
   out_now = ap (map account) c.out_now ∙ nows_seen account entry.out c.relieved;
-  are_relieved = relieved_seen account lines c.relieved c.are_relieved;
-  serves = record { asks = c.serves.asks; said = c.serves.said; heard = c.serves.heard };
-  heard = c.heard;
-  asked = ap (λ (n : ℕ). n + c.sitting.asks) (asks_seen account c.relieved) ∙ c.asked;
+  are_relieved = relieved_seen account turns.known lines c.relieved c.are_relieved;
+  serves = c.serves;
+  heard = ap (λ (ls : List Line). ls ++ (c.sitting.heard ++ due)) (known_seen account c.relieved turns.known) ∙ c.heard;
+  asked = ap (λ (n : ℕ). n + asks_of c.sitting) (asks_seen account c.relieved) ∙ c.asked;
   said = ap (λ (t : List Move). t ++ c.sitting.said) (said_seen account c.relieved) ∙ c.said;
   counts = c.counts;
 }
@@ -74,24 +79,58 @@ used_seen : {X : Type 0} (account : X → Account) (entry now : Sides X) (game :
 used_seen account entry now game = ap (λ (n : ℕ). length game.log + n)
     (ap (λ (n : ℕ). n + relieved entry.black now.black) (count_seen account entry.white now.white) ∙ ap (λ (n : ℕ). relieved (seen account entry).white (seen account now).white + n) (count_seen account entry.black now.black))
 
+courses_seen : {X : Type 0} (account : X → Account) (left : Option Side) (entry now : Sides X) (lines : Side → List Line) (turns : Side → Turns) →
+    Courses account left entry now lines turns → Courses itself left (seen account entry) (seen account now) lines turns
+courses_seen account left entry now lines turns c = record { white = course_seen account _ _ _ _ _ _ c.white; black = course_seen account _ _ _ _ _ _ c.black }
+
+module _ {X : Type 0} (account : X → Account) (start : Pos) (asks : ℕ) (entry now : Sides X) (game : GameState) where
+  abbrev whole_seen : (left : Option Side) → IsWhole account left start asks entry now game → IsWhole itself left start asks (seen account entry) (seen account now) game
+  whole_seen left h = record {
+    is_game = h.is_game;
+    white_asks = h.white_asks;
+    black_asks = h.black_asks;
+    courses = courses_seen account left entry now _ _ h.courses;
+    asked = subst (λ (n : ℕ). IsAskedWithin asks n (last_ask left) (h.white_asks + h.black_asks)) (used_seen account entry now game) h.asked;
+  }
+
+abbrev ask_seen : {X : Type 0} (account : X → Account) (start : Pos) (asks : ℕ) (entry : Sides X) (game : GameState) → LastAsk account start asks entry game → LastAsk itself start asks (seen account entry) game
+ask_seen account start asks entry game a = record {
+  sides_then = seen account a.sides_then;
+  game_then = a.game_then;
+  whole = whole_seen account start asks entry a.sides_then a.game_then None a.whole;
+  fewer = subst (λ (n : ℕ). n < asks) (used_seen account entry a.sides_then a.game_then) a.fewer;
+  tried = a.tried;
+  at_most_one = a.at_most_one;
+  events = a.events;
+}
+
 pub played_seen : {X : Type 0} (account : X → Account) (start : Pos) (asks : ℕ) (entry now : Sides X) (game : GameState) (stop : Stop) →
     IsPlayed account start asks entry now game stop → IsPlayed itself start asks (seen account entry) (seen account now) game stop
 played_seen account start asks entry now game stop h = record {
-  is_game = h.is_game;
-  white_asks = h.white_asks;
-  black_asks = h.black_asks;
-  white = course_seen account _ _ _ _ _ _ h.white;
-  black = course_seen account _ _ _ _ _ _ h.black;
-  asked = subst (λ (n : ℕ). IsAskedWithin asks n (last_ask (leaver stop)) (h.white_asks + h.black_asks)) (used_seen account entry now game) h.asked;
+  played = record { whole = whole_seen account start asks entry now game (leaver stop) h.played.whole; in_time = in_time h.played.in_time };
   stops = subst (λ (n : ℕ). StopsBy stop game.position asks n (seen account now)) (used_seen account entry now game)
       (stops_seen account stop game.position asks (used_up entry now game) now h.stops);
 }
+  where
+    in_time : {n : ℕ} → (n ≡ 0) ⊎ ((a : LastAsk account start asks entry game) × Courses account (leaver stop) a.sides_then now (lines_of start game) (turns_then a)) →
+        (n ≡ 0) ⊎ ((a : LastAsk itself start asks (seen account entry) game) × Courses itself (leaver stop) a.sides_then (seen account now) (lines_of start game) (turns_then a))
+    in_time (inl none) = inl none
+    in_time (inr (a, c)) = inr (ask_seen account start asks entry game a, courses_seen account (leaver stop) a.sides_then now _ _ c)
 
 ends_seen : {X : Type 0} (account : X → Account) (fault : PlayFault) (now : Sides X) → EndsAt fault now → EndsAt fault (seen account now)
 ends_seen account (Seat White) now h = length-map now.white.seats account ∙ h
 ends_seen account (Seat Black) now h = length-map now.black.seats account ∙ h
 ends_seen account NoMemory now h = h
 ends_seen account (Vacant who) now h = h
+
+breaks_seen : {X : Type 0} (account : X → Account) (fault : PlayFault) (news : List Line) (entry now : Sides X) (lines : Side → List Line) (turns : Side → Turns) →
+    Breaks account fault news entry now lines turns → Breaks itself fault news (seen account entry) (seen account now) lines turns
+breaks_seen account fault news entry now lines turns h = record {
+  white = (h.white.0, course_seen account _ _ _ _ _ _ h.white.1);
+  black = (h.black.0, course_seen account _ _ _ _ _ _ h.black.1);
+  told_first = h.told_first;
+  ends = ends_seen account fault now h.ends;
+}
 
 broken_seen : {X : Type 0} (account : X → Account) (start : Pos) (asks : ℕ) (entry now : Sides X) (fault : PlayFault) →
     IsBroken account start asks entry now fault → IsBroken itself start asks (seen account entry) (seen account now) fault
@@ -100,12 +139,17 @@ broken_seen account start asks entry now fault h = record {
   is_game = h.is_game;
   white_asks = h.white_asks;
   black_asks = h.black_asks;
-  white = (h.white.0, course_seen account _ _ _ _ _ _ h.white.1);
-  black = (h.black.0, course_seen account _ _ _ _ _ _ h.black.1);
+  news = h.news;
+  breaks = breaks_seen account fault h.news entry now _ _ h.breaks;
   asked = subst (λ (n : ℕ). IsAskedWithin asks n 1 (h.white_asks + h.black_asks)) (used_seen account entry now h.game) h.asked;
-  told_first = h.told_first;
-  ends = ends_seen account fault now h.ends;
+  at_once = at_once h.at_once;
 }
+  where
+    at_once : {A : Type 0} → A ⊎ ((a : LastAsk account start asks entry h.game) × (lines_of start a.game_then Black ++ h.news ≡ lines_of start h.game Black) × Breaks account fault h.news a.sides_then now (lines_of start h.game) (turns_then a)) →
+        A ⊎ ((a : LastAsk itself start asks (seen account entry) h.game) × (lines_of start a.game_then Black ++ h.news ≡ lines_of start h.game Black)
+        × Breaks itself fault h.news a.sides_then (seen account now) (lines_of start h.game) (turns_then a))
+    at_once (inl none) = inl none
+    at_once (inr (a, news, b)) = inr (ask_seen account start asks entry h.game a, news, breaks_seen account fault h.news a.sides_then now _ _ b)
 
 pub refuses_seen : {X : Type 0} (account : X → Account) (start : Pos) (asks : ℕ) (entry now : Sides X) (fault : PlayFault) →
     Refuses account start asks entry now fault → Refuses itself start asks (seen account entry) (seen account now) fault

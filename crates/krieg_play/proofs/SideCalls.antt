@@ -1,5 +1,5 @@
 -- What the calls of one side make of any course so far.
-use Rattle.std.proofs.Common.{◌≡◌, ℕ, ◌<◌, ◌≤◌, List, [], ◌∷◌, ◌++◌, length, refl, sym, ap, ◌∙◌, subst, inl, inr, arith, Result, Ok, Err, Option, Some, option_to_list}
+use Rattle.std.proofs.Common.{◌≡◌, ℕ, ◌+◌, ◌<◌, ◌≤◌, List, [], ◌∷◌, ◌++◌, length, refl, sym, ap, ◌∙◌, subst, inl, inr, arith, Result, Ok, Err, Option, Some, option_to_list}
 use Rattle.std.proofs.lemmas.List.{append-nil}
 use Rattle.krieg_ports.specs.Faults.{one_more, Rose}
 use Rattle.krieg_board.specs.declared.men.Move.{Move}
@@ -9,46 +9,49 @@ use Rattle.krieg_seats.specs.declared.seat.Say.{Say}
 use Rattle.krieg_seats.specs.declared.seat.Say.TheVariants.{Try, Leave}
 use Rattle.krieg_seats.specs.declared.seat.SeatFault.{SeatFault}
 use Rattle.krieg_seats.specs.declared.seat.SeatFault.TheVariants.{Failed, NoMemory}
-use Rattle.krieg_play.specs.Teams.{Team, team, Turns, Stays, HasFailed, HasLeft, IsGone, MayBeShort, Course}
+use Rattle.krieg_play.specs.Teams.{Team, team, Serves, Turns, Stays, HasFailed, HasLeft, IsGone, MayBeShort, Course}
 use Rattle.krieg_play.specs.Calls.{ToldAll, BreaksOff, FirstChanges, AfterTelling, Relieves, Tells, once_more, one_try, AfterTurn, TakesTurn, EndsTurn, relieved_turn}
 use Rattle.krieg_play.specs.declared.turn.Turn.{Turn}
 use Rattle.krieg_play.specs.declared.turn.Turn.TheVariants.{Tried}
 use Rattle.krieg_play.proofs.Courses.{course_changes, course_moves, course_weakens}
 use Rattle.krieg_play.proofs.Tellings.{one_told}
 
--- ---- counts that stayed, and then changed in one call
+-- ---- counts that stayed, and then changed in one call, which asked it so often in vain
 
-stays_on : (e a b : Account) → b.faults ≡ a.faults → b.leaves ≡ a.leaves → Stays e a → Stays e b
-stays_on e a b f l h = (f ∙ h.0, l ∙ h.1)
+stays_on : (v : ℕ) (e a b : Account) → b.faults ≡ a.faults → b.leaves ≡ a.leaves → Stays v e a → Stays (v + 0) e b
+stays_on v e a b f l h = (f ∙ h.0, l ∙ h.1, omega (arith, h.2))
 
-fails_now : (e a b : Account) → Rose a.faults b.faults → b.leaves ≡ a.leaves → Stays e a → HasFailed e b
-fails_now e a b r l h = (subst (λ (n : ℕ). Rose n b.faults) h.0 r, l ∙ h.1)
+fails_now : (vain v : ℕ) (e a b : Account) → vain ≤ 1 → Rose a.faults b.faults → b.leaves ≡ a.leaves → Stays v e a → HasFailed (v + vain) e b
+fails_now vain v e a b few r l h = (subst (λ (n : ℕ). Rose n b.faults) h.0 r, l ∙ h.1, omega (arith, h.2, few))
 
-leaves_now : (e a b : Account) → b.faults ≡ a.faults → Rose a.leaves b.leaves → Stays e a → HasLeft e b
-leaves_now e a b f r h = (f ∙ h.0, subst (λ (n : ℕ). Rose n b.leaves) h.1 r)
+leaves_now : (v : ℕ) (e a b : Account) → b.faults ≡ a.faults → Rose a.leaves b.leaves → Stays v e a → HasLeft (v + 1) e b
+leaves_now v e a b f r h = (f ∙ h.0, subst (λ (n : ℕ). Rose n b.leaves) h.1 r, omega (arith, h.2))
 
-runs_short : (e a b : Account) → a.faults ≤ b.faults → b.leaves ≡ a.leaves → Stays e a → MayBeShort e b
-runs_short e a b f l h = (subst (λ (n : ℕ). n ≤ b.faults) h.0 f, l ∙ h.1)
+runs_short : (vain v : ℕ) (e a b : Account) → vain ≤ 1 → a.faults ≤ b.faults → b.leaves ≡ a.leaves → Stays v e a → MayBeShort (v + vain) e b
+runs_short vain v e a b few f l h = (subst (λ (n : ℕ). n ≤ b.faults) h.0 f, l ∙ h.1, omega (arith, h.2, few))
 
 -- ---- the sitting seat told
+
+only_hears : (a b : Account) (lines : List Line) → b.asks ≡ a.asks → b.said ≡ a.said → b.heard ≡ a.heard ++ lines → Serves [] lines 0 a b
+only_hears a b lines asks said heard = record { asks = asks; said = said ∙ sym (append-nil a.said); heard = heard }
 
 -- it heard all of what was due
 hears_all : {X : Type 0} (account : X → Account) {entry : Team X} {seats out seats' : List X} {lines heard : List Line} {turns : Turns} {R : X → X → Type 0} → (f : FirstChanges R seats seats') →
     account f.first' ≡ record (account f.first) { heard = (account f.first).heard ++ heard } →
     Course account Stays entry (team seats out) lines heard turns → Course account Stays entry (team seats' out) lines [] turns
 hears_all account {heard = heard} {turns = turns} f e c =
-    course_changes 0 [] heard c (sym (append-nil heard)) f (ap (λ (a : Account). a.asks) e)
-    (ap (λ (a : Account). a.said) e ∙ sym (append-nil (account f.first).said)) (ap (λ (a : Account). a.heard) e)
-    (λ a h. stays_on a (account f.first) (account f.first') (ap (λ (b : Account). b.faults) e) (ap (λ (b : Account). b.leaves) e) h)
+    course_changes [] heard 0 c (sym (append-nil heard)) f
+    (only_hears _ _ heard (ap (λ (a : Account). a.asks) e) (ap (λ (a : Account). a.said) e) (ap (λ (a : Account). a.heard) e))
+    (λ v a h. stays_on v a (account f.first) (account f.first') (ap (λ (b : Account). b.faults) e) (ap (λ (b : Account). b.leaves) e) h)
     (omega arith) (append-nil turns.tries)
 
 -- it heard a front part of what was due, and its counts are these
-hears_some : {X : Type 0} (account : X → Account) {D : Account → Account → Type 0} {entry : Team X} {seats out seats' : List X} {lines due : List Line} {turns : Turns} {R : X → X → Type 0} → (f : FirstChanges R seats seats') →
-    (h : BreaksOff due (account f.first) (account f.first')) → ((a : Account) → Stays a (account f.first) → D a (account f.first')) →
+hears_some : {X : Type 0} (account : X → Account) {D : ℕ → Account → Account → Type 0} {entry : Team X} {seats out seats' : List X} {lines due : List Line} {turns : Turns} {R : X → X → Type 0} → (f : FirstChanges R seats seats') →
+    (h : BreaksOff due (account f.first) (account f.first')) → ((v : ℕ) (a : Account) → Stays v a (account f.first) → D (v + 0) a (account f.first')) →
     Course account Stays entry (team seats out) lines due turns → Course account D entry (team seats' out) lines h.due turns
 hears_some account {turns = turns} f h counts c =
-    course_changes 0 [] h.told c (sym h.split) f (ap (λ (a : Account). a.asks) h.now_is)
-    (ap (λ (a : Account). a.said) h.now_is ∙ sym (append-nil (account f.first).said)) (ap (λ (a : Account). a.heard) h.now_is)
+    course_changes [] h.told 0 c (sym h.split) f
+    (only_hears _ _ h.told (ap (λ (a : Account). a.asks) h.now_is) (ap (λ (a : Account). a.said) h.now_is) (ap (λ (a : Account). a.heard) h.now_is))
     counts (omega arith) (append-nil turns.tries)
 
 told_after : {X : Type 0} (account : X → Account) (r : Result (Unit {0}) SeatFault) {entry : Team X} {seats out seats' : List X} {lines due : List Line} {turns : Turns} →
@@ -56,9 +59,9 @@ told_after : {X : Type 0} (account : X → Account) (r : Result (Unit {0}) SeatF
     Course account Stays entry (team seats out) lines due turns → AfterTelling account r entry (team seats' out) lines turns
 told_after account (Ok x) f c = hears_all account f f.changes c
 told_after account (Err Failed) f c =
-    (f.changes.0.due, hears_some account f f.changes.0 (λ a h. fails_now a (account f.first) (account f.first') f.changes.1 (ap (λ (b : Account). b.leaves) f.changes.0.now_is) h) c)
+    (f.changes.0.due, hears_some account f f.changes.0 (λ v a h. fails_now 0 v a (account f.first) (account f.first') (omega arith) f.changes.1 (ap (λ (b : Account). b.leaves) f.changes.0.now_is) h) c)
 told_after account (Err NoMemory) f c =
-    (f.changes.0.due, hears_some account f f.changes.0 (λ a h. runs_short a (account f.first) (account f.first') f.changes.1 (ap (λ (b : Account). b.leaves) f.changes.0.now_is) h) c)
+    (f.changes.0.due, hears_some account f f.changes.0 (λ v a h. runs_short 0 v a (account f.first) (account f.first') (omega arith) f.changes.1 (ap (λ (b : Account). b.leaves) f.changes.0.now_is) h) c)
 
 told_one : (line : Line) (r : Result (Unit {0}) SeatFault) (a b : Account) → Told line r a b → ToldAll (line ∷ []) r a b
 told_one line (Ok x) a b h = h
@@ -91,18 +94,18 @@ pub relieves_once : {X : Type 0} (account : X → Account) (r : Result (Unit {0}
     seats ≡ first ∷ seats' → out' ≡ out ++ first ∷ [] → 0 < length seats' → FirstChanges (λ x y. ToldAll lines r (account x) (account y)) seats' seats'' →
     Relieves account IsGone r (team seats out) (team seats'' out') lines
 relieves_once account r seats out seats' out' seats'' lines first then_is out_is some f entry due turns c =
-    told_after account r f (course_moves first seats' c (λ a b h. h) then_is out_is some)
+    told_after account r f (course_moves first seats' c (λ v a b h. h) then_is out_is some)
 
 -- the next one failed as well
 pub relieves_again : {X : Type 0} (account : X → Account) (r s : Result (Unit {0}) SeatFault) (before middle now : Team X) (lines : List Line) → r ≡ Err Failed →
     Relieves account IsGone r before middle lines → Relieves account IsGone s middle now lines → Relieves account IsGone s before now lines
 relieves_again account r s before middle now lines failed first second entry due turns c =
     let fell = subst (λ (x : Result (Unit {0}) SeatFault). AfterTelling account x entry middle lines turns) failed (first entry due turns c) in
-    second entry fell.0 turns (course_weakens (λ a b h. inl h) fell.1)
+    second entry fell.0 turns (course_weakens (λ v a b h. inl h) fell.1)
 
 pub relieves_failed : {X : Type 0} (account : X → Account) (r : Result (Unit {0}) SeatFault) (before now : Team X) (lines : List Line) →
     Relieves account IsGone r before now lines → Relieves account HasFailed r before now lines
-relieves_failed account r before now lines h entry due turns c = h entry due turns (course_weakens (λ a b k. inl k) c)
+relieves_failed account r before now lines h entry due turns c = h entry due turns (course_weakens (λ v a b k. inl k) c)
 
 -- ---- the sitting seat asked
 
@@ -113,28 +116,30 @@ AfterAnswer account (Err Failed) entry now lines turns = Course account HasFaile
 AfterAnswer account (Err NoMemory) entry now lines turns = Course account MayBeShort entry now lines [] turns
 
 -- it said nothing
-says_nothing : {X : Type 0} (account : X → Account) {D : Account → Account → Type 0} {R : X → X → Type 0} {entry : Team X} {seats out seats' : List X} {lines : List Line} {turns : Turns} → (f : FirstChanges R seats seats') →
+says_nothing : {X : Type 0} (account : X → Account) {D : ℕ → Account → Account → Type 0} {R : X → X → Type 0} {entry : Team X} {seats out seats' : List X} {lines : List Line} {turns : Turns} → (f : FirstChanges R seats seats') →
     (account f.first').asks ≡ one_more (account f.first).asks → (account f.first').said ≡ (account f.first).said → (account f.first').heard ≡ (account f.first).heard →
-    ((a : Account) → Stays a (account f.first) → D a (account f.first')) →
+    ((v : ℕ) (a : Account) → Stays v a (account f.first) → D (v + 1) a (account f.first')) →
     Course account Stays entry (team seats out) lines [] turns → Course account D entry (team seats' out) lines [] (once_more turns)
 says_nothing account {turns = turns} f asked says hears counts c =
-    course_changes 1 [] [] c refl f asked (says ∙ sym (append-nil (account f.first).said)) (hears ∙ sym (append-nil (account f.first).heard)) counts (omega arith) (append-nil turns.tries)
+    course_changes [] [] 1 c refl f
+    (record { asks = asked; said = says ∙ sym (append-nil (account f.first).said); heard = hears ∙ sym (append-nil (account f.first).heard) })
+    counts (omega arith) (append-nil turns.tries)
 
 answered : {X : Type 0} (account : X → Account) (r : Result Say SeatFault) {entry : Team X} {seats out seats' : List X} {lines : List Line} {turns : Turns} → FirstChanges (λ x y. Asked r (account x) (account y)) seats seats' →
     Course account Stays entry (team seats out) lines [] turns → AfterAnswer account r entry (team seats' out) lines (once_more turns)
 answered account (Ok (Try m)) {turns = turns} f c =
-    course_changes 1 (m ∷ []) [] c refl f (ap (λ (a : Account). a.asks) f.changes)
-    (ap (λ (a : Account). a.said) f.changes) (ap (λ (a : Account). a.heard) f.changes ∙ sym (append-nil (account f.first).heard))
-    (λ a h. stays_on a (account f.first) (account f.first') (ap (λ (b : Account). b.faults) f.changes) (ap (λ (b : Account). b.leaves) f.changes) h) (omega arith) refl
+    course_changes (m ∷ []) [] 0 c refl f
+    (record { asks = ap (λ (a : Account). a.asks) f.changes; said = ap (λ (a : Account). a.said) f.changes; heard = ap (λ (a : Account). a.heard) f.changes ∙ sym (append-nil (account f.first).heard) })
+    (λ v a h. stays_on v a (account f.first) (account f.first') (ap (λ (b : Account). b.faults) f.changes) (ap (λ (b : Account). b.leaves) f.changes) h) (omega arith) refl
 answered account (Ok Leave) f c =
     says_nothing account f (ap (λ (a : Account). a.asks) f.changes.1) (ap (λ (a : Account). a.said) f.changes.1) (ap (λ (a : Account). a.heard) f.changes.1)
-    (λ a h. leaves_now a (account f.first) (account f.first') (ap (λ (b : Account). b.faults) f.changes.1) f.changes.0 h) c
+    (λ v a h. leaves_now v a (account f.first) (account f.first') (ap (λ (b : Account). b.faults) f.changes.1) f.changes.0 h) c
 answered account (Err Failed) f c =
     says_nothing account f (ap (λ (a : Account). a.asks) f.changes.1) (ap (λ (a : Account). a.said) f.changes.1) (ap (λ (a : Account). a.heard) f.changes.1)
-    (λ a h. fails_now a (account f.first) (account f.first') f.changes.0 (ap (λ (b : Account). b.leaves) f.changes.1) h) c
+    (λ v a h. fails_now 1 v a (account f.first) (account f.first') (omega arith) f.changes.0 (ap (λ (b : Account). b.leaves) f.changes.1) h) c
 answered account (Err NoMemory) f c =
     says_nothing account f (ap (λ (a : Account). a.asks) f.changes.1) (ap (λ (a : Account). a.said) f.changes.1) (ap (λ (a : Account). a.heard) f.changes.1)
-    (λ a h. runs_short a (account f.first) (account f.first') f.changes.0 (ap (λ (b : Account). b.leaves) f.changes.1) h) c
+    (λ v a h. runs_short 1 v a (account f.first) (account f.first') (omega arith) f.changes.0 (ap (λ (b : Account). b.leaves) f.changes.1) h) c
 
 answered_as : {X : Type 0} (account : X → Account) (r s : Result Say SeatFault) {entry : Team X} {seats out seats' : List X} {lines : List Line} {turns : Turns} → FirstChanges (λ x y. Asked r (account x) (account y)) seats seats' → r ≡ s →
     Course account Stays entry (team seats out) lines [] turns → AfterAnswer account s entry (team seats' out) lines (once_more turns)
@@ -165,7 +170,7 @@ asks_leave account r s seats out seats' now lines e f takes entry turns c = take
 -- the seat that left was relieved
 pub leaves : {X : Type 0} (account : X → Account) (s : Result (Unit {0}) SeatFault) (before now : Team X) (lines : List Line) →
     Relieves account IsGone s before now lines → EndsTurn account (relieved_turn s) before now lines
-leaves account s before now lines h entry turns c = turned account s entry now lines turns (h entry [] turns (course_weakens (λ a b k. inr k) c))
+leaves account s before now lines h entry turns c = turned account s entry now lines turns (h entry [] turns (course_weakens (λ v a b k. inr k) c))
 
 pub takes_as : {X : Type 0} (account : X → Account) (r s : Result Turn SeatFault) (before now : Team X) (lines : List Line) → r ≡ s → TakesTurn account s before now lines → TakesTurn account r before now lines
 takes_as account r s before now lines e h = subst (λ (x : Result Turn SeatFault). TakesTurn account x before now lines) (sym e) h

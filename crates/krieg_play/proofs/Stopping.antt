@@ -1,48 +1,31 @@
 -- How a game stops.
-use Rattle.std.proofs.Common.{◌≡◌, ℕ, ◌-◌, ◌<◌, ◌≤◌, Bool, true, false, not, List, [], length, refl, sym, ap, ◌∙◌, subst, arith, Result, Ok, Err, Option, Some, None}
+use Rattle.std.proofs.Common.{◌≡◌, ℕ, ◌-◌, ◌<◌, ◌≤◌, Bool, true, false, not, length, refl, sym, ap, ◌∙◌, subst, arith, Result, Ok, Err, Option, Some, None}
 use Rattle.krieg_board.specs.Pos.{Pos}
 use Rattle.krieg_board.specs.declared.men.Side.{Side}
-use Rattle.krieg_board.specs.declared.men.Side.TheVariants.{White, Black}
 use Rattle.krieg_moves.specs.Moves.{is_ended}
-use Rattle.krieg_words.specs.declared.line.Line.{Line}
 use Rattle.krieg_referee.specs.Games.{GameState}
 use Rattle.krieg_referee.specs.declared.verdict.Stop.{Stop}
 use Rattle.krieg_referee.specs.declared.verdict.Stop.TheVariants.{Ended, Left, AsksUsed}
 use Rattle.krieg_seats.specs.Accounts.{Account}
-use Rattle.krieg_play.specs.Teams.{turns_of, Course}
-use Rattle.krieg_play.specs.Games.{events_of, tries_of}
-use Rattle.krieg_play.specs.Played.{Sides, seats_of, used_up, leaver, played_counts, StopsBy, IsPlayed}
-use Rattle.krieg_play.specs.Passes.{seat_count, IsUnderway, AfterPass, Passes, PlaysOn}
+use Rattle.krieg_play.specs.Played.{Sides, seats_of}
+use Rattle.krieg_play.specs.Passes.{seat_count, AfterPass, Passes, PlaysOn}
 use Rattle.krieg_play.specs.declared.outcome.PlayFault.{PlayFault}
 use Rattle.krieg_play.proofs.Courses.{both_counted}
-use Rattle.krieg_play.proofs.HeardLines.{heard_is}
-
-is_played : {X : Type 0} (account : X → Account) (start : Pos) (asks : ℕ) (entry now : Sides X) (game : GameState) (stop : Stop) → IsUnderway account (leaver stop) start asks entry now game →
-    StopsBy stop game.position asks (used_up entry now game) now → IsPlayed account start asks entry now game stop
-is_played account start asks entry now game stop u h = record {
-  is_game = u.is_game;
-  white_asks = u.white_asks;
-  black_asks = u.black_asks;
-  white = subst (λ (ls : List Line). Course account (played_counts (leaver stop) White) entry.white now.white ls [] (turns_of u.white_asks (tries_of White (events_of game.log)))) (heard_is start White game.log u.is_game.log) u.white;
-  black = subst (λ (ls : List Line). Course account (played_counts (leaver stop) Black) entry.black now.black ls [] (turns_of u.black_asks (tries_of Black (events_of game.log)))) (heard_is start Black game.log u.is_game.log) u.black;
-  asked = u.asked;
-  stops = h;
-}
 
 pub stops_ended : {X : Type 0} (account : X → Account) (start : Pos) (seats : ℕ) (now : Sides X) (game : GameState) → is_ended game.position ≡ true → PlaysOn account (Ok Ended) start seats now now game game
-stops_ended account start seats now game h asks entry u seats_is = is_played account start asks entry now game Ended u h
+stops_ended account start seats now game h asks entry u seats_is = record { played = u; stops = h }
 
 pub stops_used : {X : Type 0} (account : X → Account) (start : Pos) (seats : ℕ) (now : Sides X) (game : GameState) → is_ended game.position ≡ false →
     game.spare ≤ seats - seat_count now → PlaysOn account (Ok AsksUsed) start seats now now game game
 stops_used account start seats now game h few asks entry u seats_is =
-    is_played account start asks entry now game AsksUsed u (h, omega (arith, few, seats_is, both_counted u.white u.black, u.is_game.places))
+    record { played = u; stops = (h, omega (arith, few, seats_is, both_counted u.whole.courses.white u.whole.courses.black, u.whole.is_game.places)) }
 
 pub stops_left : {X : Type 0} (account : X → Account) (start : Pos) (seats : ℕ) (who : Side) (before now : Sides X) (game : GameState) → is_ended game.position ≡ false →
     seats - seat_count now < game.spare → who ≡ game.position.side → length (seats_of who now) ≡ 1 →
     Passes account (Ok (Some who)) start seats before now game game → PlaysOn account (Ok (Left who)) start seats before now game game
 stops_left account start seats who before now game h many turn one passes asks entry u seats_is =
     let v = passes asks entry u seats_is in
-    is_played account start asks entry now game (Left who) v (h, omega (arith, many, seats_is, both_counted v.white v.black, v.is_game.places), turn, one)
+    record { played = v; stops = (h, omega (arith, many, seats_is, both_counted v.whole.courses.white v.whole.courses.black, v.whole.is_game.places), turn, one) }
 
 -- the same from what the pass says
 pub stops_left_at : {X : Type 0} (account : X → Account) (start : Pos) (seats : ℕ) (who : Side) (p : Result (Option Side) PlayFault) (before now : Sides X) (game game' : GameState) → is_ended game.position ≡ false →

@@ -1,5 +1,5 @@
 -- What no public clause cites: what each call of one side's seats makes of them.
-use Rattle.std.specs.Prelude.{◌≡◌, ◌+◌, ◌<◌, ◌≤◌, ◌⊎◌, List, [], ◌∷◌, ◌++◌, Result, Ok, Err, Vec, vec_len, vec_capacity}
+use Rattle.std.specs.Prelude.{◌≡◌, ℕ, ◌+◌, ◌<◌, ◌≤◌, ◌⊎◌, List, [], ◌∷◌, ◌++◌, Result, Ok, Err, Vec, vec_len, vec_capacity}
 use Rattle.krieg_ports.specs.Faults.{Rose}
 use Rattle.krieg_board.specs.Pos.{Pos}
 use Rattle.krieg_board.specs.declared.men.Move.{Move}
@@ -51,7 +51,7 @@ abbrev pub IsReady : {X Z : Type 0} → Vec X Z → Vec X Z → Type 0
 IsReady seats out = (0 < vec_len seats) × (vec_len seats + vec_len out ≤ vec_capacity out)
 
 -- what the sitting seat's counts came to where a call of the side ends with the fault of a seat
-abbrev pub seat_counts : SeatFault → Account → Account → Type 0
+abbrev pub seat_counts : SeatFault → ℕ → Account → Account → Type 0
 seat_counts Failed = HasFailed
 seat_counts NoMemory = MayBeShort
 
@@ -61,7 +61,7 @@ AfterTelling account (Ok _) entry now lines turns = Course account Stays entry n
 AfterTelling account (Err fault) entry now lines turns = BrokenCourse account (seat_counts fault) entry now lines turns
 
 -- a relief, from any course so far whose sitting seat has these counts
-abbrev pub Relieves : {X : Type 0} → (X → Account) → (Account → Account → Type 0) → Result (Unit {0}) SeatFault → Team X → Team X → List Line → Type 0
+abbrev pub Relieves : {X : Type 0} → (X → Account) → (ℕ → Account → Account → Type 0) → Result (Unit {0}) SeatFault → Team X → Team X → List Line → Type 0
 Relieves {X} account Counts r before now lines =
     (entry : Team X) (due : List Line) (turns : Turns) → Course account Counts entry before lines due turns → AfterTelling account r entry now lines turns
 

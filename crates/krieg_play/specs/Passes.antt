@@ -1,5 +1,5 @@
 -- What no public clause cites: what each call of both sides makes of them and of their game.
-use Rattle.std.specs.Prelude.{◌≡◌, ℕ, ◌+◌, List, [], ◌∷◌, ◌++◌, length, Option, None, Result, Ok, Err}
+use Rattle.std.specs.Prelude.{◌≡◌, ℕ, ◌+◌, ◌<◌, List, [], ◌∷◌, ◌++◌, length, Option, None, Result, Ok, Err}
 use Rattle.krieg_board.specs.Pos.{Pos}
 use Rattle.krieg_board.specs.declared.men.Side.{Side}
 use Rattle.krieg_board.specs.declared.men.Side.TheVariants.{White, Black}
@@ -10,10 +10,11 @@ use Rattle.krieg_referee.specs.declared.verdict.Stop.{Stop}
 use Rattle.krieg_seats.specs.Accounts.{Account}
 use Rattle.krieg_seats.specs.declared.seat.SeatFault.{SeatFault}
 use Rattle.krieg_seats.specs.declared.seat.SeatFault.TheVariants as fault
-use Rattle.krieg_play.specs.Teams.{Turns, turns_of, Course, BrokenCourse, Stays}
-use Rattle.krieg_play.specs.Games.{events_of, tries_of, IsGameFrom}
-use Rattle.krieg_play.specs.Played.{Sides, by_side, used_up, IsAskedWithin, last_ask, played_counts, fault_counts, IsToldFirst, EndsAt, IsPlayed, IsBroken}
-use Rattle.krieg_play.specs.Calls.{lines_to, once_more, AfterTurn}
+use Rattle.krieg_play.specs.Teams.{Turns, Course, Stays}
+use Rattle.krieg_play.specs.Games.{events_of, IsGameFrom}
+use Rattle.krieg_play.specs.Played.{Sides, used_up, IsAskedWithin, Courses, lines_of, turns_so_far, last_turns, IsWhole, IsUnderway, IsPlayed}
+use Rattle.krieg_play.specs.Broken.{Breaks, IsBroken}
+use Rattle.krieg_play.specs.Calls.{once_more, AfterTurn}
 use Rattle.krieg_play.specs.declared.outcome.PlayFault.{PlayFault}
 use Rattle.krieg_play.specs.declared.outcome.PlayFault.TheVariants.{Seat, NoMemory}
 use Rattle.krieg_play.specs.declared.turn.Turn.{Turn}
@@ -25,24 +26,16 @@ fault_of fault.NoMemory who = NoMemory
 
 -- ---- both sides
 
--- what both sides did where a call ends with a fault
-pub record Breaks {X : Type 0} (account : X → Account) (fault : PlayFault) (entry now : Sides X) (lines : Side → List Line) (turns : Side → Turns) : Type 0 where
-  pub white : BrokenCourse account (fault_counts fault White) entry.white now.white (lines White) (turns White)
-  pub black : BrokenCourse account (fault_counts fault Black) entry.black now.black (lines Black) (turns Black)
-  pub told_first : IsToldFirst fault white.0
-  pub ends : EndsAt fault now
-
--- what both sides did where lines that were due were told
-abbrev pub AfterBoth : {X : Type 0} → (X → Account) → Result (Unit {0}) PlayFault → Sides X → Sides X → (Side → List Line) → (Side → Turns) → Type 0
-AfterBoth account (Ok _) entry now lines turns =
-    Course account Stays entry.white now.white (lines White) [] (turns White) × Course account Stays entry.black now.black (lines Black) [] (turns Black)
-AfterBoth account (Err fault) entry now lines turns = Breaks account fault entry now lines turns
+-- what both sides did where lines that were due were told, of which these were Black's
+abbrev pub AfterBoth : {X : Type 0} → (X → Account) → Result (Unit {0}) PlayFault → List Line → Sides X → Sides X → (Side → List Line) → (Side → Turns) → Type 0
+AfterBoth account (Ok _) news entry now lines turns = Courses account None entry now lines turns
+AfterBoth account (Err fault) news entry now lines turns = Breaks account fault news entry now lines turns
 
 -- telling both sides, from any courses so far of which these lines are due
 abbrev pub TellsBoth : {X : Type 0} → (X → Account) → Result (Unit {0}) PlayFault → Sides X → Sides X → (Side → List Line) → (Side → List Line) → Type 0
 TellsBoth {X} account r before now lines due =
     (entry : Sides X) (turns : Side → Turns) → Course account Stays entry.white before.white (lines White) (due White) (turns White) →
-    Course account Stays entry.black before.black (lines Black) (due Black) (turns Black) → AfterBoth account r entry now lines turns
+    Course account Stays entry.black before.black (lines Black) (due Black) (turns Black) → AfterBoth account r (due Black) entry now lines turns
 
 -- what asking one side makes of both
 abbrev pub AfterAsk : {X : Type 0} → (X → Account) → Side → Result Turn SeatFault → Sides X → Sides X → (Side → List Line) → (Side → Turns) → Type 0
@@ -54,33 +47,22 @@ AfterAsk account Black r entry now lines turns =
 -- asking one side, from any courses so far
 abbrev pub AsksOne : {X : Type 0} → (X → Account) → Side → Result Turn SeatFault → Sides X → Sides X → (Side → List Line) → Type 0
 AsksOne {X} account who r before now lines =
-    (entry : Sides X) (turns : Side → Turns) → Course account Stays entry.white before.white (lines White) [] (turns White) →
-    Course account Stays entry.black before.black (lines Black) [] (turns Black) → AfterAsk account who r entry now lines turns
+    (entry : Sides X) (turns : Side → Turns) → Courses account None entry before lines turns → AfterAsk account who r entry now lines turns
 
 -- ---- their game
 
--- each side's turns, where they were asked so often and these are the tries
-abbrev pub turns_so_far : ℕ → ℕ → List Event → Side → Turns
-turns_so_far white_asks black_asks events who = turns_of (by_side white_asks black_asks who) (tries_of who events)
-
--- a game under way: each side has heard its lines of it, has said its tries, and was asked so often
-pub record IsUnderway {X : Type 0} (account : X → Account) (left : Option Side) (start : Pos) (asks : ℕ) (entry now : Sides X) (game : GameState) : Type 0 where
-  pub is_game : IsGameFrom start asks game
-  pub white_asks : ℕ
-  pub black_asks : ℕ
-  pub white : Course account (played_counts left White) entry.white now.white (lines_to start White game.log) [] (turns_of white_asks (tries_of White (events_of game.log)))
-  pub black : Course account (played_counts left Black) entry.black now.black (lines_to start Black game.log) [] (turns_of black_asks (tries_of Black (events_of game.log)))
-  pub asked : IsAskedWithin asks (used_up entry now game) (last_ask left) (white_asks + black_asks)
-
--- the same where the side to move has said one more try, which is not judged yet
+-- A whole game in which the side to move has said one more try, which is not judged yet: so it was asked last in the state before.
 pub record HasTried {X : Type 0} (account : X → Account) (start : Pos) (asks : ℕ) (entry now : Sides X) (game : GameState) (e : Event) : Type 0 where
   pub is_game : IsGameFrom start asks game
   pub on_turn : e.who ≡ game.position.side
   pub white_asks : ℕ
   pub black_asks : ℕ
-  pub white : Course account Stays entry.white now.white (lines_to start White game.log) [] (turns_of white_asks (tries_of White (events_of game.log ++ e ∷ [])))
-  pub black : Course account Stays entry.black now.black (lines_to start Black game.log) [] (turns_of black_asks (tries_of Black (events_of game.log ++ e ∷ [])))
+  pub courses : Courses account None entry now (lines_of start game) (turns_so_far white_asks black_asks (events_of game.log ++ e ∷ []))
   pub asked : IsAskedWithin asks (used_up entry now game) 1 (white_asks + black_asks)
+  pub sides_then : Sides X
+  pub whole : IsWhole account None start asks entry sides_then game
+  pub fewer : used_up entry sides_then game < asks
+  pub since : Courses account None sides_then now (lines_of start game) (last_turns game.position.side (lines_of start game) (e ∷ []))
 
 -- what one pass makes of a game under way: it is still under way, with a side that left or none, or it is broken off
 abbrev pub AfterPass : {X : Type 0} → (X → Account) → Result (Option Side) PlayFault → Pos → ℕ → Sides X → Sides X → GameState → Type 0

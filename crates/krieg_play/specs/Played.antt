@@ -1,5 +1,6 @@
--- What a call of play came to: a game that was played to its stop, or one that was given up.
-use Rattle.std.specs.Prelude.{◌≡◌, ℕ, ◌+◌, ◌-◌, ◌<◌, ◌≤◌, true, false, List, [], length, map, Option, Some, None}
+-- A game that was played to its stop, from the state in which it is whole.
+use Rattle.std.specs.Prelude.{◌≡◌, ℕ, ◌+◌, ◌-◌, ◌<◌, ◌≤◌, ◌⊎◌, true, false, List, [], ◌++◌, length, map, Option, Some, None, if◌then◌else◌}
+use Rattle.krieg_board.specs.Men.{is_same_side}
 use Rattle.krieg_board.specs.Pos.{Pos}
 use Rattle.krieg_board.specs.declared.men.Side.{Side}
 use Rattle.krieg_board.specs.declared.men.Side.TheVariants.{White, Black}
@@ -8,13 +9,12 @@ use Rattle.krieg_words.specs.declared.dialects.Dialect.TheVariants.{Wild16}
 use Rattle.krieg_words.specs.declared.line.Line.{Line}
 use Rattle.krieg_referee.specs.Hearing.{heard}
 use Rattle.krieg_referee.specs.Games.{GameState}
+use Rattle.krieg_referee.specs.declared.verdict.Event.{Event}
 use Rattle.krieg_referee.specs.declared.verdict.Stop.{Stop}
 use Rattle.krieg_referee.specs.declared.verdict.Stop.TheVariants.{Ended, Left, AsksUsed}
 use Rattle.krieg_seats.specs.Accounts.{Account}
-use Rattle.krieg_play.specs.Teams.{Team, team, turns_of, Course, BrokenCourse, Stays, HasLeft, HasFailed, MayBeShort}
+use Rattle.krieg_play.specs.Teams.{Team, team, Turns, turns_since, turns_of, Course, Stays, HasLeft}
 use Rattle.krieg_play.specs.Games.{events_of, tries_of, IsGameFrom}
-use Rattle.krieg_play.specs.declared.outcome.PlayFault.{PlayFault}
-use Rattle.krieg_play.specs.declared.outcome.PlayFault.TheVariants.{Vacant, Seat, NoMemory}
 
 -- both sides of a bench
 pub record Sides (X : Type 0) : Type 0 where
@@ -55,7 +55,7 @@ used_up entry now game = length game.log + all_relieved entry now
 abbrev pub IsAskedWithin : ℕ → ℕ → ℕ → ℕ → Type 0
 IsAskedWithin asks used vain asked = (asked ≤ asks) × (asked ≤ used + vain)
 
--- ---- a game that was played
+-- ---- a game that goes on, or was played
 
 -- the side that left
 abbrev pub leaver : Stop → Option Side
@@ -69,10 +69,62 @@ last_ask None = 0
 last_ask (Some who) = 1
 
 -- what the counts of each side's sitting seat came to: they stay, but the leaves of a side that left rose
-abbrev pub played_counts : Option Side → Side → Account → Account → Type 0
+abbrev pub played_counts : Option Side → Side → ℕ → Account → Account → Type 0
 played_counts (Some White) White = HasLeft
 played_counts (Some Black) Black = HasLeft
 played_counts _ _ = Stays
+
+-- what both sides did since they were in some state: each sitting seat has heard all lines of its side
+pub record Courses {X : Type 0} (account : X → Account) (left : Option Side) (entry now : Sides X) (lines : Side → List Line) (turns : Side → Turns) : Type 0 where
+  pub white : Course account (played_counts left White) entry.white now.white (lines White) [] (turns White)
+  pub black : Course account (played_counts left Black) entry.black now.black (lines Black) [] (turns Black)
+
+-- the lines of each side of a game so far
+abbrev pub lines_of : Pos → GameState → Side → List Line
+lines_of start game who = heard Wild16 start (events_of game.log) who
+
+-- each side's turns since the call began, where they were asked so often and these are the tries
+abbrev pub turns_so_far : ℕ → ℕ → List Event → Side → Turns
+turns_so_far white_asks black_asks events who = turns_of (by_side white_asks black_asks who) (tries_of who events)
+
+-- A game so far, which is whole: each side has heard its lines of it, its tries are what its seats said, and they were asked so often.
+pub record IsWhole {X : Type 0} (account : X → Account) (left : Option Side) (start : Pos) (asks : ℕ) (entry now : Sides X) (game : GameState) : Type 0 where
+  pub is_game : IsGameFrom start asks game
+  pub white_asks : ℕ
+  pub black_asks : ℕ
+  pub courses : Courses account left entry now (lines_of start game) (turns_so_far white_asks black_asks (events_of game.log))
+  pub asked : IsAskedWithin asks (used_up entry now game) (last_ask left) (white_asks + black_asks)
+
+-- The state in which a seat was asked last: the game was whole, and fewer tries were judged and seats relieved than may be. At most
+-- one try has been judged since.
+pub record LastAsk {X : Type 0} (account : X → Account) (start : Pos) (asks : ℕ) (entry : Sides X) (game : GameState) : Type 0 where
+  pub sides_then : Sides X
+  pub game_then : GameState
+  pub whole : IsWhole account None start asks entry sides_then game_then
+  pub fewer : used_up entry sides_then game_then < asks
+  pub tried : List Event
+  pub at_most_one : length tried ≤ 1
+  pub events : events_of game.log ≡ events_of game_then.log ++ tried
+
+-- the side that is asked is asked once
+abbrev pub once : Side → Side → ℕ
+once asked who = if is_same_side asked who then 1 else 0
+
+-- each side's turns since then, where that side was asked, these lines were heard already and these are the tries
+abbrev pub last_turns : Side → (Side → List Line) → List Event → Side → Turns
+last_turns asked known tried who = turns_since (known who) (once asked who) (tries_of who tried)
+
+-- the same of the last ask
+abbrev pub turns_then : {X : Type 0} {account : X → Account} {start : Pos} {asks : ℕ} {entry : Sides X} {game : GameState} →
+    LastAsk account start asks entry game → Side → Turns
+turns_then {start = start} ask who =
+    last_turns ask.game_then.position.side (lines_of start ask.game_then) ask.tried who
+
+-- A whole game in which no seat was asked too late: none was asked; or what both sides did since the last ask is one turn.
+pub record IsUnderway {X : Type 0} (account : X → Account) (left : Option Side) (start : Pos) (asks : ℕ) (entry now : Sides X) (game : GameState) : Type 0 where
+  pub whole : IsWhole account left start asks entry now game
+  pub in_time : (whole.white_asks + whole.black_asks ≡ 0)
+      ⊎ ((ask : LastAsk account start asks entry game) × Courses account left ask.sides_then now (lines_of start game) (turns_then ask))
 
 -- Why the game stopped in this position, where so many tries were judged and seats relieved: it has ended; or these are as many
 -- as may be asked, or more; or the last seat of the side to move left.
@@ -81,54 +133,7 @@ StopsBy Ended p asks used now = is_ended p ≡ true
 StopsBy AsksUsed p asks used now = (is_ended p ≡ false) × (asks ≤ used)
 StopsBy (Left who) p asks used now = (is_ended p ≡ false) × (used < asks) × (who ≡ p.side) × (length (seats_of who now) ≡ 1)
 
--- The seats played this game from the start until it stopped: each side heard its lines of it, and its tries are what it said, and
--- its seats were asked so often.
+-- The seats played this game from the start until it stopped.
 pub record IsPlayed {X : Type 0} (account : X → Account) (start : Pos) (asks : ℕ) (entry now : Sides X) (game : GameState) (stop : Stop) : Type 0 where
-  pub is_game : IsGameFrom start asks game
-  pub white_asks : ℕ
-  pub black_asks : ℕ
-  pub white : Course account (played_counts (leaver stop) White) entry.white now.white (heard Wild16 start (events_of game.log) White) [] (turns_of white_asks (tries_of White (events_of game.log)))
-  pub black : Course account (played_counts (leaver stop) Black) entry.black now.black (heard Wild16 start (events_of game.log) Black) [] (turns_of black_asks (tries_of Black (events_of game.log)))
-  pub asked : IsAskedWithin asks (used_up entry now game) (last_ask (leaver stop)) (white_asks + black_asks)
+  pub played : IsUnderway account (leaver stop) start asks entry now game
   pub stops : StopsBy stop game.position asks (used_up entry now game) now
-
--- ---- a game that was given up
-
--- what the counts of each side's sitting seat came to
-abbrev pub fault_counts : PlayFault → Side → Account → Account → Type 0
-fault_counts (Seat White) White = HasFailed
-fault_counts (Seat Black) Black = HasFailed
-fault_counts NoMemory who = MayBeShort
-fault_counts _ _ = Stays
-
--- the seat that failed is the only one of its side's list; a side without a seat begins no game
-abbrev pub EndsAt : {X : Type 0} → PlayFault → Sides X → Type 0
-EndsAt (Seat who) now = length (seats_of who now) ≡ 1
-EndsAt NoMemory now = Unit {0}
-EndsAt (Vacant who) now = ⊥
-
--- White is told before Black: where Black's seat failed, White has heard all of his lines
-abbrev pub IsToldFirst : PlayFault → List Line → Type 0
-IsToldFirst (Seat Black) due = due ≡ []
-IsToldFirst _ due = Unit {0}
-
--- The seats played this game from the start until it was given up: its tries are what each side said, its seats were asked so
--- often, and of its lines each sitting seat heard a front part.
-pub record IsBroken {X : Type 0} (account : X → Account) (start : Pos) (asks : ℕ) (entry now : Sides X) (fault : PlayFault) : Type 0 where
-  pub game : GameState
-  pub is_game : IsGameFrom start asks game
-  pub white_asks : ℕ
-  pub black_asks : ℕ
-  pub white : BrokenCourse account (fault_counts fault White) entry.white now.white (heard Wild16 start (events_of game.log) White) (turns_of white_asks (tries_of White (events_of game.log)))
-  pub black : BrokenCourse account (fault_counts fault Black) entry.black now.black (heard Wild16 start (events_of game.log) Black) (turns_of black_asks (tries_of Black (events_of game.log)))
-  pub asked : IsAskedWithin asks (used_up entry now game) 1 (white_asks + black_asks)
-  pub told_first : IsToldFirst fault white.0
-  pub ends : EndsAt fault now
-
--- Why no game was played to a stop: a side has no seat, White's list being looked at first, and then nothing has changed; or the
--- game was given up.
-abbrev pub Refuses : {X : Type 0} → (X → Account) → Pos → ℕ → Sides X → Sides X → PlayFault → Type 0
-Refuses account start asks entry now (Vacant White) = (entry.white.seats ≡ []) × (now ≡ entry)
-Refuses account start asks entry now (Vacant Black) = (0 < length entry.white.seats) × (entry.black.seats ≡ []) × (now ≡ entry)
-Refuses account start asks entry now (Seat who) = IsBroken account start asks entry now (Seat who)
-Refuses account start asks entry now NoMemory = IsBroken account start asks entry now NoMemory

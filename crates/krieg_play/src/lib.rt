@@ -5,8 +5,9 @@
 //! far before anything else.
 //!
 //! The definitions of `specs/` know no boxes: they speak of any seats by what these mean. They say what a side
-//! did since the call began (`Teams`), which games are played by turns (`Games`), and what a call came to
-//! (`Played`). `Calls` and `Passes` are parts of the work: what one call of a side makes of it, and of both.
+//! did since it was in some state (`Teams`), which games are played by turns (`Games`), what a game is that is whole,
+//! when a seat was asked last, and what a game came to that was played (`Played`) or given up (`Broken`). `Calls` and
+//! `Passes` are parts of the work: what one call of a side makes of it, and of both.
 //!
 //! The calls that hold boxed seats, and `play` itself, stand in `krieg_cli`, in its module `live`, since every caller
 //! that is handed a bench stands in one crate with them. Here are the faults that they answer (`outcome`), what came of asking
