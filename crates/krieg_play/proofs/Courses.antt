@@ -1,8 +1,7 @@
 -- The steps by which the course of a side goes on.
-use Rattle.std.proofs.Common.{◌≡◌, ℕ, zero, suc, ◌+◌, ◌<◌, List, [], ◌∷◌, ◌++◌, length, length-append, map, refl, sym, ap, ◌∙◌, subst, append_assoc, arith}
+use Rattle.std.proofs.Common.{◌≡◌, ℕ, ◌+◌, ◌<◌, List, [], ◌∷◌, ◌++◌, length, length-append, map, refl, sym, ap, ◌∙◌, subst, append_assoc, arith}
 use Rattle.std.proofs.lemmas.List.{append-nil, length-map}
 use Rattle.std.specs.List.{flat_map}
-use Rattle.krieg_ports.specs.Faults.{one_more, many_more}
 use Rattle.krieg_board.specs.declared.men.Move.{Move}
 use Rattle.krieg_words.specs.declared.line.Line.{Line}
 use Rattle.krieg_seats.specs.Accounts.{Account}
@@ -10,9 +9,10 @@ use Rattle.krieg_play.specs.Teams.{Team, team, Service, entry_of, now_of, asks_o
 use Rattle.krieg_play.specs.Played.{Sides, relieved, all_relieved}
 use Rattle.krieg_play.specs.Passes.{seat_count}
 use Rattle.krieg_play.specs.Calls.{FirstChanges}
+use Rattle.krieg_play.proofs.Serving.{serves_none, serves_more}
 
 own_service : {X : Type 0} (account : X → Account) (x : X) → IsService account (record { entry = x; now = x; said = []; heard = []; vain = 0 })
-own_service account x = record { asks = refl; said = sym (append-nil (account x).said); heard = sym (append-nil (account x).heard) }
+own_service account x = serves_none (account x)
 
 -- in the state that it starts from a side has done nothing yet
 pub course_starts : {X : Type 0} (account : X → Account) (seats out : List X) (known due : List Line) → 0 < length seats →
@@ -68,25 +68,6 @@ same_head x y xs ys e = cc
 
 same_tail : {X : Type 0} (x y : X) (xs ys : List X) → x ∷ xs ≡ y ∷ ys → xs ≡ ys
 same_tail x y xs ys e = cc
-
--- counts go on
-many_more_again : (m n count : ℕ) → many_more m (many_more n count) ≡ many_more (m + n) count
-many_more_again zero n count = let none : n ≡ 0 + n = omega arith in ap (λ (k : ℕ). many_more k count) none
-many_more_again (suc m) n count =
-    let one : suc (m + n) ≡ suc m + n = omega arith in
-    ap one_more (many_more_again m n count) ∙ ap (λ (k : ℕ). many_more k count) one
-
--- what became of an account, and then more
-serves_more : (said said' : List Move) (heard heard' : List Line) (vain vain' : ℕ) (a b c : Account) → Serves said heard vain a b → Serves said' heard' vain' b c →
-    Serves (said ++ said') (heard ++ heard') (vain + vain') a c
-serves_more said said' heard heard' vain vain' a b c h k = record {
-  asks = k.asks ∙ (ap (many_more (length said' + vain')) h.asks ∙ (many_more_again (length said' + vain') (length said + vain) a.asks ∙ ap (λ (n : ℕ). many_more n a.asks) all));
-  said = k.said ∙ (ap (λ (ms : List Move). ms ++ said') h.said ∙ append_assoc a.said said said');
-  heard = k.heard ∙ (ap (λ (ls : List Line). ls ++ heard') h.heard ∙ append_assoc a.heard heard heard');
-}
-  where
-    all : length said' + vain' + (length said + vain) ≡ length (said ++ said') + (vain + vain')
-    all = omega (arith, length-append said said')
 
 -- the sitting seat said and heard more, was asked so often more, and its counts changed
 pub course_changes : {X : Type 0} {account : X → Account} {C D : ℕ → Account → Account → Type 0} {R : X → X → Type 0} {entry : Team X} {seats out seats' : List X} {lines due due' : List Line} {turns : Turns} {asks : ℕ} {tries : List Move}

@@ -111,7 +111,7 @@ module _ {X : Type 0} {account : X → Account} {r : Result (Unit {0}) PlayFault
 
   -- the ask of which the try came
   abbrev ask_of_try : LastAsk account start asks entry game'
-  ask_of_try = record { sides_then = h.sides_then; game_then = game; whole = h.whole; fewer = h.fewer; tried = e ∷ []; at_most_one = omega arith; events = events_are }
+  ask_of_try = record { sides_then = h.sides_then; game_then = game; whole = h.whole; fewer = h.fewer; since = record { tried = e ∷ []; at_most_one = omega arith; events = events_are } }
 
 pub is_judged : {X : Type 0} (account : X → Account) (r : Result (Unit {0}) PlayFault) (start : Pos) (e : Event) (before now : Sides X) (game game' : GameState) (j : Judged) (logged : List Judged) (w b : Option Line) →
     j ≡ judged game.position e → game'.log ≡ game.log ++ judged game.position e ∷ [] → game'.position ≡ next game.position e.who e.mv → game'.spare + 1 ≡ game.spare →

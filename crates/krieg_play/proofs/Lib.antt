@@ -1,5 +1,6 @@
 pub mod FirstSeats
 pub mod Tellings
+pub mod Serving
 pub mod Courses
 pub mod SideCalls
 pub mod HeardLines

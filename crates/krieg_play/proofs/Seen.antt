@@ -99,9 +99,7 @@ ask_seen account start asks entry game a = record {
   game_then = a.game_then;
   whole = whole_seen account start asks entry a.sides_then a.game_then None a.whole;
   fewer = subst (λ (n : ℕ). n < asks) (used_seen account entry a.sides_then a.game_then) a.fewer;
-  tried = a.tried;
-  at_most_one = a.at_most_one;
-  events = a.events;
+  since = a.since;
 }
 
 pub played_seen : {X : Type 0} (account : X → Account) (start : Pos) (asks : ℕ) (entry now : Sides X) (game : GameState) (stop : Stop) →

@@ -9,10 +9,11 @@ use Rattle.krieg_seats.specs.declared.seat.Say.{Say}
 use Rattle.krieg_seats.specs.declared.seat.Say.TheVariants.{Try, Leave}
 use Rattle.krieg_seats.specs.declared.seat.SeatFault.{SeatFault}
 use Rattle.krieg_seats.specs.declared.seat.SeatFault.TheVariants.{Failed, NoMemory}
-use Rattle.krieg_play.specs.Teams.{Team, team, Serves, Turns, Stays, HasFailed, HasLeft, IsGone, MayBeShort, Course}
+use Rattle.krieg_play.specs.Teams.{Team, team, Turns, Stays, HasFailed, HasLeft, IsGone, MayBeShort, Course}
 use Rattle.krieg_play.specs.Calls.{ToldAll, BreaksOff, FirstChanges, AfterTelling, Relieves, Tells, once_more, one_try, AfterTurn, TakesTurn, EndsTurn, relieved_turn}
 use Rattle.krieg_play.specs.declared.turn.Turn.{Turn}
 use Rattle.krieg_play.specs.declared.turn.Turn.TheVariants.{Tried}
+use Rattle.krieg_play.proofs.Serving.{only_hears, tries_move, asked_in_vain}
 use Rattle.krieg_play.proofs.Courses.{course_changes, course_moves, course_weakens}
 use Rattle.krieg_play.proofs.Tellings.{one_told}
 
@@ -31,9 +32,6 @@ runs_short : (vain v : ℕ) (e a b : Account) → vain ≤ 1 → a.faults ≤ b.
 runs_short vain v e a b few f l h = (subst (λ (n : ℕ). n ≤ b.faults) h.0 f, l ∙ h.1, omega (arith, h.2, few))
 
 -- ---- the sitting seat told
-
-only_hears : (a b : Account) (lines : List Line) → b.asks ≡ a.asks → b.said ≡ a.said → b.heard ≡ a.heard ++ lines → Serves [] lines 0 a b
-only_hears a b lines asks said heard = record { asks = asks; said = said ∙ sym (append-nil a.said); heard = heard }
 
 -- it heard all of what was due
 hears_all : {X : Type 0} (account : X → Account) {entry : Team X} {seats out seats' : List X} {lines heard : List Line} {turns : Turns} {R : X → X → Type 0} → (f : FirstChanges R seats seats') →
@@ -122,14 +120,13 @@ says_nothing : {X : Type 0} (account : X → Account) {D : ℕ → Account → A
     Course account Stays entry (team seats out) lines [] turns → Course account D entry (team seats' out) lines [] (once_more turns)
 says_nothing account {turns = turns} f asked says hears counts c =
     course_changes [] [] 1 c refl f
-    (record { asks = asked; said = says ∙ sym (append-nil (account f.first).said); heard = hears ∙ sym (append-nil (account f.first).heard) })
-    counts (omega arith) (append-nil turns.tries)
+    (asked_in_vain _ _ asked says hears) counts (omega arith) (append-nil turns.tries)
 
 answered : {X : Type 0} (account : X → Account) (r : Result Say SeatFault) {entry : Team X} {seats out seats' : List X} {lines : List Line} {turns : Turns} → FirstChanges (λ x y. Asked r (account x) (account y)) seats seats' →
     Course account Stays entry (team seats out) lines [] turns → AfterAnswer account r entry (team seats' out) lines (once_more turns)
 answered account (Ok (Try m)) {turns = turns} f c =
     course_changes (m ∷ []) [] 0 c refl f
-    (record { asks = ap (λ (a : Account). a.asks) f.changes; said = ap (λ (a : Account). a.said) f.changes; heard = ap (λ (a : Account). a.heard) f.changes ∙ sym (append-nil (account f.first).heard) })
+    (tries_move m _ _ f.changes)
     (λ v a h. stays_on v a (account f.first) (account f.first') (ap (λ (b : Account). b.faults) f.changes) (ap (λ (b : Account). b.leaves) f.changes) h) (omega arith) refl
 answered account (Ok Leave) f c =
     says_nothing account f (ap (λ (a : Account). a.asks) f.changes.1) (ap (λ (a : Account). a.said) f.changes.1) (ap (λ (a : Account). a.heard) f.changes.1)

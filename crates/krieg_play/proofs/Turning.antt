@@ -109,7 +109,7 @@ module _ {X : Type 0} (account : X → Account) (start : Pos) (asks : ℕ) (entr
 
   -- an ask of which no try came
   abbrev in_vain : LastAsk account start asks entry game
-  in_vain = record { sides_then = before; game_then = game; whole = u; fewer = fewer; tried = []; at_most_one = omega arith; events = sym (append-nil (events_of game.log)) }
+  in_vain = record { sides_then = before; game_then = game; whole = u; fewer = fewer; since = record { tried = []; at_most_one = omega arith; events = sym (append-nil (events_of game.log)) } }
 
   -- the same where both sides have heard all of their lines
   goes_on : (left : Option Side) (white_asks black_asks : ℕ) (who : Side) → who ≡ game.position.side → IsAskedWithin asks (used_up entry now game) (last_ask left) (white_asks + black_asks) →

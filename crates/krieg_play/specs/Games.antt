@@ -1,5 +1,5 @@
 -- A game whose players are asked by turns: its tries, and whose they were.
-use Rattle.std.specs.Prelude.{◌≡◌, ◌+◌, ℕ, List, [], ◌∷◌, length, map, Option, Some, None, if◌then◌else◌}
+use Rattle.std.specs.Prelude.{◌≡◌, ◌+◌, ◌≤◌, ℕ, List, [], ◌∷◌, ◌++◌, length, map, Option, Some, None, if◌then◌else◌}
 use Rattle.std.specs.List.{filter_map}
 use Rattle.krieg_board.specs.Men.{is_same_side}
 use Rattle.krieg_board.specs.Pos.{Pos}
@@ -36,3 +36,9 @@ pub record IsGameFrom (start : Pos) (asks : ℕ) (game : GameState) : Type 0 whe
   pub position : game.position ≡ last start (events_of game.log)
   pub on_turn : AreOnTurn start (events_of game.log)
   pub places : game.spare + length game.log ≡ asks
+
+-- at most one try was judged between two states of a game
+pub record TriesOnce (before now : GameState) : Type 0 where
+  pub tried : List Event
+  pub at_most_one : length tried ≤ 1
+  pub events : events_of now.log ≡ events_of before.log ++ tried

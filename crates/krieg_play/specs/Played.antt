@@ -1,5 +1,5 @@
 -- A game that was played to its stop, from the state in which it is whole.
-use Rattle.std.specs.Prelude.{◌≡◌, ℕ, ◌+◌, ◌-◌, ◌<◌, ◌≤◌, ◌⊎◌, true, false, List, [], ◌++◌, length, map, Option, Some, None, if◌then◌else◌}
+use Rattle.std.specs.Prelude.{◌≡◌, ℕ, ◌+◌, ◌-◌, ◌<◌, ◌≤◌, ◌⊎◌, true, false, List, [], length, map, Option, Some, None, if◌then◌else◌}
 use Rattle.krieg_board.specs.Men.{is_same_side}
 use Rattle.krieg_board.specs.Pos.{Pos}
 use Rattle.krieg_board.specs.declared.men.Side.{Side}
@@ -14,7 +14,7 @@ use Rattle.krieg_referee.specs.declared.verdict.Stop.{Stop}
 use Rattle.krieg_referee.specs.declared.verdict.Stop.TheVariants.{Ended, Left, AsksUsed}
 use Rattle.krieg_seats.specs.Accounts.{Account}
 use Rattle.krieg_play.specs.Teams.{Team, team, Turns, turns_since, turns_of, Course, Stays, HasLeft}
-use Rattle.krieg_play.specs.Games.{events_of, tries_of, IsGameFrom}
+use Rattle.krieg_play.specs.Games.{events_of, tries_of, IsGameFrom, TriesOnce}
 
 -- both sides of a bench
 pub record Sides (X : Type 0) : Type 0 where
@@ -102,9 +102,7 @@ pub record LastAsk {X : Type 0} (account : X → Account) (start : Pos) (asks : 
   pub game_then : GameState
   pub whole : IsWhole account None start asks entry sides_then game_then
   pub fewer : used_up entry sides_then game_then < asks
-  pub tried : List Event
-  pub at_most_one : length tried ≤ 1
-  pub events : events_of game.log ≡ events_of game_then.log ++ tried
+  pub since : TriesOnce game_then game
 
 -- the side that is asked is asked once
 abbrev pub once : Side → Side → ℕ
@@ -118,7 +116,7 @@ last_turns asked known tried who = turns_since (known who) (once asked who) (tri
 abbrev pub turns_then : {X : Type 0} {account : X → Account} {start : Pos} {asks : ℕ} {entry : Sides X} {game : GameState} →
     LastAsk account start asks entry game → Side → Turns
 turns_then {start = start} ask who =
-    last_turns ask.game_then.position.side (lines_of start ask.game_then) ask.tried who
+    last_turns ask.game_then.position.side (lines_of start ask.game_then) ask.since.tried who
 
 -- A whole game in which no seat was asked too late: none was asked; or what both sides did since the last ask is one turn.
 pub record IsUnderway {X : Type 0} (account : X → Account) (left : Option Side) (start : Pos) (asks : ℕ) (entry now : Sides X) (game : GameState) : Type 0 where
