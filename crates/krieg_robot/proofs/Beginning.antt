@@ -1,6 +1,5 @@
 -- How a game that a plan leads begins.
-use Rattle.std.proofs.Common.{◌≡◌, ℕ, [], ◌∷◌, ◌++◌, refl, sym, ap, subst, ◌∙◌, arith, Result, Ok, Err}
-use Rattle.std.proofs.lemmas.List.{append-nil}
+use Rattle.std.proofs.Common.{◌≡◌, ℕ, List, [], ◌∷◌, ◌++◌, refl, sym, ap, subst, ◌∙◌, inl, arith, Result, Ok, Err}
 use Rattle.krieg_board.specs.Men.{other}
 use Rattle.krieg_board.specs.Pos.{Pos}
 use Rattle.krieg_board.specs.declared.men.Side.{Side}
@@ -13,12 +12,14 @@ use Rattle.krieg_referee.specs.Games.{GameState}
 use Rattle.krieg_referee.specs.Hearing.{heard}
 use Rattle.krieg_referee.specs.declared.verdict.Stop.{Stop}
 use Rattle.krieg_seats.specs.Accounts.{Account, new_account}
+use Rattle.krieg_play.proofs.Serving.{serves_none, only_hears}
 use Rattle.krieg_plan.specs.declared.plan.PlanFile.{PlanFile}
 use Rattle.krieg_robot.specs.Followers.{Follower}
-use Rattle.krieg_robot.specs.Leading.{IsLed, IsBroken, broken_counts}
-use Rattle.krieg_robot.specs.Turns.{hearing, fault_counts, BothTold, IsUnderway}
+use Rattle.krieg_robot.specs.Leading.{IsLed, IsBroken}
+use Rattle.krieg_robot.specs.Turns.{hearing, BothTold, IsUnderway}
 use Rattle.krieg_robot.specs.declared.led.LeadFault.{LeadFault}
-use Rattle.krieg_robot.specs.declared.led.LeadFault.TheVariants.{Seat, NoMemory}
+use Rattle.krieg_robot.specs.declared.led.LeadFault.TheVariants.{NoMemory}
+use Rattle.krieg_robot.proofs.Breaking.{IsShort, breaks_by}
 
 abbrev begun_game : Pos → ℕ → GameState
 begun_game start n = record { position = start; log = []; spare = n }
@@ -26,14 +27,26 @@ begun_game start n = record { position = start; log = []; spare = n }
 begun_at : (f : PlanFile) (start : Pos) (n : ℕ) (a a' : Account) (s' : Follower) → s'.file ≡ f → s'.account.heard ≡ heard f.dialect start [] f.side → a' ≡ hearing a (heard f.dialect start [] (other f.side)) →
     IsUnderway f start n a a' s' (begun_game start n)
 begun_at f start n a a' s' file_is follows is = record {
-  is_game = record { log = refl; position = refl; on_turn = tt; places = omega arith };
+  whole = record {
+    is_game = record { log = refl; position = refl; on_turn = tt; places = omega arith };
+    tried = tt;
+    vain = 0;
+    serves = only_hears a a' (heard f.dialect start [] (other f.side)) (ap (λ (x : Account). x.asks) is) (ap (λ (x : Account). x.said) is) (ap (λ (x : Account). x.heard) is);
+    counts = (ap (λ (x : Account). x.faults) is, ap (λ (x : Account). x.leaves) is, refl);
+  };
   file_is = file_is;
   follows = follows;
+}
+
+-- a game in which nobody was asked
+unasked : (f : PlanFile) (start : Pos) (n : ℕ) (a a' : Account) (fault : LeadFault) (told due : List Line) → IsShort fault told due 0 a a' → told ++ due ≡ heard f.dialect start [] (other f.side) →
+    IsBroken f start n a a' fault
+unasked f start n a a' fault told due short split = record {
+  game = begun_game start n;
+  is_game = record { log = refl; position = refl; on_turn = tt; places = omega arith };
   tried = tt;
-  said = ap (λ (x : Account). x.said) is ∙ sym (append-nil a.said);
-  heard = ap (λ (x : Account). x.heard) is;
-  asked = ap (λ (x : Account). x.asks) is;
-  stays = (ap (λ (x : Account). x.faults) is, ap (λ (x : Account). x.leaves) is);
+  breaks = breaks_by [] [] [] (heard f.dialect start [] (other f.side)) 0 a short (serves_none a) (refl, refl, refl) split;
+  at_once = inl (refl, refl);
 }
 
 game_is : (start : Pos) (game : GameState) → game.position ≡ start → game.log ≡ [] → begun_game start game.spare ≡ game
@@ -64,44 +77,22 @@ module _ {r : Result (Unit {0}) LeadFault} {start : Pos} {a a' : Account} {s s' 
       (begun_at s.file start game.spare a a' s' t.0.0 (t.0.1 ∙ (ap (λ (x : Account). x.heard ++ b.own ∷ []) b.fresh_is ∙ first_line b.own b.own_is s.file.side))
       (t.1 ∙ ap (hearing a) (first_line b.theirs b.theirs_is (other s.file.side))))
 
-  begun_counts : (fault : LeadFault) → fault_counts fault a a' → a'.leaves ≡ a.leaves → broken_counts fault a a'
-  begun_counts Seat c l = (c, l)
-  begun_counts NoMemory c l = (c, l)
-
   pub breaks : (fault : LeadFault) → r ≡ Err fault → IsBroken s.file start game.spare a a' fault
   breaks fault is =
       let p = (subst (λ (x : Result (Unit {0}) LeadFault). BothTold x b.side s s' (b.own ∷ []) a a' (b.theirs ∷ [])) is b.tells).0 in
-      record {
-        game = begun_game start game.spare;
-        is_game = record { log = refl; position = refl; on_turn = tt; places = omega arith };
-        tried = tt;
-        said = ap (λ (x : Account). x.said) p.now_is ∙ sym (append-nil a.said);
-        told = p.told;
-        due = p.due;
-        lines = p.split ∙ first_line b.theirs b.theirs_is (other s.file.side);
-        heard = ap (λ (x : Account). x.heard) p.now_is;
-        vain = 0;
-        at_most_one = omega arith;
-        asked = ap (λ (x : Account). x.asks) p.now_is;
-        counts = begun_counts fault p.counts (ap (λ (x : Account). x.leaves) p.now_is);
-      }
+      unasked s.file start game.spare a a' fault p.told p.due
+      (record {
+        serves = only_hears a a' p.told (ap (λ (x : Account). x.asks) p.now_is) (ap (λ (x : Account). x.said) p.now_is) (ap (λ (x : Account). x.heard) p.now_is);
+        counts = p.counts;
+        leaves = ap (λ (x : Account). x.leaves) p.now_is;
+        few = omega arith;
+      })
+      (p.split ∙ first_line b.theirs b.theirs_is (other s.file.side))
 
 -- a game for which there was no room
 pub never_begun : (f : PlanFile) (start : Pos) (n : ℕ) (a : Account) → IsBroken f start n a a NoMemory
-never_begun f start n a = record {
-  game = begun_game start n;
-  is_game = record { log = refl; position = refl; on_turn = tt; places = omega arith };
-  tried = tt;
-  said = sym (append-nil a.said);
-  told = [];
-  due = heard f.dialect start [] (other f.side);
-  lines = refl;
-  heard = sym (append-nil a.heard);
-  vain = 0;
-  at_most_one = omega arith;
-  asked = refl;
-  counts = (omega arith, refl);
-}
+never_begun f start n a =
+    unasked f start n a a NoMemory [] (heard f.dialect start [] (other f.side)) (record { serves = serves_none a; counts = omega arith; leaves = refl; few = omega arith }) refl
 
 -- the same game by the names of a caller
 pub led_from : (f g : PlanFile) (start : Pos) (n k : ℕ) (a b : Account) (game : GameState) (stop : Stop) → g ≡ f → n ≡ k → IsLed g start n a b game stop → IsLed f start k a b game stop

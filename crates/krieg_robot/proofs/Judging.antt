@@ -1,10 +1,12 @@
 -- What judging a try, and telling both what they hear of it, make of a game that a plan leads.
-use Rattle.std.proofs.Common.{◌≡◌, ℕ, ◌+◌, List, [], ◌∷◌, ◌++◌, length, map, refl, sym, ap, subst, ◌∙◌, append_assoc, arith, Result, Ok, Err, Option, Some, None, option_to_list}
+use Rattle.std.proofs.Common.{◌≡◌, ℕ, ◌+◌, List, [], ◌∷◌, ◌++◌, length, map, refl, sym, ap, subst, ◌∙◌, inr, arith, Result, Ok, Err, Option, Some, None, option_to_list}
 use Rattle.std.specs.Prelude.{option_map}
-use Rattle.krieg_ports.specs.Faults.{Rose, many_more}
+use Rattle.std.proofs.lemmas.List.{append-nil}
 use Rattle.krieg_board.specs.Men.{other}
 use Rattle.krieg_board.specs.Pos.{Pos}
+use Rattle.krieg_board.specs.declared.men.Move.{Move}
 use Rattle.krieg_board.specs.declared.men.Side.{Side}
+use Rattle.krieg_board.specs.declared.men.Side.TheVariants.{White, Black}
 use Rattle.krieg_words.specs.Line.{told_line}
 use Rattle.krieg_words.specs.declared.dialects.Dialect.{Dialect}
 use Rattle.krieg_words.specs.declared.line.Line.{Line}
@@ -14,19 +16,38 @@ use Rattle.krieg_referee.specs.Hearing.{heard, line_for}
 use Rattle.krieg_referee.specs.declared.verdict.Event.{Event}
 use Rattle.krieg_referee.specs.declared.verdict.Verdict.{Verdict}
 use Rattle.krieg_seats.specs.Accounts.{Account}
+use Rattle.krieg_play.specs.Teams.{Serves}
 use Rattle.krieg_play.specs.Games.{events_of, tries_of, IsGameFrom}
+use Rattle.krieg_play.specs.Played.{once}
 use Rattle.krieg_play.proofs.Judging.{events_end, game_stepped}
+use Rattle.krieg_play.proofs.Serving.{only_hears, serves_more}
 use Rattle.krieg_plan.specs.declared.plan.PlanFile.{PlanFile}
 use Rattle.krieg_robot.specs.Followers.{Follower}
-use Rattle.krieg_robot.specs.Leading.{AreTried, IsBroken, broken_counts}
-use Rattle.krieg_robot.specs.Turns.{HearsPart, fault_counts, BothTold, IsUnderway, HasTried, Judges}
+use Rattle.krieg_robot.specs.Leading.{AreTried, lines_of, LastAsk, IsBroken}
+use Rattle.krieg_robot.specs.Turns.{hearing, HearsPart, BothTold, IsUnderway, HasTried, Judges}
 use Rattle.krieg_robot.specs.declared.led.LeadFault.{LeadFault}
-use Rattle.krieg_robot.specs.declared.led.LeadFault.TheVariants.{Seat, NoMemory}
 use Rattle.krieg_robot.proofs.HeardMore.{heard_end}
+use Rattle.krieg_robot.proofs.Breaking.{IsShort, breaks_by}
 
 list_in : (d : Dialect) (o : Option Line) → option_to_list (option_map (told_line d) o) ≡ map (told_line d) (option_to_list o)
 list_in d None = refl
 list_in d (Some l) = refl
+
+-- a side that tried was asked, and the other one was not
+asked_by : (who side : Side) (m : Move) → length (tries_of side (record { who = who; mv = m } ∷ [])) + 0 ≡ once who side
+asked_by White White m = refl
+asked_by White Black m = refl
+asked_by Black White m = refl
+asked_by Black Black m = refl
+
+-- he heard more lines
+hears_more : {tries : List Move} {lines all : List Line} {v : ℕ} {first a b : Account} (more : List Line) → Serves tries lines v first a → lines ++ more ≡ all → b ≡ hearing a more → Serves tries all v first b
+hears_more {tries = tries} {lines = lines} {v = v} {first = first} {a = a} {b = b} more h all_is is =
+    let same : v + 0 ≡ v = omega arith in
+    subst (λ (ls : List Line). Serves tries ls v first b) all_is
+    (subst (λ (n : ℕ). Serves tries (lines ++ more) n first b) same
+    (subst (λ (ms : List Move). Serves ms (lines ++ more) (v + 0) first b) (append-nil tries)
+    (serves_more tries [] lines more v 0 first a b h (only_hears a b more (ap (λ (x : Account). x.asks) is) (ap (λ (x : Account). x.said) is) (ap (λ (x : Account). x.heard) is)))))
 
 -- a try was judged, and both were told what they hear of it, or not
 pub record IsJudged (r : Result (Unit {0}) LeadFault) (e : Event) (a a' : Account) (s s' : Follower) (game game' : GameState) : Type 0 where
@@ -76,53 +97,49 @@ module _ {r : Result (Unit {0}) LeadFault} {e : Event} {a a' : Account} {s s' : 
   tried : AreTried f start [] (events_of game'.log)
   tried = subst (AreTried f start []) (sym events_is) h.tried
 
-  said : entry.said ++ tries_of (other f.side) (events_of game.log ++ e ∷ []) ≡ entry.said ++ tries_of (other f.side) (events_of game'.log)
-  said = ap (λ (es : List Event). entry.said ++ tries_of (other f.side) es) (sym events_is)
+  -- what the opponent said and heard before he was told
+  so_far : Serves (tries_of (other f.side) (events_of game'.log)) (lines_of f start game) h.vain entry a
+  so_far = subst (λ (es : List Event). Serves (tries_of (other f.side) es) (lines_of f start game) h.vain entry a) (sym events_is) h.serves
 
-  asked : many_more (length (tries_of (other f.side) (events_of game.log ++ e ∷ []))) entry.asks ≡ many_more (length (tries_of (other f.side) (events_of game'.log))) entry.asks
-  asked = ap (λ (es : List Event). many_more (length (tries_of (other f.side) es)) entry.asks) (sym events_is)
-
-  asked_in_part : many_more (length (tries_of (other f.side) (events_of game.log ++ e ∷ []))) entry.asks ≡ many_more (0 + length (tries_of (other f.side) (events_of game'.log))) entry.asks
-  asked_in_part = let none : length (tries_of (other f.side) (events_of game'.log)) ≡ 0 + length (tries_of (other f.side) (events_of game'.log)) = omega arith in
-      asked ∙ ap (λ (n : ℕ). many_more n entry.asks) none
-
-  theirs_next : heard f.dialect start (events_of game.log) (other f.side) ++ option_to_list j.theirs ≡ heard f.dialect start (events_of game'.log) (other f.side)
+  theirs_next : lines_of f start game ++ option_to_list j.theirs ≡ lines_of f start game'
   theirs_next = heard_next (other f.side) j.their_side j.theirs their_side_is j.theirs_is
 
   told_ok : BothTold (Ok tt) j.side s s' (option_to_list j.own) a a' (option_to_list j.theirs) → IsUnderway f start asks entry a' s' game'
   told_ok t = record {
-    is_game = stepped;
+    whole = record {
+      is_game = stepped;
+      tried = tried;
+      vain = h.vain;
+      serves = hears_more (option_to_list j.theirs) so_far theirs_next t.1;
+      counts = (ap (λ (x : Account). x.faults) t.1 ∙ h.stays.0, ap (λ (x : Account). x.leaves) t.1 ∙ h.stays.1, h.stays.2);
+    };
     file_is = t.0.0 ∙ h.file_is;
     follows = t.0.1 ∙ (ap (λ (ls : List Line). ls ++ option_to_list j.own) h.follows ∙ heard_next f.side j.side j.own side_is j.own_is);
-    tried = tried;
-    said = ap (λ (x : Account). x.said) t.1 ∙ (h.said ∙ said);
-    heard = ap (λ (x : Account). x.heard) t.1 ∙ (ap (λ (ls : List Line). ls ++ option_to_list j.theirs) h.heard
-        ∙ (append_assoc entry.heard (heard f.dialect start (events_of game.log) (other f.side)) (option_to_list j.theirs) ∙ ap (λ (ls : List Line). entry.heard ++ ls) theirs_next));
-    asked = ap (λ (x : Account). x.asks) t.1 ∙ (h.asked ∙ asked);
-    stays = (ap (λ (x : Account). x.faults) t.1 ∙ h.stays.0, ap (λ (x : Account). x.leaves) t.1 ∙ h.stays.1);
   }
 
-  counts_of : (fault : LeadFault) → fault_counts fault a a' → a'.leaves ≡ a.leaves → broken_counts fault entry a'
-  counts_of Seat c l = (subst (λ (n : ℕ). Rose n a'.faults) h.stays.0 c, l ∙ h.stays.1)
-  counts_of NoMemory c l = (omega (arith, h.stays.0, c), l ∙ h.stays.1)
+  -- the ask of which the try came
+  abbrev ask_of_try : LastAsk f start asks entry game'
+  ask_of_try = record { account_then = h.account_then; game_then = game; whole = h.whole; fewer = h.fewer; since = record { tried = e ∷ []; at_most_one = omega arith; events = events_is } }
+
+  asked_on_turn : length (tries_of (other f.side) (e ∷ [])) + 0 ≡ once game.position.side (other f.side)
+  asked_on_turn = subst (λ (who : Side). length (tries_of (other f.side) (e ∷ [])) + 0 ≡ once who (other f.side)) h.on_turn (asked_by e.who (other f.side) e.mv)
 
   told_err : (fault : LeadFault) → HearsPart fault (option_to_list j.theirs) a a' → IsBroken f start asks entry a' fault
-  told_err fault p = record {
-    game = game';
-    is_game = stepped;
-    tried = tried;
-    said = ap (λ (x : Account). x.said) p.now_is ∙ (h.said ∙ said);
-    told = heard f.dialect start (events_of game.log) (other f.side) ++ p.told;
-    due = p.due;
-    lines = append_assoc (heard f.dialect start (events_of game.log) (other f.side)) p.told p.due
-        ∙ (ap (λ (ls : List Line). heard f.dialect start (events_of game.log) (other f.side) ++ ls) p.split ∙ theirs_next);
-    heard = ap (λ (x : Account). x.heard) p.now_is ∙ (ap (λ (ls : List Line). ls ++ p.told) h.heard
-        ∙ append_assoc entry.heard (heard f.dialect start (events_of game.log) (other f.side)) p.told);
-    vain = 0;
-    at_most_one = omega arith;
-    asked = ap (λ (x : Account). x.asks) p.now_is ∙ (h.asked ∙ asked_in_part);
-    counts = counts_of fault p.counts (ap (λ (x : Account). x.leaves) p.now_is);
-  }
+  told_err fault p =
+      let short : IsShort fault p.told p.due 0 a a' = record {
+        serves = only_hears a a' p.told (ap (λ (x : Account). x.asks) p.now_is) (ap (λ (x : Account). x.said) p.now_is) (ap (λ (x : Account). x.heard) p.now_is);
+        counts = p.counts;
+        leaves = ap (λ (x : Account). x.leaves) p.now_is;
+        few = omega arith;
+      } in
+      let split : lines_of f start game ++ (p.told ++ p.due) ≡ lines_of f start game' = ap (λ (ls : List Line). lines_of f start game ++ ls) p.split ∙ theirs_next in
+      record {
+        game = game';
+        is_game = stepped;
+        tried = tried;
+        breaks = breaks_by (tries_of (other f.side) (events_of game'.log)) [] (lines_of f start game) (lines_of f start game') h.vain entry short so_far h.stays split;
+        at_once = inr (ask_of_try, breaks_by (tries_of (other f.side) (e ∷ [])) (lines_of f start game) [] (lines_of f start game') 0 h.account_then short h.since h.stays_since split, asked_on_turn);
+      }
 
 pub judges_ok : (r : Result (Unit {0}) LeadFault) (e : Event) (a a' : Account) (s s' : Follower) (game game' : GameState) → r ≡ Ok tt → IsJudged r e a a' s s' game game' → Judges (Ok None) e a a' s s' game game'
 judges_ok r e a a' s s' game game' is j f start asks entry h = told_ok j h (subst (λ (x : Result (Unit {0}) LeadFault). BothTold x j.side s s' (option_to_list j.own) a a' (option_to_list j.theirs)) is j.tells)

@@ -3,6 +3,7 @@ mod HeardMore
 mod Moving
 mod Holding
 pub mod Winning
+mod Breaking
 mod Asking
 mod Judging
 mod Passing

@@ -1,11 +1,10 @@
 -- What a legal move makes of the turn, and what its words tell of the end.
-use Rattle.std.proofs.Common.{◌≡◌, Bool, true, false, not, cond, ◌∷◌, refl, ap, ◌∙◌}
+use Rattle.std.proofs.Common.{◌≡◌, Bool, true, false, not, cond, refl, ap, ◌∙◌}
 use Rattle.std.proofs.lemmas.Bool.{and_parts}
 use Rattle.krieg_board.specs.Men.{other, is_same_side}
 use Rattle.krieg_board.specs.Pos.{Pos}
 use Rattle.krieg_board.specs.declared.men.Side.{Side}
 use Rattle.krieg_board.specs.declared.men.Side.TheVariants.{White, Black}
-use Rattle.krieg_board.specs.declared.men.Man.{Man}
 use Rattle.krieg_board.specs.declared.men.Move.{Move}
 use Rattle.krieg_moves.specs.Legal.{is_legal}
 use Rattle.krieg_moves.specs.After.{after}

@@ -1,37 +1,35 @@
 -- What a turn makes of a game that a plan leads, and how the game stops.
-use Rattle.std.proofs.Common.{◌≡◌, ℕ, ◌+◌, ◌<◌, Bool, true, false, List, length, sym, ap, subst, ◌∙◌, arith, Result, Ok, Err, Option, Some, None}
-use Rattle.krieg_ports.specs.Faults.{many_more}
-use Rattle.krieg_board.specs.Men.{other, is_same_side}
+use Rattle.std.proofs.Common.{◌≡◌, ◌<◌, Bool, true, false, sym, ap, subst, ◌∙◌, arith, Result, Ok, Err, Option, Some, None}
+use Rattle.krieg_board.specs.Men.{is_same_side}
 use Rattle.krieg_board.specs.declared.men.Side.{Side}
 use Rattle.krieg_board.specs.declared.men.Move.{Move}
 use Rattle.krieg_moves.specs.Moves.{is_ended}
 use Rattle.krieg_referee.specs.Games.{GameState}
-use Rattle.krieg_referee.specs.declared.verdict.Event.{Event}
 use Rattle.krieg_referee.specs.declared.verdict.Stop.TheVariants.{Ended, Left, AsksUsed}
 use Rattle.krieg_seats.specs.Accounts.{Account}
 use Rattle.krieg_seats.specs.declared.seat.Say.{Say}
 use Rattle.krieg_seats.specs.declared.seat.Say.TheVariants.{Try, Leave}
-use Rattle.krieg_play.specs.Games.{events_of, tries_of}
 use Rattle.krieg_robot.specs.Followers.{Follower}
-use Rattle.krieg_robot.specs.Leading.{asks_of}
 use Rattle.krieg_robot.specs.Turns.{TurnAsked, AfterPass, Passes, Judges, LeadsOn}
 use Rattle.krieg_robot.specs.declared.led.LeadFault.{LeadFault}
 use Rattle.krieg_robot.proofs.Asking.{asked, left, fails, event}
 
 -- ---- a turn
 
-pub passes_tried : (own : Bool) (who : Side) (m : Move) (r : Result Say LeadFault) (p : Result (Option Side) LeadFault) (a b c : Account) (s t u : Follower) (game game' : GameState) → own ≡ is_same_side who s.file.side → who ≡ game.position.side → r ≡ Ok (Try m) →
+pub passes_tried : (own : Bool) (who : Side) (m : Move) (r : Result Say LeadFault) (p : Result (Option Side) LeadFault) (a b c : Account) (s t u : Follower) (game game' : GameState) → own ≡ is_same_side who s.file.side → who ≡ game.position.side → 0 < game.spare → r ≡ Ok (Try m) →
     TurnAsked own r s t a b → Judges p (event who m) b c t u game game' → Passes p a c s u game game'
-passes_tried own who m r p a b c s t u game game' own_is turn r_is asks judges f start k entry h =
-    judges f start k entry (asked h own who m t b own_is turn (subst (λ (x : Result Say LeadFault). TurnAsked own x s t a b) r_is asks))
+passes_tried own who m r p a b c s t u game game' own_is turn more r_is asks judges f start k entry h =
+    judges f start k entry (asked h more own who m t b own_is turn (subst (λ (x : Result Say LeadFault). TurnAsked own x s t a b) r_is asks))
 
-pub passes_left : (own : Bool) (who : Side) (r : Result Say LeadFault) (a b : Account) (s t : Follower) (game : GameState) → own ≡ is_same_side who s.file.side → who ≡ game.position.side → r ≡ Ok Leave →
+pub passes_left : (own : Bool) (who : Side) (r : Result Say LeadFault) (a b : Account) (s t : Follower) (game : GameState) → own ≡ is_same_side who s.file.side → who ≡ game.position.side → 0 < game.spare → r ≡ Ok Leave →
     TurnAsked own r s t a b → Passes (Ok (Some who)) a b s t game game
-passes_left own who r a b s t game own_is turn r_is asks f start k entry h =
-    left h own who t b own_is turn (subst (λ (x : Result Say LeadFault). TurnAsked own x s t a b) r_is asks)
+passes_left own who r a b s t game own_is turn more r_is asks f start k entry h =
+    left h more own who t b own_is turn (subst (λ (x : Result Say LeadFault). TurnAsked own x s t a b) r_is asks)
 
-pub passes_fault : (own : Bool) (fault : LeadFault) (r : Result Say LeadFault) (a b : Account) (s t : Follower) (game : GameState) → r ≡ Err fault → TurnAsked own r s t a b → Passes (Err fault) a b s t game game
-passes_fault own fault r a b s t game r_is asks f start k entry h = fails h own fault t b (subst (λ (x : Result Say LeadFault). TurnAsked own x s t a b) r_is asks)
+pub passes_fault : (own : Bool) (who : Side) (fault : LeadFault) (r : Result Say LeadFault) (a b : Account) (s t : Follower) (game : GameState) → own ≡ is_same_side who s.file.side → who ≡ game.position.side → 0 < game.spare → r ≡ Err fault →
+    TurnAsked own r s t a b → Passes (Err fault) a b s t game game
+passes_fault own who fault r a b s t game own_is turn more r_is asks f start k entry h =
+    fails h more own who fault t b own_is turn (subst (λ (x : Result Say LeadFault). TurnAsked own x s t a b) r_is asks)
 
 -- ---- from turn to turn, until it stops
 
@@ -39,33 +37,21 @@ pub passes_then : (p : Result (Option Side) LeadFault) (a b c : Account) (s t u 
 passes_then p a b c s t u game game' game'' p_is first second f start k entry h =
     subst (λ (x : Result (Option Side) LeadFault). AfterPass x f start k entry c u game'') p_is (second f start k entry (first f start k entry h))
 
-none_left : {asks : ℕ} (who : Side) (es : List Event) (count : ℕ) → asks ≡ many_more (length (tries_of who es)) count → asks ≡ many_more (asks_of who None es) count
-none_left who es count e = let none : length (tries_of who es) ≡ 0 + length (tries_of who es) = omega arith in e ∙ ap (λ (n : ℕ). many_more n count) none
-
 pub stops_ended : (a b : Account) (s t : Follower) (game game' : GameState) → is_ended game'.position ≡ true → Passes (Ok None) a b s t game game' → LeadsOn (Ok Ended) a b s game game'
 stops_ended a b s t game game' ended passes f start k entry h =
-    let u = passes f start k entry h in
-    record { is_game = u.is_game; tried = u.tried; said = u.said; heard = u.heard; asked = none_left (other f.side) (events_of game'.log) entry.asks u.asked; counts = u.stays; stops = ended }
+    record { whole = (passes f start k entry h).whole; stops = ended }
 
 pub stops_used : (a b : Account) (s t : Follower) (game game' : GameState) → is_ended game'.position ≡ false → game'.spare ≡ 0 → Passes (Ok None) a b s t game game' → LeadsOn (Ok AsksUsed) a b s game game'
 stops_used a b s t game game' goes none passes f start k entry h =
     let u = passes f start k entry h in
-    record { is_game = u.is_game; tried = u.tried; said = u.said; heard = u.heard; asked = none_left (other f.side) (events_of game'.log) entry.asks u.asked; counts = u.stays; stops = (goes, omega (arith, none, u.is_game.places)) }
+    record { whole = u.whole; stops = (goes, omega (arith, none, u.whole.is_game.places)) }
 
 pub stops_left : (who : Side) (p : Result (Option Side) LeadFault) (a b c : Account) (s t u : Follower) (game game' game'' : GameState) → is_ended game'.position ≡ false → 0 < game'.spare → p ≡ Ok (Some who) → game'' ≡ game' →
     Passes (Ok None) a b s t game game' → Passes p b c t u game' game'' → LeadsOn (Ok (Left who)) a c s game game''
 stops_left who p a b c s t u game game' game'' goes more p_is same first second f start k entry h =
     let l = subst (λ (x : Result (Option Side) LeadFault). AfterPass x f start k entry c u game'') p_is (second f start k entry (first f start k entry h)) in
     let left : 0 < game''.spare = subst (λ (x : GameState). 0 < x.spare) (sym same) more in
-    record {
-      is_game = l.is_game;
-      tried = l.tried;
-      said = l.said;
-      heard = l.heard;
-      asked = l.asked;
-      counts = l.counts;
-      stops = (ap (λ (x : GameState). is_ended x.position) same ∙ goes, omega (arith, left, l.is_game.places), l.on_turn, l.no_try);
-    }
+    record { whole = l.whole; stops = (ap (λ (x : GameState). is_ended x.position) same ∙ goes, omega (arith, left, l.whole.is_game.places), l.on_turn, l.no_try) }
 
 pub stops_fault : (fault : LeadFault) (p : Result (Option Side) LeadFault) (a b c : Account) (s t u : Follower) (game game' game'' : GameState) → p ≡ Err fault →
     Passes (Ok None) a b s t game game' → Passes p b c t u game' game'' → LeadsOn (Err fault) a c s game game''

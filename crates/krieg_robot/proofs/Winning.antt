@@ -140,7 +140,7 @@ first_is f start one i = go f.list.items i one.same_side
 pub mating_plan_wins : MatingPlanWins
 mating_plan_wins f start asks entry now game stop one i mates led = record {
   stays = λ e. leaves (subst (LeadStops f start asks game) e led.stops);
-  few = omega (arith, all.counts, ap (own_moves f.side) led.is_game.log);
+  few = omega (arith, all.counts, ap (own_moves f.side) led.whole.is_game.log);
   mates = λ e. mated (subst (LeadStops f start asks game) e led.stops);
 }
   where
@@ -152,10 +152,10 @@ mating_plan_wins f start asks entry now game stop one i mates led = record {
         all_kept f start es [] f.worst
         (first_holds f.dialect f.side (is_first f.side f.list.items) (plan_of f.plan) start f.worst (first_is f start one i)
         (all_at (mates_from f.dialect f.side (plan_of f.plan) f.worst) f.list.items (sym (mates_from_each f.dialect f.side (plan_of f.plan) f.list.items f.worst) ∙ mates) start i))
-        led.is_game.on_turn led.tried
+        led.whole.is_game.on_turn led.whole.tried
 
     holds : Holds f.dialect f.side (is_first f.side f.list.items) (plan_of f.plan) (stand_after f start es) game.position all.left
-    holds = subst (λ (p : Pos). Holds f.dialect f.side (is_first f.side f.list.items) (plan_of f.plan) (stand_after f start es) p all.left) (sym led.is_game.position) all.holds
+    holds = subst (λ (p : Pos). Holds f.dialect f.side (is_first f.side f.list.items) (plan_of f.plan) (stand_after f start es) p all.left) (sym led.whole.is_game.position) all.holds
 
     leaves : LeadStops f start asks game (Left f.side) → ⊥
     leaves h = has_try f.dialect f.side (is_first f.side f.list.items) (plan_of f.plan) (stand_after f start es) game.position all.left holds

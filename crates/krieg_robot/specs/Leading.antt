@@ -1,8 +1,8 @@
 -- A game in which one side follows a plan file, against any opponent.
-use Rattle.std.specs.Prelude.{◌≡◌, ℕ, ◌+◌, ◌-◌, slice_get, ◌<◌, ◌≤◌, ◌&&◌, Bool, true, false, List, [], ◌∷◌, ◌++◌, length, filter, Option, Some, None, if◌then◌else◌}
-use Rattle.krieg_ports.specs.Faults.{many_more}
+use Rattle.std.specs.Prelude.{◌≡◌, ℕ, ◌+◌, ◌-◌, slice_get, ◌<◌, ◌≤◌, ◌&&◌, ◌⊎◌, Bool, true, false, List, [], ◌∷◌, ◌++◌, length, filter, Option, Some, None}
 use Rattle.krieg_board.specs.Men.{other, is_same_side}
 use Rattle.krieg_board.specs.Pos.{Pos}
+use Rattle.krieg_board.specs.declared.men.Move.{Move}
 use Rattle.krieg_board.specs.declared.men.Side.{Side}
 use Rattle.krieg_moves.specs.Moves.{is_ended, is_mate}
 use Rattle.krieg_words.specs.declared.line.Line.{Line}
@@ -14,9 +14,9 @@ use Rattle.krieg_referee.specs.declared.verdict.Judged.{Judged}
 use Rattle.krieg_referee.specs.declared.verdict.Stop.{Stop}
 use Rattle.krieg_referee.specs.declared.verdict.Stop.TheVariants.{Ended, Left, AsksUsed}
 use Rattle.krieg_seats.specs.Accounts.{Account}
-use Rattle.krieg_play.specs.Games.{events_of, tries_of, IsGameFrom}
-use Rattle.krieg_play.specs.Played.{leaver, played_counts}
-use Rattle.krieg_play.specs.Teams.{HasFailed, MayBeShort}
+use Rattle.krieg_play.specs.Games.{events_of, tries_of, IsGameFrom, TriesOnce}
+use Rattle.krieg_play.specs.Played.{leaver, played_counts, once}
+use Rattle.krieg_play.specs.Teams.{Serves, HasFailed, MayBeShort}
 use Rattle.krieg_plan.specs.declared.plan.PlanFile.{PlanFile}
 use Rattle.krieg_robot.specs.Stands.{Stand, next_try}
 use Rattle.krieg_robot.specs.Followers.{follow_file}
@@ -47,17 +47,6 @@ is_own_move who j = is_same_side j.event.who who && is_done j.verdict
 abbrev pub own_moves : Side → List Judged → ℕ
 own_moves who log = length (filter (is_own_move who) log)
 
--- ---- the opponent
-
--- one ask of which no try came, where that side left
-abbrev pub last_ask_of : Side → Option Side → ℕ
-last_ask_of who (Some left) = if is_same_side left who then 1 else 0
-last_ask_of who None = 0
-
--- how often a side was asked: once for each of its tries, and once more where it left
-abbrev pub asks_of : Side → Option Side → List Event → ℕ
-asks_of who left events = last_ask_of who left + length (tries_of who events)
-
 -- ---- a game that stopped
 
 -- Why the game stopped: it has ended; or as many tries were judged as may be asked for; or the side to move left, and the side of the
@@ -68,39 +57,60 @@ LeadStops f start asks game AsksUsed = (is_ended game.position ≡ false) × (as
 LeadStops f start asks game (Left who) = (is_ended game.position ≡ false) × (length game.log < asks) × (who ≡ game.position.side)
     × (who ≡ f.side → next_try (stand_after f start (events_of game.log)) ≡ None)
 
--- The file and an opponent played this game from the start until it stopped: the side of the file tried what its plan says, and the
--- opponent what he said; he heard his lines, and was asked as often as the game tells.
-pub record IsLed (f : PlanFile) (start : Pos) (asks : ℕ) (entry now : Account) (game : GameState) (stop : Stop) : Type 0 where
+-- the lines of the opponent in a game so far
+abbrev pub lines_of : PlanFile → Pos → GameState → List Line
+lines_of f start game = heard f.dialect start (events_of game.log) (other f.side)
+
+-- A game of the file and an opponent, which is whole: the side of the file tried what its plan says, and the opponent what he said; he
+-- heard his lines, and was asked once for each of his tries, and once more where he left.
+pub record IsWhole (f : PlanFile) (left : Option Side) (start : Pos) (asks : ℕ) (entry now : Account) (game : GameState) : Type 0 where
   pub is_game : IsGameFrom start asks game
   pub tried : AreTried f start [] (events_of game.log)
-  pub said : now.said ≡ entry.said ++ tries_of (other f.side) (events_of game.log)
-  pub heard : now.heard ≡ entry.heard ++ heard f.dialect start (events_of game.log) (other f.side)
-  pub asked : now.asks ≡ many_more (asks_of (other f.side) (leaver stop) (events_of game.log)) entry.asks
-  pub counts : played_counts (leaver stop) (other f.side) entry now
+  pub vain : ℕ
+  pub serves : Serves (tries_of (other f.side) (events_of game.log)) (lines_of f start game) vain entry now
+  pub counts : played_counts left (other f.side) vain entry now
+
+-- they played this game from the start until it stopped
+pub record IsLed (f : PlanFile) (start : Pos) (asks : ℕ) (entry now : Account) (game : GameState) (stop : Stop) : Type 0 where
+  pub whole : IsWhole f (leaver stop) start asks entry now game
   pub stops : LeadStops f start asks game stop
 
 -- ---- a game that was given up
 
 -- what the opponent's counts came to then
-abbrev pub broken_counts : LeadFault → Account → Account → Type 0
+abbrev pub broken_counts : LeadFault → ℕ → Account → Account → Type 0
 broken_counts Seat = HasFailed
 broken_counts NoMemory = MayBeShort
 
--- They played this game from the start until it was given up: the opponent heard a front part of his lines, and was asked once for each
--- of his tries, and perhaps once more.
+-- What the opponent did since he was in some state, where he had heard the known lines: he made these tries, heard a front part of his
+-- other lines, and was asked in vain at most once.
+pub record Breaks (fault : LeadFault) (tries : List Move) (known lines : List Line) (entry now : Account) : Type 0 where
+  pub told : List Line
+  pub due : List Line
+  pub front : known ++ (told ++ due) ≡ lines
+  pub vain : ℕ
+  pub serves : Serves tries told vain entry now
+  pub counts : broken_counts fault vain entry now
+
+-- the state in which a side was asked last: the game was whole, and fewer tries were judged than may be
+pub record LastAsk (f : PlanFile) (start : Pos) (asks : ℕ) (entry : Account) (game : GameState) : Type 0 where
+  pub account_then : Account
+  pub game_then : GameState
+  pub whole : IsWhole f None start asks entry account_then game_then
+  pub fewer : length game_then.log < asks
+  pub since : TriesOnce game_then game
+
+-- They played this game from the start until it was given up: when the opening words were told, and nobody was asked; or in the turn
+-- since the last ask, which asked the opponent where it was his turn.
 pub record IsBroken (f : PlanFile) (start : Pos) (asks : ℕ) (entry now : Account) (fault : LeadFault) : Type 0 where
   pub game : GameState
   pub is_game : IsGameFrom start asks game
   pub tried : AreTried f start [] (events_of game.log)
-  pub said : now.said ≡ entry.said ++ tries_of (other f.side) (events_of game.log)
-  pub told : List Line
-  pub due : List Line
-  pub lines : told ++ due ≡ heard f.dialect start (events_of game.log) (other f.side)
-  pub heard : now.heard ≡ entry.heard ++ told
-  pub vain : ℕ
-  pub at_most_one : vain ≤ 1
-  pub asked : now.asks ≡ many_more (vain + length (tries_of (other f.side) (events_of game.log))) entry.asks
-  pub counts : broken_counts fault entry now
+  pub breaks : Breaks fault (tries_of (other f.side) (events_of game.log)) [] (lines_of f start game) entry now
+  pub at_once : ((game.log ≡ []) × (breaks.vain ≡ 0))
+      ⊎ ((ask : LastAsk f start asks entry game)
+      × (since : Breaks fault (tries_of (other f.side) ask.since.tried) (lines_of f start ask.game_then) (lines_of f start game) ask.account_then now)
+      × (length (tries_of (other f.side) ask.since.tried) + since.vain ≡ once ask.game_then.position.side (other f.side)))
 
 -- ---- from a listed position
 

@@ -1,6 +1,6 @@
 -- What no public clause cites: what each call of a game makes of the seat that follows a file, of its opponent and of their game.
-use Rattle.std.specs.Prelude.{◌≡◌, ℕ, ◌≤◌, ◌⊎◌, Bool, true, false, List, [], ◌∷◌, ◌++◌, length, Option, Some, None, Result, Ok, Err}
-use Rattle.krieg_ports.specs.Faults.{Rose, many_more}
+use Rattle.std.specs.Prelude.{◌≡◌, ℕ, ◌<◌, ◌≤◌, ◌⊎◌, Bool, true, false, List, [], ◌∷◌, ◌++◌, length, Option, Some, None, Result, Ok, Err}
+use Rattle.krieg_ports.specs.Faults.{Rose}
 use Rattle.krieg_board.specs.Men.{other}
 use Rattle.krieg_board.specs.Pos.{Pos}
 use Rattle.krieg_board.specs.declared.men.Side.{Side}
@@ -15,12 +15,11 @@ use Rattle.krieg_seats.specs.declared.seat.Say.{Say}
 use Rattle.krieg_seats.specs.declared.seat.SeatFault.{SeatFault}
 use Rattle.krieg_seats.specs.declared.seat.SeatFault.TheVariants as fault
 use Rattle.krieg_play.specs.Games.{events_of, tries_of, IsGameFrom}
-use Rattle.krieg_play.specs.Played.{played_counts}
-use Rattle.krieg_play.specs.Teams.{Stays}
+use Rattle.krieg_play.specs.Teams.{Serves, Stays}
 use Rattle.krieg_plan.specs.declared.plan.PlanFile.{PlanFile}
 use Rattle.krieg_robot.specs.Stands.{next_try}
 use Rattle.krieg_robot.specs.Followers.{Follower, stand_of, say_of, after_asked}
-use Rattle.krieg_robot.specs.Leading.{stand_after, AreTried, asks_of, IsLed, IsBroken}
+use Rattle.krieg_robot.specs.Leading.{stand_after, AreTried, lines_of, IsWhole, IsLed, IsBroken}
 use Rattle.krieg_robot.specs.declared.led.LeadFault.{LeadFault}
 use Rattle.krieg_robot.specs.declared.led.LeadFault.TheVariants.{Seat, NoMemory}
 
@@ -78,38 +77,32 @@ BothTold (Err fault) side s s' own a a' theirs = HearsPart fault theirs a a' × 
 
 -- ---- a game
 
--- a game under way between a file and an opponent
+-- a game under way between a file and an opponent, whose own seat has heard all of its lines
 pub record IsUnderway (f : PlanFile) (start : Pos) (asks : ℕ) (entry now : Account) (seat : Follower) (game : GameState) : Type 0 where
-  pub is_game : IsGameFrom start asks game
+  pub whole : IsWhole f None start asks entry now game
   pub file_is : seat.file ≡ f
   pub follows : seat.account.heard ≡ heard f.dialect start (events_of game.log) f.side
-  pub tried : AreTried f start [] (events_of game.log)
-  pub said : now.said ≡ entry.said ++ tries_of (other f.side) (events_of game.log)
-  pub heard : now.heard ≡ entry.heard ++ heard f.dialect start (events_of game.log) (other f.side)
-  pub asked : now.asks ≡ many_more (length (tries_of (other f.side) (events_of game.log))) entry.asks
-  pub stays : Stays entry now
 
--- the same where the side to move has said one more try, which is not judged yet
+-- the same where the side to move has said one more try, which is not judged yet: so it was asked last in the state before
 pub record HasTried (f : PlanFile) (start : Pos) (asks : ℕ) (entry now : Account) (seat : Follower) (game : GameState) (e : Event) : Type 0 where
   pub is_game : IsGameFrom start asks game
   pub on_turn : e.who ≡ game.position.side
   pub file_is : seat.file ≡ f
   pub follows : seat.account.heard ≡ heard f.dialect start (events_of game.log) f.side
   pub tried : AreTried f start [] (events_of game.log ++ e ∷ [])
-  pub said : now.said ≡ entry.said ++ tries_of (other f.side) (events_of game.log ++ e ∷ [])
-  pub heard : now.heard ≡ entry.heard ++ heard f.dialect start (events_of game.log) (other f.side)
-  pub asked : now.asks ≡ many_more (length (tries_of (other f.side) (events_of game.log ++ e ∷ []))) entry.asks
-  pub stays : Stays entry now
+  pub vain : ℕ
+  pub serves : Serves (tries_of (other f.side) (events_of game.log ++ e ∷ [])) (lines_of f start game) vain entry now
+  pub stays : Stays vain entry now
+  pub account_then : Account
+  pub whole : IsWhole f None start asks entry account_then game
+  pub fewer : length game.log < asks
+  pub since : Serves (tries_of (other f.side) (e ∷ [])) [] 0 account_then now
+  pub stays_since : Stays 0 account_then now
 
 -- a game in which the side to move left
 pub record IsLeft (f : PlanFile) (start : Pos) (asks : ℕ) (entry now : Account) (game : GameState) (who : Side) : Type 0 where
-  pub is_game : IsGameFrom start asks game
+  pub whole : IsWhole f (Some who) start asks entry now game
   pub on_turn : who ≡ game.position.side
-  pub tried : AreTried f start [] (events_of game.log)
-  pub said : now.said ≡ entry.said ++ tries_of (other f.side) (events_of game.log)
-  pub heard : now.heard ≡ entry.heard ++ heard f.dialect start (events_of game.log) (other f.side)
-  pub asked : now.asks ≡ many_more (asks_of (other f.side) (Some who) (events_of game.log)) entry.asks
-  pub counts : played_counts (Some who) (other f.side) entry now
   pub no_try : who ≡ f.side → next_try (stand_after f start (events_of game.log)) ≡ None
 
 -- what one pass makes of a game under way
