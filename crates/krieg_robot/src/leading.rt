@@ -77,8 +77,9 @@ fn lead_game(
 ///
 /// # Errors
 ///
-/// `Seat` comes only where a call of `other` failed: his count of faults rose, and the game is given up. So it is
-/// after `NoMemory`. He has then said and heard what he did so far.
+/// `Seat` comes only where a call of `other` failed: his count of faults rose, and the game is given up at once. So it
+/// is after `NoMemory`. He has then said and heard what he did so far: all but a part of the opening words or of the
+/// last turn, in which he was asked at most once.
 pub fn lead(
     alloc: Global,
     file: PlanFile,
