@@ -6,7 +6,8 @@ use Rattle.krieg_text.specs.Lines.{lines}
 use Rattle.krieg_text.specs.Reading.{whole}
 use Rattle.krieg_session.specs.SessionReading.{start_at}
 use Rattle.krieg_seats.specs.Accounts.{Account}
-use Rattle.krieg_play.specs.Played.{Sides, Refuses}
+use Rattle.krieg_play.specs.Played.{Sides}
+use Rattle.krieg_play.specs.Broken.{Refuses}
 use Rattle.krieg_play.specs.declared.outcome.PlayFault.{PlayFault}
 use Rattle.krieg_play.specs.declared.outcome.PlayFault.TheVariants as played
 use Rattle.krieg_args.specs.declared.command.Command.{Command}

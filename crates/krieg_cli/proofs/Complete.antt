@@ -134,10 +134,10 @@ drop_front [] ys = refl
 drop_front (x ∷ xs) ys = drop_front xs ys
 
 -- the seat behind those that were relieved has not failed
-not_failed : {X : Type 0} (account : X → Account) (relieved : List (Service X)) (entry now : X) (behind : List X) →
-    NoneFailed (map account (map entry_of relieved ++ entry ∷ behind)) (map account (map now_of relieved ++ now ∷ behind)) → HasFailed (account entry) (account now) → ⊥
-not_failed account [] entry now behind none failed = none.0 failed.0
-not_failed account (s ∷ ss) entry now behind none failed = not_failed account ss entry now behind none.1 failed
+not_failed : {X : Type 0} (account : X → Account) (relieved : List (Service X)) (entry now : X) (vain : ℕ) (behind : List X) →
+    NoneFailed (map account (map entry_of relieved ++ entry ∷ behind)) (map account (map now_of relieved ++ now ∷ behind)) → HasFailed vain (account entry) (account now) → ⊥
+not_failed account [] entry now vain behind none failed = none.0 failed.0
+not_failed account (s ∷ ss) entry now vain behind none failed = not_failed account ss entry now vain behind none.1 failed
 
 side_holds : {X : Type 0} (account : X → Account) (entry now : Team X) (ls : List Line) (turns : Turns) → CanPlay account entry now → BrokenCourse account HasFailed entry now ls turns → ⊥
 side_holds {X = X} account entry now ls turns can (due, c) =
@@ -145,7 +145,7 @@ side_holds {X = X} account entry now ls turns can (due, c) =
     ap (λ out. drop (length entry.out) out ++ now.seats) c.out_now
     ∙ ap (λ xs. xs ++ now.seats) (drop_front entry.out (map now_of c.relieved))
     ∙ ap (λ xs. map now_of c.relieved ++ xs) c.seats_now in
-    not_failed account c.relieved c.sitting.entry c.sitting.now c.behind
+    not_failed account c.relieved c.sitting.entry c.sitting.now c.sitting.vain c.behind
     (subst (λ (xs : List X). NoneFailed (map account (map entry_of c.relieved ++ c.sitting.entry ∷ c.behind)) (map account xs)) since
     (subst (λ (xs : List X). NoneFailed (map account xs) (map account (seats_since entry now))) c.seats_then can.none_failed))
     c.counts
@@ -158,8 +158,8 @@ playing : {X : Type 0} (account : X → Account) (asks : ℕ) (entry now : Sides
     PlaysFrom account asks entry now start (Err r) → ⊥
 playing account asks entry now start (refusal.NoSeat White) w b h = some_seat entry.white.seats w.some h.0
 playing account asks entry now start (refusal.NoSeat Black) w b h = some_seat entry.black.seats b.some h.1
-playing account asks entry now start (refusal.SeatFault White) w b h = side_holds account entry.white now.white _ _ w h.white
-playing account asks entry now start (refusal.SeatFault Black) w b h = side_holds account entry.black now.black _ _ b h.black
+playing account asks entry now start (refusal.SeatFault White) w b h = side_holds account entry.white now.white _ _ w h.breaks.white
+playing account asks entry now start (refusal.SeatFault Black) w b h = side_holds account entry.black now.black _ _ b h.breaks.black
 playing account asks entry now start _ w b h = h
 
 -- ---- lead and next
@@ -178,7 +178,7 @@ leading {X = X} account asks number entry now s (refusal.SeatFault who) listed w
     let none : NoneFailed (map account (c.seats.first ∷ c.seats.behind)) (map account (c.seats.first' ∷ c.seats.behind)) =
     subst (λ (xs : List X). NoneFailed (map account (c.seats.first ∷ c.seats.behind)) (map account xs)) since
     (subst (λ (xs : List X). NoneFailed (map account xs) (map account (seats_since entry.white now.white))) c.seats.then_is w.none_failed) in
-    none.0 c.seats.changes.is_broken.counts.0
+    none.0 c.seats.changes.is_broken.breaks.counts.0
 leading account asks number entry now s _ listed w h = h
 
 saying : (h : HeardState) (r : Refusal) → Says h (Err r) → ⊥

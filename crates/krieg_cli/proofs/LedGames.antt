@@ -33,7 +33,7 @@ module _ {X : Type 0} (account : X → Account) (entry now : Sides X) where
         listed = from.listed;
         game = h.led.game;
         stop = h.led.stop;
-        is_game = from.is_led.is_game;
+        is_game = from.is_led.whole.is_game;
         is_session = h.is_session ∙ ap (λ (x : PlanState). session_text (session_of x.dialect from.start h.led.game h.led.stop)) (sym file_is);
         stays = wins.stays;
         few = wins.few;

@@ -11,7 +11,8 @@ use Rattle.krieg_referee.specs.declared.verdict.Stop.{Stop}
 use Rattle.krieg_session.specs.SessionReading.{start_at}
 use Rattle.krieg_session.specs.SessionText.{session_text}
 use Rattle.krieg_seats.specs.Accounts.{Account}
-use Rattle.krieg_play.specs.Played.{Sides, IsPlayed, IsBroken, Refuses}
+use Rattle.krieg_play.specs.Played.{Sides, IsPlayed}
+use Rattle.krieg_play.specs.Broken.{IsBroken, Refuses}
 use Rattle.krieg_play.specs.declared.outcome.PlayFault.TheVariants.{Vacant, Seat}
 use Rattle.krieg_play.specs.declared.outcome.PlayFault.TheVariants as played
 use Rattle.krieg_cli.specs.Recorded.{session_of}

@@ -1,6 +1,7 @@
 // A whole game: the opening words, turn after turn, until it stops.
 ghost use Rattle.std.specs.Prelude.{◌≡◌, ◌↔◌, ◌+◌, ◌<◌, ◌≤◌, [], Ok, Err, IfOk, IfErr, OnOk, vec_len};
-ghost use Rattle.krieg_play.specs.Played.{IsPlayed, Refuses};
+ghost use Rattle.krieg_play.specs.Played.{IsPlayed};
+ghost use Rattle.krieg_play.specs.Broken.{Refuses};
 ghost use Rattle.krieg_cli.specs.Seated.{bench_sides};
 ghost use Rattle.krieg_play.specs.Calls.{IsReady};
 ghost use Rattle.krieg_play.specs.Passes.{PlaysOn, ComesTo};
@@ -100,7 +101,9 @@ fn reserve(bench: &mut Bench, game: &mut Game, asks: usize) -> Result<(), NoMemo
 /// itself relieved where it fails then. The game goes on with what follows.
 ///
 /// So all seats together are asked at most `asks` times, and at most as often as tries are judged and seats
-/// relieved, but for one ask by which a side leaves or the game is given up.
+/// relieved, but for one ask by which a side leaves or the game is given up. Each seat is asked once for each of its
+/// tries, and at most once more: exactly once more where it leaves, and not at all where it sits when the game stops.
+/// Each ask comes while the tries and the relieved seats together are fewer than `asks`.
 ///
 /// Room for all tries and reliefs is taken before the first call of a seat.
 ///
@@ -108,8 +111,9 @@ fn reserve(bench: &mut Bench, game: &mut Game, asks: usize) -> Result<(), NoMemo
 ///
 /// `Vacant` comes exactly where a side has no seat, White's list being looked at first; nothing has changed then.
 /// `Seat` comes only where a call of the last seat of that side failed: its count of faults rose, and the game is
-/// given up. So it is after `NoMemory`, a seat's own or that of the call. The seats have then said and heard what
-/// they did so far, and those that were relieved stand in their out lists.
+/// given up at once: nothing is asked or told any more. So it is after `NoMemory`, a seat's own or that of the call.
+/// Where White's seat failed when both sides were to be told, Black was told nothing. The seats have then said and
+/// heard what they did so far, and those that were relieved stand in their out lists.
 pub fn play(
     alloc: Global,
     start: Position,
