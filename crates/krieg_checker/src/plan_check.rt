@@ -11,7 +11,7 @@ use crate::roots::walk_roots;
 use crate::start::start;
 use krieg_board::{Position, Side, Units};
 use krieg_pack::Belief;
-use krieg_parting::PartStop as CheckStop;
+use krieg_parting::PartStop;
 use krieg_plan::{Plan, PlanFile};
 use krieg_words::Dialect;
 use std::alloc::Global;
@@ -67,7 +67,7 @@ fn check_set(
     worst: u16,
     plan: &Plan,
     units: &mut Units,
-) -> Result<Checked, CheckStop>
+) -> Result<Checked, PartStop>
     requires { IsOneTurn set }
     ensures { (f : PlanFile) → AreParts f d side set worst plan.now → Charged result (IsVerdict f) (check_cost f) units.old units.new }
 {
@@ -81,8 +81,9 @@ fn check_set(
 /// It takes one unit for each pair of a node and a position that reaches it, and one for each legal reply there; and
 /// where the opponent is to move first, one for each of his moves in each listed position. Each is counted once,
 /// however many games lead to it, and all are counted where the plan fails too. `Spent` comes only where fewer units
-/// are left, and an answer takes exactly these. After an `Err` some of them may be gone.
-pub fn check(alloc: Global, f: &PlanFile, units: &mut Units) -> Result<Checked, CheckStop>
+/// are left, and an answer takes exactly these. After an `Err` some of them may be gone,
+/// and none are new.
+pub fn check(alloc: Global, f: &PlanFile, units: &mut Units) -> Result<Checked, PartStop>
     requires { IsOneTurn f.now.list.items }
     ensures { Charged result (IsVerdict f.now) (check_cost f.now) units.old units.new }
 {
@@ -91,7 +92,7 @@ pub fn check(alloc: Global, f: &PlanFile, units: &mut Units) -> Result<Checked, 
 }
 
 /// The same of a file that is let go: its list goes once it is a set, so that no more than one of both is kept.
-pub fn check_owned(alloc: Global, f: PlanFile, units: &mut Units) -> Result<Checked, CheckStop>
+pub fn check_owned(alloc: Global, f: PlanFile, units: &mut Units) -> Result<Checked, PartStop>
     requires { IsOneTurn f.list.items }
     ensures { Charged result (IsVerdict f) (check_cost f) units.old units.new }
 {

@@ -12,7 +12,7 @@ ghost use Rattle.krieg_checker.specs.Walked.{other_cost};
 use crate::walk::{missing, walk, worse};
 use krieg_board::Units;
 use krieg_game::Class;
-use krieg_parting::PartStop as CheckStop;
+use krieg_parting::PartStop;
 use krieg_plan::{Plan, find_root};
 use krieg_words::{Dialect, Words};
 use std::alloc::Global;
@@ -32,7 +32,7 @@ fn walk_root(
     own: bool,
     class: Class,
     units: &mut Units,
-) -> Result<Option<u16>, CheckStop>
+) -> Result<Option<u16>, PartStop>
     ensures { Charged result (λ r. Tells r (all_won_other (chess d) (first_root_in (plan_of plan.now) (heard_of own (class_pair class)).0) class.belief)) (other_cost (chess d) (first_root_in (plan_of plan.now) (heard_of own (class_pair class)).0) class.belief) units.old units.new }
 {
     match find_root(plan, class.own, heard(own, class.reply)) {
@@ -49,7 +49,7 @@ pub(crate) fn walk_roots(
     own: bool,
     classes: Vec<Class>,
     units: &mut Units,
-) -> Result<Option<u16>, CheckStop>
+) -> Result<Option<u16>, PartStop>
     ensures { Charged result (λ r. Tells r (roots_won d (plan_of plan.now) (map (heard_of own) (map class_pair classes.items)))) (roots_cost d (plan_of plan.now) (map (heard_of own) (map class_pair classes.items))) units.old units.new }
 {
     let mut need = Some(0);

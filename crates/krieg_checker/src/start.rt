@@ -16,7 +16,7 @@ ghost use Rattle.krieg_checker.specs.Starting.{IsStarted};
 use krieg_board::{Side, Units};
 use krieg_game::Class;
 use krieg_pack::Belief;
-use krieg_parting::{FirstMoves, PartStop as CheckStop, first_moves, with_openings};
+use krieg_parting::{FirstMoves, PartStop, first_moves, with_openings};
 use krieg_words::Dialect;
 use std::alloc::Global;
 
@@ -41,7 +41,7 @@ fn is_own_turn(b: &Belief, who: Side) -> bool
 }
 
 /// What comes first where the player is to move: nothing but the opening words.
-fn at_own_turn(alloc: Global, d: Dialect, b: Belief) -> Result<Started, CheckStop>
+fn at_own_turn(alloc: Global, d: Dialect, b: Belief) -> Result<Started, PartStop>
     ensures { Charged result (λ r. (who : Side) → IsOwnTurn who b → IsStarted d who b r) 0 0 0 }
 {
     let pool = with_openings(alloc, d, b.members())?;
@@ -60,7 +60,7 @@ fn at_others_turn(
     d: Dialect,
     b: Belief,
     units: &mut Units,
-) -> Result<Started, CheckStop>
+) -> Result<Started, PartStop>
     ensures { Charged result (λ r. (who : Side) → IsOthersTurn who b → IsStarted d who b r) (total (λ p. length (list.moves p)) b) units.old units.new }
 {
     let FirstMoves { ended, pool } = first_moves(alloc, d, b.members(), units)?;
@@ -81,7 +81,7 @@ pub(crate) fn start(
     who: Side,
     b: Belief,
     units: &mut Units,
-) -> Result<Started, CheckStop>
+) -> Result<Started, PartStop>
     requires { IsOneTurn b }
     ensures { Charged result (IsStarted d who b) (first_cost (chess d) (outset d who) b) units.old units.new }
 {

@@ -9,7 +9,7 @@ ghost use Rattle.krieg_checker.specs.Walked.{try_in};
 use krieg_board::{Move, Units};
 use krieg_game::Class;
 use krieg_pack::Belief;
-use krieg_parting::{Mating, PartStop as CheckStop, Parted, gather, parts_of, try_to_mate};
+use krieg_parting::{Mating, PartStop, Parted, gather, parts_of, try_to_mate};
 use krieg_plan::Node;
 use krieg_words::Dialect;
 use std::alloc::Global;
@@ -27,13 +27,7 @@ pub(crate) struct Tried {
 }
 
 /// What a try makes of a set where no edge follows: it must mate wherever it is legal, so replies are only counted.
-fn end(
-    alloc: Global,
-    d: Dialect,
-    mv: Move,
-    b: Belief,
-    units: &mut Units,
-) -> Result<Tried, CheckStop>
+fn end(alloc: Global, d: Dialect, mv: Move, b: Belief, units: &mut Units) -> Result<Tried, PartStop>
     ensures { Charged result (IsEnd d b mv) (made (chess d) b mv) units.old units.new }
 {
     let Mating { lives, refused } = try_to_mate(alloc, b.members(), &mv, true, units)?;
@@ -52,7 +46,7 @@ fn part(
     mv: Move,
     b: Belief,
     units: &mut Units,
-) -> Result<Parted, CheckStop>
+) -> Result<Parted, PartStop>
     ensures { Charged result (IsParted d b mv) (made (chess d) b mv) units.old units.new }
 {
     let parts = gather(alloc, d, b.members(), &mv, true, units)?;
@@ -68,7 +62,7 @@ pub(crate) fn try_node(
     n: &Node,
     b: Belief,
     units: &mut Units,
-) -> Result<Tried, CheckStop>
+) -> Result<Tried, PartStop>
     ensures { Charged result (IsTriedAt d (tree_of n.now) b) (made (chess d) b (try_in (tree_of n.now))) units.old units.new }
 {
     if n.edges.is_empty() {

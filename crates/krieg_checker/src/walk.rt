@@ -15,7 +15,7 @@ use crate::tried::{Tried, try_node};
 use krieg_board::Units;
 use krieg_game::Class;
 use krieg_pack::Belief;
-use krieg_parting::PartStop as CheckStop;
+use krieg_parting::PartStop;
 use krieg_plan::{Node, find_edge_in_order};
 use krieg_words::Dialect;
 use std::alloc::Global;
@@ -62,7 +62,7 @@ pub(crate) fn walk(
     n: &Node,
     b: Belief,
     units: &mut Units,
-) -> Result<Option<u16>, CheckStop>
+) -> Result<Option<u16>, PartStop>
     requires { is_ordered (tree_of n.now) ≡ true }
     ensures { Charged result (λ r. Tells r (all_won (chess d) (tree_of n.now) b)) (node_cost (chess d) (tree_of n.now) b) units.old units.new }
 {
@@ -98,7 +98,7 @@ fn walk_classes(
     n: &Node,
     classes: Vec<Class>,
     units: &mut Units,
-) -> Result<Option<u16>, CheckStop>
+) -> Result<Option<u16>, PartStop>
     requires { is_ordered (tree_of n.now) ≡ true }
     ensures { Charged result (λ r. Tells r (classes_won d (edges_in (tree_of n.now)) (map class_pair classes.items))) (classes_cost d (edges_in (tree_of n.now)) (map class_pair classes.items)) units.old units.new }
 {
@@ -117,7 +117,7 @@ fn walk_class(
     n: &Node,
     class: Class,
     units: &mut Units,
-) -> Result<Option<u16>, CheckStop>
+) -> Result<Option<u16>, PartStop>
     requires { is_ordered (tree_of n.now) ≡ true }
     ensures { Charged result (λ r. Tells r (λ k. list_all (λ p. wins_at (chess d) (edges_in (tree_of n.now)) (class_pair class).0 p k) (class_pair class).1)) (edge_cost (chess d) (edges_in (tree_of n.now)) (class_pair class).0 (class_pair class).1) units.old units.new }
 {

@@ -20,8 +20,8 @@ use Rattle.krieg_game.specs.Chess.{chess}
 use Rattle.krieg_game.proofs.ChessLaws.{chess_is_game}
 use Rattle.krieg_table.specs.Interned.{Interned}
 use Rattle.krieg_search.specs.Opened.{AddsSets}
-use Rattle.krieg_search.specs.declared.stop.Stop2.{Stop2}
-use Rattle.krieg_search.specs.declared.stop.Stop2.TheVariants.{Spent, Large, NoMemory}
+use Rattle.krieg_search.specs.declared.stop.SearchStop.{SearchStop}
+use Rattle.krieg_search.specs.declared.stop.SearchStop.TheVariants.{Spent, Large, NoMemory}
 use Rattle.std.specs.Prelude.{IfSome}
 use Rattle.krieg_costs.specs.Block.{block_pair}
 use Rattle.krieg_costs.specs.Refutation.{Reason}
@@ -33,12 +33,12 @@ use Rattle.krieg_refute.specs.Refutations.{most_claims, most_claimed}
 use Rattle.krieg_refute.specs.Claiming.{pairs_in, IsNext, IsPushed, Claims}
 
 -- why a step stopped is why the whole does
-pub carried : {B : Type 0} (P : Stop2 → Type 0) (r : Result B Stop2) (e : Stop2) (C : Stop2 → Type 0) (W : Result B Stop2 → Type 0)
-    → ((x : Stop2) → P x → e ≡ x) → IsErrAnd r P → (C Spent → ⊥) → (C Large → W (Err Large)) → W (Err NoMemory) → C e → W r
+pub carried : {B : Type 0} (P : SearchStop → Type 0) (r : Result B SearchStop) (e : SearchStop) (C : SearchStop → Type 0) (W : Result B SearchStop → Type 0)
+    → ((x : SearchStop) → P x → e ≡ x) → IsErrAnd r P → (C Spent → ⊥) → (C Large → W (Err Large)) → W (Err NoMemory) → C e → W r
 carried P (Ok x) e C W same fails f g h k = absurd fails
 carried P (Err x) e C W same fails f g h k = go x (subst C (same x fails) k)
   where
-    go : (y : Stop2) → C y → W (Err y)
+    go : (y : SearchStop) → C y → W (Err y)
     go Spent v = absurd (f v)
     go Large v = g v
     go NoMemory v = h
@@ -71,7 +71,7 @@ module _ (d : Dialect) where
       (subst AreTooMany (ap (λ (R : List (List Pos × ℕ)). add_all (chess d) R (f t)) w ∙ sym (all_append (chess d) (chess_is_game d) qs (flat_map f (take k ts)) (f t))) h))
 
   -- a set whose claim is pushed behind those of its tries is claimed
-  pub pushed : (T0 T1 : Interned) (B B1 : List Pos) (j : ℕ) (w0 w1 w2 : Claimed) (r : Result ℕ Stop2) → B1 ≡ B → 0 < j → is_nil B ≡ false → can (chess d) j B ≡ false → (In (B, j) (pairs_in T0 w0.places.keys) → ⊥)
+  pub pushed : (T0 T1 : Interned) (B B1 : List Pos) (j : ℕ) (w0 w1 w2 : Claimed) (r : Result ℕ SearchStop) → B1 ≡ B → 0 < j → is_nil B ≡ false → can (chess d) j B ≡ false → (In (B, j) (pairs_in T0 w0.places.keys) → ⊥)
       → AddsSets T0 T1 → WalksTries (chess d) (pairs_in T0 w0.places.keys) (pairs_in T1 w1.places.keys) B (j - 1) (tries (chess d) B) → IsPushed d T1 B1 j w1 w2 r → Claims d r B j T0 T1 w0 w2
   pushed T0 T1 B B1 j w0 w1 w2 r is some members lost new sets walked p = go r (subst (λ (X : List Pos). IsPushed d T1 X j w1 w2 r) is p)
     where
@@ -84,7 +84,7 @@ module _ (d : Dialect) where
           (root_walks (chess d) (chess_is_game d) (pairs_in T0 w0.places.keys) (pairs_in T1 w1.places.keys) B (j - 1) members (subst (λ (i : ℕ). can (chess d) i B ≡ false) (sym before) lost)
           (subst (λ (i : ℕ). In (B, i) (pairs_in T0 w0.places.keys) → ⊥) (sym before) new) walked place) e
 
-      go : (r : Result ℕ Stop2) → IsPushed d T1 B j w1 w2 r → Claims d r B j T0 T1 w0 w2
+      go : (r : Result ℕ SearchStop) → IsPushed d T1 B j w1 w2 r → Claims d r B j T0 T1 w0 w2
       go (Ok place) q = (
         sets,
         q.0,

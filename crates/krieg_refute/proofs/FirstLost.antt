@@ -33,8 +33,8 @@ use Rattle.krieg_table.specs.Interned.{Interned, set_at}
 use Rattle.krieg_table.specs.Entries.{entries}
 use Rattle.krieg_search.specs.declared.openings.Opening.{Opening}
 use Rattle.krieg_search.specs.declared.decide.Found.{Found}
-use Rattle.krieg_search.specs.declared.stop.Stop2.{Stop2}
-use Rattle.krieg_search.specs.declared.stop.Stop2.TheVariants as search
+use Rattle.krieg_search.specs.declared.stop.SearchStop.{SearchStop}
+use Rattle.krieg_search.specs.declared.stop.SearchStop.TheVariants as search
 use Rattle.krieg_search.specs.Opened.{opening_in}
 use Rattle.krieg_search.specs.Decided as decided
 use Rattle.krieg_search.specs.Decided.{sets_in, IsDecided}
@@ -147,39 +147,39 @@ module _ (d : Dialect) (who : Side) (S : List Pos) (n : ℕ) where
       }
 
       -- or that are too many
-      pub claims_stopped : (P : RefuteStop → Type 0) (r : Result Denied RefuteStop) (stop : Stop2) → ((x : RefuteStop) → P x → refute_stop_of stop ≡ x) → IsErrAnd r P → AreClaims d (set_at w.table set) n (Err stop) → IsDenied d who S n r
+      pub claims_stopped : (P : RefuteStop → Type 0) (r : Result Denied RefuteStop) (stop : SearchStop) → ((x : RefuteStop) → P x → refute_stop_of stop ≡ x) → IsErrAnd r P → AreClaims d (set_at w.table set) n (Err stop) → IsDenied d who S n r
       claims_stopped P (Ok x) stop same fails v = absurd fails
       claims_stopped P (Err x) stop same fails v = subst (λ (y : RefuteStop). IsDenied d who S n (Err y)) (same x fails) (go stop v)
         where
-          go : (stop : Stop2) → AreClaims d (set_at w.table set) n (Err stop) → IsDenied d who S n (Err (refute_stop_of stop))
+          go : (stop : SearchStop) → AreClaims d (set_at w.table set) n (Err stop) → IsDenied d who S n (Err (refute_stop_of stop))
           go search.Spent v = absurd v
           go search.Large v = record { cannot = a.cannot; many = subst (AreMany (chess d) most_claims most_claimed) claims_are v }
           go search.NoMemory v = tt
 
-      pub claims_stopped_taken : (P : RefuteStop → Type 0) (r : Result Denied RefuteStop) (stop : Stop2) (u : ℕ) → ((x : RefuteStop) → P x → refute_stop_of stop ≡ x) → IsErrAnd r P → AreClaims d (set_at w.table set) n (Err stop) → IsTaken d who S n r u u
+      pub claims_stopped_taken : (P : RefuteStop → Type 0) (r : Result Denied RefuteStop) (stop : SearchStop) (u : ℕ) → ((x : RefuteStop) → P x → refute_stop_of stop ≡ x) → IsErrAnd r P → AreClaims d (set_at w.table set) n (Err stop) → IsTaken d who S n r u u
       claims_stopped_taken P (Ok x) stop u same fails v = absurd fails
       claims_stopped_taken P (Err x) stop u same fails v = subst (λ (y : RefuteStop). IsTaken d who S n (Err y) u u) (same x fails) (go stop v)
         where
-          go : (stop : Stop2) → AreClaims d (set_at w.table set) n (Err stop) → IsTaken d who S n (Err (refute_stop_of stop)) u u
+          go : (stop : SearchStop) → AreClaims d (set_at w.table set) n (Err stop) → IsTaken d who S n (Err (refute_stop_of stop)) u u
           go search.Spent v = absurd v
           go search.Large v = refl
           go search.NoMemory v = refl
 
   -- the search was stopped
-  pub search_stopped : (P : RefuteStop → Type 0) (r : Result Denied RefuteStop) (stop : Stop2) (had has : ℕ) → ((x : RefuteStop) → P x → refute_stop_of stop ≡ x) → IsErrAnd r P → IsDecided d who S n false (Err stop) had has → IsDenied d who S n r
+  pub search_stopped : (P : RefuteStop → Type 0) (r : Result Denied RefuteStop) (stop : SearchStop) (had has : ℕ) → ((x : RefuteStop) → P x → refute_stop_of stop ≡ x) → IsErrAnd r P → IsDecided d who S n false (Err stop) had has → IsDenied d who S n r
   search_stopped P (Ok x) stop had has same fails v = absurd fails
   search_stopped P (Err x) stop had has same fails v = subst (λ (y : RefuteStop). IsDenied d who S n (Err y)) (same x fails) (go stop v)
     where
-      go : (stop : Stop2) → IsDecided d who S n false (Err stop) had has → IsDenied d who S n (Err (refute_stop_of stop))
+      go : (stop : SearchStop) → IsDecided d who S n false (Err stop) had has → IsDenied d who S n (Err (refute_stop_of stop))
       go search.Spent v = tt
       go search.Large v = absurd v
       go search.NoMemory v = tt
 
-  pub search_stopped_taken : (P : RefuteStop → Type 0) (r : Result Denied RefuteStop) (stop : Stop2) (had has u : ℕ) → ((x : RefuteStop) → P x → refute_stop_of stop ≡ x) → IsErrAnd r P → had ≡ u → IsDecided d who S n false (Err stop) had has → IsTaken d who S n r u u
+  pub search_stopped_taken : (P : RefuteStop → Type 0) (r : Result Denied RefuteStop) (stop : SearchStop) (had has u : ℕ) → ((x : RefuteStop) → P x → refute_stop_of stop ≡ x) → IsErrAnd r P → had ≡ u → IsDecided d who S n false (Err stop) had has → IsTaken d who S n r u u
   search_stopped_taken P (Ok x) stop had has u same fails e v = absurd fails
   search_stopped_taken P (Err x) stop had has u same fails e v = subst (λ (y : RefuteStop). IsTaken d who S n (Err y) u u) (same x fails) (go stop v)
     where
-      go : (stop : Stop2) → IsDecided d who S n false (Err stop) had has → IsTaken d who S n (Err (refute_stop_of stop)) u u
+      go : (stop : SearchStop) → IsDecided d who S n false (Err stop) had has → IsTaken d who S n (Err (refute_stop_of stop)) u u
       go search.Spent v = ((omega arith), refl)
       go search.Large v = absurd v
       go search.NoMemory v = refl

@@ -11,7 +11,7 @@ use Rattle.krieg_claims.specs.Sizes.{positions_in, reasons_in, AreFew, AreMany}
 use Rattle.krieg_claims.specs.Standing.{Stands}
 use Rattle.krieg_game.specs.Chess.{chess}
 use Rattle.krieg_table.specs.Interned.{Interned}
-use Rattle.krieg_search.specs.declared.stop.Stop2.{Stop2}
+use Rattle.krieg_search.specs.declared.stop.SearchStop.{SearchStop}
 use Rattle.krieg_refute.specs.declared.claiming.Claimed.{Claimed}
 use Rattle.krieg_refute.specs.declared.refutation.Claim.{Claim}
 use Rattle.krieg_refute.specs.declared.claims.Draft.{Draft}
@@ -45,7 +45,7 @@ module _ (d : Dialect) (T : Interned) (w : Claimed) (ws : w.claims.items ≡ [])
       v.1.few,
     )
 
-    pub claims_carried : (P : Stop2 → Type 0) (r : Result (Vec Claim Global) Stop2) (e : Stop2) → ((x : Stop2) → P x → e ≡ x) → IsErrAnd r P → Claims d (Err e) B j T T' w w' → AreClaims d B j r
+    pub claims_carried : (P : SearchStop → Type 0) (r : Result (Vec Claim Global) SearchStop) (e : SearchStop) → ((x : SearchStop) → P x → e ≡ x) → IsErrAnd r P → Claims d (Err e) B j T T' w w' → AreClaims d B j r
     claims_carried P r e same fails k =
         carried P r e (λ e. Claims d (Err e) B j T T' w w') (λ r. AreClaims d B j r) same fails (λ v. v)
         (λ v. subst (λ (qs : List (List Pos × ℕ)). AreMany (chess d) most_claims most_claimed (written.claims_of (chess d) (add_all (chess d) qs (claimed (chess d) j B)))) nothing v) tt k

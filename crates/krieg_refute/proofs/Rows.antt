@@ -15,8 +15,8 @@ use Rattle.krieg_table.specs.Interned.{Interned, set_at}
 use Rattle.krieg_table.specs.Table.{IsMore}
 use Rattle.krieg_search.specs.declared.notes.Asked.{Asked}
 use Rattle.krieg_search.specs.declared.notes.Note.{Note}
-use Rattle.krieg_search.specs.declared.stop.Stop2.{Stop2}
-use Rattle.krieg_search.specs.declared.stop.Stop2.TheVariants.{Spent, Large, NoMemory}
+use Rattle.krieg_search.specs.declared.stop.SearchStop.{SearchStop}
+use Rattle.krieg_search.specs.declared.stop.SearchStop.TheVariants.{Spent, Large, NoMemory}
 use Rattle.krieg_search.specs.Notes.{IsBlock, IsRow}
 use Rattle.krieg_search.specs.Opened.{AddsSets}
 use Rattle.krieg_search.proofs.Building.{adds_then}
@@ -51,7 +51,7 @@ module _ (d : Dialect) where
         (more_block d false T T' (set_at T a.set) a.moves n.mv n.block m (subst (λ (x : Note). IsBlock d false T (set_at T a.set) a.moves x.mv x.block) (sym at) (r.blocks k n within)))
 
   -- reasons that are found behind a row of which only sets came
-  pub reasons_behind : (r : Result (Vec Reason' Global) Stop2) (B B' : List Pos) (j : ℕ) (ts ts' : List Move) (T0 T1 T2 : Interned) (w0 w1 : Claimed) → B' ≡ B → ts' ≡ ts → AddsSets T0 T1 → IsClaimed d T0 w0
+  pub reasons_behind : (r : Result (Vec Reason' Global) SearchStop) (B B' : List Pos) (j : ℕ) (ts ts' : List Move) (T0 T1 T2 : Interned) (w0 w1 : Claimed) → B' ≡ B → ts' ≡ ts → AddsSets T0 T1 → IsClaimed d T0 w0
       → Reasons d r B' j ts' T1 T2 w0 w1 → Reasons d r B j ts T0 T2 w0 w1
   reasons_behind r B B' j ts ts' T0 T1 T2 w0 w1 same are sets c h =
       go r (subst (λ (X : List Pos). Reasons d r X j ts T1 T2 w0 w1) same (subst (λ (us : List Move). Reasons d r B' j us T1 T2 w0 w1) are h))
@@ -59,7 +59,7 @@ module _ (d : Dialect) where
       from : pairs_in T1 w0.places.keys ≡ pairs_in T0 w0.places.keys
       from = same_pairs d T0 T1 w0.places.keys sets c.numbered
 
-      go : (r : Result (Vec Reason' Global) Stop2) → Reasons d r B j ts T1 T2 w0 w1 → Reasons d r B j ts T0 T2 w0 w1
+      go : (r : Result (Vec Reason' Global) SearchStop) → Reasons d r B j ts T1 T2 w0 w1 → Reasons d r B j ts T0 T2 w0 w1
       go (Ok rs) q = (adds_then T0 T1 T2 sets q.0, q.1, subst (λ (qs : List (List Pos × ℕ)). WalksTries (chess d) qs (pairs_in T2 w1.places.keys) B (j - 1) ts) from q.2, q.3)
       go (Err Spent) q = absurd q
       go (Err Large) q = subst (λ (qs : List (List Pos × ℕ)). AreTooMany d (add_all (chess d) qs (Rattle.std.proofs.Common.flat_map (Rattle.krieg_claims.specs.Walks.behind_try (chess d) (j - 1) B) ts))) from q

@@ -19,8 +19,8 @@ use Rattle.krieg_game.specs.Keys.{Key}
 use Rattle.krieg_game.specs.Chess.{chess}
 use Rattle.krieg_table.specs.Interned.{Interned, set_at}
 use Rattle.krieg_table.specs.Entries.{entries}
-use Rattle.krieg_search.specs.declared.stop.Stop2.{Stop2}
-use Rattle.krieg_search.specs.declared.stop.Stop2.TheVariants.{Spent, Large, NoMemory}
+use Rattle.krieg_search.specs.declared.stop.SearchStop.{SearchStop}
+use Rattle.krieg_search.specs.declared.stop.SearchStop.TheVariants.{Spent, Large, NoMemory}
 use Rattle.krieg_search.specs.declared.openings.Opening.{Opening}
 use Rattle.krieg_search.specs.Opened.{AddsSets}
 use Rattle.krieg_search.specs.declared.notes.Asked.{Asked}
@@ -78,14 +78,14 @@ module _ (d : Dialect) where
     pub reasons : rs ≡ written.reasons_at (chess d) (pairs_in T keys) j B
 
   -- the pair is claimed last, or the claims are too many with it
-  abbrev pub IsPushed : Interned → List Pos → ℕ → Claimed → Claimed → Result ℕ Stop2 → Type 0
+  abbrev pub IsPushed : Interned → List Pos → ℕ → Claimed → Claimed → Result ℕ SearchStop → Type 0
   IsPushed T B j w w' (Ok place) = IsClaimed T w' × (pairs_in T w'.places.keys ≡ pairs_in T w.places.keys ++ (B, j) ∷ []) × (place ≡ written.place_of (chess d) (pairs_in T w'.places.keys) (B, j))
   IsPushed T B j w w' (Err Spent) = ⊥
   IsPushed T B j w w' (Err Large) = AreMany (chess d) most_claims most_claimed (written.claims_of (chess d) (pairs_in T w.places.keys ++ (B, j) ∷ []))
   IsPushed T B j w w' (Err NoMemory) = ⊤
 
   -- these tries of a set are walked and these are their reasons, or the claims are too many
-  abbrev pub Reasons : Result (Vec Reason' Global) Stop2 → List Pos → ℕ → List Move → Interned → Interned → Claimed → Claimed → Type 0
+  abbrev pub Reasons : Result (Vec Reason' Global) SearchStop → List Pos → ℕ → List Move → Interned → Interned → Claimed → Claimed → Type 0
   Reasons (Ok rs) B j ts T T' w w' = AddsSets T T' × IsClaimed T' w' × WalksTries (chess d) (pairs_in T w.places.keys) (pairs_in T' w'.places.keys) B (j - 1) ts
       × (map reason_of rs.items ≡ map {B = Move × Reason Key} (λ t. (t, written.reason_at (chess d) (pairs_in T' w'.places.keys) j B t)) ts)
   Reasons (Err Spent) B j ts T T' w w' = ⊥
@@ -93,7 +93,7 @@ module _ (d : Dialect) where
   Reasons (Err NoMemory) B j ts T T' w w' = ⊤
 
   -- what blocks the try is claimed and the reason cites it, or the claims are too many
-  abbrev pub Blocks : Result Why Stop2 → List Pos → ℕ → Move → Interned → Interned → Claimed → Claimed → Type 0
+  abbrev pub Blocks : Result Why SearchStop → List Pos → ℕ → Move → Interned → Interned → Claimed → Claimed → Type 0
   Blocks (Ok y) B j t T T' w w' = AddsSets T T' × IsClaimed T' w' × (pairs_in T' w'.places.keys ≡ add_all (chess d) (pairs_in T w.places.keys) (behind_try (chess d) (j - 1) B t))
       × IfSome (block_pair (chess d) j B t) (λ q. In q (pairs_in T' w'.places.keys)) × (why_of y ≡ written.reason_at (chess d) (pairs_in T' w'.places.keys) j B t)
   Blocks (Err Spent) B j t T T' w w' = ⊥
@@ -101,7 +101,7 @@ module _ (d : Dialect) where
   Blocks (Err NoMemory) B j t T T' w w' = ⊤
 
   -- the set is claimed with the number and has the place, or the claims are too many
-  abbrev pub Claims : Result ℕ Stop2 → List Pos → ℕ → Interned → Interned → Claimed → Claimed → Type 0
+  abbrev pub Claims : Result ℕ SearchStop → List Pos → ℕ → Interned → Interned → Claimed → Claimed → Type 0
   Claims (Ok place) B j T T' w w' = AddsSets T T' × IsClaimed T' w' × Walks (chess d) (pairs_in T w.places.keys) (pairs_in T' w'.places.keys) B j place
   Claims (Err Spent) B j T T' w w' = ⊥
   Claims (Err Large) B j T T' w w' = AreMany (chess d) most_claims most_claimed (written.claims_of (chess d) (add_all (chess d) (pairs_in T w.places.keys) (claimed (chess d) j B)))
@@ -112,7 +112,7 @@ abbrev pub is_lost_opening : Interned → ℕ → Opening → Bool
 is_lost_opening T j o = is_loss (stored position_lt (entries T) (set_at T o.set, j))
 
 -- the claims that a set cannot be won within j, or that they are too many
-abbrev pub AreClaims : (d : Dialect) → List Pos → ℕ → Result (Vec Claim Global) Stop2 → Type 0
+abbrev pub AreClaims : (d : Dialect) → List Pos → ℕ → Result (Vec Claim Global) SearchStop → Type 0
 AreClaims d B j (Ok cs) = (claims_of d cs.items ≡ written.claims (chess d) j B) × AreFew (chess d) most_claims most_claimed (claims_of d cs.items)
 AreClaims d B j (Err Spent) = ⊥
 AreClaims d B j (Err Large) = AreMany (chess d) most_claims most_claimed (written.claims (chess d) j B)

@@ -1,19 +1,19 @@
 -- Why a call of this crate stops.
 use Rattle.std.specs.Prelude.{◌≡◌, ℕ, ◌+◌, ◌<◌, Result, Ok, Err}
-use Rattle.krieg_parting.specs.declared.stop.PartStop.{PartStop as SplitStop}
+use Rattle.krieg_parting.specs.declared.stop.PartStop.{PartStop}
 use Rattle.krieg_parting.specs.declared.stop.PartStop.TheVariants as split
-use Rattle.krieg_search.specs.declared.stop.Stop2.{Stop2}
-use Rattle.krieg_search.specs.declared.stop.Stop2.TheVariants as search
+use Rattle.krieg_search.specs.declared.stop.SearchStop.{SearchStop}
+use Rattle.krieg_search.specs.declared.stop.SearchStop.TheVariants as search
 use Rattle.krieg_refute.specs.declared.stop.RefuteStop.{RefuteStop}
 use Rattle.krieg_refute.specs.declared.stop.RefuteStop.TheVariants as refute
 use Rattle.krieg_refute.specs.declared.stop.DenyStop.{DenyStop}
 use Rattle.krieg_refute.specs.declared.stop.DenyStop.TheVariants.{Spent, NoMemory}
 
-abbrev pub deny_stop_of : SplitStop → DenyStop
+abbrev pub deny_stop_of : PartStop → DenyStop
 deny_stop_of split.Spent = Spent
 deny_stop_of split.NoMemory = NoMemory
 
-abbrev pub refute_stop_of : Stop2 → RefuteStop
+abbrev pub refute_stop_of : SearchStop → RefuteStop
 refute_stop_of search.Spent = refute.Spent
 refute_stop_of search.Large = refute.Large
 refute_stop_of search.NoMemory = refute.NoMemory

@@ -27,8 +27,9 @@ use krieg_board::{Move, NoMemory, Units};
 use krieg_game::Class;
 use krieg_moves::{after_if_legal, is_mate};
 use krieg_pack::{Belief, Packed, unpack};
-use krieg_search::{Asked, Block, Heard, Left, Note, Notes, Stop2, left_by, number_of};
-use krieg_split::{SplitStop, tries};
+use krieg_parting::PartStop;
+use krieg_search::{Asked, Block, Heard, Left, Note, Notes, SearchStop, left_by, number_of};
+use krieg_split::tries;
 use krieg_table::{Known, Table};
 use krieg_words::{Dialect, Words};
 use std::alloc::Global;
@@ -98,8 +99,8 @@ fn left_again(
     let mut units = Units::new(u64::MAX);
     match left_by(alloc, d, b, mv, moves, &mut units) {
         Ok(left) => Ok(left),
-        Err(SplitStop::Spent) => unreachable!(),
-        Err(SplitStop::NoMemory) => Err(NoMemory),
+        Err(PartStop::Spent) => unreachable!(),
+        Err(PartStop::NoMemory) => Err(NoMemory),
     }
 }
 
@@ -204,7 +205,7 @@ fn push(
     set: u32,
     moves: u8,
     reasons: Vec<Reason>,
-) -> Result<u16, Stop2>
+) -> Result<u16, SearchStop>
     requires within { set < length table.now }
     requires claimed { IsClaimed d table.now claimed.old }
     requires next { IsNext d table.now claimed.old.places.keys (set_at table.now set) moves (map reason_of reasons.items) }
@@ -213,7 +214,7 @@ fn push(
     let positions = claimed.positions.saturating_add(table.belief(set).len());
     let count = claimed.reasons.saturating_add(reasons.len());
     if !are_few(claimed.claims.len() + 1, positions, count) {
-        return Err(Stop2::Large);
+        return Err(SearchStop::Large);
     }
     claimed.claims.push(Draft {
         moves,
@@ -236,7 +237,7 @@ pub(crate) fn claim(
     table: &mut Table,
     claimed: &mut Claimed,
     asked: Asked,
-) -> Result<u16, Stop2>
+) -> Result<u16, SearchStop>
     requires some { 0 < asked.moves }
     requires within { asked.set < length table.old }
     requires members { is_nil (set_at table.old asked.set) ≡ false }
@@ -264,7 +265,7 @@ fn reasons_of(
     table: &mut Table,
     claimed: &mut Claimed,
     asked: Asked,
-) -> Result<Vec<Reason>, Stop2>
+) -> Result<Vec<Reason>, SearchStop>
     requires some { 0 < asked.moves }
     requires within { asked.set < length table.old }
     requires paid { IsPaidFor d false table.old }
@@ -290,7 +291,7 @@ fn reasons_for(
     claimed: &mut Claimed,
     asked: Asked,
     row: &[Note],
-) -> Result<Vec<Reason>, Stop2>
+) -> Result<Vec<Reason>, SearchStop>
     requires some { 0 < asked.moves }
     requires within { asked.set < length table.old }
     requires paid { IsPaidFor d false table.old }
@@ -318,7 +319,7 @@ fn why(
     claimed: &mut Claimed,
     asked: Asked,
     note: &Note,
-) -> Result<Why, Stop2>
+) -> Result<Why, SearchStop>
     requires some { 0 < asked.moves }
     requires within { asked.set < length table.old }
     requires paid { IsPaidFor d false table.old }

@@ -25,7 +25,8 @@ use crate::stop::DenyStop;
 use crate::tried::{Tried, last_try};
 use krieg_board::{Move, NoMemory, Side, Units};
 use krieg_pack::{Belief, Packed, unpack};
-use krieg_split::{SplitStop, Tally, split, tally_all, tally_tries, tries};
+use krieg_parting::PartStop;
+use krieg_split::{Tally, split, tally_all, tally_tries, tries};
 use krieg_words::{Dialect, Words, compare, opening, told};
 use std::alloc::Global;
 
@@ -38,7 +39,7 @@ fn try_holds(
     claim: &Claim,
     mv: &Move,
     units: &mut Units,
-) -> Result<bool, SplitStop>
+) -> Result<bool, PartStop>
     ensures { Charged result (λ yes. yes ≡ try_spec d (claims_of d before.now) (claim.now.moves - 1) claim.now.set mv.now (map reason_of claim.now.reasons.items)) (made (chess d) claim.now.set mv.now) units.old units.new }
 {
     let fewer = claim.moves.saturating_sub(1);
@@ -54,7 +55,7 @@ fn last_try_holds(
     claim: &Claim,
     tally: &Tally,
     units: &mut Units,
-) -> Result<bool, SplitStop>
+) -> Result<bool, PartStop>
     requires { tally.now ≡ tally_of claim.now.set tally.now.mv }
     ensures { Charged result (λ yes. yes ≡ try_spec d (claims_of d before.now) 0 claim.now.set tally.now.mv (map reason_of claim.now.reasons.items)) (made (chess d) claim.now.set tally.now.mv) units.old units.new }
 {
@@ -84,7 +85,7 @@ fn tries_hold(
     claim: &Claim,
     moves: &[Move],
     units: &mut Units,
-) -> Result<bool, SplitStop>
+) -> Result<bool, PartStop>
     ensures { Charged result (λ yes. yes ≡ list_all (λ t. try_spec d (claims_of d before.now) (claim.now.moves - 1) claim.now.set t (map reason_of claim.now.reasons.items)) moves.now) (total (made (chess d) claim.now.set) moves.now) units.old units.new }
 {
     let mut all = true;
@@ -103,7 +104,7 @@ fn last_tries_hold(
     claim: &Claim,
     tallies: &[Tally],
     units: &mut Units,
-) -> Result<bool, SplitStop>
+) -> Result<bool, PartStop>
     requires { All (λ y. y ≡ tally_of claim.now.set y.mv) tallies.now }
     ensures { Charged result (λ yes. yes ≡ list_all (λ y. try_spec d (claims_of d before.now) 0 claim.now.set y.mv (map reason_of claim.now.reasons.items)) tallies.now) (total (λ y. made (chess d) claim.now.set y.mv) tallies.now) units.old units.new }
 {
@@ -156,7 +157,7 @@ fn all_tries_hold(
     moves: &[Move],
     tallies: Option<Vec<Tally>>,
     units: &mut Units,
-) -> Result<bool, SplitStop>
+) -> Result<bool, PartStop>
     requires moves { (d : Dialect) → moves.now ≡ sets.tries (chess d) claim.now.set }
     requires tallies { IfSome tallies (λ ys. AreTallies claim.now.set claim.now.set ys.items) }
     ensures { Charged result (λ yes. yes ≡ list_all (λ t. try_spec d (claims_of d before.now) (claim.now.moves - 1) claim.now.set t (map reason_of claim.now.reasons.items)) moves.now) (total (made (chess d) claim.now.set) moves.now) units.old units.new }
@@ -168,7 +169,7 @@ fn all_tries_hold(
         return last_tries_hold(alloc, d, before, claim, tallies.as_slice(), units);
     }
     if !is_one_for_each(units, claim.set.len(), moves.len()) {
-        return Err(SplitStop::Spent);
+        return Err(PartStop::Spent);
     }
     match tally_all(alloc, &claim.set, moves)? {
         None => tries_hold(alloc, d, before, claim, moves, units),
@@ -183,7 +184,7 @@ fn claim_holds(
     before: &[Claim],
     claim: &Claim,
     units: &mut Units,
-) -> Result<bool, SplitStop>
+) -> Result<bool, PartStop>
     ensures { Charged result (λ yes. yes ≡ theory.claim_holds (chess d) (claims_of d before.now) (claim_of d claim.now)) (price (chess d) claim.now.set) units.old units.new }
 {
     let (moves, tallies) = tries_of(alloc, claim)?;
@@ -199,7 +200,7 @@ fn claims_hold(
     d: Dialect,
     claims: &[Claim],
     units: &mut Units,
-) -> Result<bool, SplitStop>
+) -> Result<bool, PartStop>
     ensures { Charged result (λ yes. yes ≡ theory.claims_hold (chess d) [] (claims_of d claims.now)) (claims_price d claims.now) units.old units.new }
 {
     let mut all = true;

@@ -16,7 +16,7 @@ use indexmap::IndexSet;
 use krieg_board::{MOST_MOVES, Side, Units};
 use krieg_pack::Belief;
 use krieg_search::decide::{Decided, Found, decide};
-use krieg_search::{Asked, Notes, Opening, Stop2};
+use krieg_search::{Asked, Notes, Opening, SearchStop};
 use krieg_table::Table;
 use krieg_words::Dialect;
 use std::alloc::Global;
@@ -65,7 +65,7 @@ fn claims_for(
     mut table: Table,
     set: u32,
     moves: u8,
-) -> Result<Vec<Claim>, Stop2>
+) -> Result<Vec<Claim>, SearchStop>
     requires some { 0 < moves }
     requires within { set < length table }
     requires members { is_nil (set_at table set) ≡ false }

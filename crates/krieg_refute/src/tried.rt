@@ -11,8 +11,8 @@ ghost use Rattle.krieg_refute.specs.Tried.{IsTried};
 use krieg_board::{Move, Units};
 use krieg_moves::{after_if_legal, is_legal, is_stalemate};
 use krieg_pack::{Belief, Packed, unpack};
-use krieg_parting::take;
-use krieg_split::{Parted, SplitStop, Tally};
+use krieg_parting::{PartStop, take};
+use krieg_split::{Parted, Tally};
 use krieg_words::Dialect;
 
 /// What a try makes of a set, as far as a reason may ask.
@@ -74,7 +74,7 @@ pub(crate) fn last_try<'a>(
     set: &'a Belief,
     tally: &Tally,
     units: &mut Units,
-) -> Result<Tried<'a>, SplitStop>
+) -> Result<Tried<'a>, PartStop>
     requires { tally.now ≡ tally_of set.now tally.now.mv }
     ensures { Charged result (IsTried d 0 set.now tally.now.mv) (made (chess d) set.now tally.now.mv) units.old units.new }
 {

@@ -28,8 +28,8 @@ use Rattle.krieg_parting.specs.declared.parts.Parted.{Parted}
 use Rattle.krieg_plan.specs.Trees.{NodeTree}
 use Rattle.krieg_table.specs.Interned.{Interned}
 use Rattle.krieg_table.specs.Entries.{entries}
-use Rattle.krieg_search.specs.declared.stop.Stop2.{Stop2}
-use Rattle.krieg_search.specs.declared.stop.Stop2.TheVariants.{Spent, Large, NoMemory}
+use Rattle.krieg_search.specs.declared.stop.SearchStop.{SearchStop}
+use Rattle.krieg_search.specs.declared.stop.SearchStop.TheVariants.{Spent, Large, NoMemory}
 use Rattle.krieg_search.specs.Searched.{AreCounted, IsNumbered, IsReady, sets_of}
 use Rattle.krieg_search.specs.Opened.{AddsSets}
 use Rattle.krieg_search.specs.Built.{WonBy, Builds, IsPaidFor, edges_for}
@@ -54,13 +54,13 @@ pub won_at : (T : Interned) (X Y : List Pos) (j : ℕ) → Y ≡ X → WonBy T X
 won_at T X Y j e w = subst (λ (Z : List Pos). WonBy T Z j) (sym e) w
 
 -- a step was too large: so is the whole
-pub too_large : {A B : Type 0} (P : Stop2 → Type 0) (r : Result B Stop2) (e : Stop2) (holds : A → Type 0) (wanted : B → Type 0) (nodes nodes' deepest deepest' : ℕ) (T0 T1 T2 T3 : Interned) (had had' has has' deep deep' : ℕ)
-    → ((x : Stop2) → P x → e ≡ x) → IsErrAnd r P → ((had < nodes) ⊎ (deep < deepest) → (had' < nodes') ⊎ (deep' < deepest')) → Builds (Err e) holds nodes deepest T0 T1 had has deep → Builds r wanted nodes' deepest' T2 T3 had' has' deep'
+pub too_large : {A B : Type 0} (P : SearchStop → Type 0) (r : Result B SearchStop) (e : SearchStop) (holds : A → Type 0) (wanted : B → Type 0) (nodes nodes' deepest deepest' : ℕ) (T0 T1 T2 T3 : Interned) (had had' has has' deep deep' : ℕ)
+    → ((x : SearchStop) → P x → e ≡ x) → IsErrAnd r P → ((had < nodes) ⊎ (deep < deepest) → (had' < nodes') ⊎ (deep' < deepest')) → Builds (Err e) holds nodes deepest T0 T1 had has deep → Builds r wanted nodes' deepest' T2 T3 had' has' deep'
 too_large P (Ok x) e holds wanted nodes nodes' deepest deepest' T0 T1 T2 T3 had had' has has' deep deep' same fails f k = absurd fails
 too_large {A = A} {B = B} P (Err x) e holds wanted nodes nodes' deepest deepest' T0 T1 T2 T3 had had' has has' deep deep' same fails f k =
-    go x (subst (λ (y : Stop2). Builds {A = A} (Err y) holds nodes deepest T0 T1 had has deep) (same x fails) k)
+    go x (subst (λ (y : SearchStop). Builds {A = A} (Err y) holds nodes deepest T0 T1 had has deep) (same x fails) k)
   where
-    go : (y : Stop2) → Builds {A = A} (Err y) holds nodes deepest T0 T1 had has deep → Builds {A = B} (Err y) wanted nodes' deepest' T2 T3 had' has' deep'
+    go : (y : SearchStop) → Builds {A = A} (Err y) holds nodes deepest T0 T1 had has deep → Builds {A = B} (Err y) wanted nodes' deepest' T2 T3 had' has' deep'
     go Spent v = absurd v
     go Large v = f v
     go NoMemory v = tt

@@ -33,7 +33,7 @@ use Rattle.krieg_game.specs.Chess.{chess}
 use Rattle.krieg_game.specs.Outset.{outset}
 use Rattle.krieg_game.specs.ClassLaws as game
 use Rattle.krieg_game.proofs.ChessLaws.{chess_is_game, outset_is_lawful}
-use Rattle.krieg_parting.specs.declared.stop.PartStop.{PartStop as SplitStop}
+use Rattle.krieg_parting.specs.declared.stop.PartStop.{PartStop}
 use Rattle.krieg_parting.specs.declared.stop.PartStop.TheVariants as split
 use Rattle.krieg_split.specs.Units.{Charged}
 use Rattle.krieg_table.specs.Interned.{Interned}
@@ -43,8 +43,8 @@ use Rattle.krieg_search.specs.declared.openings.Opening.{Opening}
 use Rattle.krieg_search.specs.declared.decide.Found.{Found}
 use Rattle.krieg_search.specs.declared.decide.Decided.{Decided}
 use Rattle.krieg_search.specs.declared.decide.Decided.TheVariants.{Over}
-use Rattle.krieg_search.specs.declared.stop.Stop2.{Stop2}
-use Rattle.krieg_search.specs.declared.stop.Stop2.TheVariants.{Spent, Large, NoMemory}
+use Rattle.krieg_search.specs.declared.stop.SearchStop.{SearchStop}
+use Rattle.krieg_search.specs.declared.stop.SearchStop.TheVariants.{Spent, Large, NoMemory}
 use Rattle.krieg_search.specs.Stops.{stop_of}
 use Rattle.krieg_search.specs.Searched.{AreCounted, IsReady, IsSearched, Searches, TellsSets}
 use Rattle.krieg_search.specs.Opened.{opening_in, AreNumbered, AreAdded, IsOpened}
@@ -74,12 +74,12 @@ module _ (d : Dialect) (cut : Bool) (who : Side) (S : List Pos) (n : ℕ) where
   first_within = omega arith
 
   -- the openings were stopped
-  pub openings_stopped : {A : Type 0} (P : Stop2 → Type 0) (r : Result Decided Stop2) (stop : SplitStop) (holds : A → Type 0) (u0 u1 : ℕ)
-      → ((x : Stop2) → P x → stop_of stop ≡ x) → IsErrAnd r P → Charged {A = A} (Err stop) holds (first_made (chess d) (outset d who) S) u0 u1 → IsDecided d who S n cut r u0 u1
+  pub openings_stopped : {A : Type 0} (P : SearchStop → Type 0) (r : Result Decided SearchStop) (stop : PartStop) (holds : A → Type 0) (u0 u1 : ℕ)
+      → ((x : SearchStop) → P x → stop_of stop ≡ x) → IsErrAnd r P → Charged {A = A} (Err stop) holds (first_made (chess d) (outset d who) S) u0 u1 → IsDecided d who S n cut r u0 u1
   openings_stopped P (Ok x) stop holds u0 u1 same fails k = absurd fails
-  openings_stopped {A = A} P (Err x) stop holds u0 u1 same fails k = subst (λ (y : Stop2). IsDecided d who S n cut (Err y) u0 u1) (same x fails) (go stop k)
+  openings_stopped {A = A} P (Err x) stop holds u0 u1 same fails k = subst (λ (y : SearchStop). IsDecided d who S n cut (Err y) u0 u1) (same x fails) (go stop k)
     where
-      go : (stop : SplitStop) → Charged {A = A} (Err stop) holds (first_made (chess d) (outset d who) S) u0 u1 → IsDecided d who S n cut (Err (stop_of stop)) u0 u1
+      go : (stop : PartStop) → Charged {A = A} (Err stop) holds (first_made (chess d) (outset d who) S) u0 u1 → IsDecided d who S n cut (Err (stop_of stop)) u0 u1
       go split.Spent v = ((let w = first_within in omega (arith, v.0)), v.1)
       go split.NoMemory v = v
 
@@ -118,13 +118,13 @@ module _ (d : Dialect) (cut : Bool) (who : Side) (S : List Pos) (n : ℕ) where
     none_stored = a.sets.noted ∙ no_entries
 
     -- they were stopped
-    pub search_stopped : {A : Type 0} (P : Stop2 → Type 0) (r : Result Decided Stop2) (e : Stop2) (holds : A → Type 0) (T2 : Interned) (u0 u1 u2 : ℕ)
-        → ((x : Stop2) → P x → e ≡ x) → IsErrAnd r P → u1 + first_made (chess d) (outset d who) S ≡ u0 → Searches d cut {A = A} (Err e) holds (CoversSets (chess d) (sets_in T1 os) n) 0 T1 T2 u1 u2 → IsDecided d who S n cut r u0 u2
+    pub search_stopped : {A : Type 0} (P : SearchStop → Type 0) (r : Result Decided SearchStop) (e : SearchStop) (holds : A → Type 0) (T2 : Interned) (u0 u1 u2 : ℕ)
+        → ((x : SearchStop) → P x → e ≡ x) → IsErrAnd r P → u1 + first_made (chess d) (outset d who) S ≡ u0 → Searches d cut {A = A} (Err e) holds (CoversSets (chess d) (sets_in T1 os) n) 0 T1 T2 u1 u2 → IsDecided d who S n cut r u0 u2
     search_stopped P (Ok x) e holds T2 u0 u1 u2 same fails taken k = absurd fails
     search_stopped {A = A} P (Err x) e holds T2 u0 u1 u2 same fails taken k =
-        go x (subst (λ (y : Stop2). Searches d cut {A = A} (Err y) holds (CoversSets (chess d) (sets_in T1 os) n) 0 T1 T2 u1 u2) (same x fails) k)
+        go x (subst (λ (y : SearchStop). Searches d cut {A = A} (Err y) holds (CoversSets (chess d) (sets_in T1 os) n) 0 T1 T2 u1 u2) (same x fails) k)
       where
-        go : (y : Stop2) → Searches d cut {A = A} (Err y) holds (CoversSets (chess d) (sets_in T1 os) n) 0 T1 T2 u1 u2 → IsDecided d who S n cut (Err y) u0 u2
+        go : (y : SearchStop) → Searches d cut {A = A} (Err y) holds (CoversSets (chess d) (sets_in T1 os) n) 0 T1 T2 u1 u2 → IsDecided d who S n cut (Err y) u0 u2
         go Spent v =
             let w = subst (λ E. FallsShort (chess d) (CoversSets (chess d) (opening_sets (chess d) (outset d who) S) n) 0 E u1) none_stored (subst (λ (Cs : List (List Pos)). FallsShort (chess d) (CoversSets (chess d) Cs n) 0 (entries T1) u1) at_sets v.0) in
             let f = short_is_below_fresh (chess d) (chess_is_game d) (outset d who) (outset_is_lawful d who) n S u1 w in

@@ -21,8 +21,8 @@ use Rattle.krieg_table.specs.declared.known.Known.{Known}
 use Rattle.krieg_table.specs.Interned.{Interned, sets, set_at}
 use Rattle.krieg_table.specs.Entries.{try_of, entries}
 use Rattle.krieg_table.specs.Table.{IsMore, IsNoted}
-use Rattle.krieg_search.specs.declared.stop.Stop2.{Stop2}
-use Rattle.krieg_search.specs.declared.stop.Stop2.TheVariants.{Spent, Large, NoMemory}
+use Rattle.krieg_search.specs.declared.stop.SearchStop.{SearchStop}
+use Rattle.krieg_search.specs.declared.stop.SearchStop.TheVariants.{Spent, Large, NoMemory}
 use Rattle.krieg_search.specs.Searched.{IsReady, IsSearched, Searches, TellsSet}
 use Rattle.krieg_search.proofs.Searching.{more_then, searched_nothing}
 
@@ -71,7 +71,7 @@ module _ (d : Dialect) (cut : Bool) where
   none_found T q e h = sym h ∙ ap (option_map try_of) e
 
   -- a search of the pair was stopped at one of its tries
-  pub pair_stopped : {A : Type 0} (P : Stop2 → Type 0) (r : Result A Stop2) (wanted : A → Type 0) (B : List Pos) (j : ℕ) (T0 T : Interned) (u0 u : ℕ) → IsErrAnd r P → known (chess d) (entries T0) (B, j) ≡ None
+  pub pair_stopped : {A : Type 0} (P : SearchStop → Type 0) (r : Result A SearchStop) (wanted : A → Type 0) (B : List Pos) (j : ℕ) (T0 T : Interned) (u0 u : ℕ) → IsErrAnd r P → known (chess d) (entries T0) (B, j) ≡ None
       → Searches d cut r wanted (CoversTries (chess d) B j) (price (chess d) B) T0 T u0 u → Searches d cut r wanted (CoversPair (chess d) B j) 0 T0 T u0 u
   pair_stopped P (Ok x) wanted B j T0 T u0 u fails none k = absurd fails
   pair_stopped P (Err Spent) wanted B j T0 T u0 u fails none k = (short_noted (chess d) (chess_is_game d) (entries T0) B j u0 none k.0, k.1)

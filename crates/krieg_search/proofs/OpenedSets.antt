@@ -17,7 +17,7 @@ use Rattle.krieg_game.specs.Outset.{outset, starts, waits}
 use Rattle.krieg_game.proofs.Starting.{own_start}
 use Rattle.krieg_split.specs.Turns.{IsOwnTurn, IsOthersTurn}
 use Rattle.krieg_split.specs.Units.{IsPaid, Charged}
-use Rattle.krieg_parting.specs.declared.stop.PartStop.{PartStop as SplitStop}
+use Rattle.krieg_parting.specs.declared.stop.PartStop.{PartStop}
 use Rattle.krieg_parting.specs.declared.stop.PartStop.TheVariants.{Spent, NoMemory}
 use Rattle.krieg_table.specs.Interned.{Interned}
 use Rattle.krieg_table.specs.Table.{IsMore}
@@ -61,13 +61,13 @@ module _ (d : Dialect) (who : Side) where
       both
 
 -- a split was stopped whose cost is known otherwise
-pub stopped_first : (A : Type 0) {B : Type 0} (P : SplitStop → Type 0) (r : Result B SplitStop) (stop : SplitStop) (wanted : B → Type 0) (cost all old new : ℕ)
-    → ((x : SplitStop) → P x → stop ≡ x) → IsErrAnd r P → cost ≡ all → IsPaid {A = A} (Err stop) cost old new → Charged r wanted all old new
+pub stopped_first : (A : Type 0) {B : Type 0} (P : PartStop → Type 0) (r : Result B PartStop) (stop : PartStop) (wanted : B → Type 0) (cost all old new : ℕ)
+    → ((x : PartStop) → P x → stop ≡ x) → IsErrAnd r P → cost ≡ all → IsPaid {A = A} (Err stop) cost old new → Charged r wanted all old new
 stopped_first A P (Ok x) stop wanted cost all old new same fails e k = absurd fails
 stopped_first A {B = B} P (Err x) stop wanted cost all old new same fails e k =
-    go x (subst (λ (y : SplitStop). IsPaid {A = A} (Err y) cost old new) (same x fails) k)
+    go x (subst (λ (y : PartStop). IsPaid {A = A} (Err y) cost old new) (same x fails) k)
   where
-    go : (y : SplitStop) → IsPaid {A = A} (Err y) cost old new → Charged {A = B} (Err y) wanted all old new
+    go : (y : PartStop) → IsPaid {A = A} (Err y) cost old new → Charged {A = B} (Err y) wanted all old new
     go Spent v = ((let h = v.0 in omega arith), (let e = v.1 in omega arith))
     go NoMemory v = omega arith
 

@@ -13,8 +13,8 @@ use Rattle.krieg_game.specs.Chess.{chess}
 use Rattle.krieg_plan.specs.Trees.{PlanTrees}
 use Rattle.krieg_table.specs.Interned.{Interned}
 use Rattle.krieg_table.specs.Entries.{entries}
-use Rattle.krieg_search.specs.declared.stop.Stop2.{Stop2}
-use Rattle.krieg_search.specs.declared.stop.Stop2.TheVariants.{Spent, Large, NoMemory}
+use Rattle.krieg_search.specs.declared.stop.SearchStop.{SearchStop}
+use Rattle.krieg_search.specs.declared.stop.SearchStop.TheVariants.{Spent, Large, NoMemory}
 use Rattle.krieg_search.specs.Searched.{IsReady}
 use Rattle.krieg_search.specs.Opened.{AddsSets}
 
@@ -29,7 +29,7 @@ WonBy T X j = (i : ℕ) × (0 < i) × (i ≤ j) × (m : Move) × (stored positio
 
 -- What is built, with so many nodes and so many on its longest path: the nodes are taken from those that were left, and
 -- only sets have come to the table. Or it has more nodes than were left, or more than `deep` on a path.
-abbrev pub Builds : {A : Type 0} → Result A Stop2 → (A → Type 0) → ℕ → ℕ → Interned → Interned → ℕ → ℕ → ℕ → Type 0
+abbrev pub Builds : {A : Type 0} → Result A SearchStop → (A → Type 0) → ℕ → ℕ → Interned → Interned → ℕ → ℕ → ℕ → Type 0
 Builds (Ok x) holds nodes deepest T T' had has deep = holds x × (has + nodes ≡ had) × (deepest ≤ deep) × AddsSets T T'
 Builds (Err Spent) holds nodes deepest T T' had has deep = ⊥
 Builds (Err Large) holds nodes deepest T T' had has deep = (had < nodes) ⊎ (deep < deepest)

@@ -25,8 +25,8 @@ use Rattle.krieg_search.specs.declared.openings.Opening.{Opening}
 use Rattle.krieg_search.specs.declared.decide.Found.{Found}
 use Rattle.krieg_search.specs.declared.decide.Decided.{Decided}
 use Rattle.krieg_search.specs.declared.decide.Decided.TheVariants.{Over, Lost, Won}
-use Rattle.krieg_search.specs.declared.stop.Stop2.{Stop2}
-use Rattle.krieg_search.specs.declared.stop.Stop2.TheVariants.{Spent, Large, NoMemory}
+use Rattle.krieg_search.specs.declared.stop.SearchStop.{SearchStop}
+use Rattle.krieg_search.specs.declared.stop.SearchStop.TheVariants.{Spent, Large, NoMemory}
 use Rattle.krieg_search.specs.Searched.{IsReady}
 use Rattle.krieg_search.specs.Opened.{AreNumbered, opening_in}
 use Rattle.krieg_search.specs.Built.{WonBy}
@@ -82,7 +82,7 @@ module _ (d : Dialect) (who : Side) (S : List Pos) (n : ℕ) where
     pub won : (C : List Pos) → In C (sets_in w.table w.openings.items) → WonBy w.table C n
 
   -- whether some plan mates; an account that adds up takes no more than there is, and after an error no units are new
-  abbrev pub IsDecided : Bool → Result Decided Stop2 → ℕ → ℕ → Type 0
+  abbrev pub IsDecided : Bool → Result Decided SearchStop → ℕ → ℕ → Type 0
   IsDecided cut (Ok Over) had has = (list_any (is_over (chess d) (outset d who)) S ≡ true) × (can_plan (chess d) (outset d who) n S ≡ false) × IsAccount cut had has
   IsDecided cut (Ok (Lost w)) had has = IsLost cut w had × IsAccount cut had has
   IsDecided cut (Ok (Won w)) had has = IsWon cut w had × IsAccount cut had has

@@ -11,8 +11,8 @@ use Rattle.krieg_plan.specs.Plans.{plan_of}
 use Rattle.krieg_plan.specs.declared.limits.TheConstants.{MOST_ON_PATH}
 use Rattle.krieg_search.specs.declared.best_plan.Answer.{Answer}
 use Rattle.krieg_search.specs.declared.best_plan.Answer.TheVariants.{Mates, None}
-use Rattle.krieg_search.specs.declared.stop.Stop2.{Stop2}
-use Rattle.krieg_search.specs.declared.stop.Stop2.TheVariants.{Spent, Large, NoMemory}
+use Rattle.krieg_search.specs.declared.stop.SearchStop.{SearchStop}
+use Rattle.krieg_search.specs.declared.stop.SearchStop.TheVariants.{Spent, Large, NoMemory}
 use Rattle.krieg_search.specs.Built.{roots_for}
 
 -- the plan has at most so many nodes, and no path that is too long
@@ -31,7 +31,7 @@ module _ (d : Dialect) (j : ℕ) (cs : List (RootKey × List Pos)) where
     pub greatest_least : worst ≡ greatest (λ (c : RootKey × List Pos). least (chess d) j c.1) cs
     pub fit : IsFit nodes plan
 
-  abbrev pub IsPlanned : ℕ → Result Answer Stop2 → Type 0
+  abbrev pub IsPlanned : ℕ → Result Answer SearchStop → Type 0
   IsPlanned nodes (Ok (Mates worst plan)) = IsPlan nodes worst (plan_of plan)
   IsPlanned nodes (Ok None) = ⊥
   IsPlanned nodes (Err Spent) = ⊥

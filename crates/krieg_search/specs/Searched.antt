@@ -13,8 +13,8 @@ use Rattle.krieg_game.specs.declared.classes.Class.{Class}
 use Rattle.krieg_table.specs.Interned.{Interned, set_at}
 use Rattle.krieg_table.specs.Entries.{entries}
 use Rattle.krieg_table.specs.Table.{IsMore, IsInterned}
-use Rattle.krieg_search.specs.declared.stop.Stop2.{Stop2}
-use Rattle.krieg_search.specs.declared.stop.Stop2.TheVariants.{Spent, Large, NoMemory}
+use Rattle.krieg_search.specs.declared.stop.SearchStop.{SearchStop}
+use Rattle.krieg_search.specs.declared.stop.SearchStop.TheVariants.{Spent, Large, NoMemory}
 
 -- the members of each set can be counted in 64 bits
 abbrev pub AreCounted : Interned → Type 0
@@ -46,7 +46,7 @@ module _ (d : Dialect) (cut : Bool) where
 
   -- An answer that holds, with the stretch that led to it; or too few units for it. After an error some units may be gone,
   -- and none are new.
-  abbrev pub Searches : {A : Type 0} → Result A Stop2 → (A → Type 0) → (List (List Pos × ℕ) → Type 0) → ℕ → Interned → Interned → ℕ → ℕ → Type 0
+  abbrev pub Searches : {A : Type 0} → Result A SearchStop → (A → Type 0) → (List (List Pos × ℕ) → Type 0) → ℕ → Interned → Interned → ℕ → ℕ → Type 0
   Searches (Ok x) holds Q cost T T' had has = holds x × IsSearched Q cost T T' had has
   Searches (Err Spent) holds Q cost T T' had has = FallsShort (chess d) Q cost (entries T) had × (has ≤ had)
   Searches (Err Large) holds Q cost T T' had has = ⊥

@@ -11,8 +11,8 @@ use Rattle.krieg_plan.specs.Trees.{PlanTrees}
 use Rattle.krieg_plan.specs.Plans.{plan_of}
 use Rattle.krieg_search.specs.declared.best_plan.Answer.{Answer}
 use Rattle.krieg_search.specs.declared.best_plan.Answer.TheVariants.{Mates, None}
-use Rattle.krieg_search.specs.declared.stop.Stop2.{Stop2}
-use Rattle.krieg_search.specs.declared.stop.Stop2.TheVariants.{Spent, Large, NoMemory}
+use Rattle.krieg_search.specs.declared.stop.SearchStop.{SearchStop}
+use Rattle.krieg_search.specs.declared.stop.SearchStop.TheVariants.{Spent, Large, NoMemory}
 use Rattle.krieg_search.specs.Decided.{IsBetween, IsAccount}
 use Rattle.krieg_search.specs.Planned.{IsFit, IsUnfit}
 
@@ -38,7 +38,7 @@ module _ (d : Dialect) (who : Side) (S : List Pos) (n : ℕ) where
 
   -- What each answer says. Since no two of the first three can hold at once, each comes exactly where it holds and
   -- nothing was wanting.
-  abbrev pub IsAnswer : ℕ → Result Answer Stop2 → Type 0
+  abbrev pub IsAnswer : ℕ → Result Answer SearchStop → Type 0
   IsAnswer nodes (Ok (Mates worst plan)) = IsBest worst (plan_of plan) × IsFit nodes (plan_of plan)
   IsAnswer nodes (Ok None) = NoneMates
   IsAnswer nodes (Err Large) = IsLarge nodes
@@ -47,14 +47,14 @@ module _ (d : Dialect) (who : Side) (S : List Pos) (n : ℕ) where
 
   -- An answer, or that the plan is too large, takes at least the floor and at most what is fresh. Spent comes only where
   -- fewer units are left than are fresh. Spent and want of memory take none.
-  abbrev pub IsCharged : Result Answer Stop2 → ℕ → ℕ → Type 0
+  abbrev pub IsCharged : Result Answer SearchStop → ℕ → ℕ → Type 0
   IsCharged (Ok a) had has = IsBetween d who S n had has
   IsCharged (Err Large) had has = IsBetween d who S n had has
   IsCharged (Err Spent) had has = (had < fresh (chess d) (outset d who) n S) × (has ≡ had)
   IsCharged (Err NoMemory) had has = has ≡ had
 
   -- and there is an account of it: each set that was searched with some number of moves stands there once, with what it took
-  abbrev pub HasAccount : Result Answer Stop2 → ℕ → ℕ → Type 0
+  abbrev pub HasAccount : Result Answer SearchStop → ℕ → ℕ → Type 0
   HasAccount (Ok a) had has = IsAccount d who S n false had has
   HasAccount (Err Large) had has = IsAccount d who S n false had has
   HasAccount (Err Spent) had has = ⊤
@@ -62,14 +62,14 @@ module _ (d : Dialect) (who : Side) (S : List Pos) (n : ℕ) where
 
   -- What a search takes that may cut tries: what its account says, so at most what is fresh, and there is no floor. Spent
   -- comes only where fewer units are left than are fresh. Spent and want of memory take none.
-  abbrev pub IsChargedAtMost : Result Answer Stop2 → ℕ → ℕ → Type 0
+  abbrev pub IsChargedAtMost : Result Answer SearchStop → ℕ → ℕ → Type 0
   IsChargedAtMost (Ok a) had has = (has ≤ had) × (had ≤ has + fresh (chess d) (outset d who) n S)
   IsChargedAtMost (Err Large) had has = (has ≤ had) × (had ≤ has + fresh (chess d) (outset d who) n S)
   IsChargedAtMost (Err Spent) had has = (had < fresh (chess d) (outset d who) n S) × (has ≡ had)
   IsChargedAtMost (Err NoMemory) had has = has ≡ had
 
   -- what a search takes, whether it may cut tries or not: both of the above follow
-  abbrev pub Takes : Bool → Result Answer Stop2 → ℕ → ℕ → Type 0
+  abbrev pub Takes : Bool → Result Answer SearchStop → ℕ → ℕ → Type 0
   Takes cut (Ok a) had has = IsAccount d who S n cut had has
   Takes cut (Err Large) had has = IsAccount d who S n cut had has
   Takes cut (Err Spent) had has = (had < fresh (chess d) (outset d who) n S) × (has ≡ had)

@@ -1,9 +1,9 @@
 -- Why a search stops, by why a split does.
-use Rattle.krieg_parting.specs.declared.stop.PartStop.{PartStop as SplitStop}
+use Rattle.krieg_parting.specs.declared.stop.PartStop.{PartStop}
 use Rattle.krieg_parting.specs.declared.stop.PartStop.TheVariants as split
-use Rattle.krieg_search.specs.declared.stop.Stop2.{Stop2}
-use Rattle.krieg_search.specs.declared.stop.Stop2.TheVariants.{Spent, NoMemory}
+use Rattle.krieg_search.specs.declared.stop.SearchStop.{SearchStop}
+use Rattle.krieg_search.specs.declared.stop.SearchStop.TheVariants.{Spent, NoMemory}
 
-abbrev pub stop_of : SplitStop → Stop2
+abbrev pub stop_of : PartStop → SearchStop
 stop_of split.Spent = Spent
 stop_of split.NoMemory = NoMemory

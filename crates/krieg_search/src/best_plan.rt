@@ -6,7 +6,7 @@ ghost use Rattle.krieg_game.specs.Chess.{chess};
 ghost use Rattle.krieg_game.specs.Outset.{outset};
 ghost use Rattle.krieg_plan.specs.Ordered.{is_ordered_plan};
 ghost use Rattle.krieg_split.specs.Turns.{IsOwnTurn, IsOthersTurn};
-ghost use Rattle.krieg_search.specs.declared.stop.Stop2.TheVariants.{Spent};
+ghost use Rattle.krieg_search.specs.declared.stop.SearchStop.TheVariants.{Spent};
 ghost use Rattle.krieg_search.specs.Opened.{AreNumbered, opening_in};
 ghost use Rattle.krieg_search.specs.Decided.{sets_in};
 ghost use Rattle.krieg_search.specs.Built.{WonBy, IsPaidFor, roots_for};
@@ -15,7 +15,7 @@ ghost use Rattle.krieg_search.specs.Solved.{IsAnswer, IsCharged, HasAccount, IsC
 
 use crate::decide::{Decided, Found, decide};
 use crate::roots::{Roots, build_roots};
-use crate::stop::Stop2;
+use crate::stop::SearchStop;
 use krieg_board::{MOST_MOVES, Side, Units};
 use krieg_pack::Belief;
 use krieg_plan::Plan;
@@ -39,7 +39,7 @@ fn build_plan(
     won: Found,
     moves: u8,
     nodes: usize,
-) -> Result<Answer, Stop2>
+) -> Result<Answer, SearchStop>
     requires paid { IsPaidFor d true won.table }
     requires numbered { AreNumbered won.table won.openings.items }
     requires won { (C : List Pos) → In C (sets_in won.table won.openings.items) → WonBy won.table C moves }
@@ -69,7 +69,7 @@ fn answer_for(
     moves: u8,
     nodes: usize,
     units: &mut Units,
-) -> Result<Answer, Stop2>
+) -> Result<Answer, SearchStop>
     requires most { moves ≤ MOST_MOVES }
     requires turn { IsOwnTurn who b.now ⊎ IsOthersTurn who b.now }
     ensures answer { IsAnswer d who b.now moves nodes result }
@@ -92,9 +92,9 @@ fn answer_for(
             *units = left;
             Ok(answer)
         }
-        Err(Stop2::Large) => {
+        Err(SearchStop::Large) => {
             *units = left;
-            Err(Stop2::Large)
+            Err(SearchStop::Large)
         }
         Err(stop) => Err(stop),
     }
@@ -124,7 +124,7 @@ pub fn solve(
     moves: u8,
     nodes: usize,
     units: &mut Units,
-) -> Result<Answer, Stop2>
+) -> Result<Answer, SearchStop>
     requires most { moves ≤ MOST_MOVES }
     requires turn { IsOwnTurn who b.now ⊎ IsOthersTurn who b.now }
     ensures answer { IsAnswer d who b.now moves nodes result }
@@ -155,7 +155,7 @@ pub fn find(
     moves: u8,
     nodes: usize,
     units: &mut Units,
-) -> Result<Answer, Stop2>
+) -> Result<Answer, SearchStop>
     requires most { moves ≤ MOST_MOVES }
     requires turn { IsOwnTurn who b.now ⊎ IsOthersTurn who b.now }
     ensures answer { IsAnswer d who b.now moves nodes result }

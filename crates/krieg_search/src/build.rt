@@ -17,12 +17,13 @@ ghost use Rattle.krieg_search.specs.Searched.{sets_of};
 ghost use Rattle.krieg_search.specs.Built.{WonBy, IsPaidFor, winning_try, edges_for, Builds};
 
 use crate::number::number_of;
-use crate::stop::Stop2;
+use crate::stop::SearchStop;
 use krieg_board::{Move, NoMemory, Units};
 use krieg_game::Class;
 use krieg_pack::Belief;
+use krieg_parting::PartStop;
 use krieg_plan::{Edge, Node};
-use krieg_split::{Parted, SplitStop, split};
+use krieg_split::{Parted, split};
 use krieg_table::{Known, Table};
 use krieg_words::Dialect;
 use std::alloc::Global;
@@ -74,8 +75,8 @@ fn split_again(alloc: Global, d: Dialect, b: &Belief, mv: Move) -> Result<Parted
     let mut units = Units::new(u64::MAX);
     match split(alloc, d, b, mv, &mut units) {
         Ok(parts) => Ok(parts),
-        Err(SplitStop::Spent) => unreachable!(),
-        Err(SplitStop::NoMemory) => Err(NoMemory),
+        Err(PartStop::Spent) => unreachable!(),
+        Err(PartStop::NoMemory) => Err(NoMemory),
     }
 }
 
@@ -91,17 +92,17 @@ pub(crate) fn build(
     moves: u8,
     left: &mut usize,
     deep: usize,
-) -> Result<Box<Node>, Stop2>
+) -> Result<Box<Node>, SearchStop>
     requires within { set < length table.old }
     requires paid { IsPaidFor d true table.old }
     requires won { WonBy table.old (set_at table.old set) moves }
     ensures { Builds result (λ n. canon (chess d) moves (set_at table.old set) ≡ Just (tree_of n.value)) (size_other (canon (chess d) moves (set_at table.old set))) (depth_other (canon (chess d) moves (set_at table.old set))) table.old table.new left.old left.new deep }
 {
     if *left == 0 {
-        return Err(Stop2::Large);
+        return Err(SearchStop::Large);
     }
     if deep == 0 {
-        return Err(Stop2::Large);
+        return Err(SearchStop::Large);
     }
     *left -= 1;
     let win = win_of(table, set, moves);
@@ -125,7 +126,7 @@ fn build_edges(
     moves: u8,
     left: &mut usize,
     deep: usize,
-) -> Result<Vec<Edge>, Stop2>
+) -> Result<Vec<Edge>, SearchStop>
     requires paid { IsPaidFor d true table.old }
     requires won { (C : List Pos) → In C (sets_of classes.items) → WonBy table.old C moves }
     ensures { Builds result (λ es. as_edges (map edge_of es.items) ≡ edges_for d moves (map class_pair classes.items)) (size_edges (edges_for d moves (map class_pair classes.items))) (depth_edges (edges_for d moves (map class_pair classes.items))) table.old table.new left.old left.new deep }
@@ -153,7 +154,7 @@ fn build_other(
     moves: u8,
     left: &mut usize,
     deep: usize,
-) -> Result<Option<Box<Node>>, Stop2>
+) -> Result<Option<Box<Node>>, SearchStop>
     requires paid { IsPaidFor d true table.old }
     requires won { is_nil refused ≡ false → WonBy table.old refused moves }
     ensures { Builds result (λ o. as_other (option_map (λ b. tree_of b.value) o) ≡ refused_canon (chess d) moves refused) (size_other (refused_canon (chess d) moves refused)) (depth_other (refused_canon (chess d) moves refused)) table.old table.new left.old left.new deep }

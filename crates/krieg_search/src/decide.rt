@@ -10,7 +10,7 @@ ghost use Rattle.krieg_search.specs.Decided.{IsDecided, AreFewNotes, sets_in};
 use crate::notes::Notes;
 use crate::openings::{Opening, find_openings};
 use crate::search::{Kept, can_win};
-use crate::stop::Stop2;
+use crate::stop::SearchStop;
 use krieg_board::{MOST_MOVES, Side, Units};
 use krieg_pack::Belief;
 use krieg_sight::Sight;
@@ -48,7 +48,7 @@ fn all_openings_win(
     openings: &[Opening],
     moves: u8,
     units: &mut Units,
-) -> Result<bool, Stop2>
+) -> Result<bool, SearchStop>
     requires most { moves ≤ MOST_MOVES }
     requires ready { IsReady d cut table.old }
     requires numbered { AreNumbered table.old openings.now }
@@ -70,7 +70,7 @@ fn all_openings_win(
 /// With `cut` it looks into no part of a try that is found to fail even for a player who sees the position: the answer is
 /// the same, but of such tries the table has no block. At most as many positions are looked at for it as there are units.
 ///
-/// At most `noted` notes are kept.
+/// At most `noted` notes are kept. An answer takes what its account says; after an error some units may be gone, and none are new.
 pub fn decide(
     alloc: Global,
     d: Dialect,
@@ -80,7 +80,7 @@ pub fn decide(
     b: &Belief,
     moves: u8,
     units: &mut Units,
-) -> Result<Decided, Stop2>
+) -> Result<Decided, SearchStop>
     requires most { moves ≤ MOST_MOVES }
     requires turn { IsOwnTurn who b.now ⊎ IsOthersTurn who b.now }
     ensures decided { IsDecided d who b.now moves cut result units.old units.new }

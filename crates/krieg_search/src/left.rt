@@ -11,8 +11,9 @@ use crate::tried::Try;
 use krieg_board::{Move, Units};
 use krieg_game::Class;
 use krieg_pack::Belief;
+use krieg_parting::PartStop;
 use krieg_sight::{Sight, some_flees};
-use krieg_split::{SplitStop, Tally, mate_by_tally, pay_split, split_to_mate, split_unless_stale};
+use krieg_split::{Tally, mate_by_tally, pay_split, split_to_mate, split_unless_stale};
 use krieg_words::Dialect;
 use std::alloc::Global;
 
@@ -42,7 +43,7 @@ fn left_by_last(
     b: &Belief,
     mv: Move,
     units: &mut Units,
-) -> Result<Option<Left>, SplitStop>
+) -> Result<Option<Left>, PartStop>
     ensures left { IfOk result (IsLeft d false b.now mv 1) }
     ensures units { IsPaid result (made (chess d) b.now mv) units.old units.new }
 {
@@ -59,7 +60,7 @@ fn left_by_tally(
     b: &Belief,
     tally: &Tally,
     units: &mut Units,
-) -> Result<Option<Left>, SplitStop>
+) -> Result<Option<Left>, PartStop>
     requires { tally.now ≡ tally_of b.now tally.now.mv }
     ensures left { IfOk result (IsLeft d false b.now tally.now.mv 1) }
     ensures units { IsPaid result (made (chess d) b.now tally.now.mv) units.old units.new }
@@ -82,7 +83,7 @@ pub fn left_by(
     mv: Move,
     moves: u8,
     units: &mut Units,
-) -> Result<Option<Left>, SplitStop>
+) -> Result<Option<Left>, PartStop>
     requires { 0 < moves }
     ensures left { IfOk result (IsLeft d false b.now mv moves) }
     ensures units { IsPaid result (made (chess d) b.now mv) units.old units.new }
@@ -110,7 +111,7 @@ fn left_unless_cut(
     mv: Move,
     moves: u8,
     units: &mut Units,
-) -> Result<Option<Left>, SplitStop>
+) -> Result<Option<Left>, PartStop>
     requires { 0 < moves }
     ensures left { IfOk result (IsLeft d cut b.now mv moves) }
     ensures units { IsPaid result (made (chess d) b.now mv) units.old units.new }
@@ -133,7 +134,7 @@ pub(crate) fn left_of(
     tried: &Try,
     moves: u8,
     units: &mut Units,
-) -> Result<Option<Left>, SplitStop>
+) -> Result<Option<Left>, PartStop>
     requires some { 0 < moves }
     requires told { IsTold b.now moves tried.now }
     ensures left { IfOk result (IsLeft d cut b.now (move_of tried.now) moves) }

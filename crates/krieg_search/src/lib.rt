@@ -25,7 +25,7 @@
 //!
 //! Who goes on by what a search leaves, as krieg_refute does, calls `decide` itself: it gives the table and the openings,
 //! whatever the answer. `left_by` makes one split of it again, and `number_of` finds the number of a part. `decide` also
-//! keeps `notes`, as many as it is asked for: of a set that cannot be won with two moves or more, what blocks each of its
+//! keeps `notes`, at most as many as it is asked for: of a set that cannot be won with two moves or more, what blocks each of its
 //! tries, by the number of a part and the words that are heard there (`heard`). `solve` and `find` keep none.
 //!
 //! The search calls itself for each part of a set, and building for each node below a node. Where one try after another
@@ -38,9 +38,9 @@
 //! match solve(alloc, Dialect::Wild16, Side::White, &list, 2, 100, &mut units) {
 //!     Ok(Answer::Mates { worst, plan }) => .., // 2, and h1d1 and then d1d8, whichever it is
 //!     Ok(Answer::None) => .., // no plan mates both within 2 moves
-//!     Err(Stop2::Large) => .., // the plan has more than 100 nodes
-//!     Err(Stop2::Spent) => .., // the units are too few, and all are left
-//!     Err(Stop2::NoMemory) => ..,
+//!     Err(SearchStop::Large) => .., // the plan has more than 100 nodes
+//!     Err(SearchStop::Spent) => .., // the units are too few, and all are left
+//!     Err(SearchStop::NoMemory) => ..,
 //! }
 //! // `find` takes the same arguments and comes to the same
 //! ```
@@ -67,5 +67,5 @@ pub use left::{Left, left_by};
 pub use notes::{Asked, Block, Note, Notes};
 pub use number::number_of;
 pub use openings::Opening;
-pub use stop::Stop2;
+pub use stop::{SearchStop, SearchStop as Stop2};
 pub use turn::has_one_turn;

@@ -15,7 +15,8 @@ ghost use Rattle.krieg_search.specs.Opened.{AreNumbered, IsAdded, AreAdded, IsOp
 use crate::number::number_of;
 use krieg_board::{NoMemory, Side, Units};
 use krieg_pack::Belief;
-use krieg_split::{First, Firsts, Opened, SplitStop, first_replies, openings};
+use krieg_parting::PartStop;
+use krieg_split::{First, Firsts, Opened, first_replies, openings};
 use krieg_table::Table;
 use krieg_words::{Dialect, Words};
 use std::alloc::Global;
@@ -102,7 +103,7 @@ pub(crate) fn find_openings(
     b: &Belief,
     table: &mut Table,
     units: &mut Units,
-) -> Result<Option<Vec<Opening>>, SplitStop>
+) -> Result<Option<Vec<Opening>>, PartStop>
     requires turn { IsOwnTurn who b.now ⊎ IsOthersTurn who b.now }
     requires counted { AreCounted table.old }
     ensures { Charged result (IsOpened d who b.now table.old table.new) (first_made (chess d) (outset d who) b.now) units.old units.new }

@@ -9,7 +9,7 @@ ghost use Rattle.krieg_search.specs.Rooted.{AreRoots};
 
 use crate::build::{build, win_of};
 use crate::openings::Opening;
-use crate::stop::Stop2;
+use crate::stop::SearchStop;
 use krieg_plan::{MOST_ON_PATH, Root};
 use krieg_table::Table;
 use krieg_words::Dialect;
@@ -32,7 +32,7 @@ pub(crate) fn build_roots(
     openings: Vec<Opening>,
     moves: u8,
     left: &mut usize,
-) -> Result<Roots, Stop2>
+) -> Result<Roots, SearchStop>
     requires paid { IsPaidFor d true table.old }
     requires numbered { AreNumbered table.old openings.items }
     requires won { (C : List Pos) → In C (sets_in table.old openings.items) → WonBy table.old C moves }

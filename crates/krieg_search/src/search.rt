@@ -15,7 +15,7 @@ use crate::heard::Heard;
 use crate::left::{Left, left_of};
 use crate::notes::{Block, Notes, add};
 use crate::number::number_of;
-use crate::stop::Stop2;
+use crate::stop::SearchStop;
 use crate::tried::{Try, move_of_try, tries_for};
 use krieg_board::{MOST_MOVES, Units};
 use krieg_game::Class;
@@ -49,7 +49,7 @@ pub(crate) fn can_win(
     set: u32,
     moves: u8,
     units: &mut Units,
-) -> Result<bool, Stop2>
+) -> Result<bool, SearchStop>
     requires within { set < length table.old }
     requires most { moves ≤ MOST_MOVES }
     requires ready { IsReady d cut table.old }
@@ -78,7 +78,7 @@ fn can_win_in(
     set: u32,
     moves: u8,
     units: &mut Units,
-) -> Result<bool, Stop2>
+) -> Result<bool, SearchStop>
     requires some { 0 < moves }
     requires within { set < length table.old }
     requires most { moves ≤ MOST_MOVES }
@@ -125,7 +125,7 @@ fn block_of(
     tried: &Try,
     moves: u8,
     units: &mut Units,
-) -> Result<Option<Block>, Stop2>
+) -> Result<Option<Block>, SearchStop>
     requires some { 0 < moves }
     requires within { set < length table.old }
     requires most { moves ≤ MOST_MOVES }
@@ -176,7 +176,7 @@ fn first_lost(
     classes: Vec<Class>,
     moves: u8,
     units: &mut Units,
-) -> Result<Option<LostClass>, Stop2>
+) -> Result<Option<LostClass>, SearchStop>
     requires most { moves ≤ MOST_MOVES }
     requires ready { IsReady d cut table.old }
     requires noted { AreNotes d cut table.old kept.old.notes }

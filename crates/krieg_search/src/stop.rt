@@ -1,14 +1,14 @@
 ghost use Rattle.std.specs.Prelude.{◌≡◌};
 ghost use Rattle.krieg_search.specs.Stops.{stop_of};
-ghost use Rattle.krieg_search.specs.declared.stop.Stop2.TheVariants.{NoMemory as OutOfMemory};
+ghost use Rattle.krieg_search.specs.declared.stop.SearchStop.TheVariants.{NoMemory as OutOfMemory};
 
 use krieg_board::NoMemory;
-use krieg_split::SplitStop;
+use krieg_parting::PartStop;
 use std::alloc::{AllocError, AllocFailed};
 
 /// Why a search gives no answer.
 #[derive(Clone, Copy, Debug, PartialEq, Eq)]
-pub enum Stop2 {
+pub enum SearchStop {
     /// There are fewer units than the search takes.
     Spent,
     /// There is a plan, with more nodes than were allowed, or with too many on a path.
@@ -17,37 +17,37 @@ pub enum Stop2 {
     NoMemory,
 }
 
-impl From<NoMemory> for Stop2 {
+impl From<NoMemory> for SearchStop {
     ghost from_gives = { λ _ e. e ≡ OutOfMemory };
 
-    fn from(_error: NoMemory) -> Stop2 {
-        Stop2::NoMemory
+    fn from(_error: NoMemory) -> SearchStop {
+        SearchStop::NoMemory
     }
 }
 
-impl From<AllocError> for Stop2 {
+impl From<AllocError> for SearchStop {
     ghost from_gives = { λ _ e. e ≡ OutOfMemory };
 
-    fn from(_error: AllocError) -> Stop2 {
-        Stop2::NoMemory
+    fn from(_error: AllocError) -> SearchStop {
+        SearchStop::NoMemory
     }
 }
 
-impl<T: Drop> From<AllocFailed<T>> for Stop2 {
+impl<T: Drop> From<AllocFailed<T>> for SearchStop {
     ghost from_gives = { λ _ e. e ≡ OutOfMemory };
 
-    fn from(_error: AllocFailed<T>) -> Stop2 {
-        Stop2::NoMemory
+    fn from(_error: AllocFailed<T>) -> SearchStop {
+        SearchStop::NoMemory
     }
 }
 
-impl From<SplitStop> for Stop2 {
+impl From<PartStop> for SearchStop {
     ghost from_gives = { λ stop e. e ≡ stop_of stop };
 
-    fn from(stop: SplitStop) -> Stop2 {
+    fn from(stop: PartStop) -> SearchStop {
         match stop {
-            SplitStop::Spent => Stop2::Spent,
-            SplitStop::NoMemory => Stop2::NoMemory,
+            PartStop::Spent => SearchStop::Spent,
+            PartStop::NoMemory => SearchStop::NoMemory,
         }
     }
 }

@@ -13,7 +13,7 @@ ghost use Rattle.krieg_split.specs.Firsts.{AreFirsts, AreOpeningSets, first_pair
 use krieg_board::{NoMemory, Units};
 use krieg_game::Class;
 use krieg_pack::{Belief, Packed};
-use krieg_parting::{FirstMoves, PartStop as SplitStop, first_moves, take};
+use krieg_parting::{FirstMoves, PartStop, first_moves, take};
 use krieg_words::{Dialect, Words};
 use std::alloc::Global;
 
@@ -40,7 +40,7 @@ fn moves_of_all(
     d: Dialect,
     members: &[Packed],
     units: &mut Units,
-) -> Result<FirstMoves, SplitStop>
+) -> Result<FirstMoves, PartStop>
     ensures { Charged result (AreFirstMoves d members.now) (first_cost members.now) units.old units.new }
 {
     take(units, members.len() as u64)?;
@@ -76,7 +76,7 @@ pub fn first_replies(
     d: Dialect,
     b: &Belief,
     units: &mut Units,
-) -> Result<Firsts, SplitStop>
+) -> Result<Firsts, PartStop>
     ensures parts { IfOk result (AreFirsts d b.now) }
     ensures units { IsPaid result (first_cost b.now) units.old units.new }
     ensures sets { IfOk result (λ r. (who : Side) → IsOthersTurn who b.now → AreOpeningSets d who b.now r) }

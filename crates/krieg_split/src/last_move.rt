@@ -11,7 +11,7 @@ use crate::tallies::Tally;
 use krieg_board::{Move, NoMemory, Units};
 use krieg_moves::is_legal;
 use krieg_pack::{Belief, Packed, unpack};
-use krieg_parting::{Mating, PartStop as SplitStop, take, try_to_mate};
+use krieg_parting::{Mating, PartStop, take, try_to_mate};
 use krieg_words::Dialect;
 use std::alloc::Global;
 
@@ -37,7 +37,7 @@ pub fn split_to_mate(
     b: &Belief,
     mv: Move,
     units: &mut Units,
-) -> Result<Option<Belief>, SplitStop>
+) -> Result<Option<Belief>, PartStop>
     ensures parts { IfOk result (IsLastMove d b.now mv) }
     ensures units { IsPaid result (made (chess d) b.now mv) units.old units.new }
 {
@@ -77,7 +77,7 @@ fn mating_by(alloc: Global, members: &[Packed], tally: &Tally) -> Result<Mating,
 }
 
 /// Takes one unit for each member and one for each reply.
-fn pay(members: usize, replies: u64, units: &mut Units) -> Result<(), SplitStop>
+fn pay(members: usize, replies: u64, units: &mut Units) -> Result<(), PartStop>
     ensures { Charged result (λ _. ⊤) (members + replies) units.old units.new }
 {
     take(units, members as u64)?;
@@ -93,7 +93,7 @@ pub fn mate_by_tally(
     b: &Belief,
     tally: &Tally,
     units: &mut Units,
-) -> Result<Option<Belief>, SplitStop>
+) -> Result<Option<Belief>, PartStop>
     requires { tally.now ≡ tally_of b.now tally.now.mv }
     ensures parts { IfOk result (IsLastMove d b.now tally.now.mv) }
     ensures units { IsPaid result (made (chess d) b.now tally.now.mv) units.old units.new }

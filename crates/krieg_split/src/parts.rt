@@ -7,7 +7,7 @@ ghost use Rattle.krieg_split.specs.Units.{IsPaid};
 
 use krieg_board::{Move, Units};
 use krieg_pack::Belief;
-use krieg_parting::{PartStop as SplitStop, Parted, gather, parts_of, try_to_mate};
+use krieg_parting::{PartStop, Parted, gather, parts_of, try_to_mate};
 use krieg_words::Dialect;
 use std::alloc::Global;
 
@@ -22,7 +22,7 @@ pub fn split(
     b: &Belief,
     mv: Move,
     units: &mut Units,
-) -> Result<Parted, SplitStop>
+) -> Result<Parted, PartStop>
     ensures parts { IfOk result (IsParted d b.now mv) }
     ensures units { IsPaid result (made (chess d) b.now mv) units.old units.new }
 {
@@ -44,7 +44,7 @@ pub fn split_unless_stale(
     b: &Belief,
     mv: Move,
     units: &mut Units,
-) -> Result<Option<Parted>, SplitStop>
+) -> Result<Option<Parted>, PartStop>
     ensures parts { IfOk result (IsUnlessStale d b.now mv) }
     ensures units { IsPaid result (made (chess d) b.now mv) units.old units.new }
 {
@@ -61,7 +61,7 @@ pub fn split_unless_stale(
 
 /// Takes what `split` takes, for a try of which nothing else is wanted: it is the same in every dialect. `Spent` comes only
 /// where fewer are left. An error takes none.
-pub fn pay_split(alloc: Global, b: &Belief, mv: Move, units: &mut Units) -> Result<(), SplitStop>
+pub fn pay_split(alloc: Global, b: &Belief, mv: Move, units: &mut Units) -> Result<(), PartStop>
     ensures { (d : Dialect) → IsPaid result (made (chess d) b.now mv) units.old units.new }
 {
     let mut left = Units::new(units.left());

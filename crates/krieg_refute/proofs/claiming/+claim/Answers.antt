@@ -5,7 +5,7 @@ use Rattle.krieg_board.specs.Pos.{Pos}
 use Rattle.krieg_board.specs.declared.men.Move.{Move}
 use Rattle.krieg_costs.specs.Refutation as theory
 use Rattle.krieg_game.specs.Keys.{Key}
-use Rattle.krieg_search.specs.declared.stop.Stop2.TheVariants.{Large}
+use Rattle.krieg_search.specs.declared.stop.SearchStop.TheVariants.{Large}
 use Rattle.krieg_pack.specs.Order.{position_lt}
 use Rattle.krieg_theory.specs.Sets.{In}
 use Rattle.krieg_theory.specs.Split.{tries}

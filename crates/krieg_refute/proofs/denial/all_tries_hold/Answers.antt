@@ -9,7 +9,7 @@ use Rattle.krieg_words.specs.declared.dialects.Dialect.{Dialect}
 use Rattle.krieg_theory.specs.Split.{tries}
 use Rattle.krieg_costs.specs.Refutation.{Claim, Reason}
 use Rattle.krieg_game.specs.Keys.{Key}
-use Rattle.krieg_parting.specs.declared.stop.PartStop.{PartStop as SplitStop}
+use Rattle.krieg_parting.specs.declared.stop.PartStop.{PartStop}
 use Rattle.krieg_split.specs.Units.{Charged}
 use Rattle.krieg_costs.specs.Sums.{total}
 use Rattle.krieg_costs.specs.Cost.{made}
@@ -22,7 +22,7 @@ use Rattle.krieg_refute.specs.Reasons.{try_holds}
 use Rattle.krieg_refute.proofs.LastTries.{members_paid, are_tallies, total_tallied}
 use Rattle.krieg_refute.proofs.denial.all_tries_hold.Goals as goal
 
-hold_by_tallies : (d : Dialect) (B : List Pos) (j : ℕ) → 0 ≡ j - 1 → (cs : List (Claim (chess d))) (rs : List (Move × Reason Key)) (ts : List Move) (ys : List Tally) → ts ≡ tries (chess d) B → AreTallies B B ys → (r : Result Bool SplitStop) (u0 u1 : ℕ)
+hold_by_tallies : (d : Dialect) (B : List Pos) (j : ℕ) → 0 ≡ j - 1 → (cs : List (Claim (chess d))) (rs : List (Move × Reason Key)) (ts : List Move) (ys : List Tally) → ts ≡ tries (chess d) B → AreTallies B B ys → (r : Result Bool PartStop) (u0 u1 : ℕ)
     → Charged r (λ yes. yes ≡ list_all (λ (y : Tally). try_holds d cs 0 B y.mv rs) ys) (total (λ (y : Tally). made (chess d) B y.mv) ys) u0 u1
     → Charged r (λ yes. yes ≡ list_all (λ t. try_holds d cs (j - 1) B t rs) ts) (total (made (chess d) B) ts) u0 u1
 hold_by_tallies d B j last cs rs ts ys tried found r u0 u1 h =
