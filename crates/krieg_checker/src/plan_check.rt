@@ -69,7 +69,8 @@ fn check_set(
     units: &mut Units,
 ) -> Result<Checked, PartStop>
     requires { IsOneTurn set }
-    ensures { (f : PlanFile) → AreParts f d side set worst plan.now → Charged result (IsVerdict f) (check_cost f) units.old units.new }
+    ensures { (f : PlanFile) → AreParts f d side set worst plan.now
+        → Charged result (IsVerdict f) (check_cost f) units.old units.new }
 {
     let started = start(alloc, d, side, set, units)?;
     let need = walk_roots(alloc, d, plan, started.own, started.classes, units)?;

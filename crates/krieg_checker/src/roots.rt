@@ -33,7 +33,11 @@ fn walk_root(
     class: Class,
     units: &mut Units,
 ) -> Result<Option<u16>, PartStop>
-    ensures { Charged result (λ r. Tells r (all_won_other (chess d) (first_root_in (plan_of plan.now) (heard_of own (class_pair class)).0) class.belief)) (other_cost (chess d) (first_root_in (plan_of plan.now) (heard_of own (class_pair class)).0) class.belief) units.old units.new }
+    ensures { Charged result (λ r. Tells r
+        (all_won_other (chess d) (first_root_in (plan_of plan.now)
+        (heard_of own (class_pair class)).0) class.belief))
+        (other_cost (chess d) (first_root_in (plan_of plan.now) (heard_of own (class_pair class)).0)
+        class.belief) units.old units.new }
 {
     match find_root(plan, class.own, heard(own, class.reply)) {
         None => Ok(missing(&class.belief)),
@@ -50,7 +54,10 @@ pub(crate) fn walk_roots(
     classes: Vec<Class>,
     units: &mut Units,
 ) -> Result<Option<u16>, PartStop>
-    ensures { Charged result (λ r. Tells r (roots_won d (plan_of plan.now) (map (heard_of own) (map class_pair classes.items)))) (roots_cost d (plan_of plan.now) (map (heard_of own) (map class_pair classes.items))) units.old units.new }
+    ensures { Charged result (λ r. Tells r
+        (roots_won d (plan_of plan.now) (map (heard_of own) (map class_pair classes.items))))
+        (roots_cost d (plan_of plan.now) (map (heard_of own) (map class_pair classes.items)))
+        units.old units.new }
 {
     let mut need = Some(0);
     for class in classes {

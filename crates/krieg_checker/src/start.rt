@@ -61,7 +61,8 @@ fn at_others_turn(
     b: Belief,
     units: &mut Units,
 ) -> Result<Started, PartStop>
-    ensures { Charged result (λ r. (who : Side) → IsOthersTurn who b → IsStarted d who b r) (total (λ p. length (list.moves p)) b) units.old units.new }
+    ensures { Charged result (λ r. (who : Side) → IsOthersTurn who b → IsStarted d who b r)
+        (total (λ p. length (list.moves p)) b) units.old units.new }
 {
     let FirstMoves { ended, pool } = first_moves(alloc, d, b.members(), units)?;
     drop(b);
@@ -83,7 +84,8 @@ pub(crate) fn start(
     units: &mut Units,
 ) -> Result<Started, PartStop>
     requires { IsOneTurn b }
-    ensures { Charged result (IsStarted d who b) (first_cost (chess d) (outset d who) b) units.old units.new }
+    ensures { Charged result (IsStarted d who b)
+        (first_cost (chess d) (outset d who) b) units.old units.new }
 {
     let _members = b.len();
     if is_own_turn(&b, who) {

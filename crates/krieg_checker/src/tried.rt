@@ -63,7 +63,8 @@ pub(crate) fn try_node(
     b: Belief,
     units: &mut Units,
 ) -> Result<Tried, PartStop>
-    ensures { Charged result (IsTriedAt d (tree_of n.now) b) (made (chess d) b (try_in (tree_of n.now))) units.old units.new }
+    ensures { Charged result (IsTriedAt d (tree_of n.now) b)
+        (made (chess d) b (try_in (tree_of n.now))) units.old units.new }
 {
     if n.edges.is_empty() {
         return end(alloc, d, n.mv, b, units);

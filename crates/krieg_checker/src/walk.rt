@@ -64,7 +64,8 @@ pub(crate) fn walk(
     units: &mut Units,
 ) -> Result<Option<u16>, PartStop>
     requires { is_ordered (tree_of n.now) ≡ true }
-    ensures { Charged result (λ r. Tells r (all_won (chess d) (tree_of n.now) b)) (node_cost (chess d) (tree_of n.now) b) units.old units.new }
+    ensures { Charged result (λ r. Tells r (all_won (chess d) (tree_of n.now) b))
+        (node_cost (chess d) (tree_of n.now) b) units.old units.new }
 {
     let mut need = Some(0);
     let mut here = n;
@@ -100,7 +101,10 @@ fn walk_classes(
     units: &mut Units,
 ) -> Result<Option<u16>, PartStop>
     requires { is_ordered (tree_of n.now) ≡ true }
-    ensures { Charged result (λ r. Tells r (classes_won d (edges_in (tree_of n.now)) (map class_pair classes.items))) (classes_cost d (edges_in (tree_of n.now)) (map class_pair classes.items)) units.old units.new }
+    ensures { Charged result (λ r. Tells r
+        (classes_won d (edges_in (tree_of n.now)) (map class_pair classes.items)))
+        (classes_cost d (edges_in (tree_of n.now)) (map class_pair classes.items))
+        units.old units.new }
 {
     let mut need = Some(0);
     for class in classes {
@@ -119,7 +123,10 @@ fn walk_class(
     units: &mut Units,
 ) -> Result<Option<u16>, PartStop>
     requires { is_ordered (tree_of n.now) ≡ true }
-    ensures { Charged result (λ r. Tells r (λ k. list_all (λ p. wins_at (chess d) (edges_in (tree_of n.now)) (class_pair class).0 p k) (class_pair class).1)) (edge_cost (chess d) (edges_in (tree_of n.now)) (class_pair class).0 (class_pair class).1) units.old units.new }
+    ensures { Charged result (λ r. Tells r
+        (λ k. list_all (λ p. wins_at (chess d) (edges_in (tree_of n.now)) (class_pair class).0 p k)
+        (class_pair class).1)) (edge_cost (chess d) (edges_in (tree_of n.now)) (class_pair class).0
+        (class_pair class).1) units.old units.new }
 {
     match find_edge_in_order(n, class.own, class.reply) {
         None => Ok(missing(&class.belief)),

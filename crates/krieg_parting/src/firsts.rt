@@ -30,7 +30,8 @@ fn add_first_moves(
     found: &mut FirstMoves,
     units: &mut Units,
 ) -> Result<(), PartStop>
-    ensures { Charged result (λ _. IsAdvanced d found.old found.new member.now) (length (list.moves member.now)) units.old units.new }
+    ensures { Charged result (λ _. IsAdvanced d found.old found.new member.now)
+        (length (list.moves member.now)) units.old units.new }
 {
     let p = unpack(member);
     let moves = legal_moves(alloc, &p)?;
@@ -49,7 +50,8 @@ pub fn first_moves(
     members: &[Packed],
     units: &mut Units,
 ) -> Result<FirstMoves, PartStop>
-    ensures { Charged result (AreFirstMoves d members.now) (total (λ p. length (list.moves p)) members.now) units.old units.new }
+    ensures { Charged result (AreFirstMoves d members.now)
+        (total (λ p. length (list.moves p)) members.now) units.old units.new }
 {
     let mut found = FirstMoves {
         ended: false,

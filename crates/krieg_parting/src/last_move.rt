@@ -36,7 +36,8 @@ fn try_legal(
     requires legal { rule.is_legal p.now mv.now ≡ true }
     requires replies { replies ≡ length (list.moves (change.after p.now mv.now)) }
     requires few { replies ≤ MOST_LEGAL_MOVES }
-    ensures { Charged result (λ _. IsTried true found.old found.new p.now mv.now) (suc (spec.replies mv.now p.now)) units.old units.new }
+    ensures { Charged result (λ _. IsTried true found.old found.new p.now mv.now)
+        (suc (spec.replies mv.now p.now)) units.old units.new }
 {
     take(units, 1 + replies as u64)?;
     found.lives = found.lives || !mates_by(p, *mv, replies);
@@ -51,7 +52,8 @@ fn try_in(
     found: &mut Mating,
     units: &mut Units,
 ) -> Result<(), PartStop>
-    ensures { Charged result (λ _. IsTried always found.old found.new member.now mv.now) (suc (spec.replies mv.now member.now)) units.old units.new }
+    ensures { Charged result (λ _. IsTried always found.old found.new member.now mv.now)
+        (suc (spec.replies mv.now member.now)) units.old units.new }
 {
     let p = unpack(member);
     if let Some(replies) = replies_if_legal(&p, *mv) {
@@ -72,7 +74,8 @@ fn try_in_all(
     always: bool,
     units: &mut Units,
 ) -> Result<Mating, PartStop>
-    ensures { Charged result (AreTried always members.now mv.now) (looked_at members.now mv.now) units.old units.new }
+    ensures { Charged result (AreTried always members.now mv.now)
+        (looked_at members.now mv.now) units.old units.new }
 {
     let mut found = Mating {
         lives: false,
@@ -96,7 +99,8 @@ pub fn try_to_mate(
     always: bool,
     units: &mut Units,
 ) -> Result<Mating, PartStop>
-    ensures { (d : Dialect) → Charged result (IsMating d always members.now mv.now) (made (chess d) members.now mv.now) units.old units.new }
+    ensures { (d : Dialect) → Charged result (IsMating d always members.now mv.now)
+        (made (chess d) members.now mv.now) units.old units.new }
 {
     try_in_all(alloc, members, mv, always, units)
 }

@@ -54,7 +54,8 @@ fn add_legal(
     requires words { made.now.words ≡ words p.now mv.now }
     requires position { made.now.position ≡ after p.now mv.now }
     requires guard { IsGuard made.now.position made.now.guard }
-    ensures { Charged result (λ _. IsAdded d always parts.old parts.new p.now mv.now) (suc (length (given (chess d) mv.now p.now))) units.old units.new }
+    ensures { Charged result (λ _. IsAdded d always parts.old parts.new p.now mv.now)
+        (suc (length (given (chess d) mv.now p.now))) units.old units.new }
 {
     let replies = legal_moves_by(alloc, &made.position, &made.guard)?;
     take(units, 1 + replies.len() as u64)?;
@@ -89,7 +90,8 @@ fn add_member(
     parts: &mut Gathered,
     units: &mut Units,
 ) -> Result<(), PartStop>
-    ensures { Charged result (λ _. IsAdded d always parts.old parts.new member.now mv.now) (suc (length (given (chess d) mv.now member.now))) units.old units.new }
+    ensures { Charged result (λ _. IsAdded d always parts.old parts.new member.now mv.now)
+        (suc (length (given (chess d) mv.now member.now))) units.old units.new }
 {
     let p = unpack(member);
     if parts.stale && !always {
@@ -113,7 +115,8 @@ pub fn gather(
     always: bool,
     units: &mut Units,
 ) -> Result<Gathered, PartStop>
-    ensures { Charged result (IsGathered d always members.now mv.now) (made (chess d) members.now mv.now) units.old units.new }
+    ensures { Charged result (IsGathered d always members.now mv.now)
+        (made (chess d) members.now mv.now) units.old units.new }
 {
     let mut parts = Gathered {
         refused: Vec::new(alloc),

@@ -57,7 +57,8 @@ pub(crate) struct LostClass {
 /// Whether the set is stored as one that cannot be won within `moves`.
 pub(crate) fn is_lost(table: &Table, set: u32, moves: u8) -> bool
     requires { set < length table.now }
-    ensures { result ≡ is_loss (stored position_lt (entries table.now) (set_at table.now set, moves)) }
+    ensures { result ≡ is_loss (stored position_lt (entries table.now)
+        (set_at table.now set, moves)) }
 {
     match table.result(set, moves) {
         Some(Known::Loses) => true,
@@ -183,7 +184,8 @@ fn first_lost(
 
 /// Whether so many claims, with so many positions and reasons, may be written.
 fn are_few(claims: usize, positions: usize, reasons: usize) -> bool
-    ensures { IsTrue result ↔ ((claims ≤ most_claims) × (positions ≤ most_claimed) × (reasons ≤ most_claimed)) }
+    ensures { IsTrue result ↔ ((claims ≤ most_claims) × (positions ≤ most_claimed)
+        × (reasons ≤ most_claimed)) }
 {
     claims <= MOST_CLAIMS && positions <= MOST_CLAIMED && reasons <= MOST_CLAIMED
 }
@@ -208,7 +210,8 @@ fn push(
 ) -> Result<u16, SearchStop>
     requires within { set < length table.now }
     requires claimed { IsClaimed d table.now claimed.old }
-    requires next { IsNext d table.now claimed.old.places.keys (set_at table.now set) moves (map reason_of reasons.items) }
+    requires next { IsNext d table.now claimed.old.places.keys (set_at table.now set) moves
+        (map reason_of reasons.items) }
     ensures { IsPushed d table.now (set_at table.now set) moves claimed.old claimed.new result }
 {
     let positions = claimed.positions.saturating_add(table.belief(set).len());
@@ -245,7 +248,8 @@ pub(crate) fn claim(
     requires noted { AreNotes d false table.old notes.now }
     requires lost { IsLost table.old (set_at table.old asked.set) asked.moves }
     requires claimed { IsClaimed d table.old claimed.old }
-    ensures { Claims d result (set_at table.old asked.set) asked.moves table.old table.new claimed.old claimed.new }
+    ensures { Claims d result (set_at table.old asked.set) asked.moves table.old table.new
+        claimed.old claimed.new }
 {
     table.know_once();
     if let Some(index) = claimed.places.get_index_of(&asked) {
@@ -272,7 +276,9 @@ fn reasons_of(
     requires noted { AreNotes d false table.old notes.now }
     requires lost { IsLost table.old (set_at table.old asked.set) asked.moves }
     requires claimed { IsClaimed d table.old claimed.old }
-    ensures { Reasons d result (set_at table.old asked.set) asked.moves (theory.tries (chess d) (set_at table.old asked.set)) table.old table.new claimed.old claimed.new }
+    ensures { Reasons d result (set_at table.old asked.set) asked.moves
+        (theory.tries (chess d) (set_at table.old asked.set)) table.old table.new
+        claimed.old claimed.new }
 {
     if let Some(row) = notes.of(asked.set, asked.moves) {
         return reasons_for(alloc, d, notes, table, claimed, asked, row);
@@ -299,7 +305,9 @@ fn reasons_for(
     requires lost { IsLost table.old (set_at table.old asked.set) asked.moves }
     requires claimed { IsClaimed d table.old claimed.old }
     requires row { IsRow d false table.old asked row.now }
-    ensures { Reasons d result (set_at table.old asked.set) asked.moves (theory.tries (chess d) (set_at table.old asked.set)) table.old table.new claimed.old claimed.new }
+    ensures { Reasons d result (set_at table.old asked.set) asked.moves
+        (theory.tries (chess d) (set_at table.old asked.set)) table.old table.new
+        claimed.old claimed.new }
 {
     let mut reasons = Vec::with_capacity(alloc, row.len())?;
     for note in row {
@@ -327,8 +335,10 @@ fn why(
     requires lost { IsLost table.old (set_at table.old asked.set) asked.moves }
     requires claimed { IsClaimed d table.old claimed.old }
     requires legal { legal_in_some (chess d) (set_at table.old asked.set) note.now.mv ≡ true }
-    requires blocked { IsBlock d false table.old (set_at table.old asked.set) asked.moves note.now.mv note.now.block }
-    ensures { Blocks d result (set_at table.old asked.set) asked.moves note.now.mv table.old table.new claimed.old claimed.new }
+    requires blocked { IsBlock d false table.old (set_at table.old asked.set) asked.moves
+        note.now.mv note.now.block }
+    ensures { Blocks d result (set_at table.old asked.set) asked.moves note.now.mv
+        table.old table.new claimed.old claimed.new }
 {
     let moves = asked.moves;
     match note.block {

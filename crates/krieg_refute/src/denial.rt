@@ -40,7 +40,10 @@ fn try_holds(
     mv: &Move,
     units: &mut Units,
 ) -> Result<bool, PartStop>
-    ensures { Charged result (λ yes. yes ≡ try_spec d (claims_of d before.now) (claim.now.moves - 1) claim.now.set mv.now (map reason_of claim.now.reasons.items)) (made (chess d) claim.now.set mv.now) units.old units.new }
+    ensures { Charged result (λ yes. yes
+        ≡ try_spec d (claims_of d before.now) (claim.now.moves - 1) claim.now.set mv.now
+        (map reason_of claim.now.reasons.items))
+        (made (chess d) claim.now.set mv.now) units.old units.new }
 {
     let fewer = claim.moves.saturating_sub(1);
     let tried = Tried::Parts(split(alloc, d, &claim.set, *mv, units)?);
@@ -57,7 +60,10 @@ fn last_try_holds(
     units: &mut Units,
 ) -> Result<bool, PartStop>
     requires { tally.now ≡ tally_of claim.now.set tally.now.mv }
-    ensures { Charged result (λ yes. yes ≡ try_spec d (claims_of d before.now) 0 claim.now.set tally.now.mv (map reason_of claim.now.reasons.items)) (made (chess d) claim.now.set tally.now.mv) units.old units.new }
+    ensures { Charged result (λ yes. yes
+        ≡ try_spec d (claims_of d before.now) 0 claim.now.set tally.now.mv
+        (map reason_of claim.now.reasons.items))
+        (made (chess d) claim.now.set tally.now.mv) units.old units.new }
 {
     let tried = last_try(d, &claim.set, tally, units)?;
     Ok(reasons_hold(
@@ -86,7 +92,10 @@ fn tries_hold(
     moves: &[Move],
     units: &mut Units,
 ) -> Result<bool, PartStop>
-    ensures { Charged result (λ yes. yes ≡ list_all (λ t. try_spec d (claims_of d before.now) (claim.now.moves - 1) claim.now.set t (map reason_of claim.now.reasons.items)) moves.now) (total (made (chess d) claim.now.set) moves.now) units.old units.new }
+    ensures { Charged result (λ yes. yes
+        ≡ list_all (λ t. try_spec d (claims_of d before.now) (claim.now.moves - 1) claim.now.set t
+        (map reason_of claim.now.reasons.items)) moves.now)
+        (total (made (chess d) claim.now.set) moves.now) units.old units.new }
 {
     let mut all = true;
     for mv in moves {
@@ -106,7 +115,10 @@ fn last_tries_hold(
     units: &mut Units,
 ) -> Result<bool, PartStop>
     requires { All (λ y. y ≡ tally_of claim.now.set y.mv) tallies.now }
-    ensures { Charged result (λ yes. yes ≡ list_all (λ y. try_spec d (claims_of d before.now) 0 claim.now.set y.mv (map reason_of claim.now.reasons.items)) tallies.now) (total (λ y. made (chess d) claim.now.set y.mv) tallies.now) units.old units.new }
+    ensures { Charged result (λ yes. yes
+        ≡ list_all (λ y. try_spec d (claims_of d before.now) 0 claim.now.set y.mv
+        (map reason_of claim.now.reasons.items)) tallies.now)
+        (total (λ y. made (chess d) claim.now.set y.mv) tallies.now) units.old units.new }
 {
     let mut all = true;
     for tally in tallies {
@@ -136,8 +148,10 @@ const MOST_AT_ONCE: usize = 512;
 
 /// The tries of the claim's set, and where one move is left and the set is small, their tallies.
 fn tries_of(alloc: Global, claim: &Claim) -> Result<(Vec<Move>, Option<Vec<Tally>>), NoMemory>
-    ensures moves { IfOk result (λ r. (d : Dialect) → r.0.items ≡ sets.tries (chess d) claim.now.set) }
-    ensures tallies { IfOk result (λ r. IfSome r.1 (λ ys. AreTallies claim.now.set claim.now.set ys.items)) }
+    ensures moves { IfOk result (λ r. (d : Dialect)
+        → r.0.items ≡ sets.tries (chess d) claim.now.set) }
+    ensures tallies { IfOk result (λ r. IfSome r.1
+        (λ ys. AreTallies claim.now.set claim.now.set ys.items)) }
 {
     if claim.moves > 1 || claim.set.len() > MOST_AT_ONCE {
         return Ok((tries(alloc, &claim.set)?, None));
@@ -160,7 +174,10 @@ fn all_tries_hold(
 ) -> Result<bool, PartStop>
     requires moves { (d : Dialect) → moves.now ≡ sets.tries (chess d) claim.now.set }
     requires tallies { IfSome tallies (λ ys. AreTallies claim.now.set claim.now.set ys.items) }
-    ensures { Charged result (λ yes. yes ≡ list_all (λ t. try_spec d (claims_of d before.now) (claim.now.moves - 1) claim.now.set t (map reason_of claim.now.reasons.items)) moves.now) (total (made (chess d) claim.now.set) moves.now) units.old units.new }
+    ensures { Charged result (λ yes. yes
+        ≡ list_all (λ t. try_spec d (claims_of d before.now) (claim.now.moves - 1) claim.now.set t
+        (map reason_of claim.now.reasons.items)) moves.now)
+        (total (made (chess d) claim.now.set) moves.now) units.old units.new }
 {
     if claim.moves > 1 {
         return tries_hold(alloc, d, before, claim, moves, units);
@@ -185,7 +202,9 @@ fn claim_holds(
     claim: &Claim,
     units: &mut Units,
 ) -> Result<bool, PartStop>
-    ensures { Charged result (λ yes. yes ≡ theory.claim_holds (chess d) (claims_of d before.now) (claim_of d claim.now)) (price (chess d) claim.now.set) units.old units.new }
+    ensures { Charged result (λ yes. yes
+        ≡ theory.claim_holds (chess d) (claims_of d before.now) (claim_of d claim.now))
+        (price (chess d) claim.now.set) units.old units.new }
 {
     let (moves, tallies) = tries_of(alloc, claim)?;
     let held = all_tries_hold(alloc, d, before, claim, moves.as_slice(), tallies, units)?;
@@ -201,7 +220,8 @@ fn claims_hold(
     claims: &[Claim],
     units: &mut Units,
 ) -> Result<bool, PartStop>
-    ensures { Charged result (λ yes. yes ≡ theory.claims_hold (chess d) [] (claims_of d claims.now)) (claims_price d claims.now) units.old units.new }
+    ensures { Charged result (λ yes. yes ≡ theory.claims_hold (chess d) [] (claims_of d claims.now))
+        (claims_price d claims.now) units.old units.new }
 {
     let mut all = true;
     for place in 0..claims.len() {
@@ -233,7 +253,8 @@ fn all_open_with(d: Dialect, words: &Words, members: &[Packed]) -> bool
 /// Whether the set is within one of the opening sets of positions in which the player is to move: its members are listed,
 /// and the same is told of all of them at the start.
 fn is_within_opening(d: Dialect, set: &Belief, listed: &Belief) -> bool
-    ensures { (who : Side) (S : List Pos) → IsSetOf listed.now S → IsOwnTurn who S → result ≡ within_opening d who S set.now }
+    ensures { (who : Side) (S : List Pos) → IsSetOf listed.now S → IsOwnTurn who S
+        → result ≡ within_opening d who S set.now }
 {
     match set.members().first() {
         None => !listed.is_empty(),
@@ -259,7 +280,8 @@ fn is_within_listed(
     set: &Belief,
     list: &[Packed],
 ) -> Result<bool, NoMemory>
-    ensures { IfOk result (λ yes. (who : Side) → IsOwnTurn who list.now → yes ≡ within_opening d who list.now set.now) }
+    ensures { IfOk result (λ yes. (who : Side) → IsOwnTurn who list.now
+        → yes ≡ within_opening d who list.now set.now) }
 {
     if are_all_members(list, set) {
         return Ok(is_within_opening(d, set, set));
@@ -278,7 +300,8 @@ fn denies(
     claim: &Claim,
 ) -> Result<bool, NoMemory>
     requires { IsOwnTurn who list.now }
-    ensures { IfOk result (λ yes. yes ≡ theory.denies (chess d) (outset d who) moves list.now (Some (claim_of d claim.now))) }
+    ensures { IfOk result (λ yes. yes ≡ theory.denies (chess d) (outset d who) moves list.now
+        (Some (claim_of d claim.now))) }
 {
     let within = is_within_listed(alloc, d, &claim.set, list)?;
     Ok(both(claim.moves >= moves, within))
@@ -299,7 +322,9 @@ fn are_turns_of(list: &[Packed], side: Side) -> bool
 /// Whether the last claim denies that some plan mates the listed positions within the number of moves.
 fn last_denies(alloc: Global, f: &Refutation) -> Result<bool, NoMemory>
     requires { is_own_turn f.now ≡ true }
-    ensures { IfOk result (λ yes. yes ≡ theory.denies (chess f.now.dialect) (outset f.now.dialect f.now.side) f.now.moves f.now.list.items (theory.last_of (claims_of f.now.dialect f.now.claims.items))) }
+    ensures { IfOk result (λ yes. yes ≡ theory.denies (chess f.now.dialect)
+        (outset f.now.dialect f.now.side) f.now.moves f.now.list.items
+        (theory.last_of (claims_of f.now.dialect f.now.claims.items))) }
 {
     let claims = f.claims.as_slice();
     let count = claims.len();
@@ -312,7 +337,10 @@ fn last_denies(alloc: Global, f: &Refutation) -> Result<bool, NoMemory>
 
 /// Whether the side is to move in all listed positions, and the last claim denies that some plan mates them.
 fn is_denied(alloc: Global, f: &Refutation) -> Result<bool, NoMemory>
-    ensures { IfOk result (λ yes. yes ≡ (is_own_turn f.now && theory.denies (chess f.now.dialect) (outset f.now.dialect f.now.side) f.now.moves f.now.list.items (theory.last_of (claims_of f.now.dialect f.now.claims.items)))) }
+    ensures { IfOk result (λ yes. yes ≡ (is_own_turn f.now
+        && theory.denies (chess f.now.dialect)
+        (outset f.now.dialect f.now.side) f.now.moves f.now.list.items
+        (theory.last_of (claims_of f.now.dialect f.now.claims.items)))) }
 {
     if !are_turns_of(f.list.as_slice(), f.side) {
         return Ok(false);
@@ -328,7 +356,8 @@ fn is_denied(alloc: Global, f: &Refutation) -> Result<bool, NoMemory>
 pub fn deny(alloc: Global, f: &Refutation, units: &mut Units) -> Result<bool, DenyStop>
     ensures answer { IfOk result (λ yes. yes ≡ refutes f.now) }
     ensures excludes { IfOk result (λ yes. yes ≡ true → NoneMates f.now) }
-    ensures units { IsPaid result (claims_price f.now.dialect f.now.claims.items) units.old units.new }
+    ensures units { IsPaid result (claims_price f.now.dialect f.now.claims.items)
+        units.old units.new }
 {
     let mut left = Units::new(units.left());
     let held = claims_hold(alloc, f.dialect, f.claims.as_slice(), &mut left)?;

@@ -55,7 +55,9 @@ pub(crate) fn is_within(small: &Belief, set: &Belief) -> bool
 
 /// The claim at a place, counted from 1.
 fn cited(claims: &[Claim], place: u16) -> Option<&Claim>
-    ensures { MatchOption result ((d : Dialect) → theory.cited (claims_of d claims.now) place ≡ None) (λ c. (d : Dialect) → theory.cited (claims_of d claims.now) place ≡ Some (claim_of d c.now)) }
+    ensures { MatchOption result ((d : Dialect)
+        → theory.cited (claims_of d claims.now) place ≡ None)
+        (λ c. (d : Dialect) → theory.cited (claims_of d claims.now) place ≡ Some (claim_of d c.now)) }
 {
     if place == 0 {
         return None;
@@ -68,7 +70,8 @@ fn cited(claims: &[Claim], place: u16) -> Option<&Claim>
 
 /// Whether the claim at a place denies the set within `moves`.
 fn is_shown(before: &[Claim], place: u16, moves: u8, set: &Belief) -> bool
-    ensures { (d : Dialect) → result ≡ theory.is_shown (chess d) (theory.cited (claims_of d before.now) place) moves set.now }
+    ensures { (d : Dialect) → result ≡ theory.is_shown (chess d)
+        (theory.cited (claims_of d before.now) place) moves set.now }
 {
     match cited(before, place) {
         Some(c) => c.moves >= moves && is_within(&c.set, set),
@@ -85,7 +88,8 @@ fn has_key(c: &Class, own: &Words, reply: &Words) -> bool
 
 /// What is possible once these words were heard, where they may be heard.
 fn heard<'a>(classes: &'a [Class], own: &Words, reply: &Words) -> Option<&'a Belief>
-    ensures { MatchOption result (class_in (map class_pair classes.now) (own.now, reply.now) ≡ []) (λ b. class_in (map class_pair classes.now) (own.now, reply.now) ≡ b.now) }
+    ensures { MatchOption result (class_in (map class_pair classes.now) (own.now, reply.now) ≡ [])
+        (λ b. class_in (map class_pair classes.now) (own.now, reply.now) ≡ b.now) }
 {
     for c in classes {
         if has_key(c, own, reply) {
@@ -105,7 +109,9 @@ fn is_class_shown(
     own: &Words,
     reply: &Words,
 ) -> bool
-    ensures { (d : Dialect) → result ≡ theory.is_shown (chess d) (theory.cited (claims_of d before.now) place) moves (class_in (map class_pair classes.now) (own.now, reply.now)) }
+    ensures { (d : Dialect) → result ≡ theory.is_shown (chess d)
+        (theory.cited (claims_of d before.now) place) moves
+        (class_in (map class_pair classes.now) (own.now, reply.now)) }
 {
     match heard(classes, own, reply) {
         Some(set) => is_shown(before, place, moves, set),
@@ -115,7 +121,8 @@ fn is_class_shown(
 
 /// Whether in some member the try is legal and does not mate.
 fn lives(parted: &Parted) -> bool
-    ensures { (d : Dialect) (B : List Pos) (t : Try) → IsParted d B t parted.now → result ≡ lives_in_some (chess d) B t }
+    ensures { (d : Dialect) (B : List Pos) (t : Try) → IsParted d B t parted.now
+        → result ≡ lives_in_some (chess d) B t }
 {
     parted.stale || !parted.classes.is_empty()
 }
@@ -123,7 +130,8 @@ fn lives(parted: &Parted) -> bool
 /// Whether the reason holds at a number of moves, one more than `fewer`, by the parts of the set.
 fn holds_by_parts(alloc: Global, before: &[Claim], fewer: u8, parted: &Parted, why: &Why) -> bool
     requires { fewer < 255 }
-    ensures { (d : Dialect) (B : List Pos) (t : Try) → IsParted d B t parted.now → result ≡ theory.holds (chess d) (claims_of d before.now) fewer B t (why_of why.now) }
+    ensures { (d : Dialect) (B : List Pos) (t : Try) → IsParted d B t parted.now
+        → result ≡ theory.holds (chess d) (claims_of d before.now) fewer B t (why_of why.now) }
 {
     match why {
         Why::Lives => fewer == 0 && lives(parted),
@@ -139,14 +147,17 @@ fn holds_by_parts(alloc: Global, before: &[Claim], fewer: u8, parted: &Parted, w
 
 /// Whether each member of the set is one of those that refuse the last try.
 fn is_within_refused(set: &Belief, last: &LastTry) -> bool
-    ensures { (d : Dialect) (B : List Pos) (t : Try) → IsLast d B t last.now → result ≡ theory.is_within position_lt set.now (refused (chess d) B t) }
+    ensures { (d : Dialect) (B : List Pos) (t : Try) → IsLast d B t last.now
+        → result ≡ theory.is_within position_lt set.now (refused (chess d) B t) }
 {
     is_within(set, last.set) && all_refuse(set.members(), &last.mv)
 }
 
 /// Whether the claim at a place denies the members that refuse the last try.
 fn is_refused_shown(before: &[Claim], place: u16, last: &LastTry) -> bool
-    ensures { (d : Dialect) (B : List Pos) (t : Try) → IsLast d B t last.now → result ≡ theory.is_shown (chess d) (theory.cited (claims_of d before.now) place) 1 (refused (chess d) B t) }
+    ensures { (d : Dialect) (B : List Pos) (t : Try) → IsLast d B t last.now
+        → result ≡ theory.is_shown (chess d) (theory.cited (claims_of d before.now) place) 1
+        (refused (chess d) B t) }
 {
     match cited(before, place) {
         Some(c) => c.moves >= 1 && is_within_refused(&c.set, last),
@@ -156,7 +167,8 @@ fn is_refused_shown(before: &[Claim], place: u16, last: &LastTry) -> bool
 
 /// Whether the reason holds where one move is left, by the last try.
 fn holds_at_last(before: &[Claim], last: &LastTry, why: &Why) -> bool
-    ensures { (d : Dialect) (B : List Pos) (t : Try) → IsLast d B t last.now → result ≡ theory.holds (chess d) (claims_of d before.now) 0 B t (why_of why.now) }
+    ensures { (d : Dialect) (B : List Pos) (t : Try) → IsLast d B t last.now
+        → result ≡ theory.holds (chess d) (claims_of d before.now) 0 B t (why_of why.now) }
 {
     match why {
         Why::Lives => last.lives,
@@ -170,7 +182,8 @@ fn holds_at_last(before: &[Claim], last: &LastTry, why: &Why) -> bool
 #[tactic(auto, unfolding(crate::specs::Tried::IsTried))]
 fn holds(alloc: Global, before: &[Claim], fewer: u8, tried: &Tried, why: &Why) -> bool
     requires { fewer < 255 }
-    ensures { (d : Dialect) (B : List Pos) (t : Try) → IsTried d fewer B t tried.now → result ≡ theory.holds (chess d) (claims_of d before.now) fewer B t (why_of why.now) }
+    ensures { (d : Dialect) (B : List Pos) (t : Try) → IsTried d fewer B t tried.now
+        → result ≡ theory.holds (chess d) (claims_of d before.now) fewer B t (why_of why.now) }
 {
     match tried {
         Tried::Parts(parted) => holds_by_parts(alloc, before, fewer, parted, why),
@@ -202,7 +215,8 @@ fn holds_if_own(
     r: &Reason,
 ) -> bool
     requires { fewer < 255 }
-    ensures { (d : Dialect) (B : List Pos) → IsTried d fewer B mv.now tried.now → result ≡ spec.holds_if_own d (claims_of d before.now) fewer B mv.now (reason_of r.now) }
+    ensures { (d : Dialect) (B : List Pos) → IsTried d fewer B mv.now tried.now
+        → result ≡ spec.holds_if_own d (claims_of d before.now) fewer B mv.now (reason_of r.now) }
 {
     !is_for(r, mv) || holds(alloc, before, fewer, tried, &r.why)
 }
@@ -229,7 +243,9 @@ fn all_hold(
     reasons: &[Reason],
 ) -> bool
     requires { fewer < 255 }
-    ensures { (d : Dialect) (B : List Pos) → IsTried d fewer B mv.now tried.now → result ≡ list_all (spec.holds_if_own d (claims_of d before.now) fewer B mv.now) (map reason_of reasons.now) }
+    ensures { (d : Dialect) (B : List Pos) → IsTried d fewer B mv.now tried.now
+        → result ≡ list_all (spec.holds_if_own d (claims_of d before.now) fewer B mv.now)
+        (map reason_of reasons.now) }
 {
     for r in reasons {
         if !holds_if_own(alloc, before, fewer, mv, tried, r) {
@@ -249,7 +265,8 @@ pub(crate) fn reasons_hold(
     reasons: &[Reason],
 ) -> bool
     requires { fewer < 255 }
-    ensures { (d : Dialect) (B : List Pos) → IsTried d fewer B mv.now tried.now → result ≡ try_holds d (claims_of d before.now) fewer B mv.now (map reason_of reasons.now) }
+    ensures { (d : Dialect) (B : List Pos) → IsTried d fewer B mv.now tried.now
+        → result ≡ try_holds d (claims_of d before.now) fewer B mv.now (map reason_of reasons.now) }
 {
     has_reason(mv, reasons) && all_hold(alloc, before, fewer, mv, tried, reasons)
 }
@@ -268,7 +285,8 @@ fn is_one_of(mv: &Move, moves: &[Move]) -> bool
 
 /// Whether each reason is one for one of the tries.
 pub(crate) fn are_for(reasons: &[Reason], tries: &[Move]) -> bool
-    ensures { result ≡ list_all (λ r. list_any (same move_lt r.0) tries.now) (map reason_of reasons.now) }
+    ensures { result ≡ list_all (λ r. list_any (same move_lt r.0) tries.now)
+        (map reason_of reasons.now) }
 {
     for r in reasons {
         if !is_one_of(&r.mv, tries) {

@@ -76,7 +76,8 @@ pub(crate) fn last_try<'a>(
     units: &mut Units,
 ) -> Result<Tried<'a>, PartStop>
     requires { tally.now ≡ tally_of set.now tally.now.mv }
-    ensures { Charged result (IsTried d 0 set.now tally.now.mv) (made (chess d) set.now tally.now.mv) units.old units.new }
+    ensures { Charged result (IsTried d 0 set.now tally.now.mv)
+        (made (chess d) set.now tally.now.mv) units.old units.new }
 {
     take(units, set.len() as u64)?;
     take(units, tally.replies)?;

@@ -42,8 +42,10 @@ fn build_plan(
 ) -> Result<Answer, SearchStop>
     requires paid { IsPaidFor d true won.table }
     requires numbered { AreNumbered won.table won.openings.items }
-    requires won { (C : List Pos) → In C (sets_in won.table won.openings.items) → WonBy won.table C moves }
-    requires ordered { is_ordered_plan (roots_for d moves (map (opening_in won.table) won.openings.items)) ≡ true }
+    requires won { (C : List Pos) → In C (sets_in won.table won.openings.items)
+        → WonBy won.table C moves }
+    requires ordered { is_ordered_plan (roots_for d moves
+        (map (opening_in won.table) won.openings.items)) ≡ true }
     ensures { IsPlanned d moves (map (opening_in won.table) won.openings.items) nodes result }
 {
     let Found {

@@ -38,7 +38,8 @@ pub(crate) struct Win {
 /// The try that is stored for the set and the number, if it is won there.
 fn stored_try(table: &Table, set: u32, moves: u8) -> Option<Move>
     requires { set < length table.now }
-    ensures { result ≡ winning_try (stored position_lt (entries table.now) (set_at table.now set, moves)) }
+    ensures { result ≡ winning_try (stored position_lt (entries table.now)
+        (set_at table.now set, moves)) }
 {
     match table.result(set, moves) {
         Some(Known::Wins(mv)) => Some(mv),
@@ -53,7 +54,8 @@ pub(crate) fn win_of(table: &Table, set: u32, moves: u8) -> Win
     requires won { WonBy table.now (set_at table.now set) moves }
     ensures some { 0 < result.moves }
     ensures at_most { result.moves ≤ moves }
-    ensures stored { stored position_lt (entries table.now) (set_at table.now set, result.moves) ≡ Some (Some result.mv) }
+    ensures stored { stored position_lt (entries table.now) (set_at table.now set, result.moves)
+        ≡ Some (Some result.mv) }
 {
     for fewer in 0..moves {
         if let Some(mv) = stored_try(table, set, fewer + 1) {
@@ -96,7 +98,10 @@ pub(crate) fn build(
     requires within { set < length table.old }
     requires paid { IsPaidFor d true table.old }
     requires won { WonBy table.old (set_at table.old set) moves }
-    ensures { Builds result (λ n. canon (chess d) moves (set_at table.old set) ≡ Just (tree_of n.value)) (size_other (canon (chess d) moves (set_at table.old set))) (depth_other (canon (chess d) moves (set_at table.old set))) table.old table.new left.old left.new deep }
+    ensures { Builds result (λ n. canon (chess d) moves (set_at table.old set)
+        ≡ Just (tree_of n.value)) (size_other (canon (chess d) moves (set_at table.old set)))
+        (depth_other (canon (chess d) moves (set_at table.old set))) table.old table.new
+        left.old left.new deep }
 {
     if *left == 0 {
         return Err(SearchStop::Large);
@@ -129,7 +134,11 @@ fn build_edges(
 ) -> Result<Vec<Edge>, SearchStop>
     requires paid { IsPaidFor d true table.old }
     requires won { (C : List Pos) → In C (sets_of classes.items) → WonBy table.old C moves }
-    ensures { Builds result (λ es. as_edges (map edge_of es.items) ≡ edges_for d moves (map class_pair classes.items)) (size_edges (edges_for d moves (map class_pair classes.items))) (depth_edges (edges_for d moves (map class_pair classes.items))) table.old table.new left.old left.new deep }
+    ensures { Builds result (λ es. as_edges (map edge_of es.items)
+        ≡ edges_for d moves (map class_pair classes.items))
+        (size_edges (edges_for d moves (map class_pair classes.items)))
+        (depth_edges (edges_for d moves (map class_pair classes.items))) table.old table.new
+        left.old left.new deep }
 {
     let mut edges = Vec::new(alloc);
     for class in classes {
@@ -157,7 +166,11 @@ fn build_other(
 ) -> Result<Option<Box<Node>>, SearchStop>
     requires paid { IsPaidFor d true table.old }
     requires won { is_nil refused ≡ false → WonBy table.old refused moves }
-    ensures { Builds result (λ o. as_other (option_map (λ b. tree_of b.value) o) ≡ refused_canon (chess d) moves refused) (size_other (refused_canon (chess d) moves refused)) (depth_other (refused_canon (chess d) moves refused)) table.old table.new left.old left.new deep }
+    ensures { Builds result (λ o. as_other (option_map (λ b. tree_of b.value) o)
+        ≡ refused_canon (chess d) moves refused)
+        (size_other (refused_canon (chess d) moves refused))
+        (depth_other (refused_canon (chess d) moves refused)) table.old table.new left.old left.new
+        deep }
 {
     if refused.is_empty() {
         return Ok(None);

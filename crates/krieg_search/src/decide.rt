@@ -53,7 +53,10 @@ fn all_openings_win(
     requires ready { IsReady d cut table.old }
     requires numbered { AreNumbered table.old openings.now }
     requires noted { AreNotes d cut table.old kept.old.notes }
-    ensures searched { Searches d cut result (TellsSets d table.new (sets_in table.old openings.now) moves) (CoversSets (chess d) (sets_in table.old openings.now) moves) 0 table.old table.new units.old units.new }
+    ensures searched { Searches d cut result (TellsSets d table.new
+        (sets_in table.old openings.now) moves)
+        (CoversSets (chess d) (sets_in table.old openings.now) moves) 0 table.old table.new
+        units.old units.new }
     ensures noted { OnOk result (AreNotes d cut table.new kept.new.notes) }
     ensures most { kept.new.notes.most ≡ kept.old.notes.most }
 {

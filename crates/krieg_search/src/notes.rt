@@ -65,7 +65,8 @@ pub(crate) type Row = Option<Vec<Note>>;
 /// Adds what blocks the next try to a row that is kept.
 #[inline(never)]
 fn push(notes: &mut Vec<Note>, mv: Move, block: Block) -> Result<(), NoMemory>
-    ensures { OnOk result (notes.new.items ≡ notes.old.items ++ record { mv = mv; block = block } ∷ []) }
+    ensures { OnOk result (notes.new.items ≡ notes.old.items ++ record { mv = mv; block = block }
+        ∷ []) }
 {
     notes.push(Note { mv, block })?;
     Ok(())
@@ -73,7 +74,8 @@ fn push(notes: &mut Vec<Note>, mv: Move, block: Block) -> Result<(), NoMemory>
 
 /// Adds what blocks the next try.
 pub(crate) fn add(row: &mut Row, mv: Move, block: Block) -> Result<(), NoMemory>
-    ensures { OnOk result (items_of row.new ≡ option_map (λ ns. ns ++ record { mv = mv; block = block } ∷ []) (items_of row.old)) }
+    ensures { OnOk result (items_of row.new
+        ≡ option_map (λ ns. ns ++ record { mv = mv; block = block } ∷ []) (items_of row.old)) }
 {
     match row {
         Some(notes) => push(notes, mv, block),
@@ -96,8 +98,10 @@ impl Notes {
     /// What is noted of the tries of the set with so many moves: each try that makes sense in it, in order, or nothing where
     /// it was not noted.
     pub fn of(&self, set: u32, moves: u8) -> Option<&[Note]>
-        ensures value { option_map (λ ns. ns.now) result ≡ row_of self.now.rows (record { set = set; moves = moves }) }
-        ensures right { (d : Dialect) (cut : Bool) (T : Interned) → AreNotes d cut T self.now → IfSome result (λ ns. IsRow d cut T (record { set = set; moves = moves }) ns.now) }
+        ensures value { option_map (λ ns. ns.now) result
+            ≡ row_of self.now.rows (record { set = set; moves = moves }) }
+        ensures right { (d : Dialect) (cut : Bool) (T : Interned) → AreNotes d cut T self.now
+            → IfSome result (λ ns. IsRow d cut T (record { set = set; moves = moves }) ns.now) }
     {
         match self.rows.get(&Asked { set, moves }) {
             Some(row) => Some(row.as_slice()),

@@ -49,7 +49,8 @@ fn add(
 ) -> Result<(), NoMemory>
     requires counted { AreCounted table.old }
     requires numbered { AreNumbered table.old openings.old.items }
-    ensures { OnOk result (IsAdded table.old table.new openings.old.items openings.new.items ((opens, heard), belief)) }
+    ensures { OnOk result (IsAdded table.old table.new openings.old.items openings.new.items
+        ((opens, heard), belief)) }
 {
     let set = number_of(table, belief)?;
     openings.push(Opening { opens, heard, set })?;
@@ -63,7 +64,8 @@ fn own_openings(
     opened: Vec<Opened>,
 ) -> Result<Vec<Opening>, NoMemory>
     requires { AreCounted table.old }
-    ensures { IfOk result (λ os. AreAdded table.old table.new os.items (map opened_set opened.items)) }
+    ensures { IfOk result (λ os. AreAdded table.old table.new os.items
+        (map opened_set opened.items)) }
 {
     let mut found = Vec::with_capacity(alloc, opened.len())?;
     for o in opened {
@@ -79,7 +81,8 @@ fn first_openings(
     classes: Vec<First>,
 ) -> Result<Vec<Opening>, NoMemory>
     requires { AreCounted table.old }
-    ensures { IfOk result (λ os. AreAdded table.old table.new os.items (map first_set classes.items)) }
+    ensures { IfOk result (λ os. AreAdded table.old table.new os.items
+        (map first_set classes.items)) }
 {
     let mut found = Vec::with_capacity(alloc, classes.len())?;
     for class in classes {
@@ -106,7 +109,8 @@ pub(crate) fn find_openings(
 ) -> Result<Option<Vec<Opening>>, PartStop>
     requires turn { IsOwnTurn who b.now ⊎ IsOthersTurn who b.now }
     requires counted { AreCounted table.old }
-    ensures { Charged result (IsOpened d who b.now table.old table.new) (first_made (chess d) (outset d who) b.now) units.old units.new }
+    ensures { Charged result (IsOpened d who b.now table.old table.new)
+        (first_made (chess d) (outset d who) b.now) units.old units.new }
 {
     if is_own_turn(b, who) {
         let opened = openings(alloc, d, b)?;

@@ -35,8 +35,12 @@ pub(crate) fn build_roots(
 ) -> Result<Roots, SearchStop>
     requires paid { IsPaidFor d true table.old }
     requires numbered { AreNumbered table.old openings.items }
-    requires won { (C : List Pos) → In C (sets_in table.old openings.items) → WonBy table.old C moves }
-    ensures { Builds result (AreRoots d moves (map (opening_in table.old) openings.items)) (plan_size (roots_for d moves (map (opening_in table.old) openings.items))) (plan_depth (roots_for d moves (map (opening_in table.old) openings.items))) table.old table.new left.old left.new MOST_ON_PATH }
+    requires won { (C : List Pos) → In C (sets_in table.old openings.items)
+        → WonBy table.old C moves }
+    ensures { Builds result (AreRoots d moves (map (opening_in table.old) openings.items))
+        (plan_size (roots_for d moves (map (opening_in table.old) openings.items)))
+        (plan_depth (roots_for d moves (map (opening_in table.old) openings.items)))
+        table.old table.new left.old left.new MOST_ON_PATH }
 {
     let mut worst = 0;
     let mut roots = Vec::new(alloc);

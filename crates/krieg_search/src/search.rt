@@ -54,7 +54,8 @@ pub(crate) fn can_win(
     requires most { moves ≤ MOST_MOVES }
     requires ready { IsReady d cut table.old }
     requires noted { AreNotes d cut table.old kept.old.notes }
-    ensures searched { Searches d cut result (TellsSet d table.new (set_at table.old set) moves) (CoversSet (chess d) (set_at table.old set) moves) 0 table.old table.new units.old units.new }
+    ensures searched { Searches d cut result (TellsSet d table.new (set_at table.old set) moves)
+        (CoversSet (chess d) (set_at table.old set) moves) 0 table.old table.new units.old units.new }
     ensures noted { OnOk result (AreNotes d cut table.new kept.new.notes) }
     ensures most { kept.new.notes.most ≡ kept.old.notes.most }
 {
@@ -85,7 +86,9 @@ fn can_win_in(
     requires ready { IsReady d cut table.old }
     requires below { LostBelow (chess d) (entries table.old) (set_at table.old set) moves }
     requires noted { AreNotes d cut table.old kept.old.notes }
-    ensures searched { Searches d cut result (TellsSet d table.new (set_at table.old set) moves) (CoversPair (chess d) (set_at table.old set) moves) 0 table.old table.new units.old units.new }
+    ensures searched { Searches d cut result (TellsSet d table.new (set_at table.old set) moves)
+        (CoversPair (chess d) (set_at table.old set) moves) 0 table.old table.new
+        units.old units.new }
     ensures noted { OnOk result (AreNotes d cut table.new kept.new.notes) }
     ensures most { kept.new.notes.most ≡ kept.old.notes.most }
 {
@@ -133,7 +136,11 @@ fn block_of(
     requires told { IsTold (set_at table.old set) moves tried.now }
     requires legal { legal_in_some (chess d) (set_at table.old set) (move_of tried.now) ≡ true }
     requires noted { AreNotes d cut table.old kept.old.notes }
-    ensures searched { Searches d cut result (TellsBlock d cut table.new (set_at table.old set) moves (move_of tried.now)) (CoversTry (chess d) (set_at table.old set) moves (move_of tried.now)) (made (chess d) (set_at table.old set) (move_of tried.now)) table.old table.new units.old units.new }
+    ensures searched { Searches d cut result (TellsBlock d cut table.new
+        (set_at table.old set) moves (move_of tried.now))
+        (CoversTry (chess d) (set_at table.old set) moves (move_of tried.now))
+        (made (chess d) (set_at table.old set) (move_of tried.now)) table.old table.new
+        units.old units.new }
     ensures noted { OnOk result (AreNotes d cut table.new kept.new.notes) }
     ensures most { kept.new.notes.most ≡ kept.old.notes.most }
 {
@@ -180,7 +187,9 @@ fn first_lost(
     requires most { moves ≤ MOST_MOVES }
     requires ready { IsReady d cut table.old }
     requires noted { AreNotes d cut table.old kept.old.notes }
-    ensures searched { Searches d cut result (TellsFirst d table.new classes.items moves) (CoversSets (chess d) (sets_of classes.items) moves) 0 table.old table.new units.old units.new }
+    ensures searched { Searches d cut result (TellsFirst d table.new classes.items moves)
+        (CoversSets (chess d) (sets_of classes.items) moves) 0 table.old table.new
+        units.old units.new }
     ensures noted { OnOk result (AreNotes d cut table.new kept.new.notes) }
     ensures most { kept.new.notes.most ≡ kept.old.notes.most }
 {

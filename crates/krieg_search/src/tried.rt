@@ -54,7 +54,8 @@ pub(crate) fn tries_for(
     moves: u8,
     left: u64,
 ) -> Result<Vec<Try>, NoMemory>
-    ensures moves { IfOk result (λ ts. (d : Dialect) → map move_of ts.items ≡ theory.tries (chess d) b.now) }
+    ensures moves { IfOk result (λ ts. (d : Dialect)
+        → map move_of ts.items ≡ theory.tries (chess d) b.now) }
     ensures told { IfOk result (λ ts. All (IsTold b.now moves) ts.items) }
 {
     if moves == 1 && b.len() <= MOST_TALLIED {

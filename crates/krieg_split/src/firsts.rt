@@ -41,7 +41,8 @@ fn moves_of_all(
     members: &[Packed],
     units: &mut Units,
 ) -> Result<FirstMoves, PartStop>
-    ensures { Charged result (AreFirstMoves d members.now) (first_cost members.now) units.old units.new }
+    ensures { Charged result (AreFirstMoves d members.now)
+        (first_cost members.now) units.old units.new }
 {
     take(units, members.len() as u64)?;
     first_moves(alloc, d, members, units)
@@ -79,8 +80,10 @@ pub fn first_replies(
 ) -> Result<Firsts, PartStop>
     ensures parts { IfOk result (AreFirsts d b.now) }
     ensures units { IsPaid result (first_cost b.now) units.old units.new }
-    ensures sets { IfOk result (λ r. (who : Side) → IsOthersTurn who b.now → AreOpeningSets d who b.now r) }
-    ensures cost { (who : Side) → IsOthersTurn who b.now → first_made (chess d) (outset d who) b.now ≡ first_cost b.now }
+    ensures sets { IfOk result (λ r. (who : Side) → IsOthersTurn who b.now
+        → AreOpeningSets d who b.now r) }
+    ensures cost { (who : Side) → IsOthersTurn who b.now
+        → first_made (chess d) (outset d who) b.now ≡ first_cost b.now }
 {
     let mut left = Units::new(units.left());
     let FirstMoves { ended, pool } = moves_of_all(alloc, d, b.members(), &mut left)?;

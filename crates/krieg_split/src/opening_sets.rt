@@ -22,7 +22,8 @@ pub struct Opened {
 
 /// The classes by their opening words alone.
 fn opened_of(alloc: Global, classes: Vec<Class>) -> Result<Vec<Opened>, NoMemory>
-    ensures { IfOk result (λ v. map opened_pair v.items ≡ map heard_first (map class_pair classes.items)) }
+    ensures { IfOk result (λ v. map opened_pair v.items
+        ≡ map heard_first (map class_pair classes.items)) }
 {
     let mut openings = Vec::with_capacity(alloc, classes.len())?;
     for class in classes {
@@ -39,8 +40,10 @@ fn opened_of(alloc: Global, classes: Vec<Class>) -> Result<Vec<Opened>, NoMemory
 /// Where the player `who` is to move in all of them, these are the opening sets of his plans.
 #[inline(never)]
 pub fn openings(alloc: Global, d: Dialect, b: &Belief) -> Result<Vec<Opened>, NoMemory>
-    ensures value { IfOk result (λ v. map opened_pair v.items ≡ map heard_first (classes_in (map (opened d silent) b.now))) }
-    ensures sets { IfOk result (λ v. (who : Side) → IsOwnTurn who b.now → map opened_set v.items ≡ opening_sets d who b.now) }
+    ensures value { IfOk result (λ v. map opened_pair v.items
+        ≡ map heard_first (classes_in (map (opened d silent) b.now))) }
+    ensures sets { IfOk result (λ v. (who : Side) → IsOwnTurn who b.now
+        → map opened_set v.items ≡ opening_sets d who b.now) }
 {
     let pool = with_openings(alloc, d, b.members())?;
     opened_of(alloc, pool.into_classes(alloc)?)

@@ -74,7 +74,8 @@ pub(crate) fn tallies_of_none(alloc: Global, tries: &[Move]) -> Result<Vec<Tally
 #[inline(never)]
 pub fn tally_tries(alloc: Global, b: &Belief) -> Result<Vec<Tally>, NoMemory>
     requires { length b.now ≤ MOST_TALLIED }
-    ensures { IfOk result (λ ys. (d : Dialect) → ys.items ≡ map (tally_of b.now) (theory.tries (chess d) b.now)) }
+    ensures { IfOk result (λ ys. (d : Dialect)
+        → ys.items ≡ map (tally_of b.now) (theory.tries (chess d) b.now)) }
 {
     let members = list_all(alloc, b.members())?;
     let tries = tries_of(alloc, &members)?;

@@ -84,7 +84,8 @@ pub fn tries(alloc: Global, b: &Belief) -> Result<Vec<Move>, NoMemory>
 
 /// The same, by a caller that has the legal moves of all members.
 pub(crate) fn tries_of(alloc: Global, members: &[Listed]) -> Result<Vec<Move>, NoMemory>
-    ensures { IfOk result (λ ts. (d : Dialect) → ts.items ≡ theory.tries (chess d) (map (λ m. m.position) members.now)) }
+    ensures { IfOk result (λ ts. (d : Dialect)
+        → ts.items ≡ theory.tries (chess d) (map (λ m. m.position) members.now)) }
 {
     let mut found = Vec::new(alloc);
     for member in members {
