@@ -36,4 +36,5 @@ EndsOnSolution _ budget f text before after = ⊥
 -- with the words of `check` a run ends so on every such text, where the input holds it
 abbrev pub ChecksSolutions : Option Command → ℕ → World → World → Type 0
 ChecksSolutions asked code before after = EndsSo code (λ ending.
-    (budget : ℕ) (f : PlanState) (text : List ℕ) → asked ≡ Some (Check budget) → IsSolution f text → before.input.bytes ≡ Some text → EndsOnSolution ending budget f text before after)
+    (budget : ℕ) (f : PlanState) (text : List ℕ) →
+    asked ≡ Some (Check budget) → IsSolution f text → before.input.bytes ≡ Some text → EndsOnSolution ending budget f text before after)

@@ -57,4 +57,5 @@ EndsOnRefutation _ budget f text before after = ⊥
 -- with the words of `deny` a run ends so on every such text, where the input holds it
 abbrev pub DeniesRefutations : Option Command → ℕ → World → World → Type 0
 DeniesRefutations asked code before after = EndsSo code (λ ending.
-    (budget : ℕ) (f : RefutationState) (text : List ℕ) → asked ≡ Some (Deny budget) → IsRefutation f text → before.input.bytes ≡ Some text → EndsOnRefutation ending budget f text before after)
+    (budget : ℕ) (f : RefutationState) (text : List ℕ) →
+    asked ≡ Some (Deny budget) → IsRefutation f text → before.input.bytes ≡ Some text → EndsOnRefutation ending budget f text before after)

@@ -51,8 +51,10 @@ fn file_text(
     plan: Plan,
 ) -> Result<Vec<u8>, NoMemory>
     requires { CanBeWritten (spec.file_of dialect side list.items worst (plan_of plan)) }
-    ensures text { IfOk result (λ text. text.items ≡ plan_text (spec.file_of dialect side list.items worst (plan_of plan))) }
-    ensures again { IfOk result (λ text. whole plan_at (lines text.items) ≡ Ok (spec.file_of dialect side list.items worst (plan_of plan))) }
+    ensures text { let f = spec.file_of dialect side list.items worst (plan_of plan) in
+        IfOk result (λ text. text.items ≡ plan_text f) }
+    ensures again { let f = spec.file_of dialect side list.items worst (plan_of plan) in
+        IfOk result (λ text. whole plan_at (lines text.items) ≡ Ok f) }
     ensures short { IfOk result (λ text. length text.items ≤ MOST_INPUT) }
 {
     let file = PlanFile {
