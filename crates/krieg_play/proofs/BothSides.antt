@@ -10,7 +10,7 @@ use Rattle.krieg_play.specs.Teams.{Team, Turns, Stays, MayBeShort, Course, Broke
 use Rattle.krieg_play.specs.Played.{Sides}
 use Rattle.krieg_play.specs.Calls.{AfterTelling, Tells, TakesTurn, seat_counts}
 use Rattle.krieg_play.specs.Broken.{Breaks}
-use Rattle.krieg_play.specs.Passes.{TellsBoth, AfterAsk, AsksOne, fault_of}
+use Rattle.krieg_play.specs.Passes.{AfterBoth, TellsBoth, AfterAsk, AsksOne, fault_of}
 use Rattle.krieg_play.specs.declared.outcome.PlayFault.{PlayFault}
 use Rattle.krieg_play.specs.declared.turn.Turn.{Turn}
 use Rattle.krieg_play.proofs.Courses.{course_weakens}
@@ -24,17 +24,30 @@ pub short_course : {X : Type 0} {account : X → Account} {entry now : Team X} {
 short_course c = course_weakens may_be_short c
 
 -- a call of one side met a fault, where the other side's course goes on
-pub white_breaks : {X : Type 0} (account : X → Account) (fault : SeatFault) (entry now : Sides X) (lines : Side → List Line) (turns : Side → Turns) (news : List Line) →
+abbrev pub white_breaks : {X : Type 0} (account : X → Account) (fault : SeatFault) (entry now : Sides X) (lines : Side → List Line) (turns : Side → Turns) (news : List Line) →
     BrokenCourse account (seat_counts fault) entry.white now.white (lines White) (turns White) → (fault ≡ Failed → length now.white.seats ≡ 1) →
     Course account Stays entry.black now.black (lines Black) news (turns Black) → Breaks account (fault_of fault White) news entry now lines turns
 white_breaks account Failed entry now lines turns news h only c = record { white = h; black = (news, c); told_first = refl; ends = only refl }
 white_breaks account NoMemory entry now lines turns news h only c = record { white = h; black = (news, short_course c); told_first = inl refl; ends = tt }
 
-pub black_breaks : {X : Type 0} (account : X → Account) (fault : SeatFault) (entry now : Sides X) (lines : Side → List Line) (turns : Side → Turns) (news : List Line) →
+abbrev pub black_breaks : {X : Type 0} (account : X → Account) (fault : SeatFault) (entry now : Sides X) (lines : Side → List Line) (turns : Side → Turns) (news : List Line) →
     BrokenCourse account (seat_counts fault) entry.black now.black (lines Black) (turns Black) → (fault ≡ Failed → length now.black.seats ≡ 1) →
     Course account Stays entry.white now.white (lines White) [] (turns White) → Breaks account (fault_of fault Black) news entry now lines turns
 black_breaks account Failed entry now lines turns news h only c = record { white = ([], c); black = h; told_first = refl; ends = only refl }
 black_breaks account NoMemory entry now lines turns news h only c = record { white = ([], short_course c); black = h; told_first = inr refl; ends = tt }
+
+-- the same where both sides were told
+white_fails : {X : Type 0} (account : X → Account) (fault : SeatFault) (entry before now : Sides X) (lines : Side → List Line) (turns : Side → Turns) (news : List Line) →
+    BrokenCourse account (seat_counts fault) entry.white now.white (lines White) (turns White) → (fault ≡ Failed → length now.white.seats ≡ 1) →
+    Course account Stays entry.black now.black (lines Black) news (turns Black) → now.black ≡ before.black → AfterBoth account (Err (fault_of fault White)) news entry before now lines turns
+white_fails account Failed entry before now lines turns news h only c same = (white_breaks account Failed entry now lines turns news h only c, same)
+white_fails account NoMemory entry before now lines turns news h only c same = (white_breaks account NoMemory entry now lines turns news h only c, inl same)
+
+black_fails : {X : Type 0} (account : X → Account) (fault : SeatFault) (entry before now : Sides X) (lines : Side → List Line) (turns : Side → Turns) (news : List Line) →
+    BrokenCourse account (seat_counts fault) entry.black now.black (lines Black) (turns Black) → (fault ≡ Failed → length now.black.seats ≡ 1) →
+    Course account Stays entry.white now.white (lines White) [] (turns White) → AfterBoth account (Err (fault_of fault Black)) news entry before now lines turns
+black_fails account Failed entry before now lines turns news h only c = (black_breaks account Failed entry now lines turns news h only c, tt)
+black_fails account NoMemory entry before now lines turns news h only c = (black_breaks account NoMemory entry now lines turns news h only c, inr refl)
 
 -- ---- telling both
 
@@ -46,10 +59,10 @@ pub white_untold : {X : Type 0} (account : X → Account) (r : Result (Unit {0})
     p ≡ fault_of fault White → r ≡ Err fault → Tells account r before.white now.white (lines White) (due White) → (r ≡ Err Failed → length now.white.seats ≡ 1) → now.black ≡ before.black →
     TellsBoth account (Err p) before now lines due
 white_untold account r fault p before now lines due p_is e tells only same entry turns white black =
-    subst (λ (x : PlayFault). Breaks account x (due Black) entry now lines turns) (sym p_is) (white_breaks account fault entry now lines turns (due Black)
+    subst (λ (x : PlayFault). AfterBoth account (Err x) (due Black) entry before now lines turns) (sym p_is) (white_fails account fault entry before now lines turns (due Black)
     (told_as account r (Err fault) entry.white now.white (lines White) (turns White) e (tells entry.white (turns White) white))
     (λ failed. only (e ∙ ap Err failed))
-    (subst (λ (t : Team _). Course account Stays entry.black t (lines Black) (due Black) (turns Black)) (sym same) black))
+    (subst (λ (t : Team _). Course account Stays entry.black t (lines Black) (due Black) (turns Black)) (sym same) black) same)
 
 -- White was told, and Black could not be
 pub black_untold : {X : Type 0} (account : X → Account) (r s : Result (Unit {0}) SeatFault) (fault : SeatFault) (p : PlayFault) (before now : Sides X) (lines due : Side → List Line) →
@@ -57,7 +70,7 @@ pub black_untold : {X : Type 0} (account : X → Account) (r s : Result (Unit {0
     s ≡ Err fault → Tells account s before.black now.black (lines Black) (due Black) → (s ≡ Err Failed → length now.black.seats ≡ 1) →
     TellsBoth account (Err p) before now lines due
 black_untold account r s fault p before now lines due p_is ok told e tells only entry turns white black =
-    subst (λ (x : PlayFault). Breaks account x (due Black) entry now lines turns) (sym p_is) (black_breaks account fault entry now lines turns (due Black)
+    subst (λ (x : PlayFault). AfterBoth account (Err x) (due Black) entry before now lines turns) (sym p_is) (black_fails account fault entry before now lines turns (due Black)
     (told_as account s (Err fault) entry.black now.black (lines Black) (turns Black) e (tells entry.black (turns Black) black))
     (λ failed. only (e ∙ ap Err failed))
     (told_as account r (Ok tt) entry.white now.white (lines White) (turns White) ok (told entry.white (turns White) white)))

@@ -96,17 +96,17 @@ module _ {X : Type 0} {account : X → Account} {r : Result (Unit {0}) PlayFault
   news_are who = news_of start asks game game' i.judgement who h.is_game stepped more
 
   -- what both sides did since any state, once they were told
-  told_since : (then : Sides X) (turns : Side → Turns) → Courses account None then before (lines_of start game) turns → AfterBoth account r (news Black) then now (lines_of start game') turns
+  told_since : (then : Sides X) (turns : Side → Turns) → Courses account None then before (lines_of start game) turns → AfterBoth account r (news Black) then before now (lines_of start game') turns
   told_since then turns c =
       subst (λ (lines : Side → List Line). TellsBoth account r before now lines (by_side (news White) (news Black))) (lines_are start asks game' stepped) i.tells then turns
       (subst (λ (ls : List Line). Course account Stays then.white before.white ls (news White) (turns White)) (news_are White) (course_grows (news White) c.white))
       (subst (λ (ls : List Line). Course account Stays then.black before.black ls (news Black) (turns Black)) (news_are Black) (course_grows (news Black) c.black))
 
-  told_so_far : AfterBoth account r (news Black) entry now (lines_of start game') (turns_so_far h.white_asks h.black_asks (events_of game'.log))
-  told_so_far = subst (λ (es : List Event). AfterBoth account r (news Black) entry now (lines_of start game') (turns_so_far h.white_asks h.black_asks es)) (sym events_are)
+  told_so_far : AfterBoth account r (news Black) entry before now (lines_of start game') (turns_so_far h.white_asks h.black_asks (events_of game'.log))
+  told_so_far = subst (λ (es : List Event). AfterBoth account r (news Black) entry before now (lines_of start game') (turns_so_far h.white_asks h.black_asks es)) (sym events_are)
       (told_since entry (turns_so_far h.white_asks h.black_asks (events_of game.log ++ e ∷ [])) h.courses)
 
-  told_then : AfterBoth account r (news Black) h.sides_then now (lines_of start game') (last_turns game.position.side (lines_of start game) (e ∷ []))
+  told_then : AfterBoth account r (news Black) h.sides_then before now (lines_of start game') (last_turns game.position.side (lines_of start game) (e ∷ []))
   told_then = told_since h.sides_then (last_turns game.position.side (lines_of start game) (e ∷ [])) h.since
 
   -- the ask of which the try came
@@ -133,7 +133,7 @@ is_judged account r start e before now game game' j logged w b j_is log_is posit
 pub judges_ok : {X : Type 0} (account : X → Account) (r : Result (Unit {0}) PlayFault) (start : Pos) (e : Event) (before now : Sides X) (game game' : GameState) → r ≡ Ok tt →
     IsJudged account r start e before now game game' → Judges account (Ok None) start e before now game game'
 judges_ok {X} account r start e before now game game' r_is i asks entry h =
-    let came = λ (then : Sides X) (turns : Side → Turns) (x : Result (Unit {0}) PlayFault). AfterBoth account x (news i h Black) then now (lines_of start game') turns in
+    let came = λ (then : Sides X) (turns : Side → Turns) (x : Result (Unit {0}) PlayFault). AfterBoth account x (news i h Black) then before now (lines_of start game') turns in
     let told : Courses account None entry now (lines_of start game') (turns_so_far h.white_asks h.black_asks (events_of game'.log)) = subst (came entry _) r_is (told_so_far i h) in
     record {
       whole = record {
@@ -149,8 +149,8 @@ judges_ok {X} account r start e before now game game' r_is i asks entry h =
 pub judges_err : {X : Type 0} (account : X → Account) (r : Result (Unit {0}) PlayFault) (fault : PlayFault) (start : Pos) (e : Event) (before now : Sides X) (game game' : GameState) → r ≡ Err fault →
     IsJudged account r start e before now game game' → Judges account (Err fault) start e before now game game'
 judges_err {X} account r fault start e before now game game' r_is i asks entry h =
-    let came = λ (then : Sides X) (turns : Side → Turns) (x : Result (Unit {0}) PlayFault). AfterBoth account x (news i h Black) then now (lines_of start game') turns in
-    let told : Breaks account fault (news i h Black) entry now (lines_of start game') (turns_so_far h.white_asks h.black_asks (events_of game'.log)) = subst (came entry _) r_is (told_so_far i h) in
+    let came = λ (then : Sides X) (turns : Side → Turns) (x : Result (Unit {0}) PlayFault). AfterBoth account x (news i h Black) then before now (lines_of start game') turns in
+    let told : Breaks account fault (news i h Black) entry now (lines_of start game') (turns_so_far h.white_asks h.black_asks (events_of game'.log)) = (subst (came entry _) r_is (told_so_far i h)).0 in
     record {
       game = game';
       is_game = stepped i h;
@@ -159,5 +159,5 @@ judges_err {X} account r fault start e before now game game' r_is i asks entry h
       news = news i h Black;
       breaks = told;
       asked = (h.asked.0, omega (arith, h.asked.1, (stepped i h).places, h.is_game.places, i.spare, i.no_more, both_counted h.courses.white h.courses.black, both_counted told.white.1 told.black.1));
-      at_once = inr (ask_of_try i h, news_are i h Black, subst (came h.sides_then _) r_is (told_then i h));
+      at_once = inr (ask_of_try i h, news_are i h Black, (subst (came h.sides_then _) r_is (told_then i h)).0);
     }

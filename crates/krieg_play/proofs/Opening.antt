@@ -13,7 +13,7 @@ use Rattle.krieg_seats.specs.Accounts.{Account}
 use Rattle.krieg_play.specs.Teams.{team}
 use Rattle.krieg_play.specs.Games.{IsGameFrom}
 use Rattle.krieg_play.specs.Played.{Sides, sides, by_side, Courses, lines_of, turns_so_far, IsUnderway, IsPlayed}
-use Rattle.krieg_play.specs.Broken.{Breaks, IsBroken, Refuses}
+use Rattle.krieg_play.specs.Broken.{IsBroken, Refuses}
 use Rattle.krieg_play.specs.Calls.{lines_to}
 use Rattle.krieg_play.specs.Passes.{AfterBoth, TellsBoth, PlaysOn, ComesTo}
 use Rattle.krieg_play.specs.declared.outcome.PlayFault.{PlayFault}
@@ -39,7 +39,7 @@ first_lines start asks who = lines_of start (fresh_game start asks) who
 opened : {X : Type 0} (account : X → Account) (r : Result (Unit {0}) PlayFault) (start : Pos) (asks : ℕ) (before now : Sides X) (logged : List Judged) (w b : Line) →
     logged ≡ [] → w ≡ Opens (opening start) → b ≡ Opens (opening start) → 0 < length before.white.seats → 0 < length before.black.seats →
     TellsBoth account r before now (λ who. lines_to start who logged) (by_side (option_to_list (Some w)) (option_to_list (Some b))) →
-    AfterBoth account r (first_lines start asks Black) before now (first_lines start asks) (turns_so_far 0 0 [])
+    AfterBoth account r (first_lines start asks Black) before before now (first_lines start asks) (turns_so_far 0 0 [])
 opened account r start asks before now logged w b logged_is w_is b_is white black tells =
     let told = subst (λ (ls : List Judged). TellsBoth account r before now (λ who. lines_to start who ls) (by_side (Opens (opening start) ∷ []) (Opens (opening start) ∷ []))) logged_is
     (subst (λ (l : Line). TellsBoth account r before now (λ who. lines_to start who logged) (by_side (l ∷ []) (Opens (opening start) ∷ []))) w_is
@@ -56,7 +56,7 @@ pub opens_and_plays : {X : Type 0} (account : X → Account) (r : Result (Unit {
     PlaysOn account s start seats middle now game game' → ComesTo account s start asks before now game'
 opens_and_plays account r s start asks seats before middle now game game' logged w b game_is logged_is w_is b_is white black seats_is ok tells plays =
     let told : Courses account None before middle (first_lines start asks) (turns_so_far 0 0 []) =
-    subst (λ (x : Result (Unit {0}) PlayFault). AfterBoth account x (first_lines start asks Black) before middle (first_lines start asks) (turns_so_far 0 0 [])) ok
+    subst (λ (x : Result (Unit {0}) PlayFault). AfterBoth account x (first_lines start asks Black) before before middle (first_lines start asks) (turns_so_far 0 0 [])) ok
     (opened account r start asks before middle logged w b logged_is w_is b_is white black tells) in
     let under : IsUnderway account None start asks before middle (fresh_game start asks) =
     record { whole = record { is_game = is_fresh start asks; white_asks = 0; black_asks = 0; courses = told; asked = (omega arith, omega arith) }; in_time = inl refl } in
@@ -64,16 +64,16 @@ opens_and_plays account r s start asks seats before middle now game game' logged
 
 -- no seat was asked
 unasked : {X : Type 0} (account : X → Account) (fault : PlayFault) (start : Pos) (asks : ℕ) (before now : Sides X) →
-    Breaks account fault (first_lines start asks Black) before now (first_lines start asks) (turns_so_far 0 0 []) → IsBroken account start asks before now fault
+    AfterBoth account (Err fault) (first_lines start asks Black) before before now (first_lines start asks) (turns_so_far 0 0 []) → IsBroken account start asks before now fault
 unasked account fault start asks before now h = record {
   game = fresh_game start asks;
   is_game = is_fresh start asks;
   white_asks = 0;
   black_asks = 0;
   news = first_lines start asks Black;
-  breaks = h;
+  breaks = h.0;
   asked = (omega arith, omega arith);
-  at_once = inl (refl, refl);
+  at_once = inl (refl, refl, h.1);
 }
 
 -- the opening words could not be told to both
@@ -82,20 +82,22 @@ pub opens_not : {X : Type 0} (account : X → Account) (r : Result (Unit {0}) Pl
     TellsBoth account r before now (λ who. lines_to start who logged) (by_side (option_to_list (Some w)) (option_to_list (Some b))) → IsBroken account start asks before now fault
 opens_not account r fault start asks before now logged w b logged_is w_is b_is white black e tells =
     unasked account fault start asks before now
-    (subst (λ (x : Result (Unit {0}) PlayFault). AfterBoth account x (first_lines start asks Black) before now (first_lines start asks) (turns_so_far 0 0 [])) e
+    (subst (λ (x : Result (Unit {0}) PlayFault). AfterBoth account x (first_lines start asks Black) before before now (first_lines start asks) (turns_so_far 0 0 [])) e
     (opened account r start asks before now logged w b logged_is w_is b_is white black tells))
 
 -- no seat was called
 pub unbegun : {X : Type 0} (account : X → Account) (start : Pos) (asks : ℕ) (before now : Sides X) → now ≡ before → 0 < length before.white.seats → 0 < length before.black.seats → IsBroken account start asks before now NoMemory
 unbegun account start asks before now same white black =
     subst (λ (x : Sides _). IsBroken account start asks before x NoMemory) (sym same)
-    (unasked account NoMemory start asks before before
-    (record {
-      white = (first_lines start asks White, short_course (course_starts account before.white.seats before.white.out [] (first_lines start asks White) white));
-      black = (first_lines start asks Black, short_course (course_starts account before.black.seats before.black.out [] (first_lines start asks Black) black));
-      told_first = inl refl;
-      ends = tt;
-    }))
+    (unasked account NoMemory start asks before before (
+      (record {
+        white = (first_lines start asks White, short_course (course_starts account before.white.seats before.white.out [] (first_lines start asks White) white));
+        black = (first_lines start asks Black, short_course (course_starts account before.black.seats before.black.out [] (first_lines start asks Black) black));
+        told_first = inl refl;
+        ends = tt;
+      }),
+      inl refl,
+    ))
 
 -- ---- the public call
 

@@ -13,7 +13,7 @@ use Rattle.krieg_referee.specs.declared.verdict.Stop.TheVariants.{Ended, Left, A
 use Rattle.krieg_seats.specs.Accounts.{Account}
 use Rattle.krieg_play.specs.Teams.{Team, Service, entry_of, now_of, asks_of, all_asks, said_of, known_behind, Turns, AreRelieved, Course}
 use Rattle.krieg_play.specs.Played.{Sides, seen_team, seen, relieved, used_up, IsAskedWithin, leaver, last_ask, Courses, lines_of, IsWhole, LastAsk, turns_then, StopsBy, IsPlayed}
-use Rattle.krieg_play.specs.Broken.{EndsAt, Breaks, IsBroken, Refuses}
+use Rattle.krieg_play.specs.Broken.{EndsAt, IsUntold, Breaks, IsBroken, Refuses}
 use Rattle.krieg_play.specs.declared.outcome.PlayFault.{PlayFault}
 use Rattle.krieg_play.specs.declared.outcome.PlayFault.TheVariants.{Vacant, Seat, NoMemory}
 
@@ -121,7 +121,15 @@ ends_seen account (Seat Black) now h = length-map now.black.seats account ∙ h
 ends_seen account NoMemory now h = h
 ends_seen account (Vacant who) now h = h
 
-breaks_seen : {X : Type 0} (account : X → Account) (fault : PlayFault) (news : List Line) (entry now : Sides X) (lines : Side → List Line) (turns : Side → Turns) →
+untold_seen : {X : Type 0} (account : X → Account) (fault : PlayFault) (before now : Sides X) (due : List Line) → IsUntold fault before now due → IsUntold fault (seen account before) (seen account now) due
+untold_seen account (Seat White) before now due h = ap (seen_team account) h
+untold_seen account (Seat Black) before now due h = h
+untold_seen account NoMemory before now due (inl h) = inl (ap (seen_team account) h)
+untold_seen account NoMemory before now due (inr h) = inr h
+untold_seen account (Vacant who) before now due (inl h) = inl (ap (seen_team account) h)
+untold_seen account (Vacant who) before now due (inr h) = inr h
+
+abbrev breaks_seen : {X : Type 0} (account : X → Account) (fault : PlayFault) (news : List Line) (entry now : Sides X) (lines : Side → List Line) (turns : Side → Turns) →
     Breaks account fault news entry now lines turns → Breaks itself fault news (seen account entry) (seen account now) lines turns
 breaks_seen account fault news entry now lines turns h = record {
   white = (h.white.0, course_seen account _ _ _ _ _ _ h.white.1);
@@ -140,14 +148,16 @@ broken_seen account start asks entry now fault h = record {
   news = h.news;
   breaks = breaks_seen account fault h.news entry now _ _ h.breaks;
   asked = subst (λ (n : ℕ). IsAskedWithin asks n 1 (h.white_asks + h.black_asks)) (used_seen account entry now h.game) h.asked;
-  at_once = at_once h.at_once;
+  at_once = at_once h.breaks.white.0 h.at_once;
 }
   where
-    at_once : {A : Type 0} → A ⊎ ((a : LastAsk account start asks entry h.game) × (lines_of start a.game_then Black ++ h.news ≡ lines_of start h.game Black) × Breaks account fault h.news a.sides_then now (lines_of start h.game) (turns_then a)) →
-        A ⊎ ((a : LastAsk itself start asks (seen account entry) h.game) × (lines_of start a.game_then Black ++ h.news ≡ lines_of start h.game Black)
+    at_once : {n : ℕ} (due : List Line) → ((n ≡ 0) × (h.news ≡ lines_of start h.game Black) × IsUntold fault entry now due)
+        ⊎ ((a : LastAsk account start asks entry h.game) × (lines_of start a.game_then Black ++ h.news ≡ lines_of start h.game Black) × Breaks account fault h.news a.sides_then now (lines_of start h.game) (turns_then a)) →
+        ((n ≡ 0) × (h.news ≡ lines_of start h.game Black) × IsUntold fault (seen account entry) (seen account now) due)
+        ⊎ ((a : LastAsk itself start asks (seen account entry) h.game) × (lines_of start a.game_then Black ++ h.news ≡ lines_of start h.game Black)
         × Breaks itself fault h.news a.sides_then (seen account now) (lines_of start h.game) (turns_then a))
-    at_once (inl none) = inl none
-    at_once (inr (a, news, b)) = inr (ask_seen account start asks entry h.game a, news, breaks_seen account fault h.news a.sides_then now _ _ b)
+    at_once due (inl (none, news, untold)) = inl (none, news, untold_seen account fault entry now due untold)
+    at_once due (inr (a, news, b)) = inr (ask_seen account start asks entry h.game a, news, breaks_seen account fault h.news a.sides_then now _ _ b)
 
 pub refuses_seen : {X : Type 0} (account : X → Account) (start : Pos) (asks : ℕ) (entry now : Sides X) (fault : PlayFault) →
     Refuses account start asks entry now fault → Refuses itself start asks (seen account entry) (seen account now) fault

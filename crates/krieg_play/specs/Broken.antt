@@ -32,9 +32,17 @@ IsToldFirst (Seat White) news white_due black_due = black_due ≡ news
 IsToldFirst (Seat Black) news white_due black_due = white_due ≡ []
 IsToldFirst _ news white_due black_due = (black_due ≡ news) ⊎ (white_due ≡ [])
 
+-- Where White's seat failed when both sides were told, Black's side is as it was before; and where there was no memory, it is, or White
+-- has heard all of his lines.
+abbrev pub IsUntold : {X : Type 0} → PlayFault → Sides X → Sides X → List Line → Type 0
+IsUntold (Seat White) before now white_due = now.black ≡ before.black
+IsUntold (Seat Black) before now white_due = Unit {0}
+IsUntold _ before now white_due = (now.black ≡ before.black) ⊎ (white_due ≡ [])
+
 -- What both sides did since they were in some state, where a fault was met: each sitting seat has heard a front part of its side's
 -- lines. The news are those of Black's lines that no seat had heard when White was told last.
-pub record Breaks {X : Type 0} (account : X → Account) (fault : PlayFault) (news : List Line) (entry now : Sides X) (lines : Side → List Line) (turns : Side → Turns) : Type 0 where
+pub record Breaks {X : Type 0} (account : X → Account) (fault : PlayFault) (news : List Line)
+    (entry now : Sides X) (lines : Side → List Line) (turns : Side → Turns) : Type 0 where
   pub white : BrokenCourse account (fault_counts fault White) entry.white now.white (lines White) (turns White)
   pub black : BrokenCourse account (fault_counts fault Black) entry.black now.black (lines Black) (turns Black)
   pub told_first : IsToldFirst fault news white.0 black.0
@@ -51,7 +59,7 @@ pub record IsBroken {X : Type 0} (account : X → Account) (start : Pos) (asks :
   pub news : List Line
   pub breaks : Breaks account fault news entry now (lines_of start game) (turns_so_far white_asks black_asks (events_of game.log))
   pub asked : IsAskedWithin asks (used_up entry now game) 1 (white_asks + black_asks)
-  pub at_once : ((white_asks + black_asks ≡ 0) × (news ≡ lines_of start game Black))
+  pub at_once : ((white_asks + black_asks ≡ 0) × (news ≡ lines_of start game Black) × IsUntold fault entry now breaks.white.0)
       ⊎ ((ask : LastAsk account start asks entry game) × (lines_of start ask.game_then Black ++ news ≡ lines_of start game Black)
       × Breaks account fault news ask.sides_then now (lines_of start game) (turns_then ask))
 

@@ -13,7 +13,7 @@ use Rattle.krieg_seats.specs.declared.seat.SeatFault.TheVariants as fault
 use Rattle.krieg_play.specs.Teams.{Turns, Course, Stays}
 use Rattle.krieg_play.specs.Games.{events_of, IsGameFrom}
 use Rattle.krieg_play.specs.Played.{Sides, used_up, IsAskedWithin, Courses, lines_of, turns_so_far, last_turns, IsWhole, IsUnderway, IsPlayed}
-use Rattle.krieg_play.specs.Broken.{Breaks, IsBroken}
+use Rattle.krieg_play.specs.Broken.{IsUntold, Breaks, IsBroken}
 use Rattle.krieg_play.specs.Calls.{once_more, AfterTurn}
 use Rattle.krieg_play.specs.declared.outcome.PlayFault.{PlayFault}
 use Rattle.krieg_play.specs.declared.outcome.PlayFault.TheVariants.{Seat, NoMemory}
@@ -27,15 +27,15 @@ fault_of fault.NoMemory who = NoMemory
 -- ---- both sides
 
 -- what both sides did where lines that were due were told, of which these were Black's
-abbrev pub AfterBoth : {X : Type 0} → (X → Account) → Result (Unit {0}) PlayFault → List Line → Sides X → Sides X → (Side → List Line) → (Side → Turns) → Type 0
-AfterBoth account (Ok _) news entry now lines turns = Courses account None entry now lines turns
-AfterBoth account (Err fault) news entry now lines turns = Breaks account fault news entry now lines turns
+abbrev pub AfterBoth : {X : Type 0} → (X → Account) → Result (Unit {0}) PlayFault → List Line → Sides X → Sides X → Sides X → (Side → List Line) → (Side → Turns) → Type 0
+AfterBoth account (Ok _) news entry before now lines turns = Courses account None entry now lines turns
+AfterBoth account (Err fault) news entry before now lines turns = (b : Breaks account fault news entry now lines turns) × IsUntold fault before now b.white.0
 
 -- telling both sides, from any courses so far of which these lines are due
 abbrev pub TellsBoth : {X : Type 0} → (X → Account) → Result (Unit {0}) PlayFault → Sides X → Sides X → (Side → List Line) → (Side → List Line) → Type 0
 TellsBoth {X} account r before now lines due =
     (entry : Sides X) (turns : Side → Turns) → Course account Stays entry.white before.white (lines White) (due White) (turns White) →
-    Course account Stays entry.black before.black (lines Black) (due Black) (turns Black) → AfterBoth account r (due Black) entry now lines turns
+    Course account Stays entry.black before.black (lines Black) (due Black) (turns Black) → AfterBoth account r (due Black) entry before now lines turns
 
 -- what asking one side makes of both
 abbrev pub AfterAsk : {X : Type 0} → (X → Account) → Side → Result Turn SeatFault → Sides X → Sides X → (Side → List Line) → (Side → Turns) → Type 0

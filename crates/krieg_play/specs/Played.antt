@@ -75,7 +75,8 @@ played_counts (Some Black) Black = HasLeft
 played_counts _ _ = Stays
 
 -- what both sides did since they were in some state: each sitting seat has heard all lines of its side
-pub record Courses {X : Type 0} (account : X → Account) (left : Option Side) (entry now : Sides X) (lines : Side → List Line) (turns : Side → Turns) : Type 0 where
+pub record Courses {X : Type 0} (account : X → Account) (left : Option Side) (entry now : Sides X)
+    (lines : Side → List Line) (turns : Side → Turns) : Type 0 where
   pub white : Course account (played_counts left White) entry.white now.white (lines White) [] (turns White)
   pub black : Course account (played_counts left Black) entry.black now.black (lines Black) [] (turns Black)
 
@@ -88,7 +89,8 @@ abbrev pub turns_so_far : ℕ → ℕ → List Event → Side → Turns
 turns_so_far white_asks black_asks events who = turns_of (by_side white_asks black_asks who) (tries_of who events)
 
 -- A game so far, which is whole: each side has heard its lines of it, its tries are what its seats said, and they were asked so often.
-pub record IsWhole {X : Type 0} (account : X → Account) (left : Option Side) (start : Pos) (asks : ℕ) (entry now : Sides X) (game : GameState) : Type 0 where
+pub record IsWhole {X : Type 0} (account : X → Account) (left : Option Side) (start : Pos) (asks : ℕ)
+    (entry now : Sides X) (game : GameState) : Type 0 where
   pub is_game : IsGameFrom start asks game
   pub white_asks : ℕ
   pub black_asks : ℕ
@@ -119,7 +121,8 @@ turns_then {start = start} ask who =
     last_turns ask.game_then.position.side (lines_of start ask.game_then) ask.since.tried who
 
 -- A whole game in which no seat was asked too late: none was asked; or what both sides did since the last ask is one turn.
-pub record IsUnderway {X : Type 0} (account : X → Account) (left : Option Side) (start : Pos) (asks : ℕ) (entry now : Sides X) (game : GameState) : Type 0 where
+pub record IsUnderway {X : Type 0} (account : X → Account) (left : Option Side) (start : Pos) (asks : ℕ)
+    (entry now : Sides X) (game : GameState) : Type 0 where
   pub whole : IsWhole account left start asks entry now game
   pub in_time : (whole.white_asks + whole.black_asks ≡ 0)
       ⊎ ((ask : LastAsk account start asks entry game) × Courses account left ask.sides_then now (lines_of start game) (turns_then ask))
@@ -132,6 +135,7 @@ StopsBy AsksUsed p asks used now = (is_ended p ≡ false) × (asks ≤ used)
 StopsBy (Left who) p asks used now = (is_ended p ≡ false) × (used < asks) × (who ≡ p.side) × (length (seats_of who now) ≡ 1)
 
 -- The seats played this game from the start until it stopped.
-pub record IsPlayed {X : Type 0} (account : X → Account) (start : Pos) (asks : ℕ) (entry now : Sides X) (game : GameState) (stop : Stop) : Type 0 where
+pub record IsPlayed {X : Type 0} (account : X → Account) (start : Pos) (asks : ℕ)
+    (entry now : Sides X) (game : GameState) (stop : Stop) : Type 0 where
   pub played : IsUnderway account (leaver stop) start asks entry now game
   pub stops : StopsBy stop game.position asks (used_up entry now game) now

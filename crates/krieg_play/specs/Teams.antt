@@ -112,7 +112,8 @@ AreRelieved account known lines (s ∷ ss) = IsRelieved account known lines s ×
 -- What a side did since it was in some state, where these are its lines so far, of which its sitting seat has heard all but those
 -- that are due, and these are its turns. The first seats of its list were relieved and stand in order at the end of its out
 -- list, the next one sits, and all others are as they were. Counts is what the sitting seat's counts came to.
-pub record Course {X : Type 0} (account : X → Account) (Counts : ℕ → Account → Account → Type 0) (entry now : Team X) (lines due : List Line) (turns : Turns) : Type 0 where
+pub record Course {X : Type 0} (account : X → Account) (Counts : ℕ → Account → Account → Type 0)
+    (entry now : Team X) (lines due : List Line) (turns : Turns) : Type 0 where
   pub relieved : List (Service X)
   pub sitting : Service X
   pub behind : List X

@@ -109,7 +109,8 @@ pub record IsBroken (f : PlanFile) (start : Pos) (asks : ℕ) (entry now : Accou
   pub breaks : Breaks fault (tries_of (other f.side) (events_of game.log)) [] (lines_of f start game) entry now
   pub at_once : ((game.log ≡ []) × (breaks.vain ≡ 0))
       ⊎ ((ask : LastAsk f start asks entry game)
-      × (since : Breaks fault (tries_of (other f.side) ask.since.tried) (lines_of f start ask.game_then) (lines_of f start game) ask.account_then now)
+      × (since : Breaks fault (tries_of (other f.side) ask.since.tried) (lines_of f start ask.game_then) (lines_of f start game)
+      ask.account_then now)
       × (length (tries_of (other f.side) ask.since.tried) + since.vain ≡ once ask.game_then.position.side (other f.side)))
 
 -- ---- from a listed position
