@@ -36,6 +36,7 @@ module _ (G : Game) (O : Outset G) where
   abbrev pub next_at : Path → Tree G.Move G.Key → G.Position → List Pair
   next_at path (Try t other es) p = if G.legal p t then flat_map (λ o. pair_at (On o.0 ∷ path) (first_edge G.key_lt es o.0) o.1) (G.outcomes p t) else pair_at (No ∷ path) other p
 
+  -- the pairs that come next behind one
   abbrev pub next_pairs : Pair → List Pair
   next_pairs x = next_at x.0 x.1 x.2
 
@@ -51,10 +52,12 @@ module _ (G : Game) (O : Outset G) where
     reached path (Try t other es) B =
         map (λ p. (path, Try t other es, p)) B ++ (reached_other (No ∷ path) other (refused G B t) ++ flat_map (λ key. reached_at (On key ∷ path) es key (class G B t key)) (keys G B t))
 
+    -- what is reached in the tree for the illegal case
     pub reached_other : Path → Maybe G.Move G.Key → List G.Position → List Pair
     reached_other path Nothing B = []
     reached_other path (Just n) B = reached path n B
 
+    -- what is reached behind the edge of that key
     pub reached_at : Path → Edges G.Move G.Key → G.Key → List G.Position → List Pair
     reached_at path NoEdges key B = []
     reached_at path (Edge key' n es) key B = if same G.key_lt key' key then reached path n B else reached_at path es key B

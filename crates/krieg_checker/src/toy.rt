@@ -22,12 +22,21 @@ pub fn check_costs()
     ensures no_node { check_cost toy toy_start ((0, Try 0 Nothing NoEdges) ∷ []) (0 ∷ 1 ∷ []) ≡ 2 }
     ensures no_root { check_cost toy toy_start ((9, Try 0 Nothing NoEdges) ∷ []) (0 ∷ 1 ∷ []) ≡ 0 }
     ensures over_edges { check_cost toy toy_start
-        ((0, Try 0 Nothing (Edge 0 (Try 0 Nothing NoEdges) (Edge 1 (Try 1 Nothing NoEdges) NoEdges))) ∷ []) (2 ∷ []) ≡ 5 }
+        ((
+          0,
+          Try 0 Nothing (Edge 0 (Try 0 Nothing NoEdges)
+              (Edge 1 (Try 1 Nothing NoEdges) NoEdges)),
+        ) ∷ []) (2 ∷ []) ≡ 5 }
     ensures first_edge { check_cost toy toy_start
-        ((0, Try 0 Nothing (Edge 0 (Try 0 Nothing NoEdges) (Edge 0 (Try 1 Nothing NoEdges) NoEdges))) ∷ []) (2 ∷ []) ≡ 4 }
+        ((
+          0,
+          Try 0 Nothing (Edge 0 (Try 0 Nothing NoEdges)
+              (Edge 0 (Try 1 Nothing NoEdges) NoEdges)),
+        ) ∷ []) (2 ∷ []) ≡ 4 }
     ensures no_edge { check_cost toy toy_start ((0, Try 0 Nothing NoEdges) ∷ []) (2 ∷ []) ≡ 3 }
     ensures merging { check_cost toy toy_start
-        ((0, Try 1 Nothing (Edge 0 (Try 0 (Just (Try 1 Nothing NoEdges)) NoEdges) NoEdges)) ∷ []) (3 ∷ []) ≡ 6 }
+        ((0, Try 1 Nothing (Edge 0 (Try 0 (Just (Try 1 Nothing NoEdges)) NoEdges) NoEdges)) ∷ [])
+        (3 ∷ []) ≡ 6 }
     ensures first_moves { check_cost toy toy_start
         ((1, Try 0 (Just (Try 1 Nothing NoEdges)) NoEdges) ∷ []) (6 ∷ []) ≡ 6 }
     ensures over { check_cost toy toy_start ((1, Try 0 Nothing NoEdges) ∷ []) (7 ∷ []) ≡ 0 }

@@ -5,6 +5,7 @@ use Rattle.krieg_cli.specs.Refusal.{refusal_status, refusal_reason}
 use Rattle.krieg_cli.specs.declared.ending.Ending.{Ending}
 use Rattle.krieg_cli.specs.declared.ending.Ending.TheVariants.{Answered, Usage, TooLong, ReadFault, WriteFault, NoMemory, Refused}
 
+-- the status of an ending
 abbrev pub status : Ending → ℕ
 status Answered = 0
 status Usage = 1
@@ -28,10 +29,12 @@ reason WriteFault = (None, codes "write fault")
 reason NoMemory = (None, codes "want of memory")
 reason (Refused refusal) = refusal_reason refusal
 
+-- which line it was, where a line is told
 abbrev pub place_text : Option ℕ → List ℕ
 place_text None = []
 place_text (Some line) = codes "line " ++ (number_text line ++ codes ": ")
 
+-- the line on standard error
 abbrev pub reason_line : Option ℕ × List ℕ → List ℕ
 reason_line why = codes "krieg: " ++ (place_text why.0 ++ (why.1 ++ (10 ∷ [])))
 

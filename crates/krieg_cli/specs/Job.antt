@@ -28,6 +28,7 @@ use Rattle.krieg_cli.specs.declared.commands.job.TheConstants.{JOB_MOVES}
 abbrev pub listed_line : ℕ → Pieces
 listed_line n = codes "listed " ∷ number_text n ∷ []
 
+-- the line that says how many positions are possible
 abbrev pub positions_line : ℕ → Pieces
 positions_line n = codes "positions " ∷ number_text n ∷ []
 
@@ -35,6 +36,7 @@ positions_line n = codes "positions " ∷ number_text n ∷ []
 abbrev pub mates_line : ℕ → ℕ → Pieces
 mates_line worst nodes = codes "mates " ∷ number_text worst ∷ codes " nodes " ∷ number_text nodes ∷ []
 
+-- the line that says what the check found
 abbrev pub checked_line : ℕ → Pieces
 checked_line worst = codes "checked " ∷ number_text worst ∷ []
 

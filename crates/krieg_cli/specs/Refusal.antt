@@ -21,6 +21,7 @@ text_status kind.OutOfPlace = 3
 text_status kind.Deep = 3
 text_status kind.Large = 3
 
+-- the status of a refusal
 abbrev pub refusal_status : Refusal → ℕ
 refusal_status (BadText line kind) = text_status kind
 refusal_status (TooMany line) = 7
@@ -36,6 +37,7 @@ refusal_status RefutationFails = 18
 refusal_status AnswerTooLong = 19
 refusal_status NoSuchPosition = 20
 
+-- how the fault of a position is told
 abbrev pub position_reason : BadPosition → List ℕ
 position_reason bad.Kings = codes "kings"
 position_reason bad.PawnRank = codes "pawn rank"
@@ -44,6 +46,7 @@ position_reason bad.IdleInCheck = codes "idle side in check"
 position_reason bad.Rights = codes "rights"
 position_reason bad.Mark = codes "mark"
 
+-- how the fault of a line is told
 abbrev pub text_reason : TextKind → List ℕ
 text_reason (kind.Position bad_position) = position_reason bad_position
 text_reason kind.Differs = codes "differs"

@@ -67,6 +67,7 @@ module _ (d : Dialect) (who : Side) (S : List Pos) where
   abbrev pub least_units : ℕ → ℕ
   least_units n = floor (chess d) (outset d who) n S
 
+  -- what it takes at most
   abbrev pub fresh_units : ℕ → ℕ
   fresh_units n = fresh (chess d) (outset d who) n S
 

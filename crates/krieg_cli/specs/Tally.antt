@@ -8,18 +8,22 @@ use Rattle.krieg_referee.specs.declared.verdict.Verdict.{Verdict}
 use Rattle.krieg_referee.specs.declared.verdict.Verdict.TheVariants as verdict
 use Rattle.krieg_cli.specs.declared.commands.job.tally.Tally.{Tally}
 
+-- the try was done
 abbrev pub is_done : Verdict → Bool
 is_done (verdict.Done words) = true
 is_done _ = false
 
+-- it was illegal
 abbrev pub is_illegal : Verdict → Bool
 is_illegal verdict.Illegal = true
 is_illegal _ = false
 
+-- it was early
 abbrev pub is_early : Verdict → Bool
 is_early verdict.Early = true
 is_early _ = false
 
+-- the game was over
 abbrev pub is_over : Verdict → Bool
 is_over verdict.Over = true
 is_over _ = false

@@ -7,6 +7,7 @@ pub record Stream : Type 0 where
   pub bytes : Option (List ℕ)
   pub faults : ℕ
 
+-- what a stream shows
 abbrev pub stream : {X : Type 0} → (X → Option (List ℕ)) → (X → ℕ) → X → Stream
 stream bytes faults x = record { bytes = bytes x; faults = faults x }
 
@@ -15,6 +16,7 @@ pub record World : Type 0 where
   pub input : Stream
   pub out : Stream
 
+-- what the input and the sink of the answer show
 abbrev pub world : {I O : Type 0} → (I → Option (List ℕ)) → (I → ℕ) → (O → Option (List ℕ)) → (O → ℕ) → I → O → World
 world left input_faults got out_faults input out = record { input = stream left input_faults input; out = stream got out_faults out }
 

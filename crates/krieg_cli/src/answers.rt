@@ -34,8 +34,10 @@ pub(crate) fn in_pieces(text: Result<Pieces, Ending>) -> Result<Answer, Ending>
 
 /// Writes the pieces one after another.
 fn write_pieces<O: Sink>(out: &mut O, pieces: &[Vec<u8>]) -> Result<(), WriteFault>
-    ensures all { OnOk result (Appends (O.got out.old) (O.got out.new) (flat_map (λ p. p.items) pieces.now)) }
-    ensures part { OnErr result (AppendsPrefix (O.got out.old) (O.got out.new) (flat_map (λ p. p.items) pieces.now)) }
+    ensures all { OnOk result (Appends (O.got out.old) (O.got out.new)
+        (flat_map (λ p. p.items) pieces.now)) }
+    ensures part { OnErr result (AppendsPrefix (O.got out.old) (O.got out.new)
+        (flat_map (λ p. p.items) pieces.now)) }
     ensures fault { OnErr result (Rose (O.faults out.old) (O.faults out.new)) }
     ensures kept { OnOk result (O.faults out.new ≡ O.faults out.old) }
 {
@@ -48,7 +50,8 @@ fn write_pieces<O: Sink>(out: &mut O, pieces: &[Vec<u8>]) -> Result<(), WriteFau
 /// Writes the answer. It takes no memory.
 pub(crate) fn write_answer<O: Sink>(out: &mut O, answer: &Answer) -> Result<(), WriteFault>
     ensures all { OnOk result (Appends (O.got out.old) (O.got out.new) (bytes_of answer.now)) }
-    ensures part { OnErr result (AppendsPrefix (O.got out.old) (O.got out.new) (bytes_of answer.now)) }
+    ensures part { OnErr result (AppendsPrefix (O.got out.old) (O.got out.new)
+        (bytes_of answer.now)) }
     ensures fault { OnErr result (Rose (O.faults out.old) (O.faults out.new)) }
     ensures kept { OnOk result (O.faults out.new ≡ O.faults out.old) }
 {

@@ -17,8 +17,10 @@ pub(crate) fn taken<S: Source>(
     command: &Command,
     input: &mut S,
 ) -> Result<Vec<u8>, Ending>
-    ensures text { let seen = stream S.left S.faults in IfOk result (λ text. WasTaken command.now (seen input.old) (seen input.new) text.items) }
-    ensures fails { let seen = stream S.left S.faults in IfErr result (λ e. FailsToTake e command.now (seen input.old) (seen input.new)) }
+    ensures text { let seen = stream S.left S.faults in
+        IfOk result (λ text. WasTaken command.now (seen input.old) (seen input.new) text.items) }
+    ensures fails { let seen = stream S.left S.faults in
+        IfErr result (λ e. FailsToTake e command.now (seen input.old) (seen input.new)) }
     ensures unread { takes_input command.now ≡ false → input.new ≡ input.old }
 {
     if !command.takes_input() {

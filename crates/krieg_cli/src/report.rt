@@ -13,8 +13,10 @@ use krieg_ports::{Sink, WriteFault, write_all};
 
 /// Writes the pieces one after another, and takes no memory.
 fn write_pieces<E: Sink>(err: &mut E, pieces: &[&[u8]]) -> Result<(), WriteFault>
-    ensures all { OnOk result (Appends (E.got err.old) (E.got err.new) (flat_map (λ p. p.now) pieces.now)) }
-    ensures part { OnErr result (AppendsPrefix (E.got err.old) (E.got err.new) (flat_map (λ p. p.now) pieces.now)) }
+    ensures all { OnOk result (Appends (E.got err.old) (E.got err.new)
+        (flat_map (λ p. p.now) pieces.now)) }
+    ensures part { OnErr result (AppendsPrefix (E.got err.old) (E.got err.new)
+        (flat_map (λ p. p.now) pieces.now)) }
     ensures fault { OnErr result (Rose (E.faults err.old) (E.faults err.new)) }
     ensures kept { OnOk result (E.faults err.new ≡ E.faults err.old) }
 {
@@ -26,7 +28,8 @@ fn write_pieces<E: Sink>(err: &mut E, pieces: &[&[u8]]) -> Result<(), WriteFault
 
 fn write_line<E: Sink>(ending: &Ending, err: &mut E) -> Result<(), WriteFault>
     ensures all { OnOk result (Appends (E.got err.old) (E.got err.new) (line_of ending.now)) }
-    ensures part { OnErr result (AppendsPrefix (E.got err.old) (E.got err.new) (line_of ending.now)) }
+    ensures part { OnErr result (AppendsPrefix (E.got err.old) (E.got err.new)
+        (line_of ending.now)) }
     ensures fault { OnErr result (Rose (E.faults err.old) (E.faults err.new)) }
     ensures kept { OnOk result (E.faults err.new ≡ E.faults err.old) }
 {

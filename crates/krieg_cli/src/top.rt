@@ -35,11 +35,13 @@ fn answer<S: Source, O: Sink>(
     bench: &mut Bench,
 ) -> Result<(), Ending>
     requires { IsInRange command.now }
-    ensures ends { let live = LivesBy (λ b. account b) (bench_sides bench.old) (bench_sides bench.new) in
+    ensures ends { let live = LivesBy (λ b. account b) (bench_sides bench.old)
+        (bench_sides bench.new) in
         let seen = world S.left S.faults O.got O.faults in
         Ends live (ending_of result) command.now (seen input.old out.old) (seen input.new out.new) }
     ensures bench { let seen = stream S.left S.faults in
-        LeavesBench (λ b. account b) (Some command.now) (ending_of result) (seen input.old) (seen input.new)
+        LeavesBench (λ b. account b) (Some command.now) (ending_of result) (seen input.old)
+        (seen input.new)
         (bench_sides bench.old) (bench_sides bench.new) }
     ensures unread { takes_input command.now ≡ false → input.new ≡ input.old }
 {
@@ -58,7 +60,8 @@ fn obey<S: Source, O: Sink>(
     bench: &mut Bench,
 ) -> Ending
     requires { (c : Asked) → asked ≡ Some c → IsInRange c }
-    ensures runs { let live = LivesBy (λ b. account b) (bench_sides bench.old) (bench_sides bench.new) in
+    ensures runs { let live = LivesBy (λ b. account b) (bench_sides bench.old)
+        (bench_sides bench.new) in
         let seen = world S.left S.faults O.got O.faults in
         Runs live result asked (seen input.old out.old) (seen input.new out.new) }
     ensures bench { let seen = stream S.left S.faults in
@@ -134,29 +137,35 @@ pub fn run<S: Source, O: Sink, E: Sink>(
     err: &mut E,
     bench: &mut Bench,
 ) -> u8
-    ensures ends { let seen = world S.left S.faults O.got O.faults in let heard = stream E.got E.faults in
-        IsRun (λ b. account b) (bench_sides bench.old) (bench_sides bench.new) (asked_by words.now) result
+    ensures ends { let seen = world S.left S.faults O.got O.faults in
+        let heard = stream E.got E.faults in
+        IsRun (λ b. account b) (bench_sides bench.old) (bench_sides bench.new) (asked_by words.now)
+        result
         (seen input.old out.old) (seen input.new out.new) (heard err.old) (heard err.new) }
 
     // Where nothing is read for the words, the input stays as it is.
     ensures unread { reads (asked_by words.now) ≡ false → input.new ≡ input.old }
 
     // The headline: what `solve` has written is the best plan for the sheet, or that there is none.
-    ensures solves { let seen = world S.left S.faults O.got O.faults in let heard = stream E.got E.faults in
+    ensures solves { let seen = world S.left S.faults O.got O.faults in
+        let heard = stream E.got E.faults in
         SolvesSheets (asked_by words.now) result
         (seen input.old out.old) (seen input.new out.new) (heard err.old) (heard err.new) }
 
     // Given a plan that `solve` wrote, `check` writes the number that it states.
     ensures checks { let seen = world S.left S.faults O.got O.faults in
-        ChecksSolutions (asked_by words.now) result (seen input.old out.old) (seen input.new out.new) }
+        ChecksSolutions (asked_by words.now) result (seen input.old out.old)
+        (seen input.new out.new) }
 
     // What `refute` has written is a refutation for the sheet: no plan mates within the number of moves.
     ensures refutes { let seen = world S.left S.faults O.got O.faults in
-        RefutesSheets (asked_by words.now) result (seen input.old out.old) (seen input.new out.new) }
+        RefutesSheets (asked_by words.now) result (seen input.old out.old)
+        (seen input.new out.new) }
 
     // Given a refutation that `refute` wrote, `deny` writes its number of moves, and no plan mates within it.
     ensures denies { let seen = world S.left S.faults O.got O.faults in
-        DeniesRefutations (asked_by words.now) result (seen input.old out.old) (seen input.new out.new) }
+        DeniesRefutations (asked_by words.now) result (seen input.old out.old)
+        (seen input.new out.new) }
 
     // Given a plan that mates what it lists, `lead` writes a game that is won.
     ensures wins { let seen = world S.left S.faults O.got O.faults in
@@ -164,7 +173,8 @@ pub fn run<S: Source, O: Sink, E: Sink>(
 
     // Where the input is good and nothing is refused for a cause, there is an answer, or memory ran out.
     ensures completes { let seen = world S.left S.faults O.got O.faults in
-        Completes (λ b. account b) (bench_sides bench.old) (bench_sides bench.new) (asked_by words.now) result
+        Completes (λ b. account b) (bench_sides bench.old) (bench_sides bench.new)
+        (asked_by words.now) result
         (seen input.old out.old) (seen input.new out.new) }
 
     // What `umpire` writes for a player is his sheet of the game, and it is the same without the other
@@ -174,7 +184,8 @@ pub fn run<S: Source, O: Sink, E: Sink>(
 
     // Given what `umpire` wrote, `believe` lists the position in which the game stands.
     ensures believes { let seen = world S.left S.faults O.got O.faults in
-        BelievesGames (asked_by words.now) result (seen input.old out.old) (seen input.new out.new) }
+        BelievesGames (asked_by words.now) result (seen input.old out.old)
+        (seen input.new out.new) }
 
     // Given what `san` wrote of a session, `unsan` writes the session of the tries that were done.
     ensures returns { let seen = world S.left S.faults O.got O.faults in
@@ -218,14 +229,17 @@ pub fn run_find<S: Source, O: Sink, E: Sink>(
     out: &mut O,
     err: &mut E,
 ) -> u8
-    ensures ends { let seen = world S.left S.faults O.got O.faults in let heard = stream E.got E.faults in
-        RunsAlone (asked_to_find words.now) result (seen input.old out.old) (seen input.new out.new) (heard err.old) (heard err.new) }
+    ensures ends { let seen = world S.left S.faults O.got O.faults in
+        let heard = stream E.got E.faults in
+        RunsAlone (asked_to_find words.now) result (seen input.old out.old) (seen input.new out.new)
+        (heard err.old) (heard err.new) }
 
     // Where the words are not those of a search, the input stays as it is.
     ensures unread { reads (asked_to_find words.now) ≡ false → input.new ≡ input.old }
 
     // The headline: what is written is the best plan for the sheet, or that there is none.
-    ensures finds { let seen = world S.left S.faults O.got O.faults in let heard = stream E.got E.faults in
+    ensures finds { let seen = world S.left S.faults O.got O.faults in
+        let heard = stream E.got E.faults in
         FindsSheets (asked_to_find words.now) result
         (seen input.old out.old) (seen input.new out.new) (heard err.old) (heard err.new) }
 

@@ -22,6 +22,7 @@ use Rattle.krieg_plan.specs.declared.limits.TheConstants.{MOST_NODES}
 abbrev pub edges_form : List ℕ → Result ℕ TextKind
 edges_form text = ranged Count (number_between text 0 MOST_NODES)
 
+-- a node's line of these parts, or the fault of its number
 abbrev pub play_with : Move → Bool → Result ℕ TextKind → Result Play TextKind
 play_with m other (Ok k) = Ok (record { mv = m; no = other; edges = k })
 play_with m other (Err kind) = Err kind
@@ -31,6 +32,7 @@ abbrev pub no_or_edges : Move → Option (List ℕ) → List ℕ → Result Play
 no_or_edges m (Some text) whole = play_with m true (edges_form text)
 no_or_edges m None whole = play_with m false (edges_form whole)
 
+-- a node's line by its move and by what stands behind it
 abbrev pub moved_form : Option Move → Option (List ℕ) → Result Play TextKind
 moved_form None rest = Err Syntax
 moved_form (Some m) None = Err Syntax
@@ -54,6 +56,7 @@ play_form left line = any_play_form line >>= λ play. if left == 0 then Err Larg
 abbrev pub unspaced : List ℕ → Option (List ℕ)
 unspaced text = if slice_index text (length text - 1) == 32 then Some (take (length text - 1) text) else None
 
+-- the words of a text, where there is one
 abbrev pub words_at : Dialect → Option (List ℕ) → Option Said
 words_at d None = None
 words_at d (Some text) = words_in d text
@@ -68,6 +71,7 @@ abbrev pub key_across : Dialect → List ℕ → Option (List ℕ) → Option Ke
 key_across d front None = None
 key_across d front (Some back) = both (words_at d (unspaced front)) (words_at d (behind (codes " ") back))
 
+-- the key of a text: two words across a slash
 abbrev pub key_in : Dialect → List ℕ → Option Key
 key_in d text = key_across d (cut 47 text).0 (cut 47 text).1
 

@@ -19,6 +19,7 @@ abbrev pub edge_count : Edges Move Key → ℕ
 edge_count NoEdges = zero
 edge_count (Edge key n es) = suc (edge_count es)
 
+-- there is a tree for the illegal case
 abbrev pub is_just : Maybe Move Key → Bool
 is_just Nothing = false
 is_just (Just n) = true
@@ -45,6 +46,7 @@ abbrev mutual
   pub node_lines : Dialect → NodeTree → List Pieces
   node_lines d (Try m other es) = play_line m (is_just other) (edge_count es) ∷ (other_lines d other ++ edges_lines d es)
 
+  -- the lines of the tree for the illegal case
   pub other_lines : Dialect → Maybe Move Key → List Pieces
   other_lines d Nothing = []
   other_lines d (Just n) = node_lines d n
@@ -65,6 +67,7 @@ branches_lines line d (b ∷ bs) = line b.0 ∷ (node_lines d b.1 ++ branches_li
 abbrev pub IsToldIn : Dialect → Said → Type 0
 IsToldIn d w = IsSaid w × Fits d w
 
+-- both words of the key can be told in the dialect
 abbrev pub IsToldKey : Dialect → Key → Type 0
 IsToldKey d key = IsToldIn d key.0 × IsToldIn d key.1
 
@@ -73,10 +76,12 @@ abbrev mutual
   pub IsTold : Dialect → NodeTree → Type 0
   IsTold d (Try m other es) = IsOnBoard m × IsToldOther d other × AreTold d es
 
+  -- and those of the tree for the illegal case
   pub IsToldOther : Dialect → Maybe Move Key → Type 0
   IsToldOther d Nothing = Unit {0}
   IsToldOther d (Just n) = IsTold d n
 
+  -- and those of these edges and of what stands behind them
   pub AreTold : Dialect → Edges Move Key → Type 0
   AreTold d NoEdges = Unit {0}
   AreTold d (Edge key n es) = IsToldKey d key × IsTold d n × AreTold d es

@@ -60,9 +60,11 @@ plan_version_form line = version_form (codes "krieg plan ") 2 line
 unfoldable pub worst_form : List ℕ → Result ℕ TextKind
 worst_form line = count_form (codes "worst ") 1 MOST_ON_PATH line
 
+-- the line that says how many roots there are
 unfoldable pub roots_form : List ℕ → Result ℕ TextKind
 roots_form line = count_form (codes "roots ") 1 MOST_NODES line
 
+-- the last line
 unfoldable pub end_form : List ℕ → Result (Unit {0}) TextKind
 end_form line = if bytes_eq line (codes "end") then Ok tt else Err Syntax
 

@@ -36,10 +36,12 @@ abbrev mutual
   pub HasFewEdges : NodeTree → Type 0
   HasFewEdges (Try m other es) = (edge_count es ≤ MOST_NODES) × HasFewOther other × HaveFewEdges es
 
+  -- and the tree for the illegal case has none with more
   pub HasFewOther : Maybe Move Key → Type 0
   HasFewOther Nothing = Unit {0}
   HasFewOther (Just n) = HasFewEdges n
 
+  -- and those behind these edges have none with more
   pub HaveFewEdges : Edges Move Key → Type 0
   HaveFewEdges NoEdges = Unit {0}
   HaveFewEdges (Edge key n es) = HasFewEdges n × HaveFewEdges es

@@ -28,6 +28,7 @@ roots_lines d rs = branches_lines (root_line d) d rs
 abbrev pub worst_line : ℕ → Pieces
 worst_line n = codes "worst " ∷ number_text n ∷ []
 
+-- the line that says how many roots there are
 abbrev pub count_line : ℕ → Pieces
 count_line n = codes "roots " ∷ number_text n ∷ []
 

@@ -33,7 +33,8 @@ fn heard_line(d: Dialect, text: &[u8]) -> Result<Line, TextKind>
 /// All lines that are left, in that dialect.
 #[tactic(auto, using(crate::proofs::HeardLines::heard_lines))]
 fn read_heard(alloc: Global, from: &mut Cursor<'_>, d: Dialect) -> Result<Vec<Line>, TextFault>
-    ensures { Gives (λ heard. heard.items) result (spec.all_by (spec.heard_form d) from.old.number from.old.left) }
+    ensures { Gives (λ heard. heard.items) result
+        (spec.all_by (spec.heard_form d) from.old.number from.old.left) }
 {
     let mut heard = Vec::new(alloc);
     'lines: loop {

@@ -12,7 +12,8 @@ use std::alloc::Global;
 
 /// The line of a node that has too many nodes above it. It is never taken.
 fn read_too_deep(from: &mut Cursor<'_>, left: usize) -> Result<Box<Node>, TextFault>
-    ensures { GivesOn (λ b. (tree_of b.value, left)) result from.new (taken (spec.deep_form left) from.old) }
+    ensures { GivesOn (λ b. (tree_of b.value, left)) result from.new
+        (taken (spec.deep_form left) from.old) }
 {
     let line = from.number();
     match read_play(from, left) {
@@ -34,7 +35,8 @@ pub(crate) fn read_node(
     room: usize,
     left: &mut usize,
 ) -> Result<Box<Node>, TextFault>
-    ensures { GivesOn (λ b. (tree_of b.value, left.new)) result from.new (spec.node_at room d left.old from.old) }
+    ensures { GivesOn (λ b. (tree_of b.value, left.new)) result from.new
+        (spec.node_at room d left.old from.old) }
 {
     if room == 0 {
         return read_too_deep(from, *left);
@@ -54,7 +56,8 @@ fn read_below(
     left: &mut usize,
     play: &Play,
 ) -> Result<Box<Node>, TextFault>
-    ensures { GivesOn (λ b. (tree_of b.value, left.new)) result from.new (spec.below_by (spec.node_at room d) d play.now left.old from.old) }
+    ensures { GivesOn (λ b. (tree_of b.value, left.new)) result from.new
+        (spec.below_by (spec.node_at room d) d play.now left.old from.old) }
 {
     let no = read_other(alloc, from, d, room, left, play.no)?;
     let edges = read_edges(alloc, from, d, room, left, play.edges)?;
@@ -72,7 +75,8 @@ fn read_other(
     left: &mut usize,
     is_there: bool,
 ) -> Result<Option<Box<Node>>, TextFault>
-    ensures { GivesOn (λ o. (as_other (option_map (λ b. tree_of b.value) o), left.new)) result from.new (spec.other_by (spec.node_at room d) is_there left.old from.old) }
+    ensures { GivesOn (λ o. (as_other (option_map (λ b. tree_of b.value) o), left.new)) result
+        from.new (spec.other_by (spec.node_at room d) is_there left.old from.old) }
 {
     if !is_there {
         return Ok(None);
@@ -91,7 +95,8 @@ fn read_edge(
     left: &mut usize,
     last: &Option<(Words, Words)>,
 ) -> Result<Edge, TextFault>
-    ensures { GivesOn (λ e. (edge_of e, left.new)) result from.new (spec.branch_by (spec.node_at room d) (on_form d) last.now left.old from.old) }
+    ensures { GivesOn (λ e. (edge_of e, left.new)) result from.new
+        (spec.branch_by (spec.node_at room d) (on_form d) last.now left.old from.old) }
 {
     let (own, reply) = read_on(from, d, last)?;
     let node = read_node(alloc, from, d, room, left)?;
@@ -109,7 +114,8 @@ fn read_edges(
     left: &mut usize,
     k: u64,
 ) -> Result<Vec<Edge>, TextFault>
-    ensures { GivesOn (λ v. (map edge_of v.items, left.new)) result from.new (spec.branches_by (spec.node_at room d) (on_form d) k None left.old from.old) }
+    ensures { GivesOn (λ v. (map edge_of v.items, left.new)) result from.new
+        (spec.branches_by (spec.node_at room d) (on_form d) k None left.old from.old) }
 {
     let mut edges = Vec::new(alloc);
     let mut last: Option<(Words, Words)> = None;

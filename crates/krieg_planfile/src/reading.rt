@@ -104,7 +104,9 @@ fn read_roots_of_plan(
     left: &mut usize,
     k: u64,
 ) -> Result<Plan, TextFault>
-    ensures { GivesOn (λ p. (plan_of p, left.new)) result from.new (branches_by (node_at MOST_ON_PATH d) (spec.root_form version waiting d) k None left.old from.old) }
+    ensures { GivesOn (λ p. (plan_of p, left.new)) result from.new
+        (branches_by (node_at MOST_ON_PATH d) (spec.root_form version waiting d) k None left.old
+        from.old) }
 {
     let roots = read_roots(alloc, from, version, waiting, d, left, k)?;
     Ok(Plan::make(roots))
@@ -120,7 +122,8 @@ fn read_claim(
     side: Side,
     list: Vec<Position>,
 ) -> Result<PlanFile, TextFault>
-    ensures { GivesOn (λ f. state_of f) result from.new (spec.claim_at version dialect side list.items from.old) }
+    ensures { GivesOn (λ f. state_of f) result from.new
+        (spec.claim_at version dialect side list.items from.old) }
 {
     let worst = read_worst(from)? as u16;
     let count = read_root_count(from)?;
@@ -167,7 +170,8 @@ fn read_lines(alloc: Global, text: &[u8]) -> Result<PlanFile, TextFault>
 /// The text is read once, and no more than 2,500 calls stand on one another, whatever the text.
 #[tactic(auto, using(crate::proofs::PlanSpellings::reading, crate::proofs::ReadSizes::read_fits))]
 pub fn read_plan(alloc: Global, text: &[u8]) -> Result<PlanFile, TextFault>
-    ensures reading { IsReading (λ f. state_of f) spec.plan_at IsPlanFile SpellsPlan PlanGrammar (lines text.now) result }
+    ensures reading { IsReading (λ f. state_of f) spec.plan_at IsPlanFile SpellsPlan PlanGrammar
+        (lines text.now) result }
     // What is read is a plan file: it is within the limits, its words can be told, its keys ascend.
     ensures plan { IfOk result (λ f. IsPlanFile (state_of f)) }
     // It has fewer than 38,000,000 bytes, so that no plan file is too long for an input.

@@ -95,7 +95,8 @@ fn read_root_line(
     d: Dialect,
     last: &Option<RootKey>,
 ) -> Result<RootKey, TextFault>
-    ensures { GivesOn (λ x. x) result from.new (taken (spec.root_form version waiting d last.now) from.old) }
+    ensures { GivesOn (λ x. x) result from.new
+        (taken (spec.root_form version waiting d last.now) from.old) }
 {
     let line = from.number();
     root_form(version, waiting, d, last, from.line()?).map_err(|kind| TextFault::At { line, kind })
@@ -111,7 +112,9 @@ fn read_root(
     left: &mut usize,
     last: &Option<RootKey>,
 ) -> Result<Root, TextFault>
-    ensures { GivesOn (λ r. (root_of r, left.new)) result from.new (nodes.branch_by (nodes.node_at MOST_ON_PATH d) (spec.root_form version waiting d) last.now left.old from.old) }
+    ensures { GivesOn (λ r. (root_of r, left.new)) result from.new
+        (nodes.branch_by (nodes.node_at MOST_ON_PATH d) (spec.root_form version waiting d) last.now
+        left.old from.old) }
 {
     let (opens, heard) = read_root_line(from, version, waiting, d, last)?;
     let node = read_node(alloc, from, d, MOST_ON_PATH, left)?;
@@ -129,7 +132,9 @@ pub(crate) fn read_roots(
     left: &mut usize,
     k: u64,
 ) -> Result<Vec<Root>, TextFault>
-    ensures { GivesOn (λ v. (map root_of v.items, left.new)) result from.new (nodes.branches_by (nodes.node_at MOST_ON_PATH d) (spec.root_form version waiting d) k None left.old from.old) }
+    ensures { GivesOn (λ v. (map root_of v.items, left.new)) result from.new
+        (nodes.branches_by (nodes.node_at MOST_ON_PATH d) (spec.root_form version waiting d) k None
+        left.old from.old) }
 {
     let mut roots = Vec::new(alloc);
     let mut last: Option<RootKey> = None;

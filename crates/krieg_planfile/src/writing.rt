@@ -111,7 +111,8 @@ fn put_edges(d: Dialect, n: &Node, text: &mut Text) -> Result<(), NoMemory>
 fn put_edge(d: Dialect, e: &Edge, text: &mut Text) -> Result<(), NoMemory>
     requires key { IsToldKey d (edge_of e.now).0 }
     requires node { IsTold d (edge_of e.now).1 }
-    ensures { PutsLines result text.old text.new (spec.on_line d (edge_of e.now).0 ∷ spec.node_lines d (edge_of e.now).1) }
+    ensures { PutsLines result text.old text.new
+        (spec.on_line d (edge_of e.now).0 ∷ spec.node_lines d (edge_of e.now).1) }
 {
     put_on(d, e.own, e.reply, text)?;
     put_node(d, &e.node, text)
@@ -121,7 +122,8 @@ fn put_edge(d: Dialect, e: &Edge, text: &mut Text) -> Result<(), NoMemory>
 fn put_root(d: Dialect, r: &Root, text: &mut Text) -> Result<(), NoMemory>
     requires key { IsToldRoot d (root_of r.now).0 }
     requires node { IsTold d (root_of r.now).1 }
-    ensures { PutsLines result text.old text.new (plan.root_line d (root_of r.now).0 ∷ spec.node_lines d (root_of r.now).1) }
+    ensures { PutsLines result text.old text.new
+        (plan.root_line d (root_of r.now).0 ∷ spec.node_lines d (root_of r.now).1) }
 {
     put_root_line(d, r.opens, &r.heard, text)?;
     put_node(d, &r.node, text)

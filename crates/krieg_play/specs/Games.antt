@@ -10,6 +10,7 @@ use Rattle.krieg_referee.specs.Games.{GameState, judge, last}
 use Rattle.krieg_referee.specs.declared.verdict.Event.{Event}
 use Rattle.krieg_referee.specs.declared.verdict.Judged.{Judged}
 
+-- the try that was judged
 abbrev pub event_of : Judged → Event
 event_of j = j.event
 
@@ -17,6 +18,7 @@ event_of j = j.event
 abbrev pub events_of : List Judged → List Event
 events_of log = map event_of log
 
+-- the move of the try, where it is that side's
 abbrev pub try_of : Side → Event → Option Move
 try_of who e = if is_same_side e.who who then Some e.mv else None
 

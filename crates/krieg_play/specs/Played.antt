@@ -21,6 +21,7 @@ pub record Sides (X : Type 0) : Type 0 where
   pub white : Team X
   pub black : Team X
 
+-- both sides with these teams
 abbrev pub sides : {X : Type 0} → Team X → Team X → Sides X
 sides white black = record { white = white; black = black }
 
@@ -31,6 +32,7 @@ seen_team account t = team (map account t.seats) (map account t.out)
 abbrev pub seen : {X : Type 0} → (X → Account) → Sides X → Sides Account
 seen account s = sides (seen_team account s.white) (seen_team account s.black)
 
+-- the one that belongs to the side
 abbrev pub by_side : {A : Type 0} → A → A → Side → A
 by_side white black White = white
 by_side white black Black = black
@@ -43,6 +45,7 @@ seats_of who s = by_side s.white.seats s.black.seats who
 abbrev pub relieved : {X : Type 0} → Team X → Team X → ℕ
 relieved entry now = length now.out - length entry.out
 
+-- how many seats of both sides were relieved
 abbrev pub all_relieved : {X : Type 0} → Sides X → Sides X → ℕ
 all_relieved entry now = relieved entry.white now.white + relieved entry.black now.black
 

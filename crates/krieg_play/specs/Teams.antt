@@ -11,9 +11,11 @@ pub record Team (X : Type 0) : Type 0 where
   pub seats : List X
   pub out : List X
 
+-- a side with these seats, and these that were relieved
 abbrev pub team : {X : Type 0} → List X → List X → Team X
 team seats out = record { seats = seats; out = out }
 
+-- the same of two lists of the code
 abbrev pub team_of : {X Z : Type 0} → Vec X Z → Vec X Z → Team X
 team_of seats out = team seats.items out.items
 
@@ -34,19 +36,23 @@ pub record Service (X : Type 0) : Type 0 where
   pub heard : List Line
   pub vain : ℕ
 
+-- the seat as it was on entry
 abbrev pub entry_of : {X : Type 0} → Service X → X
 entry_of s = s.entry
 
+-- the seat as it is now
 abbrev pub now_of : {X : Type 0} → Service X → X
 now_of s = s.now
 
+-- what it said in between
 abbrev pub said_of : {X : Type 0} → Service X → List Move
 said_of s = s.said
 
--- how often it was asked, and these seats together
+-- how often it was asked: once for each of its tries, and in vain
 abbrev pub asks_of : {X : Type 0} → Service X → ℕ
 asks_of s = length s.said + s.vain
 
+-- how often these seats were asked together
 abbrev pub all_asks : {X : Type 0} → List (Service X) → ℕ
 all_asks [] = 0
 all_asks (s ∷ ss) = asks_of s + all_asks ss
@@ -86,6 +92,7 @@ pub record Turns : Type 0 where
   pub asks : ℕ
   pub tries : List Move
 
+-- turns of a side that had heard these lines already
 abbrev pub turns_since : List Line → ℕ → List Move → Turns
 turns_since known asks tries = record { known = known; asks = asks; tries = tries }
 
@@ -105,6 +112,7 @@ pub record IsRelieved {X : Type 0} (account : X → Account) (known lines : List
   pub heard : known ++ (s.heard ++ due) ≡ lines
   pub gone : IsGone s.vain (account s.entry) (account s.now)
 
+-- each of them is a relieved seat
 abbrev pub AreRelieved : {X : Type 0} → (X → Account) → List Line → List Line → List (Service X) → Type 0
 AreRelieved account known lines [] = Unit {0}
 AreRelieved account known lines (s ∷ ss) = IsRelieved account known lines s × AreRelieved account [] lines ss

@@ -9,10 +9,12 @@ use Rattle.krieg_refute.specs.declared.stop.RefuteStop.TheVariants as refute
 use Rattle.krieg_refute.specs.declared.stop.DenyStop.{DenyStop}
 use Rattle.krieg_refute.specs.declared.stop.DenyStop.TheVariants.{Spent, NoMemory}
 
+-- why a look at a refutation stops where a split does
 abbrev pub deny_stop_of : PartStop → DenyStop
 deny_stop_of split.Spent = Spent
 deny_stop_of split.NoMemory = NoMemory
 
+-- why no refutation is written where a search stops
 abbrev pub refute_stop_of : SearchStop → RefuteStop
 refute_stop_of search.Spent = refute.Spent
 refute_stop_of search.Large = refute.Large

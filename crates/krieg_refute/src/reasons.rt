@@ -57,7 +57,8 @@ pub(crate) fn is_within(small: &Belief, set: &Belief) -> bool
 fn cited(claims: &[Claim], place: u16) -> Option<&Claim>
     ensures { MatchOption result ((d : Dialect)
         → theory.cited (claims_of d claims.now) place ≡ None)
-        (λ c. (d : Dialect) → theory.cited (claims_of d claims.now) place ≡ Some (claim_of d c.now)) }
+        (λ c. (d : Dialect) →
+        theory.cited (claims_of d claims.now) place ≡ Some (claim_of d c.now)) }
 {
     if place == 0 {
         return None;

@@ -73,15 +73,18 @@ refutation_price s = total (λ (c : ClaimState). price (chess s.dialect) c.set) 
 
 -- ---- a file of claims of the theory
 
+-- why a try does not win, as a file says it
 abbrev pub why_from : theory.Reason Key → Why
 why_from ByLife = Lives
 why_from ByStalemate = Stale
 why_from (ByClass key place) = Class key place
 why_from (ByRefused place) = Refused place
 
+-- a try with why it does not win
 abbrev pub reason_from : Move × theory.Reason Key → Reason
 reason_from r = record { mv = r.0; why = why_from r.1 }
 
+-- a claim as a file says it
 abbrev pub claim_from : (d : Dialect) → theory.Claim (chess d) → ClaimState
 claim_from d c = record { moves = c.number; set = c.set; reasons = map reason_from c.reasons }
 

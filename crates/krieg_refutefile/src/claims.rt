@@ -98,7 +98,8 @@ fn cites_below(own: usize, why: &Why) -> bool
 
 /// Whether the move comes after that of the last reason.
 fn is_next(last: Option<&Reason>, mv: &Move) -> bool
-    ensures { result ≡ follows move_lt (option_map (λ (r : ReasonState). r.mv) (option_copied last.entry)) mv.now }
+    ensures { result ≡ follows move_lt
+        (option_map (λ (r : ReasonState). r.mv) (option_copied last.entry)) mv.now }
 {
     match last {
         None => true,
@@ -126,7 +127,8 @@ fn next_reason(
     own: usize,
     reasons: &[Reason],
 ) -> Result<Reason, TextFault>
-    ensures { GivesOn (λ r. r) result from.new (spec.reason_at d own (last_move reasons.now) from.old) }
+    ensures { GivesOn (λ r. r) result from.new
+        (spec.reason_at d own (last_move reasons.now) from.old) }
 {
     let line = from.number();
     let reason = argued_form(d, own, reasons, from.line()?);
@@ -172,7 +174,8 @@ fn sizes_after(positions: usize, line: &[u8]) -> Result<Sizes, TextKind>
 /// The next line, as the sizes of a claim behind claims of so many positions.
 #[tactic(auto, using(krieg_text::proofs::ReadingLemmas::refused))]
 fn read_sizes(from: &mut OwnedCursor, positions: usize) -> Result<Sizes, TextFault>
-    ensures { GivesOn (λ h. h) result from.new (taken (with_test a_claim.form (λ h. in_all positions h.1)) from.old) }
+    ensures { GivesOn (λ h. h) result from.new
+        (taken (with_test a_claim.form (λ h. in_all positions h.1)) from.old) }
 {
     let line = from.number();
     let sizes = sizes_after(positions, from.line()?);
@@ -195,7 +198,8 @@ fn tries_after(reasons: usize, line: &[u8]) -> Result<usize, TextKind>
 /// The next line, as the number of reasons of a claim behind claims of so many reasons.
 #[tactic(auto, using(krieg_text::proofs::ReadingLemmas::refused))]
 fn read_tries(from: &mut OwnedCursor, reasons: usize) -> Result<usize, TextFault>
-    ensures { GivesOn (λ n. n) result from.new (taken (with_test a_tries.form (in_all reasons)) from.old) }
+    ensures { GivesOn (λ n. n) result from.new
+        (taken (with_test a_tries.form (in_all reasons)) from.old) }
 {
     let line = from.number();
     let tries = tries_after(reasons, from.line()?);
@@ -211,7 +215,8 @@ fn read_claim(
     before: Totals,
 ) -> Result<Claim, TextFault>
     requires { before.claims < 2 ^ 32 }
-    ensures { GivesOn (λ c. claim_state_of c) result from.new (spec.claim_at d (totals_of before) from.old) }
+    ensures { GivesOn (λ c. claim_state_of c) result from.new
+        (spec.claim_at d (totals_of before) from.old) }
 {
     let (moves, positions) = read_sizes(from, before.positions)?;
     let set = read_set(alloc, from, positions)?;
@@ -246,7 +251,8 @@ pub(crate) fn read_claims(
     n: usize,
 ) -> Result<Vec<Claim>, TextFault>
     requires { n < 2 ^ 32 }
-    ensures { GivesOn (λ v. map claim_state_of v.items) result from.new (spec.claims_at d n from.old) }
+    ensures { GivesOn (λ v. map claim_state_of v.items) result from.new
+        (spec.claims_at d n from.old) }
 {
     let mut claims: Vec<Claim> = Vec::new(alloc);
     let mut totals = Totals::default();

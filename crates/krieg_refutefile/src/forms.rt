@@ -98,7 +98,8 @@ fn refused_form(text: &[u8]) -> Result<Why, TextKind>
 }
 
 fn citing_form(d: Dialect, text: &[u8]) -> Result<Why, TextKind>
-    ensures { result ≡ spec.citing_form d (behind (codes "class ") text.now) (behind (codes "refused ") text.now) }
+    ensures { result ≡ spec.citing_form d (behind (codes "class ") text.now)
+        (behind (codes "refused ") text.now) }
 {
     if let Some(class) = behind(b"class ", text) {
         return class_form(d, class);

@@ -62,7 +62,8 @@ fn line_length(text: &[u8]) -> usize
 fn next_begin(text: &[u8], at: usize) -> usize
     requires { at ≤ length text.now }
     ensures bound { (at ≤ result) × (result ≤ length text.now) }
-    ensures line { lines (take (result - at) (drop at text.now)) ≡ take 1 (lines (drop at text.now)) }
+    ensures line { lines (take (result - at) (drop at text.now))
+        ≡ take 1 (lines (drop at text.now)) }
     ensures rest { lines (drop result text.now) ≡ drop 1 (lines (drop at text.now)) }
 {
     at + line_length(&text[at..])
@@ -70,7 +71,8 @@ fn next_begin(text: &[u8], at: usize) -> usize
 
 /// Where the last piece of a text begins: behind a line feed, with at least `LEAST_PIECE` bytes after it.
 fn last_begin(text: &[u8]) -> Option<usize>
-    ensures { IfSome result (λ i. (0 < i) × (i < length text.now) × (lines text.now ≡ lines (take i text.now) ++ lines (drop i text.now))) }
+    ensures { IfSome result (λ i. (0 < i) × (i < length text.now)
+        × (lines text.now ≡ lines (take i text.now) ++ lines (drop i text.now))) }
 {
     let most = text.len().checked_sub(LEAST_PIECE)?;
     let end = memrchr(b'\n', &text[..most])?;
@@ -80,7 +82,8 @@ fn last_begin(text: &[u8]) -> Option<usize>
 /// Cuts off what stands from `begin` on, and gives its memory back.
 fn cut_off(alloc: Global, text: &mut Vec<u8>, begin: usize) -> Result<Vec<u8>, NoMemory>
     requires { begin ≤ length text.old.items }
-    ensures { IfOk result (λ end. (text.new.items ≡ take begin text.old.items) × (end.items ≡ drop begin text.old.items)) }
+    ensures { IfOk result (λ end. (text.new.items ≡ take begin text.old.items)
+        × (end.items ≡ drop begin text.old.items)) }
 {
     let end = text[begin..].to_vec(alloc)?;
     text.truncate(begin);

@@ -33,7 +33,8 @@ fn next_number(
     least: u64,
     most: u64,
 ) -> Result<u64, TextFault>
-    ensures value { GivesOn (λ n. n) result from.new (taken (number_form outside name.now least most) from.old) }
+    ensures value { GivesOn (λ n. n) result from.new
+        (taken (number_form outside name.now least most) from.old) }
     ensures range { IfOk result (λ n. (least ≤ n) × (n ≤ most)) }
 {
     let line = from.number();
@@ -107,7 +108,8 @@ fn next_listed(
     who: Side,
     first: Option<&Position>,
 ) -> Result<Position, TextFault>
-    ensures { GivesOn (λ p. p) result from.new (parts.listed_at who (option_copied first.entry) from.old) }
+    ensures { GivesOn (λ p. p) result from.new
+        (parts.listed_at who (option_copied first.entry) from.old) }
 {
     let line = from.number();
     let position = listed(who, first, from.line()?);
@@ -155,7 +157,8 @@ fn read_all_claims(
     from: &mut OwnedCursor,
     d: Dialect,
 ) -> Result<Vec<Claim>, TextFault>
-    ensures { GivesOn (λ v. map claim_state_of v.items) result from.new (parts.all_claims_at d from.old) }
+    ensures { GivesOn (λ v. map claim_state_of v.items) result from.new
+        (parts.all_claims_at d from.old) }
 {
     let n = next_number(from, TextKind::Count, b"claims ", 1, MOST_CLAIMS as u64)?;
     read_claims(alloc, from, d, n as usize)
@@ -224,7 +227,8 @@ fn read_lines(alloc: Global, text: Vec<u8>) -> Result<Refutation, TextFault>
 /// meanwhile.
 #[tactic(auto, using(crate::proofs::RefutationLaws::refutation_reading, crate::proofs::Writables::spelled_can))]
 pub fn read_refutation(alloc: Global, text: Vec<u8>) -> Result<Refutation, TextFault>
-    ensures reading { IsReading (λ f. state_of f) refutation_at Always SpellsRefutation RefutationGrammar (lines text.items) result }
+    ensures reading { IsReading (λ f. state_of f) refutation_at Always SpellsRefutation
+        RefutationGrammar (lines text.items) result }
     // What is read can be written: it is within the limits, and its claims are in order.
     ensures written { IfOk result (λ f. CanBeWritten (state_of f)) }
 {

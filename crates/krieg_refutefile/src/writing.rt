@@ -168,7 +168,8 @@ fn put_reasons(d: Dialect, reasons: &[Reason], text: &mut Pieces) -> Result<(), 
 /// Adds the line before the positions of a claim.
 #[tactic(auto, using(crate::proofs::InPieces::added))]
 fn put_claim_line(claim: &Claim, text: &mut Pieces) -> Result<(), NoMemory>
-    ensures { Wrote result text.new (put_lines text.old (spec.claim_line claim.now.moves (length claim.now.set) ∷ [])) }
+    ensures { Wrote result text.new
+        (put_lines text.old (spec.claim_line claim.now.moves (length claim.now.set) ∷ [])) }
 {
     let mut last = text.take_last()?;
     put_sizes(claim.moves, claim.set.len(), &mut last)?;
@@ -179,7 +180,8 @@ fn put_claim_line(claim: &Claim, text: &mut Pieces) -> Result<(), NoMemory>
 #[tactic(auto, using(krieg_text::proofs::Writings::writings))]
 fn put_claim(d: Dialect, claim: &Claim, text: &mut Pieces) -> Result<(), NoMemory>
     requires { AreTold d (claim_state_of claim.now) }
-    ensures { Wrote result text.new (put_lines text.old (spec.claim_lines d (claim_state_of claim.now))) }
+    ensures { Wrote result text.new
+        (put_lines text.old (spec.claim_lines d (claim_state_of claim.now))) }
 {
     put_claim_line(claim, text)?;
     put_members(claim.set.members(), text)?;
@@ -191,7 +193,8 @@ fn put_claim(d: Dialect, claim: &Claim, text: &mut Pieces) -> Result<(), NoMemor
 #[tactic(auto, using(krieg_text::proofs::Writings::writings, crate::proofs::WrittenClaims::flat_last))]
 fn put_claims(d: Dialect, claims: &[Claim], text: &mut Pieces) -> Result<(), NoMemory>
     requires { All (λ c. AreTold d (claim_state_of c)) claims.now }
-    ensures { Wrote result text.new (put_lines text.old (flat_map (λ c. spec.claim_lines d (claim_state_of c)) claims.now)) }
+    ensures { Wrote result text.new
+        (put_lines text.old (flat_map (λ c. spec.claim_lines d (claim_state_of c)) claims.now)) }
 {
     for claim in claims {
         put_claim(d, claim, text)?;
@@ -203,7 +206,8 @@ fn put_claims(d: Dialect, claims: &[Claim], text: &mut Pieces) -> Result<(), NoM
 #[tactic(auto, using(krieg_text::proofs::Writings::writings))]
 fn move_claims(d: Dialect, claims: Vec<Claim>, text: &mut Pieces) -> Result<(), NoMemory>
     requires { All (λ c. AreTold d (claim_state_of c)) claims.items }
-    ensures { Wrote result text.new (put_lines text.old (flat_map (λ c. spec.claim_lines d (claim_state_of c)) claims.items)) }
+    ensures { Wrote result text.new
+        (put_lines text.old (flat_map (λ c. spec.claim_lines d (claim_state_of c)) claims.items)) }
 {
     for claim in claims {
         put_claim(d, &claim, text)?;
@@ -276,7 +280,8 @@ fn denial_lines(
     claims: Vec<Claim>,
 ) -> Result<Pieces, NoMemory>
     requires { All (λ c. AreTold d (claim_state_of c)) claims.items }
-    ensures { IfOk result (λ text. text ≡ put_lines [] (spec.refutation_lines (state_from d side moves set claims.items))) }
+    ensures { IfOk result (λ text. text
+        ≡ put_lines [] (spec.refutation_lines (state_from d side moves set claims.items))) }
 {
     let mut text = Pieces::new(alloc);
     begin(d, side, moves, set.len(), &mut text)?;
@@ -297,8 +302,10 @@ pub fn write_refutation(alloc: Global, f: &Refutation) -> Result<Pieces, NoMemor
     requires { CanBeWritten (state_of f.now) }
     ensures value { IfOk result (λ text. text ≡ spec.refutation_text (state_of f.now)) }
     // The text spells the refutation, and is read as it again.
-    ensures spelled { SpellsRefutation (state_of f.now) (lines (spec.refutation_text (state_of f.now))) }
-    ensures again { whole refutation_at (lines (spec.refutation_text (state_of f.now))) ≡ Ok (state_of f.now) }
+    ensures spelled { SpellsRefutation (state_of f.now)
+        (lines (spec.refutation_text (state_of f.now))) }
+    ensures again { whole refutation_at (lines (spec.refutation_text (state_of f.now)))
+        ≡ Ok (state_of f.now) }
     // It has fewer than 66,000,000 bytes, so that it fits an input.
     ensures short { length (spec.refutation_text (state_of f.now)) < spec.text_bound }
 {
@@ -318,11 +325,15 @@ pub fn write_denial(
     claims: Vec<Claim>,
 ) -> Result<Pieces, NoMemory>
     requires { CanBeWritten (state_from d side moves set claims.items) }
-    ensures value { IfOk result (λ text. text ≡ spec.refutation_text (state_from d side moves set claims.items)) }
+    ensures value { IfOk result (λ text. text
+        ≡ spec.refutation_text (state_from d side moves set claims.items)) }
     // The text is read as that refutation again.
-    ensures again { whole refutation_at (lines (spec.refutation_text (state_from d side moves set claims.items))) ≡ Ok (state_from d side moves set claims.items) }
+    ensures again { whole refutation_at (lines
+        (spec.refutation_text (state_from d side moves set claims.items)))
+        ≡ Ok (state_from d side moves set claims.items) }
     // It has fewer than 66,000,000 bytes, so that it fits an input.
-    ensures short { length (spec.refutation_text (state_from d side moves set claims.items)) < spec.text_bound }
+    ensures short { length (spec.refutation_text (state_from d side moves set claims.items))
+        < spec.text_bound }
 {
     denial_lines(alloc, d, side, moves, set, claims)
 }

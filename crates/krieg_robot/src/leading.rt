@@ -50,7 +50,8 @@ fn lead_game(
     requires account { seat.old.account ≡ new_account }
     requires position { game.old.position ≡ start.now }
     requires log { game.old.log ≡ [] }
-    ensures { ComesTo result seat.old.file start.now game.old.spare (account other.old) (account other.new) game.new }
+    ensures { ComesTo result seat.old.file start.now game.old.spare (account other.old)
+        (account other.new) game.new }
 {
     let d = seat.file().dialect;
     let side = seat.file().side;
@@ -92,7 +93,8 @@ pub fn lead(
     requires listed { number ≤ vec_len file.list }
     ensures led { IfOk result (LedFrom file number asks (account other.old) (account other.new)) }
     ensures won { IfOk result (λ l. Mates file → IsWon file l.game l.stop) }
-    ensures broken { IfErr result (BrokenFrom file number asks (account other.old) (account other.new)) }
+    ensures broken { IfErr result (BrokenFrom file number asks (account other.old)
+        (account other.new)) }
 {
     let start = file.list[number - 1];
     let start = &start;

@@ -112,7 +112,8 @@ impl Seat for PlanSeat {
         // It never fails, and takes memory for a try alone. Without it nothing was said.
         ensures err { OnErr result (self.new ≡ when_asked self.old) }
         ensures memory { result ≢ Err SeatFault.Failed }
-        ensures short { result ≡ Err SeatFault.NoMemory → stand.next_try (stand_of self.old) ≢ None }
+        ensures short { result ≡ Err SeatFault.NoMemory →
+            stand.next_try (stand_of self.old) ≢ None }
     {
         self.asks = self.asks.saturating_add(1);
         match &next_try(&self.place, node_on(&self.file.plan, &self.way)) {

@@ -43,7 +43,8 @@ pub(crate) fn tell_both(
     own: &Option<Line>,
     theirs: &Option<Line>,
 ) -> Result<(), LeadFault>
-    ensures { BothTold result side seat.old seat.new (option_to_list own.now) (account other.old) (account other.new) (option_to_list theirs.now) }
+    ensures { BothTold result side seat.old seat.new (option_to_list own.now) (account other.old)
+        (account other.new) (option_to_list theirs.now) }
 {
     match side {
         Side::White => {
@@ -102,7 +103,8 @@ fn judge_try(
     event: &Event,
 ) -> Result<Option<Side>, LeadFault>
     requires { 0 < game.old.spare }
-    ensures judges { Judges result event.now (account other.old) (account other.new) seat.old seat.new game.old game.new }
+    ensures judges { Judges result event.now (account other.old) (account other.new) seat.old
+        seat.new game.old game.new }
     ensures goes_on { IfOk result (λ left. left ≡ None) }
     ensures spare { game.new.spare + 1 ≡ game.old.spare }
 {
@@ -128,7 +130,8 @@ pub(crate) fn take_turn(
     game: &mut Game,
 ) -> Result<Option<Side>, LeadFault>
     requires { 0 < game.old.spare }
-    ensures passes { Passes result (account other.old) (account other.new) seat.old seat.new game.old game.new }
+    ensures passes { Passes result (account other.old) (account other.new) seat.old seat.new
+        game.old game.new }
     ensures nearer { result ≡ Ok None → game.new.spare < game.old.spare }
     ensures left { IfOk result (λ left. IfSome left (λ who. game.new ≡ game.old)) }
 {

@@ -24,6 +24,7 @@ module _ (d : Dialect) where
     pub classes_part : map class_pair l.classes.items ≡ map (λ key. (key, class (chess d) B t key)) (keys (chess d) B t)
     pub refused_part : l.refused ≡ refused (chess d) B t
 
+  -- the try fails at once; or this is what it leaves to be won
   abbrev pub IsLeft : Bool → List Pos → Move → ℕ → Option Left → Type 0
   IsLeft cut B t j None = FailsAtOnce cut B t j
   IsLeft cut B t j (Some l) = Leaves B t j l

@@ -35,9 +35,11 @@ pub record Noted : Type 0 where
   pub most : ℕ
   pub left : ℕ
 
+-- the same set with the same number of moves
 abbrev pub same_asked : Asked → Asked → Bool
 same_asked a b = (a.set == b.set) && (a.moves == b.moves)
 
+-- the notes of a row, where it is kept
 abbrev pub items_of : Option (Vec Note Global) → Option (List Note)
 items_of o = option_map (λ ns. ns.items) o
 

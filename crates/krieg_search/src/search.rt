@@ -55,7 +55,8 @@ pub(crate) fn can_win(
     requires ready { IsReady d cut table.old }
     requires noted { AreNotes d cut table.old kept.old.notes }
     ensures searched { Searches d cut result (TellsSet d table.new (set_at table.old set) moves)
-        (CoversSet (chess d) (set_at table.old set) moves) 0 table.old table.new units.old units.new }
+        (CoversSet (chess d) (set_at table.old set) moves) 0 table.old table.new units.old
+        units.new }
     ensures noted { OnOk result (AreNotes d cut table.new kept.new.notes) }
     ensures most { kept.new.notes.most ≡ kept.old.notes.most }
 {

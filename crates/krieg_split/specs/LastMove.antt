@@ -23,6 +23,7 @@ pub record AllMate (d : Dialect) (B : List Pos) (t : Move) (rest : List Pos) : T
   pub no_keys : keys (chess d) B t ≡ []
   pub begins_by_rest : begins (chess d) 1 B t ≡ (legal_in_some (chess d) B t && (is_nil (refused (chess d) B t) || can (chess d) 1 (refused (chess d) B t)))
 
+-- the try lives in some member; or it mates wherever it is legal, and these refuse it
 abbrev pub IsLastMove : Dialect → List Pos → Move → Option (List Pos) → Type 0
 IsLastMove d B t None = SomeLives d B t
 IsLastMove d B t (Some rest) = AllMate d B t rest

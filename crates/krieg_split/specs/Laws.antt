@@ -17,6 +17,7 @@ module _ (d : Dialect) where
     pub some : In key (keys (chess d) B t) → is_nil (class (chess d) B t key) ≡ false
     pub few : length (class (chess d) B t key) ≤ made (chess d) B t
 
+  -- each class is a set, and no larger than what the split takes
   abbrev pub ClassesAreSets : Type 0
   ClassesAreSets = (B : List Pos) (t : Move) (key : Key) → ClassIsSet B t key
 
@@ -25,5 +26,6 @@ module _ (d : Dialect) where
     pub ascending : IsAscending B → IsAscending (refused (chess d) B t)
     pub fewer : legal_in_some (chess d) B t ≡ true → length (refused (chess d) B t) < length B
 
+  -- those who refuse a try are a set, and a smaller one where it is legal in some member
   abbrev pub RefusedIsSet : Type 0
   RefusedIsSet = (B : List Pos) (t : Move) → IsRefusedPart B t

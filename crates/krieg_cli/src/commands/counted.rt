@@ -25,7 +25,8 @@ pub(crate) fn put_counted(name: &[u8], count: usize, text: &mut Text) -> Result<
 
 /// The text of that line alone.
 pub(crate) fn counted(alloc: Global, name: &[u8], count: usize) -> Result<Vec<u8>, NoMemory>
-    ensures { IfOk result (λ text. text.items ≡ put_lines [] ((name.now ∷ number_text count ∷ []) ∷ [])) }
+    ensures { IfOk result (λ text. text.items
+        ≡ put_lines [] ((name.now ∷ number_text count ∷ []) ∷ [])) }
 {
     let mut answer = Vec::new(alloc);
     let mut text = Text::after(&mut answer);

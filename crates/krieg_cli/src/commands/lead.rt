@@ -43,9 +43,13 @@ fn lead_first(
     requires some { 1 ≤ number }
     requires listed { number ≤ vec_len file.list }
     requires seated { 0 < vec_len seats.old }
-    ensures led { IfOk result (λ led. FirstChanges (λ x y. LedFrom file number asks (account x) (account y) led) seats.old.items seats.new.items) }
+    ensures led { IfOk result (λ led. FirstChanges
+        (λ x y. LedFrom file number asks (account x) (account y) led) seats.old.items
+        seats.new.items) }
     ensures won { IfOk result (λ led. Mates file → IsWon file led.game led.stop) }
-    ensures broken { IfErr result (λ fault. FirstChanges (λ x y. BrokenFrom file number asks (account x) (account y) fault) seats.old.items seats.new.items) }
+    ensures broken { IfErr result (λ fault. FirstChanges
+        (λ x y. BrokenFrom file number asks (account x) (account y) fault) seats.old.items
+        seats.new.items) }
 {
     lead(alloc, file, number, &mut seats[0], asks)
 }
@@ -60,7 +64,8 @@ fn answer_to(
 ) -> Result<Vec<u8>, Ending>
     requires turn { IsOneTurn file.list.items }
     requires some { 1 ≤ number }
-    ensures outcome { Decides (λ answer. answer.items) result (spec.LeadsFrom (λ b. account b) asks number
+    ensures outcome { Decides (λ answer. answer.items) result
+        (spec.LeadsFrom (λ b. account b) asks number
         (bench_sides bench.old) (bench_sides bench.new) (state_of file)) }
     ensures memory { result ≡ Err Ending.NoMemory → spec.HasLed (λ b. account b) asks number
         (bench_sides bench.old) (bench_sides bench.new) (state_of file) }

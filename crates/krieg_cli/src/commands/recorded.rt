@@ -29,7 +29,8 @@ pub(crate) fn recorded(
     game: &Game,
     stop: Stop,
 ) -> Result<Vec<u8>, NoMemory>
-    ensures { IfOk result (λ text. text.items ≡ session_text (spec.session_of dialect start.now game.now stop)) }
+    ensures { IfOk result (λ text. text.items
+        ≡ session_text (spec.session_of dialect start.now game.now stop)) }
 {
     let session = Session {
         dialect,

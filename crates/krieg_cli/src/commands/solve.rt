@@ -115,7 +115,8 @@ fn search(
     requires most { moves ≤ MOST_MOVES }
     requires turn { IsOwnTurn who set.now ⊎ IsOthersTurn who set.now }
     ensures answer { IsAnswer d who set.now moves MOST_NODES result }
-    ensures units { MatchBool cut (IsChargedAtMost d who set.now moves result units.old units.new) (IsCharged d who set.now moves result units.old units.new) }
+    ensures units { MatchBool cut (IsChargedAtMost d who set.now moves result units.old units.new)
+        (IsCharged d who set.now moves result units.old units.new) }
 {
     if cut {
         find(alloc, d, who, set, moves, MOST_NODES, units)

@@ -78,8 +78,10 @@ fn reserve(bench: &mut Bench, game: &mut Game, asks: usize) -> Result<(), NoMemo
     requires white { 0 < vec_len bench.old.white }
     requires black { 0 < vec_len bench.old.black }
     requires spare { game.old.spare ≡ 0 }
-    ensures kept { (bench.new.white.items ≡ bench.old.white.items) × (bench.new.white_out.items ≡ bench.old.white_out.items)
-        × (bench.new.black.items ≡ bench.old.black.items) × (bench.new.black_out.items ≡ bench.old.black_out.items) }
+    ensures kept { (bench.new.white.items ≡ bench.old.white.items)
+        × (bench.new.white_out.items ≡ bench.old.white_out.items)
+        × (bench.new.black.items ≡ bench.old.black.items)
+        × (bench.new.black_out.items ≡ bench.old.black_out.items) }
     ensures game { OnOk result (game.new ≡ record game.old { spare = asks }) }
     ensures white { OnOk result (IsReady bench.new.white bench.new.white_out) }
     ensures black { OnOk result (IsReady bench.new.black bench.new.black_out) }

@@ -33,7 +33,8 @@ pub(crate) fn tell_both(
     requires black { IsReady bench.old.black bench.old.black_out }
     ensures tells { TellsBoth (λ b. account b) result
         (bench_sides bench.old) (bench_sides bench.new)
-        (λ who. lines_to start.now who log.now) (by_side (option_to_list white) (option_to_list black)) }
+        (λ who. lines_to start.now who log.now)
+        (by_side (option_to_list white) (option_to_list black)) }
     ensures no_more { vec_len bench.new.white + vec_len bench.new.black
         ≤ vec_len bench.old.white + vec_len bench.old.black }
     ensures white { IsReady bench.new.white bench.new.white_out }
@@ -109,7 +110,8 @@ fn ask(bench: &mut Bench, who: Side, start: &Position, log: &[Judged]) -> Result
         < vec_len bench.old.white + vec_len bench.old.black }
     ensures kept { result ≡ Ok Turn.Left → vec_len bench.new.white + vec_len bench.new.black
         ≡ vec_len bench.old.white + vec_len bench.old.black }
-    ensures last { IsLastOnes result → length (by_side bench.new.white.items bench.new.black.items who) ≡ 1 }
+    ensures last { IsLastOnes result → length
+        (by_side bench.new.white.items bench.new.black.items who) ≡ 1 }
     ensures white { IsReady bench.new.white bench.new.white_out }
     ensures black { IsReady bench.new.black bench.new.black_out }
 {
@@ -150,10 +152,13 @@ pub(crate) fn take_turn(
         game.old game.new }
     ensures no_more { vec_len bench.new.white + vec_len bench.new.black
         ≤ vec_len bench.old.white + vec_len bench.old.black }
-    ensures nearer { result ≡ Ok None → game.new.spare + (vec_len bench.new.white + vec_len bench.new.black)
+    ensures nearer { result ≡ Ok None → game.new.spare
+        + (vec_len bench.new.white + vec_len bench.new.black)
         < game.old.spare + (vec_len bench.old.white + vec_len bench.old.black) }
-    ensures left { IfOk result (λ left. IfSome left (λ who. (game.new ≡ game.old) × (who ≡ game.old.position.side)
-        × (vec_len bench.new.white + vec_len bench.new.black ≡ vec_len bench.old.white + vec_len bench.old.black)
+    ensures left { IfOk result (λ left. IfSome left
+        (λ who. (game.new ≡ game.old) × (who ≡ game.old.position.side)
+        × (vec_len bench.new.white + vec_len bench.new.black ≡ vec_len bench.old.white
+        + vec_len bench.old.black)
         × (length (by_side bench.new.white.items bench.new.black.items who) ≡ 1))) }
     ensures white { IsReady bench.new.white bench.new.white_out }
     ensures black { IsReady bench.new.black bench.new.black_out }

@@ -14,7 +14,8 @@ use krieg_words::Line;
 /// Asks the seat that sits.
 fn ask_first(seats: &mut Vec<Box<dyn Seat>>) -> Result<Say, SeatFault>
     requires { 0 < vec_len seats.old }
-    ensures { FirstChanges (λ x y. Asked result (account x) (account y)) seats.old.items seats.new.items }
+    ensures { FirstChanges (λ x y. Asked result (account x) (account y)) seats.old.items
+        seats.new.items }
 {
     ask_seat(&mut seats[0])
 }
@@ -22,7 +23,8 @@ fn ask_first(seats: &mut Vec<Box<dyn Seat>>) -> Result<Say, SeatFault>
 /// Tells the seat that sits a line.
 fn tell_first(seats: &mut Vec<Box<dyn Seat>>, line: Line) -> Result<(), SeatFault>
     requires { 0 < vec_len seats.old }
-    ensures { FirstChanges (λ x y. Told line result (account x) (account y)) seats.old.items seats.new.items }
+    ensures { FirstChanges (λ x y. Told line result (account x) (account y)) seats.old.items
+        seats.new.items }
 {
     tell_seat(&mut seats[0], line)
 }
@@ -35,7 +37,8 @@ fn tell_all_first(
     log: &[Judged],
 ) -> Result<(), SeatFault>
     requires { 0 < vec_len seats.old }
-    ensures { FirstChanges (λ x y. ToldAll (lines_to start.now who log.now) result (account x) (account y))
+    ensures { FirstChanges (λ x y. ToldAll (lines_to start.now who log.now) result (account x)
+        (account y))
         seats.old.items seats.new.items }
 {
     tell_all(&mut seats[0], start, who, log)

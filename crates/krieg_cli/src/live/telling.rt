@@ -26,7 +26,8 @@ pub(crate) fn tell_seat(seat: &mut Box<dyn Seat>, line: Line) -> Result<(), Seat
 /// Tells a seat its line of a try, where it hears of it.
 #[tactic(auto, using(krieg_play::proofs::Tellings::tellings))]
 fn tell_judged(seat: &mut Box<dyn Seat>, who: Side, judged: &Judged) -> Result<(), SeatFault>
-    ensures { ToldAll (option_to_list (line_for who judged.now)) result (account seat.old) (account seat.new) }
+    ensures { ToldAll (option_to_list (line_for who judged.now)) result (account seat.old)
+        (account seat.new) }
 {
     match line_for(who, judged) {
         Some(line) => tell_seat(seat, line),
@@ -55,7 +56,8 @@ pub(crate) fn tell_all(
     who: Side,
     log: &[Judged],
 ) -> Result<(), SeatFault>
-    ensures { ToldAll (lines_to start.now who log.now) result (account seat.old) (account seat.new) }
+    ensures { ToldAll (lines_to start.now who log.now) result (account seat.old)
+        (account seat.new) }
 {
     match tell_seat(seat, Line::Opens(opening(start))) {
         Ok(()) => tell_log(seat, who, log),

@@ -37,7 +37,8 @@ fn put_summary(
     tally: &Tally,
     text: &mut Text,
 ) -> Result<(), NoMemory>
-    ensures { PutsLines result text.old text.new (spec.summary_lines listed positions found.now tally.now) }
+    ensures { PutsLines result text.old text.new
+        (spec.summary_lines listed positions found.now tally.now) }
 {
     put_counted(b"listed ", listed, text)?;
     put_counted(b"positions ", positions, text)?;
@@ -53,7 +54,8 @@ pub(crate) fn summary(
     found: &Finding,
     tally: &Tally,
 ) -> Result<Vec<u8>, NoMemory>
-    ensures { IfOk result (λ text. text.items ≡ put_lines [] (spec.summary_lines listed positions found.now tally.now)) }
+    ensures { IfOk result (λ text. text.items
+        ≡ put_lines [] (spec.summary_lines listed positions found.now tally.now)) }
 {
     let mut answer = Vec::new(alloc);
     let mut text = Text::after(&mut answer);

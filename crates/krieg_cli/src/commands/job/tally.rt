@@ -23,7 +23,8 @@ pub(crate) struct Tally {
 
 /// How the tries of the made session are judged.
 pub(crate) fn made_tally(alloc: Global, number: u32) -> Result<Tally, NoMemory>
-    ensures { let session = made_session number in IfOk result (λ tally. tally ≡ spec.tally_of (judge session.start session.events)) }
+    ensures { let session = made_session number in
+        IfOk result (λ tally. tally ≡ spec.tally_of (judge session.start session.events)) }
 {
     let session = made_session(alloc, number)?;
     let game = judge(alloc, &session.start, &session.events)?;
