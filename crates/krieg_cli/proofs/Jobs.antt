@@ -37,8 +37,8 @@ use Rattle.krieg_parting.specs.declared.stop.PartStop.{PartStop as CheckStop}
 use Rattle.krieg_parting.specs.declared.stop.PartStop.TheVariants as check
 use Rattle.krieg_search.specs.Solved.{IsBest}
 use Rattle.krieg_search.specs.Planned.{IsFit}
-use Rattle.krieg_search.specs.declared.stop.Stop2.{Stop2}
-use Rattle.krieg_search.specs.declared.stop.Stop2.TheVariants as search
+use Rattle.krieg_search.specs.declared.stop.SearchStop.{SearchStop}
+use Rattle.krieg_search.specs.declared.stop.SearchStop.TheVariants as search
 use Rattle.krieg_cli.specs.Parts.{of_search, of_check, Decides}
 use Rattle.krieg_cli.specs.Solve.{file_of, least_units, IsTooLarge, Searched}
 use Rattle.krieg_cli.specs.Check.{check_cost}
@@ -75,7 +75,7 @@ one_turn_among who S hand = record { same_side = same_turn who S hand }
 
 module _ (S : List Pos) where
   -- a search that stops
-  pub search_stopped : {X : Type 0} (view : X → List ℕ) (stop : Stop2) → Decides view (Err (of_search stop)) (Searched Wild16 White S JOB_MOVES MOST_UNITS) → Decides found_lines (Err (of_search stop)) (Plans S)
+  pub search_stopped : {X : Type 0} (view : X → List ℕ) (stop : SearchStop) → Decides view (Err (of_search stop)) (Searched Wild16 White S JOB_MOVES MOST_UNITS) → Decides found_lines (Err (of_search stop)) (Plans S)
   search_stopped view search.Spent h = inl h
   search_stopped view search.Large h = h
   search_stopped view search.NoMemory h = tt

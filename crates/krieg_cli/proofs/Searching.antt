@@ -14,8 +14,8 @@ use Rattle.krieg_plan.specs.Trees.{PlanTrees}
 use Rattle.krieg_plan.specs.declared.limits.TheConstants.{MOST_NODES}
 use Rattle.krieg_search.specs.Solved.{IsBest, IsAnswer, IsCharged, IsChargedAtMost}
 use Rattle.krieg_search.specs.declared.best_plan.Answer.{Answer}
-use Rattle.krieg_search.specs.declared.stop.Stop2.{Stop2}
-use Rattle.krieg_search.specs.declared.stop.Stop2.TheVariants as search
+use Rattle.krieg_search.specs.declared.stop.SearchStop.{SearchStop}
+use Rattle.krieg_search.specs.declared.stop.SearchStop.TheVariants as search
 use Rattle.krieg_cli.specs.Parts.{of_search, Decides, SearchedBy}
 use Rattle.krieg_cli.proofs.Asking.{IsLater}
 use Rattle.krieg_cli.specs.Solve.{file_of, IsBestFile, Searched, Tells}
@@ -33,16 +33,16 @@ pub best_file : (d : Dialect) (who : Side) (S : List Pos) (n w : ℕ) (plan : Pl
 best_file d who S n w plan b = record { dialect = refl; side = refl; list = refl; mates = b.worst_case.mates_within; within = b.within; least = b.least; canonical = b.canonical }
 
 module _ (d : Dialect) (who : Side) (S : List Pos) (n budget start left : ℕ) (same : start ≡ budget) where
-  pub stop_told : {X : Type 0} (view : X → List ℕ) (stop : Stop2) → IsAnswer d who S n MOST_NODES (Err stop) → IsCharged d who S n (Err stop) start left → Decides view (Err (of_search stop)) (Searched d who S n budget)
+  pub stop_told : {X : Type 0} (view : X → List ℕ) (stop : SearchStop) → IsAnswer d who S n MOST_NODES (Err stop) → IsCharged d who S n (Err stop) start left → Decides view (Err (of_search stop)) (Searched d who S n budget)
   stop_told view search.Spent answer units = omega (arith, same, units.0)
   stop_told view search.Large answer units = (omega (arith, same, units.at_least), file_of d who S answer.worst answer.plan, best_file d who S n answer.worst answer.plan answer.best, answer.large)
   stop_told view search.NoMemory answer units = tt
 
   -- what a search takes that may cut tries, or one that cuts none
-  abbrev ChargedBy : Bool → Result Answer Stop2 → Type 0
+  abbrev ChargedBy : Bool → Result Answer SearchStop → Type 0
   ChargedBy cut found = MatchBool cut (IsChargedAtMost d who S n found start left) (IsCharged d who S n found start left)
 
-  pub stop_told_by : {X : Type 0} (view : X → List ℕ) (cut : Bool) (stop : Stop2) → IsAnswer d who S n MOST_NODES (Err stop) → ChargedBy cut (Err stop) → Decides view (Err (of_search stop)) (SearchedBy cut d who S n budget)
+  pub stop_told_by : {X : Type 0} (view : X → List ℕ) (cut : Bool) (stop : SearchStop) → IsAnswer d who S n MOST_NODES (Err stop) → ChargedBy cut (Err stop) → Decides view (Err (of_search stop)) (SearchedBy cut d who S n budget)
   stop_told_by view false stop answer units = stop_told view stop answer units
   stop_told_by view true search.Spent answer units = omega (arith, same, units.0)
   stop_told_by view true search.Large answer units = (file_of d who S answer.worst answer.plan, best_file d who S n answer.worst answer.plan answer.best, answer.large)

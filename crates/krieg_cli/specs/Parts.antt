@@ -12,8 +12,8 @@ use Rattle.krieg_why.specs.declared.why_possible.WhyStop.{WhyStop}
 use Rattle.krieg_why.specs.declared.why_possible.WhyStop.TheVariants as shown
 use Rattle.krieg_parting.specs.declared.stop.PartStop.{PartStop as CheckStop}
 use Rattle.krieg_parting.specs.declared.stop.PartStop.TheVariants as check
-use Rattle.krieg_search.specs.declared.stop.Stop2.{Stop2}
-use Rattle.krieg_search.specs.declared.stop.Stop2.TheVariants as search
+use Rattle.krieg_search.specs.declared.stop.SearchStop.{SearchStop}
+use Rattle.krieg_search.specs.declared.stop.SearchStop.TheVariants as search
 use Rattle.krieg_refute.specs.declared.stop.RefuteStop.{RefuteStop}
 use Rattle.krieg_refute.specs.declared.stop.RefuteStop.TheVariants as claims
 use Rattle.krieg_refute.specs.declared.stop.DenyStop.{DenyStop}
@@ -74,7 +74,7 @@ of_check check.Spent = Refused BudgetSpent
 of_check check.NoMemory = NoMemory
 
 -- a search without an answer
-abbrev pub of_search : Stop2 → Ending
+abbrev pub of_search : SearchStop → Ending
 of_search search.Spent = Refused BudgetSpent
 of_search search.Large = Refused PlanTooLarge
 of_search search.NoMemory = NoMemory
