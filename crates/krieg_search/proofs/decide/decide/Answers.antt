@@ -106,4 +106,4 @@ returns-clause-decided c =
     all_are_won d c.args.cut who S n T1 os.items o.1 T2 c.in_ok-all_win.all_win u0 u1 u2 o.0 c.in_ok-openings.ensures.1 w.0 w.1 c.know_once.ensures.results c.if-not-all_win.false won refl refl c.in_ok-all_win.ensures.noted
 
 pub all_openings_win-requires-clause-noted : goal.all_openings_win-requires-clause-noted
-all_openings_win-requires-clause-noted c = subst (AreNotes c.args.d c.args.cut c.find_openings.new.table) (sym c.new-2.ensures) (none_kept c.args.d c.args.cut c.find_openings.new.table c.args.noted)
+all_openings_win-requires-clause-noted c = subst (AreNotes c.args.d c.args.cut c.find_openings.new.table) (sym c.new-2.ensures) (none_kept c.args.d c.args.cut c.find_openings.new.table _)
