@@ -8,7 +8,7 @@ use krieg_board::{MOST_MOVES, Side, Units};
 use krieg_checker::has_one_turn as lists_one_turn;
 use krieg_pack::Belief;
 use krieg_plan::{Plan, PlanFile};
-use krieg_search::{Answer as Solved, Stop2, find, has_one_turn, solve};
+use krieg_search::{Answer as Solved, SearchStop, find, has_one_turn, solve};
 
 /// What a search comes to.
 #[derive(Clone, Copy, PartialEq, Eq)]
@@ -38,13 +38,13 @@ struct Task {
     nodes: usize,
 }
 
-fn came_of(answer: Result<Solved, Stop2>) -> Result<Came, Stop> {
+fn came_of(answer: Result<Solved, SearchStop>) -> Result<Came, Stop> {
     match answer {
         Ok(Solved::Mates { worst, .. }) => Ok(Came::Mates(worst)),
         Ok(Solved::None) => Ok(Came::None),
-        Err(Stop2::Spent) => Ok(Came::Spent),
-        Err(Stop2::Large) => Ok(Came::Large),
-        Err(Stop2::NoMemory) => Err(Stop::Memory),
+        Err(SearchStop::Spent) => Ok(Came::Spent),
+        Err(SearchStop::Large) => Ok(Came::Large),
+        Err(SearchStop::NoMemory) => Err(Stop::Memory),
     }
 }
 

@@ -11,6 +11,7 @@ use Rattle.krieg_costs.specs.Refutation.{ByLife, ByStalemate, ByClass, ByRefused
 use Rattle.krieg_game.specs.Keys.{Key}
 use Rattle.krieg_game.specs.Chess.{chess}
 use Rattle.krieg_game.specs.Outset.{outset}
+use Rattle.krieg_refute.specs.declared.refutation.TheConstants.{MOST_CLAIMS, MOST_CLAIMED}
 use Rattle.krieg_refute.specs.declared.refutation.Why.{Why}
 use Rattle.krieg_refute.specs.declared.refutation.Why.TheVariants.{Lives, Stale, Class, Refused}
 use Rattle.krieg_refute.specs.declared.refutation.Reason.{Reason}
@@ -51,8 +52,8 @@ claims_price d cs = total (λ (c : Claim). price (chess d) c.set) cs
 
 -- the most claims that are written
 abbrev pub most_claims : ℕ
-most_claims = 20000
+most_claims = MOST_CLAIMS
 
 -- the most positions that they have in all, and the most reasons
 abbrev pub most_claimed : ℕ
-most_claimed = 200000
+most_claimed = MOST_CLAIMED

@@ -22,21 +22,21 @@ use krieg_fen::MOST_LISTED;
 use krieg_pack::Belief;
 use krieg_plan::{MOST_NODES, Plan, PlanFile};
 use krieg_planfile::write_plan;
-use krieg_search::{Answer, Stop2, find, solve};
+use krieg_search::{Answer, SearchStop, find, solve};
 use krieg_sheet::{Sheet, read_sheet};
 use krieg_words::Dialect;
 use std::alloc::Global;
 
-impl From<Stop2> for Ending {
+impl From<SearchStop> for Ending {
     ghost use Rattle.krieg_cli.specs.Parts.{of_search};
 
     ghost from_gives = { λ stop e. e ≡ of_search stop };
 
-    fn from(stop: Stop2) -> Ending {
+    fn from(stop: SearchStop) -> Ending {
         match stop {
-            Stop2::Spent => Ending::Refused(Refusal::BudgetSpent),
-            Stop2::Large => Ending::Refused(Refusal::PlanTooLarge),
-            Stop2::NoMemory => Ending::NoMemory,
+            SearchStop::Spent => Ending::Refused(Refusal::BudgetSpent),
+            SearchStop::Large => Ending::Refused(Refusal::PlanTooLarge),
+            SearchStop::NoMemory => Ending::NoMemory,
         }
     }
 }
@@ -111,7 +111,7 @@ fn search(
     set: &Belief,
     moves: u8,
     units: &mut Units,
-) -> Result<Answer, Stop2>
+) -> Result<Answer, SearchStop>
     requires most { moves ≤ MOST_MOVES }
     requires turn { IsOwnTurn who set.now ⊎ IsOthersTurn who set.now }
     ensures answer { IsAnswer d who set.now moves MOST_NODES result }
