@@ -9,13 +9,14 @@ import functools
 import itertools
 import re
 
+import limits
 import rules
 
 Refutation = collections.namedtuple("Refutation", "dialect side moves listed claims")
 Claim = collections.namedtuple("Claim", "moves positions reasons")
 
 # The most moves, listed positions and claims, and the most positions and reasons of all claims.
-MOST_MOVES, MOST_LISTED, MOST_CLAIMS, MOST_IN_ALL = 6, 200_000, 20_000, 200_000
+MOST_MOVES, MOST_LISTED, MOST_CLAIMS, MOST_IN_ALL = limits.MOST_MOVES, limits.MOST_LISTED, limits.MOST_CLAIMS, limits.MOST_CLAIMED
 
 
 class BadLine(Exception):
