@@ -8,16 +8,25 @@ import sys
 
 TOP = pathlib.Path(__file__).resolve().parent.parent
 KRIEG = TOP / "krieg"
-BUILT = TOP / "crates/krieg/out"
-# What is called: ./krieg once, which builds the program where it is stale, and then the program itself, which saves time.
-called = [KRIEG]
+CRATES = TOP / "crates"
+# Whether the programs themselves are called, which saves time: behind a first call of ./krieg, which builds them where they are stale.
+is_built = False
+
+
+def command(words):
+    """The program for these words, with them."""
+    if not is_built:
+        return [KRIEG, *words]
+    if words[0] == "find":
+        return [CRATES / "krieg_find/out/krieg_find", *words[1:]]
+    return [CRATES / "krieg/out/krieg", *words]
 
 
 def ask(words, text):
     """The status of a run, its answer, and what it says on standard error."""
-    done = subprocess.run([called[-1], *words], input=text, capture_output=True, text=True)
-    if called == [KRIEG]:
-        called.append(BUILT / "krieg" if (BUILT / "built").exists() else KRIEG)
+    global is_built
+    done = subprocess.run(command(words), input=text, capture_output=True, text=True)
+    is_built = (CRATES / "krieg/out/built").exists()
     # Where nothing is built ./krieg says so first.
     said = [line for line in done.stderr.splitlines() if not line.startswith("krieg: this answer comes from")]
     return done.returncode, done.stdout, "\n".join(said)
