@@ -16,7 +16,7 @@ use indexmap::IndexSet;
 use krieg_board::{MOST_MOVES, Side, Units};
 use krieg_pack::Belief;
 use krieg_search::decide::{Decided, Found, decide};
-use krieg_search::{Asked, Notes, Opening, SearchStop};
+use krieg_search::{Asked, Notes, Opening, SearchStop, Way};
 use krieg_table::Table;
 use krieg_words::Dialect;
 use std::alloc::Global;
@@ -121,7 +121,12 @@ pub fn refute(
 {
     let who = side_of(b);
     let mut left = Units::new(units.left());
-    match decide(alloc, d, false, MOST_NOTED, who, b, moves, &mut left)? {
+    let way = Way {
+        alloc,
+        d,
+        cut: false,
+    };
+    match decide(way, MOST_NOTED, who, b, moves, &mut left)? {
         Decided::Over => unreachable!(),
         Decided::Lost(found) => {
             let Found {

@@ -46,7 +46,7 @@ use Rattle.krieg_search.specs.declared.decide.Decided.TheVariants.{Over}
 use Rattle.krieg_search.specs.declared.stop.SearchStop.{SearchStop}
 use Rattle.krieg_search.specs.declared.stop.SearchStop.TheVariants.{Spent, Large, NoMemory}
 use Rattle.krieg_search.specs.Stops.{stop_of}
-use Rattle.krieg_search.specs.Searched.{AreCounted, IsReady, IsSearched, Searches, TellsSets}
+use Rattle.krieg_search.specs.Searched.{AreCounted, IsReady, IsSearched, Stretches, TellsSets}
 use Rattle.krieg_search.specs.Opened.{opening_in, AreNumbered, AreAdded, IsOpened}
 use Rattle.krieg_search.specs.Built.{WonBy}
 use Rattle.krieg_search.specs.Notes.{AreNotes}
@@ -75,13 +75,13 @@ module _ (d : Dialect) (cut : Bool) (who : Side) (S : List Pos) (n : ℕ) where
 
   -- the openings were stopped
   pub openings_stopped : {A : Type 0} (P : SearchStop → Type 0) (r : Result Decided SearchStop) (stop : PartStop) (holds : A → Type 0) (u0 u1 : ℕ)
-      → ((x : SearchStop) → P x → stop_of stop ≡ x) → IsErrAnd r P → Charged {A = A} (Err stop) holds (first_made (chess d) (outset d who) S) u0 u1 → IsDecided d who S n cut r u0 u1
+      → ((x : SearchStop) → P x → stop_of stop ≡ x) → IsErrAnd r P → Charged {A = A} (Err stop) holds (first_made (chess d) (outset d who) S) u0 u1 → IsDecided d who S n cut r u0 u0
   openings_stopped P (Ok x) stop holds u0 u1 same fails k = absurd fails
-  openings_stopped {A = A} P (Err x) stop holds u0 u1 same fails k = subst (λ (y : SearchStop). IsDecided d who S n cut (Err y) u0 u1) (same x fails) (go stop k)
+  openings_stopped {A = A} P (Err x) stop holds u0 u1 same fails k = subst (λ (y : SearchStop). IsDecided d who S n cut (Err y) u0 u0) (same x fails) (go stop k)
     where
-      go : (stop : PartStop) → Charged {A = A} (Err stop) holds (first_made (chess d) (outset d who) S) u0 u1 → IsDecided d who S n cut (Err (stop_of stop)) u0 u1
-      go split.Spent v = ((let w = first_within in omega (arith, v.0)), v.1)
-      go split.NoMemory v = v
+      go : (stop : PartStop) → Charged {A = A} (Err stop) holds (first_made (chess d) (outset d who) S) u0 u1 → IsDecided d who S n cut (Err (stop_of stop)) u0 u0
+      go split.Spent v = ((let w = first_within in omega (arith, v.0)), omega arith)
+      go split.NoMemory v = omega arith
 
   -- the openings are there
   pub are_opened : (T T1 : Interned) (r : Option (Vec Opening Global)) (os : Vec Opening Global) → T ≡ [] → r ≡ Some os → IsOpened d who S T T1 r → (list_any (is_over (chess d) (outset d who)) S ≡ false) × AreAdded [] T1 os.items (game.opening_sets d who S)
@@ -119,16 +119,16 @@ module _ (d : Dialect) (cut : Bool) (who : Side) (S : List Pos) (n : ℕ) where
 
     -- they were stopped
     pub search_stopped : {A : Type 0} (P : SearchStop → Type 0) (r : Result Decided SearchStop) (e : SearchStop) (holds : A → Type 0) (T2 : Interned) (u0 u1 u2 : ℕ)
-        → ((x : SearchStop) → P x → e ≡ x) → IsErrAnd r P → u1 + first_made (chess d) (outset d who) S ≡ u0 → Searches d cut {A = A} (Err e) holds (CoversSets (chess d) (sets_in T1 os) n) 0 T1 T2 u1 u2 → IsDecided d who S n cut r u0 u2
+        → ((x : SearchStop) → P x → e ≡ x) → IsErrAnd r P → u1 + first_made (chess d) (outset d who) S ≡ u0 → Stretches d cut {A = A} (Err e) holds (CoversSets (chess d) (sets_in T1 os) n) 0 T1 T2 u1 u2 → IsDecided d who S n cut r u0 u0
     search_stopped P (Ok x) e holds T2 u0 u1 u2 same fails taken k = absurd fails
     search_stopped {A = A} P (Err x) e holds T2 u0 u1 u2 same fails taken k =
-        go x (subst (λ (y : SearchStop). Searches d cut {A = A} (Err y) holds (CoversSets (chess d) (sets_in T1 os) n) 0 T1 T2 u1 u2) (same x fails) k)
+        go x (subst (λ (y : SearchStop). Stretches d cut {A = A} (Err y) holds (CoversSets (chess d) (sets_in T1 os) n) 0 T1 T2 u1 u2) (same x fails) k)
       where
-        go : (y : SearchStop) → Searches d cut {A = A} (Err y) holds (CoversSets (chess d) (sets_in T1 os) n) 0 T1 T2 u1 u2 → IsDecided d who S n cut (Err y) u0 u2
+        go : (y : SearchStop) → Stretches d cut {A = A} (Err y) holds (CoversSets (chess d) (sets_in T1 os) n) 0 T1 T2 u1 u2 → IsDecided d who S n cut (Err y) u0 u0
         go Spent v =
             let w = subst (λ E. FallsShort (chess d) (CoversSets (chess d) (opening_sets (chess d) (outset d who) S) n) 0 E u1) none_stored (subst (λ (Cs : List (List Pos)). FallsShort (chess d) (CoversSets (chess d) Cs n) 0 (entries T1) u1) at_sets v.0) in
             let f = short_is_below_fresh (chess d) (chess_is_game d) (outset d who) (outset_is_lawful d who) n S u1 w in
-            (omega arith, omega (arith, v.1))
+            (omega arith, omega arith)
         go Large v = absurd v
         go NoMemory v = omega arith
 

@@ -23,7 +23,7 @@ use Rattle.krieg_table.specs.Entries.{try_of, entries}
 use Rattle.krieg_table.specs.Table.{IsMore, IsNoted}
 use Rattle.krieg_search.specs.declared.stop.SearchStop.{SearchStop}
 use Rattle.krieg_search.specs.declared.stop.SearchStop.TheVariants.{Spent, Large, NoMemory}
-use Rattle.krieg_search.specs.Searched.{IsReady, IsSearched, Searches, TellsSet}
+use Rattle.krieg_search.specs.Searched.{IsReady, IsSearched, Stretches, TellsSet}
 use Rattle.krieg_search.proofs.Searching.{more_then, searched_nothing}
 
 -- the sets of a table by their places
@@ -72,7 +72,7 @@ module _ (d : Dialect) (cut : Bool) where
 
   -- a search of the pair was stopped at one of its tries
   pub pair_stopped : {A : Type 0} (P : SearchStop → Type 0) (r : Result A SearchStop) (wanted : A → Type 0) (B : List Pos) (j : ℕ) (T0 T : Interned) (u0 u : ℕ) → IsErrAnd r P → known (chess d) (entries T0) (B, j) ≡ None
-      → Searches d cut r wanted (CoversTries (chess d) B j) (price (chess d) B) T0 T u0 u → Searches d cut r wanted (CoversPair (chess d) B j) 0 T0 T u0 u
+      → Stretches d cut r wanted (CoversTries (chess d) B j) (price (chess d) B) T0 T u0 u → Stretches d cut r wanted (CoversPair (chess d) B j) 0 T0 T u0 u
   pair_stopped P (Ok x) wanted B j T0 T u0 u fails none k = absurd fails
   pair_stopped P (Err Spent) wanted B j T0 T u0 u fails none k = (short_noted (chess d) (chess_is_game d) (entries T0) B j u0 none k.0, k.1)
   pair_stopped P (Err Large) wanted B j T0 T u0 u fails none k = absurd k

@@ -13,7 +13,7 @@ use Rattle.krieg_table.specs.Entries.{entries}
 use Rattle.krieg_table.specs.Table.{IsMore}
 use Rattle.krieg_search.specs.declared.stop.SearchStop.{SearchStop}
 use Rattle.krieg_search.specs.declared.stop.SearchStop.TheVariants.{Spent, Large, NoMemory}
-use Rattle.krieg_search.specs.Searched.{IsNumbered, IsReady, IsSearched, Searches}
+use Rattle.krieg_search.specs.Searched.{IsNumbered, IsReady, IsSearched, Stretches}
 
 pub more_itself : (T : Interned) → IsMore T T
 more_itself T = record { longer = omega arith; same = λ k h. refl }
@@ -53,12 +53,12 @@ module _ (d : Dialect) (cut : Bool) where
 
   -- a step was stopped, behind others
   pub stopped : {A B : Type 0} {P : SearchStop → Type 0} (r : Result B SearchStop) (e : SearchStop) (holds : A → Type 0) (wanted : B → Type 0) {Q Q' : List (List Pos × ℕ) → Type 0} {a : ℕ} (b : ℕ) {all : ℕ} {T0 T1 : Interned} (T2 T3 : Interned) {u0 u1 : ℕ} (u2 : ℕ)
-      → ((x : SearchStop) → P x → e ≡ x) → IsErrAnd r P → ((R : List (List Pos × ℕ)) → Q R → Q' R) → IsSearched d cut Q a T0 T1 u0 u1 → a + b ≤ all → Searches d cut (Err e) holds Q' b T1 T2 u1 u2 → Searches d cut r wanted Q all T0 T3 u0 u2
+      → ((x : SearchStop) → P x → e ≡ x) → IsErrAnd r P → ((R : List (List Pos × ℕ)) → Q R → Q' R) → IsSearched d cut Q a T0 T1 u0 u1 → a + b ≤ all → Stretches d cut (Err e) holds Q' b T1 T2 u1 u2 → Stretches d cut r wanted Q all T0 T3 u0 u2
   stopped (Ok x) e holds wanted b T2 T3 u2 same fails f s h k = absurd fails
   stopped {A = A} {B = B} (Err x) e holds wanted {Q = Q} {Q' = Q'} {a = a} b {all = all} {T0 = T0} {T1 = T1} T2 T3 {u0 = u0} {u1 = u1} u2 same fails f s h k =
-      go x (subst (λ (y : SearchStop). Searches d cut {A = A} (Err y) holds Q' b T1 T2 u1 u2) (same x fails) k)
+      go x (subst (λ (y : SearchStop). Stretches d cut {A = A} (Err y) holds Q' b T1 T2 u1 u2) (same x fails) k)
     where
-      go : (y : SearchStop) → Searches d cut {A = A} (Err y) holds Q' b T1 T2 u1 u2 → Searches d cut {A = B} (Err y) wanted Q all T0 T3 u0 u2
+      go : (y : SearchStop) → Stretches d cut {A = A} (Err y) holds Q' b T1 T2 u1 u2 → Stretches d cut {A = B} (Err y) wanted Q all T0 T3 u0 u2
       go Spent v = (short_behind Q Q' a b all T0 T1 u0 u1 f s h v.0, (let a = s.fewer in let b = v.1 in omega arith))
       go Large v = absurd v
       go NoMemory v = let a = s.fewer in omega arith

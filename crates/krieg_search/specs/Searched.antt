@@ -13,8 +13,11 @@ use Rattle.krieg_game.specs.declared.classes.Class.{Class}
 use Rattle.krieg_table.specs.Interned.{Interned, set_at}
 use Rattle.krieg_table.specs.Entries.{entries}
 use Rattle.krieg_table.specs.Table.{IsMore, IsInterned}
+use Rattle.krieg_search.specs.declared.search.Search.{Search}
 use Rattle.krieg_search.specs.declared.stop.SearchStop.{SearchStop}
 use Rattle.krieg_search.specs.declared.stop.SearchStop.TheVariants.{Spent, Large, NoMemory}
+use Rattle.krieg_search.specs.declared.way.Way.{Way}
+use Rattle.krieg_search.specs.Notes.{AreNotes}
 
 -- the members of each set can be counted in 64 bits
 abbrev pub AreCounted : Interned → Type 0
@@ -46,16 +49,25 @@ module _ (d : Dialect) (cut : Bool) where
 
   -- An answer that holds, with the stretch that led to it; or too few units for it. After an error some units may be gone,
   -- and none are new.
-  abbrev pub Searches : {A : Type 0} → Result A SearchStop → (A → Type 0) → (List (List Pos × ℕ) → Type 0) → ℕ → Interned → Interned → ℕ → ℕ → Type 0
-  Searches (Ok x) holds Q cost T T' had has = holds x × IsSearched Q cost T T' had has
-  Searches (Err Spent) holds Q cost T T' had has = FallsShort (chess d) Q cost (entries T) had × (has ≤ had)
-  Searches (Err Large) holds Q cost T T' had has = ⊥
-  Searches (Err NoMemory) holds Q cost T T' had has = has ≤ had
+  abbrev pub Stretches : {A : Type 0} → Result A SearchStop → (A → Type 0) → (List (List Pos × ℕ) → Type 0) → ℕ → Interned → Interned → ℕ → ℕ → Type 0
+  Stretches (Ok x) holds Q cost T T' had has = holds x × IsSearched Q cost T T' had has
+  Stretches (Err Spent) holds Q cost T T' had has = FallsShort (chess d) Q cost (entries T) had × (has ≤ had)
+  Stretches (Err Large) holds Q cost T T' had has = ⊥
+  Stretches (Err NoMemory) holds Q cost T T' had has = has ≤ had
 
   -- whether the try begins to win the set within j, and that the table has it
   pub record TellsTry (T : Interned) (B : List Pos) (j : ℕ) (t : Move) (yes : Bool) : Type 0 where
     pub right : yes ≡ begins (chess d) j B t
     pub stored : AnswersTry (chess d) cut (entries T) B j t yes
+
+module _ (way : Way) where
+  -- what holds between any two steps of a search: its table is ready, and its notes are right there
+  abbrev pub IsAtWork : Search → Type 0
+  IsAtWork s = IsReady way.d way.cut s.table × AreNotes way.d way.cut s.table s.notes
+
+  -- such an answer, from one state of a search to another
+  abbrev pub Searches : {A : Type 0} → Result A SearchStop → (A → Type 0) → (List (List Pos × ℕ) → Type 0) → ℕ → Search → Search → Type 0
+  Searches r holds Q cost s s' = Stretches way.d way.cut r holds Q cost s.table s'.table s.units s'.units
 
 module _ (d : Dialect) where
   -- whether the set can be won within j, and that the table has it

@@ -13,9 +13,11 @@ ghost use Rattle.krieg_search.specs.Built.{WonBy, IsPaidFor, roots_for};
 ghost use Rattle.krieg_search.specs.Planned.{IsPlanned};
 ghost use Rattle.krieg_search.specs.Solved.{IsAnswer, IsCharged, HasAccount, IsChargedAtMost, Takes};
 
+use crate::build::Builder;
 use crate::decide::{Decided, Found, decide};
 use crate::roots::{Roots, build_roots};
 use crate::stop::SearchStop;
+use crate::way::Way;
 use krieg_board::{MOST_MOVES, Side, Units};
 use krieg_pack::Belief;
 use krieg_plan::Plan;
@@ -49,12 +51,12 @@ fn build_plan(
     ensures { IsPlanned d moves (map (opening_in won.table) won.openings.items) nodes result }
 {
     let Found {
-        mut table,
+        table,
         openings,
         ..
     } = won;
-    let mut left = nodes;
-    let Roots { worst, roots } = build_roots(alloc, d, &mut table, openings, moves, &mut left)?;
+    let mut builder = Builder { table, left: nodes };
+    let Roots { worst, roots } = build_roots(alloc, d, &mut builder, openings, moves)?;
     Ok(Answer::Mates {
         worst,
         plan: Plan::make(roots),
@@ -63,9 +65,7 @@ fn build_plan(
 
 /// The answer of a search, which may cut tries or not.
 fn answer_for(
-    alloc: Global,
-    d: Dialect,
-    cut: bool,
+    way: Way,
     who: Side,
     b: &Belief,
     moves: u8,
@@ -74,11 +74,11 @@ fn answer_for(
 ) -> Result<Answer, SearchStop>
     requires most { moves ≤ MOST_MOVES }
     requires turn { IsOwnTurn who b.now ⊎ IsOthersTurn who b.now }
-    ensures answer { IsAnswer d who b.now moves nodes result }
-    ensures units { Takes d who b.now moves cut result units.old units.new }
+    ensures answer { IsAnswer way.d who b.now moves nodes result }
+    ensures units { Takes way.d who b.now moves way.cut result units.old units.new }
 {
     let mut left = Units::new(units.left());
-    let won = match decide(alloc, d, cut, 0, who, b, moves, &mut left)? {
+    let won = match decide(way, 0, who, b, moves, &mut left)? {
         Decided::Over => {
             *units = left;
             return Ok(Answer::None);
@@ -89,7 +89,7 @@ fn answer_for(
         }
         Decided::Won(won) => won,
     };
-    match build_plan(alloc, d, won, moves, nodes) {
+    match build_plan(way.alloc, way.d, won, moves, nodes) {
         Ok(answer) => {
             *units = left;
             Ok(answer)
@@ -134,7 +134,12 @@ pub fn solve(
     ensures account { HasAccount d who b.now moves result units.old units.new }
     ensures cost { result ≡ Err Spent → units.old < cost_of (chess d) (outset d who) moves b.now }
 {
-    answer_for(alloc, d, false, who, b, moves, nodes, units)
+    let way = Way {
+        alloc,
+        d,
+        cut: false,
+    };
+    answer_for(way, who, b, moves, nodes, units)
 }
 
 /// The same answer as `solve`, mostly for far fewer units: a try fails at once where some reply is found to leave a
@@ -164,5 +169,10 @@ pub fn find(
     ensures units { IsChargedAtMost d who b.now moves result units.old units.new }
     ensures account { Takes d who b.now moves true result units.old units.new }
 {
-    answer_for(alloc, d, true, who, b, moves, nodes, units)
+    let way = Way {
+        alloc,
+        d,
+        cut: true,
+    };
+    answer_for(way, who, b, moves, nodes, units)
 }

@@ -82,99 +82,107 @@ fn split_again(alloc: Global, d: Dialect, b: &Belief, mv: Move) -> Result<Parted
     }
 }
 
-/// The canonical node of the set, which is stored as won within `moves`. `Large` comes exactly where it has more nodes
-/// than are left, or more than `deep` on a path: each node is taken from those that are left before anything below it is
-/// built.
-#[cycle(build)]
-pub(crate) fn build(
-    alloc: Global,
-    d: Dialect,
-    table: &mut Table,
-    set: u32,
-    moves: u8,
-    left: &mut usize,
-    deep: usize,
-) -> Result<Box<Node>, SearchStop>
-    requires within { set < length table.old }
-    requires paid { IsPaidFor d true table.old }
-    requires won { WonBy table.old (set_at table.old set) moves }
-    ensures { Builds result (λ n. canon (chess d) moves (set_at table.old set)
-        ≡ Just (tree_of n.value)) (size_other (canon (chess d) moves (set_at table.old set)))
-        (depth_other (canon (chess d) moves (set_at table.old set))) table.old table.new
-        left.old left.new deep }
-{
-    if *left == 0 {
-        return Err(SearchStop::Large);
-    }
-    if deep == 0 {
-        return Err(SearchStop::Large);
-    }
-    *left -= 1;
-    let win = win_of(table, set, moves);
-    let Parted {
-        refused,
-        classes,
-        ..
-    } = split_again(alloc, d, table.belief(set), win.mv)?;
-    let edges = build_edges(alloc, d, table, classes, win.moves - 1, left, deep - 1)?;
-    let no = build_other(alloc, d, table, refused, win.moves, left, deep - 1)?;
-    Ok(Node::make(alloc, win.mv, no, edges)?)
+/// A plan that is being built: the results that it is built of, and how many nodes it may still have.
+#[derive(Drop)]
+pub(crate) struct Builder {
+    pub table: Table,
+    pub left: usize,
 }
 
-/// An edge to the canonical node of each class, all of which are stored as won within `moves`.
-#[cycle(build)]
-fn build_edges(
-    alloc: Global,
-    d: Dialect,
-    table: &mut Table,
-    classes: Vec<Class>,
-    moves: u8,
-    left: &mut usize,
-    deep: usize,
-) -> Result<Vec<Edge>, SearchStop>
-    requires paid { IsPaidFor d true table.old }
-    requires won { (C : List Pos) → In C (sets_of classes.items) → WonBy table.old C moves }
-    ensures { Builds result (λ es. as_edges (map edge_of es.items)
-        ≡ edges_for d moves (map class_pair classes.items))
-        (size_edges (edges_for d moves (map class_pair classes.items)))
-        (depth_edges (edges_for d moves (map class_pair classes.items))) table.old table.new
-        left.old left.new deep }
-{
-    let mut edges = Vec::new(alloc);
-    for class in classes {
-        let set = number_of(table, class.belief)?;
-        let node = build(alloc, d, table, set, moves, left, deep)?;
-        edges.push(Edge {
-            own: class.own,
-            reply: class.reply,
-            node,
-        })?;
+impl Builder {
+    /// The canonical node of the set, which is stored as won within `moves`. `Large` comes exactly where it has more nodes
+    /// than are left, or more than `deep` on a path: each node is taken from those that are left before anything below it
+    /// is built.
+    #[cycle(build)]
+    pub(crate) fn build(
+        &mut self,
+        alloc: Global,
+        d: Dialect,
+        set: u32,
+        moves: u8,
+        deep: usize,
+    ) -> Result<Box<Node>, SearchStop>
+        requires within { set < length self.old.table }
+        requires paid { IsPaidFor d true self.old.table }
+        requires won { WonBy self.old.table (set_at self.old.table set) moves }
+        ensures { Builds result
+            (λ n. canon (chess d) moves (set_at self.old.table set) ≡ Just (tree_of n.value))
+            (size_other (canon (chess d) moves (set_at self.old.table set)))
+            (depth_other (canon (chess d) moves (set_at self.old.table set)))
+            self.old.table self.new.table self.old.left self.new.left deep }
+    {
+        if self.left == 0 {
+            return Err(SearchStop::Large);
+        }
+        if deep == 0 {
+            return Err(SearchStop::Large);
+        }
+        self.left -= 1;
+        let win = win_of(&self.table, set, moves);
+        let Parted {
+            refused,
+            classes,
+            ..
+        } = split_again(alloc, d, self.table.belief(set), win.mv)?;
+        let edges = self.build_edges(alloc, d, classes, win.moves - 1, deep - 1)?;
+        let no = self.build_other(alloc, d, refused, win.moves, deep - 1)?;
+        Ok(Node::make(alloc, win.mv, no, edges)?)
     }
-    Ok(edges)
-}
 
-/// The canonical node of the members that refuse a try, if there are any, which are stored as won within `moves`.
-#[cycle(build)]
-fn build_other(
-    alloc: Global,
-    d: Dialect,
-    table: &mut Table,
-    refused: Belief,
-    moves: u8,
-    left: &mut usize,
-    deep: usize,
-) -> Result<Option<Box<Node>>, SearchStop>
-    requires paid { IsPaidFor d true table.old }
-    requires won { is_nil refused ≡ false → WonBy table.old refused moves }
-    ensures { Builds result (λ o. as_other (option_map (λ b. tree_of b.value) o)
-        ≡ refused_canon (chess d) moves refused)
-        (size_other (refused_canon (chess d) moves refused))
-        (depth_other (refused_canon (chess d) moves refused)) table.old table.new left.old left.new
-        deep }
-{
-    if refused.is_empty() {
-        return Ok(None);
+    /// An edge to the canonical node of each class, all of which are stored as won within `moves`.
+    #[cycle(build)]
+    fn build_edges(
+        &mut self,
+        alloc: Global,
+        d: Dialect,
+        classes: Vec<Class>,
+        moves: u8,
+        deep: usize,
+    ) -> Result<Vec<Edge>, SearchStop>
+        requires paid { IsPaidFor d true self.old.table }
+        requires won { (C : List Pos) → In C (sets_of classes.items)
+            → WonBy self.old.table C moves }
+        ensures { Builds result (λ es. as_edges (map edge_of es.items)
+            ≡ edges_for d moves (map class_pair classes.items))
+            (size_edges (edges_for d moves (map class_pair classes.items)))
+            (depth_edges (edges_for d moves (map class_pair classes.items)))
+            self.old.table self.new.table self.old.left self.new.left deep }
+    {
+        let mut edges = Vec::new(alloc);
+        for class in classes {
+            let set = number_of(&mut self.table, class.belief)?;
+            let node = self.build(alloc, d, set, moves, deep)?;
+            edges.push(Edge {
+                own: class.own,
+                reply: class.reply,
+                node,
+            })?;
+        }
+        Ok(edges)
     }
-    let set = number_of(table, refused)?;
-    Ok(Some(build(alloc, d, table, set, moves, left, deep)?))
+
+    /// The canonical node of the members that refuse a try, if there are any, which are stored as won within `moves`.
+    #[cycle(build)]
+    fn build_other(
+        &mut self,
+        alloc: Global,
+        d: Dialect,
+        refused: Belief,
+        moves: u8,
+        deep: usize,
+    ) -> Result<Option<Box<Node>>, SearchStop>
+        requires paid { IsPaidFor d true self.old.table }
+        requires won { is_nil refused ≡ false → WonBy self.old.table refused moves }
+        ensures { Builds result (λ o. as_other (option_map (λ b. tree_of b.value) o)
+            ≡ refused_canon (chess d) moves refused)
+            (size_other (refused_canon (chess d) moves refused))
+            (depth_other (refused_canon (chess d) moves refused))
+            self.old.table self.new.table self.old.left self.new.left deep }
+    {
+        if refused.is_empty() {
+            return Ok(None);
+        }
+        let set = number_of(&mut self.table, refused)?;
+        Ok(Some(self.build(alloc, d, set, moves, deep)?))
+    }
 }

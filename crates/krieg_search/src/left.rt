@@ -8,6 +8,7 @@ ghost use Rattle.krieg_search.specs.Tried.{IsTold, move_of};
 ghost use Rattle.krieg_search.specs.Leaving.{IsLeft};
 
 use crate::tried::Try;
+use crate::way::Way;
 use krieg_board::{Move, Units};
 use krieg_game::Class;
 use krieg_pack::Belief;
@@ -103,9 +104,7 @@ pub fn left_by(
 /// The same, where tries may be cut: then a try also fails at once where in some member a reply is found to leave a position
 /// that is no mate in time even for a player who sees it.
 fn left_unless_cut(
-    alloc: Global,
-    d: Dialect,
-    cut: bool,
+    way: Way,
     sight: &mut Sight,
     b: &Belief,
     mv: Move,
@@ -113,22 +112,20 @@ fn left_unless_cut(
     units: &mut Units,
 ) -> Result<Option<Left>, PartStop>
     requires { 0 < moves }
-    ensures left { IfOk result (IsLeft d cut b.now mv moves) }
-    ensures units { IsPaid result (made (chess d) b.now mv) units.old units.new }
+    ensures left { IfOk result (IsLeft way.d way.cut b.now mv moves) }
+    ensures units { IsPaid result (made (chess way.d) b.now mv) units.old units.new }
 {
-    if cut && 1 < moves && some_flees(alloc, sight, b, &mv, moves - 1) {
-        pay_split(alloc, b, mv, units)?;
+    if way.cut && 1 < moves && some_flees(way.alloc, sight, b, &mv, moves - 1) {
+        pay_split(way.alloc, b, mv, units)?;
         return Ok(None);
     }
-    left_by(alloc, d, b, mv, moves, units)
+    left_by(way.alloc, way.d, b, mv, moves, units)
 }
 
 /// The same for a try of which all may be counted already.
 #[inline(never)]
 pub(crate) fn left_of(
-    alloc: Global,
-    d: Dialect,
-    cut: bool,
+    way: Way,
     sight: &mut Sight,
     b: &Belief,
     tried: &Try,
@@ -137,11 +134,12 @@ pub(crate) fn left_of(
 ) -> Result<Option<Left>, PartStop>
     requires some { 0 < moves }
     requires told { IsTold b.now moves tried.now }
-    ensures left { IfOk result (IsLeft d cut b.now (move_of tried.now) moves) }
-    ensures units { IsPaid result (made (chess d) b.now (move_of tried.now)) units.old units.new }
+    ensures left { IfOk result (IsLeft way.d way.cut b.now (move_of tried.now) moves) }
+    ensures units { IsPaid result (made (chess way.d) b.now (move_of tried.now)) units.old
+        units.new }
 {
     match tried {
-        Try::Plain(mv) => left_unless_cut(alloc, d, cut, sight, b, *mv, moves, units),
-        Try::Counted(tally) => left_by_tally(alloc, d, b, tally, units),
+        Try::Plain(mv) => left_unless_cut(way, sight, b, *mv, moves, units),
+        Try::Counted(tally) => left_by_tally(way.alloc, way.d, b, tally, units),
     }
 }

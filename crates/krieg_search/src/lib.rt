@@ -7,6 +7,9 @@
 //! then `Searched` and `Built` (a stretch of the search, and a node of the plan), and `Notes` and `Blocked` (what blocks a
 //! try). `laws` has the theorems of krieg_theory and krieg_costs for chess.
 //!
+//! How a search works is a `Way`, which stays the same. What it has found out so far, with the units that are left to it, is
+//! a `Search`, and `IsAtWork` (in `Searched`) holds of it between any two steps.
+//!
 //! `openings` has what may be heard before the first own turn, with the set of what is possible then. `decide` asks
 //! for one opening after the other whether its set can be won, by `search`: one number of moves after the other; for
 //! each number the tries in their order (`tried`), up to the first that begins to win; for a try first what makes it fail at
@@ -19,9 +22,9 @@
 //! of what lies below the try, so the floor of what a search takes does not hold for `find`. It holds for `solve`, which
 //! cuts none. The table that `decide` gives has a block of each try of a lost set only where none was cut.
 //!
-//! `roots` and `build` make the plan of the stored results. Each node is taken from the number that is allowed before
-//! anything below it is built. They split the sets once more, each by the one try that wins it, by units that are made
-//! for that alone: `paid` (in `Built`) says that the search has paid for all of these splits.
+//! `roots` and `build` make the plan of the stored results, by a `Builder`. Each node is taken from the number that is
+//! allowed before anything below it is built. They split the sets once more, each by the one try that wins it, by units
+//! that are made for that alone: `paid` (in `Built`) says that the search has paid for all of these splits.
 //!
 //! Who goes on by what a search leaves, as krieg_refute does, calls `decide` itself: it gives the table and the openings,
 //! whatever the answer. `left_by` makes one split of it again, and `number_of` finds the number of a part. `decide` also
@@ -60,6 +63,7 @@ mod search;
 mod stop;
 mod tried;
 mod turn;
+mod way;
 
 pub use best_plan::{Answer, find, solve};
 pub use heard::Heard;
@@ -69,3 +73,4 @@ pub use number::number_of;
 pub use openings::Opening;
 pub use stop::{SearchStop, SearchStop as Stop2};
 pub use turn::has_one_turn;
+pub use way::Way;

@@ -7,11 +7,10 @@ ghost use Rattle.krieg_search.specs.Decided.{sets_in};
 ghost use Rattle.krieg_search.specs.Built.{WonBy, IsPaidFor, Builds, roots_for};
 ghost use Rattle.krieg_search.specs.Rooted.{AreRoots};
 
-use crate::build::{build, win_of};
+use crate::build::{Builder, win_of};
 use crate::openings::Opening;
 use crate::stop::SearchStop;
 use krieg_plan::{MOST_ON_PATH, Root};
-use krieg_table::Table;
 use krieg_words::Dialect;
 use std::alloc::Global;
 
@@ -28,26 +27,26 @@ pub(crate) struct Roots {
 pub(crate) fn build_roots(
     alloc: Global,
     d: Dialect,
-    table: &mut Table,
+    builder: &mut Builder,
     openings: Vec<Opening>,
     moves: u8,
-    left: &mut usize,
 ) -> Result<Roots, SearchStop>
-    requires paid { IsPaidFor d true table.old }
-    requires numbered { AreNumbered table.old openings.items }
-    requires won { (C : List Pos) → In C (sets_in table.old openings.items)
-        → WonBy table.old C moves }
-    ensures { Builds result (AreRoots d moves (map (opening_in table.old) openings.items))
-        (plan_size (roots_for d moves (map (opening_in table.old) openings.items)))
-        (plan_depth (roots_for d moves (map (opening_in table.old) openings.items)))
-        table.old table.new left.old left.new MOST_ON_PATH }
+    requires paid { IsPaidFor d true builder.old.table }
+    requires numbered { AreNumbered builder.old.table openings.items }
+    requires won { (C : List Pos) → In C (sets_in builder.old.table openings.items)
+        → WonBy builder.old.table C moves }
+    ensures { Builds result
+        (AreRoots d moves (map (opening_in builder.old.table) openings.items))
+        (plan_size (roots_for d moves (map (opening_in builder.old.table) openings.items)))
+        (plan_depth (roots_for d moves (map (opening_in builder.old.table) openings.items)))
+        builder.old.table builder.new.table builder.old.left builder.new.left MOST_ON_PATH }
 {
     let mut worst = 0;
     let mut roots = Vec::new(alloc);
     for o in openings {
-        let win = win_of(table, o.set, moves);
+        let win = win_of(&builder.table, o.set, moves);
         worst = worst.max(win.moves);
-        let node = build(alloc, d, table, o.set, moves, left, MOST_ON_PATH)?;
+        let node = builder.build(alloc, d, o.set, moves, MOST_ON_PATH)?;
         roots.push(Root {
             opens: o.opens,
             heard: o.heard,

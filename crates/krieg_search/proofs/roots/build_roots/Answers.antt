@@ -20,8 +20,8 @@ use Rattle.krieg_search.proofs.roots.build_roots.Goals as goal
 pub loop-o-init : goal.loop-o-init
 loop-o-init c =
     let d = c.args.d in
-    let T = c.args.table.now in
-    let left = c.args.left.now in
+    let T = c.args.builder.now.table in
+    let left = c.args.builder.now.left in
     let all = map (opening_in T) c.args.openings.items in
     let gives = c.into_iter-o-iterator.ensures.into_iter_gives in
     record {
@@ -34,38 +34,38 @@ loop-o-init c =
 
 pub win_of-win-requires-clause-within : goal.win_of-win-requires-clause-within
 win_of-win-requires-clause-within c =
-    root_within c.args.d c.args.moves c.args.table.now c.loop-o.table c.args.openings.items (into_iter_items c.loop-o.o-iterator) (into_iter_items c.next.new.self) c.in-Some.o c.in-Some.ensures.steps.0 c.loop-o.invariant.inside c.loop-o.invariant.rooting.sets c.requires.paid c.requires.numbered c.requires.won
+    root_within c.args.d c.args.moves c.args.builder.now.table c.loop-o.builder.table c.args.openings.items (into_iter_items c.loop-o.o-iterator) (into_iter_items c.next.new.self) c.in-Some.o c.in-Some.ensures.steps.0 c.loop-o.invariant.inside c.loop-o.invariant.rooting.sets c.requires.paid c.requires.numbered c.requires.won
 
 pub win_of-win-requires-clause-won : goal.win_of-win-requires-clause-won
 win_of-win-requires-clause-won c =
-    root_won c.args.d c.args.moves c.args.table.now c.loop-o.table c.args.openings.items (into_iter_items c.loop-o.o-iterator) (into_iter_items c.next.new.self) c.in-Some.o c.in-Some.ensures.steps.0 c.loop-o.invariant.inside c.loop-o.invariant.rooting.sets c.requires.paid c.requires.numbered c.requires.won
+    root_won c.args.d c.args.moves c.args.builder.now.table c.loop-o.builder.table c.args.openings.items (into_iter_items c.loop-o.o-iterator) (into_iter_items c.next.new.self) c.in-Some.o c.in-Some.ensures.steps.0 c.loop-o.invariant.inside c.loop-o.invariant.rooting.sets c.requires.paid c.requires.numbered c.requires.won
 
 pub build-requires-clause-within : goal.build-requires-clause-within
 build-requires-clause-within c =
-    root_within c.args.d c.args.moves c.args.table.now c.loop-o.table c.args.openings.items (into_iter_items c.loop-o.o-iterator) (into_iter_items c.next.new.self) c.in-Some.o c.in-Some.ensures.steps.0 c.loop-o.invariant.inside c.loop-o.invariant.rooting.sets c.requires.paid c.requires.numbered c.requires.won
+    root_within c.args.d c.args.moves c.args.builder.now.table c.loop-o.builder.table c.args.openings.items (into_iter_items c.loop-o.o-iterator) (into_iter_items c.next.new.self) c.in-Some.o c.in-Some.ensures.steps.0 c.loop-o.invariant.inside c.loop-o.invariant.rooting.sets c.requires.paid c.requires.numbered c.requires.won
 
 pub build-requires-clause-paid : goal.build-requires-clause-paid
-build-requires-clause-paid c = still_paid c.args.d c.args.table.now c.loop-o.table c.loop-o.invariant.rooting.sets c.requires.paid
+build-requires-clause-paid c = still_paid c.args.d c.args.builder.now.table c.loop-o.builder.table c.loop-o.invariant.rooting.sets c.requires.paid
 
 pub build-requires-clause-won : goal.build-requires-clause-won
 build-requires-clause-won c =
-    root_won c.args.d c.args.moves c.args.table.now c.loop-o.table c.args.openings.items (into_iter_items c.loop-o.o-iterator) (into_iter_items c.next.new.self) c.in-Some.o c.in-Some.ensures.steps.0 c.loop-o.invariant.inside c.loop-o.invariant.rooting.sets c.requires.paid c.requires.numbered c.requires.won
+    root_won c.args.d c.args.moves c.args.builder.now.table c.loop-o.builder.table c.args.openings.items (into_iter_items c.loop-o.o-iterator) (into_iter_items c.next.new.self) c.in-Some.o c.in-Some.ensures.steps.0 c.loop-o.invariant.inside c.loop-o.invariant.rooting.sets c.requires.paid c.requires.numbered c.requires.won
 
 pub returns-in_err-node : goal.returns-in_err-node
 returns-in_err-node c =
     let d = c.args.d in
     let j = c.args.moves in
     let x = c.in-Some.o in
-    let T0 = c.args.table.now in
-    let T1 = c.loop-o.table in
+    let T0 = c.args.builder.now.table in
+    let T1 = c.loop-o.builder.table in
     let old = map root_of c.loop-o.roots.items in
     let all = map (opening_in T0) c.args.openings.items in
     let rest = map (opening_in T0) (into_iter_items c.next.new.self) in
-    let had = c.args.left.now in
-    let has = c.loop-o.left in
+    let had = c.args.builder.now.left in
+    let has = c.loop-o.builder.left in
     let a = subst (λ ahead. IsRooting d j T0 T1 old c.loop-o.worst ahead all had has MOST_ON_PATH) (ap (map (opening_in T0)) c.in-Some.ensures.steps.0) c.loop-o.invariant.rooting in
-    let same = root_same c.args.d c.args.moves c.args.table.now c.loop-o.table c.args.openings.items (into_iter_items c.loop-o.o-iterator) (into_iter_items c.next.new.self) c.in-Some.o c.in-Some.ensures.steps.0 c.loop-o.invariant.inside c.loop-o.invariant.rooting.sets c.requires.paid c.requires.numbered c.requires.won in
-    let n = root_node c.args.d c.args.moves c.args.table.now c.loop-o.table c.args.openings.items (into_iter_items c.loop-o.o-iterator) (into_iter_items c.next.new.self) c.in-Some.o c.in-Some.ensures.steps.0 c.loop-o.invariant.inside c.loop-o.invariant.rooting.sets c.requires.paid c.requires.numbered c.requires.won in
+    let same = root_same c.args.d c.args.moves c.args.builder.now.table c.loop-o.builder.table c.args.openings.items (into_iter_items c.loop-o.o-iterator) (into_iter_items c.next.new.self) c.in-Some.o c.in-Some.ensures.steps.0 c.loop-o.invariant.inside c.loop-o.invariant.rooting.sets c.requires.paid c.requires.numbered c.requires.won in
+    let n = root_node c.args.d c.args.moves c.args.builder.now.table c.loop-o.builder.table c.args.openings.items (into_iter_items c.loop-o.o-iterator) (into_iter_items c.next.new.self) c.in-Some.o c.in-Some.ensures.steps.0 c.loop-o.invariant.inside c.loop-o.invariant.rooting.sets c.requires.paid c.requires.numbered c.requires.won in
     let f = root_large d j T0 T1 old c.loop-o.worst (opening_in T0 x) rest all n.0 had has MOST_ON_PATH a (ap (canon (chess d) j) (sym same) ∙ n.1) in
     too_large _ c.from_residual.result c.in_err-node.field-0.0 _ _ _ _ _ _ _ _ _ _ _ _ _ _ _ _ (λ x h. cc) c.from_residual.ensures.1
     (λ h. f (subst (λ m. (has < size_other m) ⊎ (MOST_ON_PATH < depth_other m)) n.1 h)) c.in_err-node.ensures
@@ -75,28 +75,28 @@ loop-o-preserved c =
     let d = c.args.d in
     let j = c.args.moves in
     let x = c.in-Some.o in
-    let T0 = c.args.table.now in
-    let T1 = c.loop-o.table in
+    let T0 = c.args.builder.now.table in
+    let T1 = c.loop-o.builder.table in
     let old = map root_of c.loop-o.roots.items in
     let all = map (opening_in T0) c.args.openings.items in
     let rest = map (opening_in T0) (into_iter_items c.next.new.self) in
-    let had = c.args.left.now in
-    let has = c.loop-o.left in
+    let had = c.args.builder.now.left in
+    let has = c.loop-o.builder.left in
     let steps = c.in-Some.ensures.steps in
     let a = subst (λ ahead. IsRooting d j T0 T1 old c.loop-o.worst ahead all had has MOST_ON_PATH) (ap (map (opening_in T0)) steps.0) c.loop-o.invariant.rooting in
-    let same = root_same c.args.d c.args.moves c.args.table.now c.loop-o.table c.args.openings.items (into_iter_items c.loop-o.o-iterator) (into_iter_items c.next.new.self) c.in-Some.o c.in-Some.ensures.steps.0 c.loop-o.invariant.inside c.loop-o.invariant.rooting.sets c.requires.paid c.requires.numbered c.requires.won in
-    let number = root_least c.args.d c.args.moves c.args.table.now c.loop-o.table c.args.openings.items (into_iter_items c.loop-o.o-iterator) (into_iter_items c.next.new.self) c.in-Some.o c.in-Some.ensures.steps.0 c.loop-o.invariant.inside c.loop-o.invariant.rooting.sets c.requires.paid c.requires.numbered c.requires.won c.win_of-win.result c.win_of-win.ensures.stored in
+    let same = root_same c.args.d c.args.moves c.args.builder.now.table c.loop-o.builder.table c.args.openings.items (into_iter_items c.loop-o.o-iterator) (into_iter_items c.next.new.self) c.in-Some.o c.in-Some.ensures.steps.0 c.loop-o.invariant.inside c.loop-o.invariant.rooting.sets c.requires.paid c.requires.numbered c.requires.won in
+    let number = root_least c.args.d c.args.moves c.args.builder.now.table c.loop-o.builder.table c.args.openings.items (into_iter_items c.loop-o.o-iterator) (into_iter_items c.next.new.self) c.in-Some.o c.in-Some.ensures.steps.0 c.loop-o.invariant.inside c.loop-o.invariant.rooting.sets c.requires.paid c.requires.numbered c.requires.won c.win_of-win.result c.win_of-win.ensures.stored in
     let b = c.in_ok-node.ensures in
     let m = tree_of c.in_ok-node.node.value in
     let r : Root = record { opens = x.opens; heard = x.heard; node = c.in_ok-node.node } in
     let pushed : map root_of c.push.new.self.items ≡ old ++ ((x.opens, x.heard), m) ∷ [] = ap (map root_of) c.in_ok-push.ensures.items ∙ map-append root_of c.loop-o.roots.items (r ∷ []) in
-    let sizes : c.build.new.left + size m ≡ has = ap (λ o. c.build.new.left + size_other o) (sym b.0) ∙ b.1 in
+    let sizes : c.build.new.self.left + size m ≡ has = ap (λ o. c.build.new.self.left + size_other o) (sym b.0) ∙ b.1 in
     let depths : depth m ≤ MOST_ON_PATH = subst (λ o. depth_other o ≤ MOST_ON_PATH) b.0 b.2 in
     let worst : c.max-worst.result ≡ max c.loop-o.worst (least (chess d) j (set_at T0 x.set)) = c.max-worst.ensures ∙ greater_is c.loop-o.worst c.win_of-win.result.moves ∙ ap (max c.loop-o.worst) (sym number) in
     record {
       rooting =
-          subst (λ rs. IsRooting d j T0 c.build.new.table rs c.max-worst.result rest all had c.build.new.left MOST_ON_PATH) (sym pushed)
-          (one_root d j T0 T1 old c.loop-o.worst (opening_in T0 x) rest all m had has MOST_ON_PATH a (ap (canon (chess d) j) (sym same) ∙ b.0) c.build.new.table c.max-worst.result c.build.new.left worst sizes depths b.3);
+          subst (λ rs. IsRooting d j T0 c.build.new.self.table rs c.max-worst.result rest all had c.build.new.self.left MOST_ON_PATH) (sym pushed)
+          (one_root d j T0 T1 old c.loop-o.worst (opening_in T0 x) rest all m had has MOST_ON_PATH a (ap (canon (chess d) j) (sym same) ∙ b.0) c.build.new.self.table c.max-worst.result c.build.new.self.left worst sizes depths b.3);
       inside = λ o k. c.loop-o.invariant.inside o (subst (λ ys. In o ys) (sym steps.0) (inr k));
       counted = omega (arith, c.loop-o.invariant.counted, steps.1, ap length steps.0);
     }
@@ -105,10 +105,10 @@ pub returns : goal.returns
 returns c =
     let d = c.args.d in
     let j = c.args.moves in
-    let T0 = c.args.table.now in
-    let T = c.loop-o.table in
-    let had = c.args.left.now in
-    let has = c.loop-o.left in
+    let T0 = c.args.builder.now.table in
+    let T = c.loop-o.builder.table in
+    let had = c.args.builder.now.left in
+    let has = c.loop-o.builder.left in
     let all = map (opening_in T0) c.args.openings.items in
     let pushed = map root_of c.loop-o.roots.items in
     let none = no_items (into_iter_items c.loop-o.o-iterator) (let n = c.in-None.ensures.steps in let k = c.loop-o.invariant.counted in omega arith) in

@@ -22,7 +22,7 @@ use Rattle.krieg_search.proofs.Trying.{empty_is, some_is, tried_at, covers_class
 use Rattle.krieg_search.proofs.Checking as sets
 use Rattle.krieg_search.proofs.Checking.{IsChecking, none_checked, all_checked, no_items, set_lost, set_won}
 use Rattle.krieg_search.proofs.Numbers.{no_number, next_covers, number_wins, number_fails, all_fail}
-use Rattle.krieg_search.proofs.search.+search.Goals as goal
+use Rattle.krieg_search.proofs.search.Search.+search.Goals as goal
 
 pub can_win-can_win_in-requires : goal.can_win-can_win_in-requires
 can_win-can_win_in-requires t c =
@@ -31,28 +31,28 @@ can_win-can_win_in-requires t c =
     let w = c.requires.within in
     let m = c.requires.most in
     let same = a.searched.more.same c.args.set w in
-    let size : length (set_at c.loop-fewer.table c.args.set) ≡ length (set_at c.args.table.now c.args.set) = ap length same in
+    let size : length (set_at c.loop-fewer.self.table c.args.set) ≡ length (set_at c.args.self.now.table c.args.set) = ap length same in
     let longer = a.searched.more.longer in
-    (omega (arith, size), (omega arith, (omega arith, (omega arith, (ready_from c.args.d c.args.cut a.searched, (rw (sym same) at a.lost, c.loop-fewer.invariant.noted))))))
+    (omega (arith, size), (omega arith, (omega arith, (omega arith, (c.loop-fewer.invariant.ready, rw (sym same) at a.lost)))))
 
 pub can_win-returns-in_err-can_win_in-clause-searched : goal.can_win-returns-in_err-can_win_in-clause-searched
 can_win-returns-in_err-can_win_in-clause-searched t c =
-    let d = c.args.d in
+    let d = c.args.way.d in
     let a = c.loop-fewer.invariant.counting in
     let same = a.searched.more.same c.args.set c.requires.within in
-    let covers = next_covers d c.args.cut (set_at c.args.table.now c.args.set) c.args.moves c.loop-fewer.fewer c.loop-fewer-test.true in
-    stopped d c.args.cut c.from_residual.result c.in_err-can_win_in.field-0.0 _ _ _ _ _ _ (λ x h. cc) c.from_residual.ensures.1 covers a.searched (omega arith) (rw same at c.in_err-can_win_in.ensures.searched)
+    let covers = next_covers d c.args.way.cut (set_at c.args.self.now.table c.args.set) c.args.moves c.loop-fewer.fewer c.loop-fewer-test.true in
+    stopped d c.args.way.cut c.from_residual.result c.in_err-can_win_in.field-0.0 _ _ _ _ _ _ (λ x h. cc) c.from_residual.ensures.1 covers a.searched (omega arith) (rw same at c.in_err-can_win_in.ensures.searched)
 
 pub can_win-returns-then-branch-clause-searched : goal.can_win-returns-then-branch-clause-searched
 can_win-returns-then-branch-clause-searched t c =
     let a = c.loop-fewer.invariant.counting in
     let w = rw (a.searched.more.same c.args.set c.requires.within) at c.in_ok-can_win_in.ensures.searched in
-    number_wins c.args.d c.args.cut a c.loop-fewer-test.true w.1 (rw c.if-branch.true at w.0)
+    number_wins c.args.way.d c.args.way.cut a c.loop-fewer-test.true w.1 (rw c.if-branch.true at w.0)
 
 pub can_win-loop-fewer-init : goal.can_win-loop-fewer-init
 can_win-loop-fewer-init t c = record {
-  counting = no_number c.args.d c.args.cut c.args.table.now (set_at c.args.table.now c.args.set) c.args.moves c.args.units.now c.requires.ready;
-  noted = c.requires.noted;
+  counting = no_number c.args.way.d c.args.way.cut c.args.self.now.table (set_at c.args.self.now.table c.args.set) c.args.moves c.args.self.now.units c.requires.ready.0;
+  ready = c.requires.ready;
   most = refl;
 }
 
@@ -60,44 +60,44 @@ pub can_win-loop-fewer-preserved : goal.can_win-loop-fewer-preserved
 can_win-loop-fewer-preserved t c =
     let a = c.loop-fewer.invariant.counting in
     let w = rw (a.searched.more.same c.args.set c.requires.within) at c.in_ok-can_win_in.ensures.searched in
-    record { counting = number_fails c.args.d c.args.cut a c.loop-fewer-test.true w.1 (rw c.if-branch.false at w.0); noted = c.in_ok-can_win_in.ensures.noted; most = c.can_win_in.ensures.most ∙ c.loop-fewer.invariant.most }
+    record { counting = number_fails c.args.way.d c.args.way.cut a c.loop-fewer-test.true w.1 (rw c.if-branch.false at w.0); ready = c.in_ok-can_win_in.ensures.ready; most = c.can_win_in.ensures.most ∙ c.loop-fewer.invariant.most }
 
 pub can_win-returns-clause-searched : goal.can_win-returns-clause-searched
-can_win-returns-clause-searched t c = all_fail c.args.d c.args.cut c.loop-fewer.invariant.counting c.loop-fewer-test.false
+can_win-returns-clause-searched t c = all_fail c.args.way.d c.args.way.cut c.loop-fewer.invariant.counting c.loop-fewer-test.false
 
 pub can_win_in-returns-in-Some-Wins-clause-searched : goal.can_win_in-returns-in-Some-Wins-clause-searched
 can_win_in-returns-in-Some-Wins-clause-searched t c =
-    rw c.in-Some-Wins.field-0-is at (found_tells c.args.d c.args.cut c.args.units.now c.requires.ready c.in-Some-Wins.is c.result.ensures.by_sets)
+    rw c.in-Some-Wins.field-0-is at (found_tells c.args.way.d c.args.way.cut c.args.self.now.units c.requires.ready.0 c.in-Some-Wins.is c.result.ensures.by_sets)
 
 pub can_win_in-returns-in-Some-Loses-clause-searched : goal.can_win_in-returns-in-Some-Loses-clause-searched
 can_win_in-returns-in-Some-Loses-clause-searched t c =
-    rw c.in-Some-Loses.field-0-is at (found_tells c.args.d c.args.cut c.args.units.now c.requires.ready c.in-Some-Loses.is c.result.ensures.by_sets)
+    rw c.in-Some-Loses.field-0-is at (found_tells c.args.way.d c.args.way.cut c.args.self.now.units c.requires.ready.0 c.in-Some-Loses.is c.result.ensures.by_sets)
 
 pub can_win_in-loop-tried-init : goal.can_win_in-loop-tried-init
 can_win_in-loop-tried-init t c = record {
-  trying = none_tried c.args.d c.args.cut c.args.table.now (set_at c.args.table.now c.args.set) c.args.moves (map move_of c.deref-tried-items.result.now) c.args.units.now c.requires.ready;
-  noted = c.requires.noted;
+  trying = none_tried c.args.way.d c.args.way.cut c.args.self.now.table (set_at c.args.self.now.table c.args.set) c.args.moves (map move_of c.deref-tried-items.result.now) c.args.self.now.units c.requires.ready.0;
+  ready = c.requires.ready;
   most = refl;
-  row = no_notes c.args.d c.args.cut c.args.table.now (set_at c.args.table.now c.args.set) c.args.moves (map move_of c.deref-tried-items.result.now) (items_of c.in_ok-row.row) c.in_ok-row.ensures;
+  row = no_notes c.args.way.d c.args.way.cut c.args.self.now.table (set_at c.args.self.now.table c.args.set) c.args.moves (map move_of c.deref-tried-items.result.now) (items_of c.in_ok-row.row) c.in_ok-row.ensures;
 }
 
 pub can_win_in-block_of-requires : goal.can_win_in-block_of-requires
 can_win_in-block_of-requires t c =
-    let d = c.args.d in
+    let d = c.args.way.d in
     let are = ap (map move_of) c.deref-tried-items.ensures.value ∙ c.in_ok-tries.ensures.moves d ∙ ap (tries_of (chess d)) c.belief.ensures in
     let at = move_at c.deref-tried-items.result.now c.loop-tried.tried-index c.tried-item.result c.loop-tried-test.true c.tried-item.is in
     let a = c.loop-tried.invariant.trying in
-    let legal = next_legal d c.args.cut are at.0 at.1 a in
+    let legal = next_legal d c.args.way.cut are at.0 at.1 a in
     let w = c.requires.within in
     let same = a.searched.more.same c.args.set w in
-    let size : length (set_at c.loop-tried.table c.args.set) ≡ length (set_at c.args.table.now c.args.set) = ap length same in
-    let told = told_at c.belief.result.now (set_at c.loop-tried.table c.args.set) c.args.moves c.deref-tried-items.result.now c.in_ok-tries.tries.items c.loop-tried.tried-index c.tried-item.result c.in_ok-tries.ensures.told c.deref-tried-items.ensures.value c.loop-tried-test.true c.tried-item.is (c.belief.ensures ∙ sym same) in
+    let size : length (set_at c.loop-tried.self.table c.args.set) ≡ length (set_at c.args.self.now.table c.args.set) = ap length same in
+    let told = told_at c.belief.result.now (set_at c.loop-tried.self.table c.args.set) c.args.moves c.deref-tried-items.result.now c.in_ok-tries.tries.items c.loop-tried.tried-index c.tried-item.result c.in_ok-tries.ensures.told c.deref-tried-items.ensures.value c.loop-tried-test.true c.tried-item.is (c.belief.ensures ∙ sym same) in
     let longer = a.searched.more.longer in
-    (omega (arith, size), (c.requires.some, (omega arith, (c.requires.most, (ready_from d c.args.cut a.searched, (told, (rw (sym same) at legal, c.loop-tried.invariant.noted)))))))
+    (omega (arith, size), (c.requires.some, (omega arith, (c.requires.most, (c.loop-tried.invariant.ready, (told, rw (sym same) at legal))))))
 
 pub can_win_in-returns-in_err-block-clause-searched : goal.can_win_in-returns-in_err-block-clause-searched
 can_win_in-returns-in_err-block-clause-searched t c =
-    let d = c.args.d in
+    let d = c.args.way.d in
     let are = ap (map move_of) c.deref-tried-items.ensures.value ∙ c.in_ok-tries.ensures.moves d ∙ ap (tries_of (chess d)) c.belief.ensures in
     let at = move_at c.deref-tried-items.result.now c.loop-tried.tried-index c.tried-item.result c.loop-tried-test.true c.tried-item.is in
     let a = c.loop-tried.invariant.trying in
@@ -106,12 +106,12 @@ can_win_in-returns-in_err-block-clause-searched t c =
     let r = c.from_residual-in_err-block.result in
     let fails = c.from_residual-in_err-block.ensures.1 in
     let same = a.searched.more.same c.args.set c.requires.within in
-    pair_stopped d c.args.cut _ r _ _ _ _ _ _ _ fails (none_found d c.args.cut _ _ c.in-None.is c.result.ensures.by_sets)
-    (stopped d c.args.cut r c.in_err-block.field-0.0 _ _ _ _ _ _ (λ x h. cc) fails (tries.next_covers d c.args.cut are l e a) a.searched (next_within d c.args.cut are l e a) (rw same at c.in_err-block.ensures.searched))
+    pair_stopped d c.args.way.cut _ r _ _ _ _ _ _ _ fails (none_found d c.args.way.cut _ _ c.in-None.is c.result.ensures.by_sets)
+    (stopped d c.args.way.cut r c.in_err-block.field-0.0 _ _ _ _ _ _ (λ x h. cc) fails (tries.next_covers d c.args.way.cut are l e a) a.searched (next_within d c.args.way.cut are l e a) (rw same at c.in_err-block.ensures.searched))
 
 pub can_win_in-returns-in-None-2-clause-searched : goal.can_win_in-returns-in-None-2-clause-searched
 can_win_in-returns-in-None-2-clause-searched t c =
-    let d = c.args.d in
+    let d = c.args.way.d in
     let are = ap (map move_of) c.deref-tried-items.ensures.value ∙ c.in_ok-tries.ensures.moves d ∙ ap (tries_of (chess d)) c.belief.ensures in
     let at = move_at c.deref-tried-items.result.now c.loop-tried.tried-index c.tried-item.result c.loop-tried-test.true c.tried-item.is in
     let x = move_of c.tried-item.result in
@@ -121,25 +121,25 @@ can_win_in-returns-in-None-2-clause-searched t c =
     let some = c.requires.some in
     let v = rw (a.searched.more.same c.args.set c.requires.within, c.in-None-2.is) at c.in_ok-block.ensures.searched in
     let w = v.0.tells in
-    let none = none_found d c.args.cut _ _ c.in-None.is c.result.ensures.by_sets in
-    noted d c.args.cut c.args.table.now c.block_of.new.table c.note.new.self c.args.set c.args.moves (Wins x) (Some x) c.args.units.now c.block_of.new.units some c.requires.within (win_searched d c.args.cut are l e a v.1 w) none (rw c.move_of_try-in-None-2.ensures at c.note.ensures.noted) refl
-    (win_first d c.args.cut are l e a v.1 w) (win_backed d c.args.cut are l e a v.1 w some c.requires.below)
+    let none = none_found d c.args.way.cut _ _ c.in-None.is c.result.ensures.by_sets in
+    noted d c.args.way.cut c.args.self.now.table c.block_of.new.self.table c.note.new.self c.args.set c.args.moves (Wins x) (Some x) c.args.self.now.units c.block_of.new.self.units some c.requires.within (win_searched d c.args.way.cut are l e a v.1 w) none (rw c.move_of_try-in-None-2.ensures at c.note.ensures.noted) refl
+    (win_first d c.args.way.cut are l e a v.1 w) (win_backed d c.args.way.cut are l e a v.1 w some c.requires.below)
 
-pub can_win_in-returns-in-None-2-clause-noted : goal.can_win_in-returns-in-None-2-clause-noted
-can_win_in-returns-in-None-2-clause-noted t c = more_notes c.args.d c.args.cut c.block_of.new.kept.notes (noted_more c.note.ensures.noted) c.in_ok-block.ensures.noted
+pub can_win_in-returns-in-None-2-clause-ready : goal.can_win_in-returns-in-None-2-clause-ready
+can_win_in-returns-in-None-2-clause-ready t c = (ready_from c.args.way.d c.args.way.cut (can_win_in-returns-in-None-2-clause-searched t c).1, more_notes c.args.way.d c.args.way.cut c.block_of.new.self.notes (noted_more c.note.ensures.noted) c.in_ok-block.ensures.ready.1)
 
 pub can_win_in-loop-tried-preserved : goal.can_win_in-loop-tried-preserved
 can_win_in-loop-tried-preserved t c =
-    let d = c.args.d in
+    let d = c.args.way.d in
     let are = ap (map move_of) c.deref-tried-items.ensures.value ∙ c.in_ok-tries.ensures.moves d ∙ ap (tries_of (chess d)) c.belief.ensures in
     let at = move_at c.deref-tried-items.result.now c.loop-tried.tried-index c.tried-item.result c.loop-tried-test.true c.tried-item.is in
     let a = c.loop-tried.invariant.trying in
     let v = rw (a.searched.more.same c.args.set c.requires.within, c.in-Some.is) at c.in_ok-block.ensures.searched in
     record {
-      trying = fails d c.args.cut are at.0 at.1 a v.1 v.0.tells;
-      noted = c.in_ok-block.ensures.noted;
+      trying = fails d c.args.way.cut are at.0 at.1 a v.1 v.0.tells;
+      ready = c.in_ok-block.ensures.ready;
       most = c.block_of.ensures.most ∙ c.loop-tried.invariant.most;
-      row = one_noted d c.args.cut c.loop-tried.table (set_at c.args.table.now c.args.set) c.args.moves (map move_of c.deref-tried-items.result.now) c.loop-tried.tried-index (items_of c.loop-tried.row) (items_of c.add.new.row) (record { mv = move_of c.tried-item.result; block = c.in-Some.block })
+      row = one_noted d c.args.way.cut c.loop-tried.self.table (set_at c.args.self.now.table c.args.set) c.args.moves (map move_of c.deref-tried-items.result.now) c.loop-tried.tried-index (items_of c.loop-tried.row) (items_of c.add.new.row) (record { mv = move_of c.tried-item.result; block = c.in-Some.block })
           v.1.more at.0 at.1 v.0.blocked (rw c.move_of_try.ensures at c.in_ok-add-in-Some.ensures) c.loop-tried.invariant.row;
     }
 
@@ -148,18 +148,18 @@ can_win_in-note-requires-2-clause-within t c = let a = c.loop-tried.invariant.tr
 
 pub can_win_in-returns-clause-searched : goal.can_win_in-returns-clause-searched
 can_win_in-returns-clause-searched t c =
-    let d = c.args.d in
+    let d = c.args.way.d in
     let are = ap (map move_of) c.deref-tried-items.ensures.value ∙ c.in_ok-tries.ensures.moves d ∙ ap (tries_of (chess d)) c.belief.ensures in
     let a = c.loop-tried.invariant.trying in
     let l : length (map move_of c.deref-tried-items.result.now) ≤ c.loop-tried.tried-index = rw length-map c.loop-tried-test.false in
     let some = c.requires.some in
-    let none = none_found d c.args.cut _ _ c.in-None.is c.result.ensures.by_sets in
-    noted d c.args.cut c.args.table.now c.loop-tried.table c.note-2.new.self c.args.set c.args.moves Loses None c.args.units.now c.loop-tried.units some c.requires.within (loss_searched d c.args.cut are l a) none c.note-2.ensures.noted refl
-    (loss_first d c.args.cut are l a) (loss_backed d c.args.cut are l a some c.requires.below)
+    let none = none_found d c.args.way.cut _ _ c.in-None.is c.result.ensures.by_sets in
+    noted d c.args.way.cut c.args.self.now.table c.loop-tried.self.table c.note-2.new.self c.args.set c.args.moves Loses None c.args.self.now.units c.loop-tried.self.units some c.requires.within (loss_searched d c.args.way.cut are l a) none c.note-2.ensures.noted refl
+    (loss_first d c.args.way.cut are l a) (loss_backed d c.args.way.cut are l a some c.requires.below)
 
-pub can_win_in-returns-clause-noted : goal.can_win_in-returns-clause-noted
-can_win_in-returns-clause-noted t c =
-    let d = c.args.d in
+pub can_win_in-returns-clause-ready : goal.can_win_in-returns-clause-ready
+can_win_in-returns-clause-ready t c =
+    let d = c.args.way.d in
     let are = ap (map move_of) c.deref-tried-items.ensures.value ∙ c.in_ok-tries.ensures.moves d ∙ ap (tries_of (chess d)) c.belief.ensures in
     let a = c.loop-tried.invariant.trying.searched.more in
     let l : length (map move_of c.deref-tried-items.result.now) ≤ c.loop-tried.tried-index = rw length-map c.loop-tried-test.false in
@@ -167,107 +167,110 @@ can_win_in-returns-clause-noted t c =
     let w = c.requires.within in
     let longer = a.longer in
     let still = more.longer in
-    c.in_ok-keep.ensures.noted d c.args.cut c.note-2.new.self (more_notes d c.args.cut c.loop-tried.kept.notes more c.loop-tried.invariant.noted)
-    (all_noted d c.args.cut c.loop-tried.table (set_at c.args.table.now c.args.set) c.args.moves (map move_of c.deref-tried-items.result.now) c.loop-tried.tried-index c.args.set (items_of c.loop-tried.row)
-    more (omega arith) (more.same c.args.set (omega arith) ∙ a.same c.args.set w) are (sym (can_win_in-returns-clause-searched t c).0.right) l c.loop-tried.invariant.row)
+    let searched = can_win_in-returns-clause-searched t c in (
+      ready_from d c.args.way.cut searched.1,
+      c.in_ok-keep.ensures.noted d c.args.way.cut c.note-2.new.self (more_notes d c.args.way.cut c.loop-tried.self.notes more c.loop-tried.invariant.ready.1)
+          (all_noted d c.args.way.cut c.loop-tried.self.table (set_at c.args.self.now.table c.args.set) c.args.moves (map move_of c.deref-tried-items.result.now) c.loop-tried.tried-index c.args.set (items_of c.loop-tried.row)
+          more (omega arith) (more.same c.args.set (omega arith) ∙ a.same c.args.set w) are (sym searched.0.right) l c.loop-tried.invariant.row),
+    )
 
 pub block_of-returns-in_err-lost-clause-searched : goal.block_of-returns-in_err-lost-clause-searched
 block_of-returns-in_err-lost-clause-searched t c =
-    let d = c.args.d in
-    let a = tried_at d c.args.cut (move_of c.args.tried.now) c.args.moves c.args.units.now c.left_of.new.units c.belief.ensures c.in-Some.is c.requires.some c.requires.ready c.requires.legal c.in_ok-classes.ensures.left c.in_ok-classes.ensures.units in
-    stopped d c.args.cut c.from_residual-in_err-lost.result c.in_err-lost.field-0.0 _ _ _ _ _ _ (λ x h. cc) c.from_residual-in_err-lost.ensures.1 (covers_classes d c.args.cut a) (after_split d c.args.cut a) (omega arith) c.in_err-lost.ensures.searched
+    let d = c.args.way.d in
+    let a = tried_at d c.args.way.cut (move_of c.args.tried.now) c.args.moves c.args.self.now.units c.left_of.new.units c.belief.ensures c.in-Some.is c.requires.some c.requires.ready.0 c.requires.legal c.in_ok-classes.ensures.left c.in_ok-classes.ensures.units in
+    stopped d c.args.way.cut c.from_residual-in_err-lost.result c.in_err-lost.field-0.0 _ _ _ _ _ _ (λ x h. cc) c.from_residual-in_err-lost.ensures.1 (covers_classes d c.args.way.cut a) (after_split d c.args.way.cut a) (omega arith) c.in_err-lost.ensures.searched
 
 pub block_of-returns-in-Some-lost-clause-searched : goal.block_of-returns-in-Some-lost-clause-searched
 block_of-returns-in-Some-lost-clause-searched t c =
-    let d = c.args.d in
-    let a = tried_at d c.args.cut (move_of c.args.tried.now) c.args.moves c.args.units.now c.left_of.new.units c.belief.ensures c.in-Some.is c.requires.some c.requires.ready c.requires.legal c.in_ok-classes.ensures.left c.in_ok-classes.ensures.units in
+    let d = c.args.way.d in
+    let a = tried_at d c.args.way.cut (move_of c.args.tried.now) c.args.moves c.args.self.now.units c.left_of.new.units c.belief.ensures c.in-Some.is c.requires.some c.requires.ready.0 c.requires.legal c.in_ok-classes.ensures.left c.in_ok-classes.ensures.units in
     let w = rw c.in-Some-lost.is at c.in_ok-lost.ensures.searched in
-    (class_lost d c.args.cut a c.in-Some-lost.class w.0, after_classes d c.args.cut a w.1)
+    (class_lost d c.args.way.cut a c.in-Some-lost.class w.0, after_classes d c.args.way.cut a w.1)
 
 pub block_of-returns-then-is_empty-clause-searched : goal.block_of-returns-then-is_empty-clause-searched
 block_of-returns-then-is_empty-clause-searched t c =
-    let d = c.args.d in
-    let a = tried_at d c.args.cut (move_of c.args.tried.now) c.args.moves c.args.units.now c.left_of.new.units c.belief.ensures c.in-Some.is c.requires.some c.requires.ready c.requires.legal c.in_ok-classes.ensures.left c.in_ok-classes.ensures.units in
+    let d = c.args.way.d in
+    let a = tried_at d c.args.way.cut (move_of c.args.tried.now) c.args.moves c.args.self.now.units c.left_of.new.units c.belief.ensures c.in-Some.is c.requires.some c.requires.ready.0 c.requires.legal c.in_ok-classes.ensures.left c.in_ok-classes.ensures.units in
     let w = rw c.in_default-lost.is at c.in_ok-lost.ensures.searched in
     let none = empty_is c.in-Some.field-0.refused c.is_empty.result c.is_empty.ensures c.if-is_empty.true in
-    (none_refuses d c.args.cut a w.0 none, after_classes d c.args.cut a w.1)
+    (none_refuses d c.args.way.cut a w.0 none, after_classes d c.args.way.cut a w.1)
 
 pub block_of-can_win-requires : goal.block_of-can_win-requires
 block_of-can_win-requires t c =
-    let d = c.args.d in
-    let a = tried_at d c.args.cut (move_of c.args.tried.now) c.args.moves c.args.units.now c.left_of.new.units c.belief.ensures c.in-Some.is c.requires.some c.requires.ready c.requires.legal c.in_ok-classes.ensures.left c.in_ok-classes.ensures.units in
+    let d = c.args.way.d in
+    let a = tried_at d c.args.way.cut (move_of c.args.tried.now) c.args.moves c.args.self.now.units c.left_of.new.units c.belief.ensures c.in-Some.is c.requires.some c.requires.ready.0 c.requires.legal c.in_ok-classes.ensures.left c.in_ok-classes.ensures.units in
     let w = rw c.in_default-lost.is at c.in_ok-lost.ensures.searched in
     let n = some_is c.in-Some.field-0.refused c.is_empty.result c.is_empty.ensures c.if-is_empty.false in
     let i = c.in_ok-rest.ensures in
-    let smaller = rest_smaller d c.args.cut a w.0 w.1 n i in
-    (omega (arith, smaller), (i.interned.within, (c.requires.most, (ready_from d c.args.cut (before_rest d c.args.cut a w.0 w.1 n i), more_notes d c.args.cut c.first_lost.new.kept.notes i.interned.more c.in_ok-lost.ensures.noted))))
+    let smaller = rest_smaller d c.args.way.cut a w.0 w.1 n i in
+    (omega (arith, smaller), (i.interned.within, (c.requires.most, (ready_from d c.args.way.cut (before_rest d c.args.way.cut a w.0 w.1 n i), more_notes d c.args.way.cut c.first_lost.new.self.notes i.interned.more c.in_ok-lost.ensures.ready.1))))
 
 pub block_of-returns-in_err-can_win-clause-searched : goal.block_of-returns-in_err-can_win-clause-searched
 block_of-returns-in_err-can_win-clause-searched t c =
-    let d = c.args.d in
-    let a = tried_at d c.args.cut (move_of c.args.tried.now) c.args.moves c.args.units.now c.left_of.new.units c.belief.ensures c.in-Some.is c.requires.some c.requires.ready c.requires.legal c.in_ok-classes.ensures.left c.in_ok-classes.ensures.units in
+    let d = c.args.way.d in
+    let a = tried_at d c.args.way.cut (move_of c.args.tried.now) c.args.moves c.args.self.now.units c.left_of.new.units c.belief.ensures c.in-Some.is c.requires.some c.requires.ready.0 c.requires.legal c.in_ok-classes.ensures.left c.in_ok-classes.ensures.units in
     let w = rw c.in_default-lost.is at c.in_ok-lost.ensures.searched in
     let n = some_is c.in-Some.field-0.refused c.is_empty.result c.is_empty.ensures c.if-is_empty.false in
     let i = c.in_ok-rest.ensures in
-    stopped d c.args.cut c.from_residual-in_err-can_win.result c.in_err-can_win.field-0.0 _ _ _ _ _ _ (λ x h. cc) c.from_residual-in_err-can_win.ensures.1 (covers_rest d c.args.cut a w.0 w.1 n i) (before_rest d c.args.cut a w.0 w.1 n i) (omega arith) c.in_err-can_win.ensures.searched
+    stopped d c.args.way.cut c.from_residual-in_err-can_win.result c.in_err-can_win.field-0.0 _ _ _ _ _ _ (λ x h. cc) c.from_residual-in_err-can_win.ensures.1 (covers_rest d c.args.way.cut a w.0 w.1 n i) (before_rest d c.args.way.cut a w.0 w.1 n i) (omega arith) c.in_err-can_win.ensures.searched
 
 pub block_of-returns-then-branch-clause-searched : goal.block_of-returns-then-branch-clause-searched
 block_of-returns-then-branch-clause-searched t c =
-    let d = c.args.d in
-    let a = tried_at d c.args.cut (move_of c.args.tried.now) c.args.moves c.args.units.now c.left_of.new.units c.belief.ensures c.in-Some.is c.requires.some c.requires.ready c.requires.legal c.in_ok-classes.ensures.left c.in_ok-classes.ensures.units in
+    let d = c.args.way.d in
+    let a = tried_at d c.args.way.cut (move_of c.args.tried.now) c.args.moves c.args.self.now.units c.left_of.new.units c.belief.ensures c.in-Some.is c.requires.some c.requires.ready.0 c.requires.legal c.in_ok-classes.ensures.left c.in_ok-classes.ensures.units in
     let w = rw c.in_default-lost.is at c.in_ok-lost.ensures.searched in
     let n = some_is c.in-Some.field-0.refused c.is_empty.result c.is_empty.ensures c.if-is_empty.false in
     let i = c.in_ok-rest.ensures in
     let v = rw c.if-branch.true at c.in_ok-can_win.ensures.searched in
-    (rest_won d c.args.cut a w.0 w.1 n i v.1 v.0, after_rest d c.args.cut a w.0 w.1 n i v.1)
+    (rest_won d c.args.way.cut a w.0 w.1 n i v.1 v.0, after_rest d c.args.way.cut a w.0 w.1 n i v.1)
 
 pub block_of-returns-clause-searched : goal.block_of-returns-clause-searched
 block_of-returns-clause-searched t c =
-    let d = c.args.d in
-    let a = tried_at d c.args.cut (move_of c.args.tried.now) c.args.moves c.args.units.now c.left_of.new.units c.belief.ensures c.in-Some.is c.requires.some c.requires.ready c.requires.legal c.in_ok-classes.ensures.left c.in_ok-classes.ensures.units in
+    let d = c.args.way.d in
+    let a = tried_at d c.args.way.cut (move_of c.args.tried.now) c.args.moves c.args.self.now.units c.left_of.new.units c.belief.ensures c.in-Some.is c.requires.some c.requires.ready.0 c.requires.legal c.in_ok-classes.ensures.left c.in_ok-classes.ensures.units in
     let w = rw c.in_default-lost.is at c.in_ok-lost.ensures.searched in
     let n = some_is c.in-Some.field-0.refused c.is_empty.result c.is_empty.ensures c.if-is_empty.false in
     let i = c.in_ok-rest.ensures in
     let v = rw c.if-branch.false at c.in_ok-can_win.ensures.searched in
-    (rest_lost d c.args.cut a w.0 w.1 n i v.1 v.0, after_rest d c.args.cut a w.0 w.1 n i v.1)
+    (rest_lost d c.args.way.cut a w.0 w.1 n i v.1 v.0, after_rest d c.args.way.cut a w.0 w.1 n i v.1)
 
 pub first_lost-loop-class-init : goal.first_lost-loop-class-init
 first_lost-loop-class-init t c =
-    let d = c.args.d in
-    let T = c.args.table.now in
+    let d = c.args.way.d in
+    let T = c.args.self.now.table in
     let Cs = sets_of c.args.classes.items in
     let gives = c.into_iter-class-iterator.ensures.into_iter_gives in
     record {
-      checking = subst (λ (ahead : List (List Pos)). IsChecking d c.args.cut T T Cs ahead c.args.moves c.args.units.now c.args.units.now) (ap sets_of (sym gives.0)) (none_checked d c.args.cut T Cs c.args.moves c.args.units.now c.requires.ready);
+      checking = subst (λ (ahead : List (List Pos)). IsChecking d c.args.way.cut T T Cs ahead c.args.moves c.args.self.now.units c.args.self.now.units) (ap sets_of (sym gives.0)) (none_checked d c.args.way.cut T Cs c.args.moves c.args.self.now.units c.requires.ready.0);
       counted = omega (arith, gives.1, ap length gives.0);
       first = ap (λ cs. find (is_lost d c.args.moves) (map class_pair cs)) (sym gives.0);
-      noted = c.requires.noted;
+      ready = c.requires.ready;
       most = refl;
     }
 
 pub first_lost-can_win-requires : goal.first_lost-can_win-requires
 first_lost-can_win-requires t c =
-    let d = c.args.d in
+    let d = c.args.way.d in
     let i = c.in_ok-set.ensures in
     let few = i.counted c.in_ok-set.set in
-    (omega arith, (i.interned.within, (c.requires.most, (ready_from d c.args.cut (searched_number d c.args.cut c.loop-class.invariant.checking.searched i), more_notes d c.args.cut c.loop-class.kept.notes i.interned.more c.loop-class.invariant.noted))))
+    (omega arith, (i.interned.within, (c.requires.most, (ready_from d c.args.way.cut (searched_number d c.args.way.cut c.loop-class.invariant.checking.searched i), more_notes d c.args.way.cut c.loop-class.self.notes i.interned.more c.loop-class.invariant.ready.1))))
 
 pub first_lost-returns-in_err-can_win-clause-searched : goal.first_lost-returns-in_err-can_win-clause-searched
 first_lost-returns-in_err-can_win-clause-searched t c =
-    let d = c.args.d in
+    let d = c.args.way.d in
     let i = c.in_ok-set.ensures in
     let a = rw c.in-Some.ensures.steps.0 at c.loop-class.invariant.checking in
-    let before = searched_number d c.args.cut a.searched i in
-    stopped d c.args.cut c.from_residual-in_err-can_win.result c.in_err-can_win.field-0.0 _ _ _ _ _ _ (λ x h. cc) c.from_residual-in_err-can_win.ensures.1 (sets.next_covers d c.args.cut a i.interned.at i.interned.noted before) before (omega arith) c.in_err-can_win.ensures.searched
+    let before = searched_number d c.args.way.cut a.searched i in
+    stopped d c.args.way.cut c.from_residual-in_err-can_win.result c.in_err-can_win.field-0.0 _ _ _ _ _ _ (λ x h. cc) c.from_residual-in_err-can_win.ensures.1 (sets.next_covers d c.args.way.cut a i.interned.at i.interned.noted before) before (omega arith) c.in_err-can_win.ensures.searched
 
 pub first_lost-returns-then-not-branch-clause-searched : goal.first_lost-returns-then-not-branch-clause-searched
 first_lost-returns-then-not-branch-clause-searched t c =
-    let d = c.args.d in
+    let d = c.args.way.d in
     let i = c.in_ok-set.ensures in
     let e = c.in-Some.ensures.steps.0 in
     let a = rw e at c.loop-class.invariant.checking in
     let w = rw c.if-not-branch.true at c.in_ok-can_win.ensures.searched in
-    let s = set_lost d c.args.cut a i.interned.at i.interned.noted (searched_number d c.args.cut a.searched i) w.1 w.0 in
+    let s = set_lost d c.args.way.cut a i.interned.at i.interned.noted (searched_number d c.args.way.cut a.searched i) w.1 w.0 in
     let longer = w.1.more.longer in
     let within = i.interned.within in
     let first = first_here d c.args.moves c.args.classes.items c.in-Some.class (into_iter_items c.next.new.self) (c.loop-class.invariant.first ∙ ap (λ cs. find (is_lost d c.args.moves) (map class_pair cs)) e) (sym (w.0.right ∙ ap (can (chess d) c.args.moves) i.interned.at)) in
@@ -277,21 +280,21 @@ first_lost-returns-then-not-branch-clause-searched t c =
 
 pub first_lost-loop-class-preserved : goal.first_lost-loop-class-preserved
 first_lost-loop-class-preserved t c =
-    let d = c.args.d in
+    let d = c.args.way.d in
     let i = c.in_ok-set.ensures in
     let steps = c.in-Some.ensures.steps in
     let a = rw steps.0 at c.loop-class.invariant.checking in
     let w = rw c.if-not-branch.false at c.in_ok-can_win.ensures.searched in
     record {
-      checking = set_won d c.args.cut a i.interned.at i.interned.noted (searched_number d c.args.cut a.searched i) w.1 w.0;
+      checking = set_won d c.args.way.cut a i.interned.at i.interned.noted (searched_number d c.args.way.cut a.searched i) w.1 w.0;
       counted = omega (arith, c.loop-class.invariant.counted, steps.1, ap length steps.0);
       first = first_later d c.args.moves c.args.classes.items c.in-Some.class (into_iter_items c.next.new.self) (c.loop-class.invariant.first ∙ ap (λ cs. find (is_lost d c.args.moves) (map class_pair cs)) steps.0) (sym (w.0.right ∙ ap (can (chess d) c.args.moves) i.interned.at));
-      noted = c.in_ok-can_win.ensures.noted;
+      ready = c.in_ok-can_win.ensures.ready;
       most = c.can_win.ensures.most ∙ c.loop-class.invariant.most;
     }
 
 pub first_lost-returns-clause-searched : goal.first_lost-returns-clause-searched
 first_lost-returns-clause-searched t c =
     let none = no_items (into_iter_items c.loop-class.class-iterator) (let n = c.in-None.ensures.steps in let k = c.loop-class.invariant.counted in omega arith) in
-    let s = all_checked c.args.d c.args.cut (rw none at c.loop-class.invariant.checking) in
-    (record { tells = s.0; first = c.loop-class.invariant.first ∙ ap (λ cs. find (is_lost c.args.d c.args.moves) (map class_pair cs)) none; within = tt }, s.1)
+    let s = all_checked c.args.way.d c.args.way.cut (rw none at c.loop-class.invariant.checking) in
+    (record { tells = s.0; first = c.loop-class.invariant.first ∙ ap (λ cs. find (is_lost c.args.way.d c.args.moves) (map class_pair cs)) none; within = tt }, s.1)

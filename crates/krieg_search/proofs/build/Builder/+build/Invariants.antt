@@ -6,7 +6,7 @@ use Rattle.krieg_game.specs.Classes.{class_pair}
 use Rattle.krieg_plan.specs.Nodes.{edge_of}
 use Rattle.krieg_search.specs.Searched.{sets_of}
 use Rattle.krieg_search.proofs.Edging.{IsEdging}
-use Rattle.krieg_search.proofs.build.+build.Given as goal
+use Rattle.krieg_search.proofs.build.Builder.+build.Given as goal
 
 abbrev pub decreases-build : goal.decreases-build
 decreases-build l = 2 * l.deep
@@ -19,7 +19,7 @@ decreases-build_other l = 2 * l.deep + 1
 
 abbrev pub invariant-build_edges-loop-class : goal.invariant-build_edges-loop-class
 invariant-build_edges-loop-class l = record {
-  edging : IsEdging l.d l.moves l.initial.table l.table (map edge_of l.edges.items) (map class_pair (into_iter_items l.class-iterator)) (map class_pair l.fn.classes.items) l.initial.left l.left l.deep;
+  edging : IsEdging l.d l.moves l.initial.self.table l.self.table (map edge_of l.edges.items) (map class_pair (into_iter_items l.class-iterator)) (map class_pair l.fn.classes.items) l.initial.self.left l.self.left l.deep;
   inside : (C : List Pos) → In C (sets_of (into_iter_items l.class-iterator)) → In C (sets_of l.fn.classes.items);
   counted : into_iter_len l.class-iterator ≡ length (into_iter_items l.class-iterator);
 }
