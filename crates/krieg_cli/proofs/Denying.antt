@@ -1,20 +1,20 @@
 -- What the look at a refutation finds, as the answer to its text.
 use Rattle.std.proofs.Common.{◌≡◌, ℕ, ◌+◌, Bool, true, false, List, Ok, Err, sym, ◌∙◌, arith}
 use Rattle.krieg_refute.specs.declared.refutation.Refutation.{Refutation}
-use Rattle.krieg_refute.specs.declared.stop.DenyStop.{DenyStop}
-use Rattle.krieg_refute.specs.declared.stop.DenyStop.TheVariants as stop
+use Rattle.krieg_parting.specs.declared.stop.PartStop.{PartStop}
+use Rattle.krieg_parting.specs.declared.stop.PartStop.TheVariants as stop
+use Rattle.krieg_split.specs.Units.{IsPaid}
 use Rattle.krieg_refute.specs.Refutations.{refutes, claims_price}
 use Rattle.krieg_refute.specs.Excluded.{NoneMates}
-use Rattle.krieg_refute.specs.Stops.{IsPaid}
 use Rattle.krieg_refutefile.specs.Refutations.{state_of}
 use Rattle.krieg_refutefile.proofs.Agreeing.{refutes_same, price_same}
-use Rattle.krieg_cli.specs.Parts.{of_deny, Decides}
+use Rattle.krieg_cli.specs.Parts.{of_part, Decides}
 use Rattle.krieg_cli.specs.Deny.{refuted_text, Judged}
 use Rattle.krieg_cli.specs.declared.refusal.Refusal.TheVariants.{RefutationFails}
 
 module _ (f : Refutation) where
   module _ (budget start left : ℕ) (same : start ≡ budget) where
-    pub stop_told : {X : Type 0} (view : X → List ℕ) (e : DenyStop) → IsPaid {A = Bool} (Err e) (claims_price f.dialect f.claims.items) start left → Decides view (Err (of_deny e)) (Judged budget (state_of f))
+    pub stop_told : {X : Type 0} (view : X → List ℕ) (e : PartStop) → IsPaid {A = Bool} (Err e) (claims_price f.dialect f.claims.items) start left → Decides view (Err (of_part e)) (Judged budget (state_of f))
     stop_told view stop.Spent paid = let is = price_same f in omega (arith, same, paid.0, is)
     stop_told view stop.NoMemory paid = tt
 

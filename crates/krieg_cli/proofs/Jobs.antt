@@ -39,7 +39,7 @@ use Rattle.krieg_search.specs.Solved.{IsBest}
 use Rattle.krieg_search.specs.Planned.{IsFit}
 use Rattle.krieg_search.specs.declared.stop.SearchStop.{SearchStop}
 use Rattle.krieg_search.specs.declared.stop.SearchStop.TheVariants as search
-use Rattle.krieg_cli.specs.Parts.{of_search, of_check, Decides}
+use Rattle.krieg_cli.specs.Parts.{of_search, of_part, Decides}
 use Rattle.krieg_cli.specs.Solve.{file_of, least_units, IsTooLarge, Searched}
 use Rattle.krieg_cli.specs.Check.{check_cost}
 use Rattle.krieg_cli.specs.Tally.{tally_of}
@@ -114,7 +114,7 @@ module _ (S : List Pos) where
           both_ways _ (subst (λ f. mates (chess f.dialect) (outset f.dialect f.side) f.plan f.list f.worst ≡ false) is (verdict.fails.0 fails)) best.worst_case.mates_within
 
       -- a check that stops
-      pub check_stopped : (start left : ℕ) (stop : CheckStop) → start ≡ MOST_UNITS → Charged (Err stop) (IsVerdict f) (cost_of f) start left → Decides found_lines (Err (of_check stop)) (Plans S)
+      pub check_stopped : (start left : ℕ) (stop : CheckStop) → start ≡ MOST_UNITS → Charged (Err stop) (IsVerdict f) (cost_of f) start left → Decides found_lines (Err (of_part stop)) (Plans S)
       check_stopped start left check.Spent had less =
           inr (best_of, is_found, subst (λ f. MOST_UNITS < check_cost f) is (omega (arith, less, had)))
       check_stopped start left check.NoMemory had h = tt

@@ -26,8 +26,8 @@ use Rattle.krieg_belief.specs.Possible.{HaveOneHand}
 use Rattle.krieg_split.specs.Turns.{IsOwnTurn}
 use Rattle.krieg_refute.specs.Refuted.{side_of, IsOneSide, IsDenial, IsMated, IsDenied, IsTaken}
 use Rattle.krieg_refute.specs.declared.refutation.Claim.{Claim}
-use Rattle.krieg_refute.specs.declared.stop.RefuteStop.{RefuteStop}
-use Rattle.krieg_refute.specs.declared.stop.RefuteStop.TheVariants as stop
+use Rattle.krieg_search.specs.declared.stop.SearchStop.{SearchStop}
+use Rattle.krieg_search.specs.declared.stop.SearchStop.TheVariants as stop
 use Rattle.krieg_refute.specs.declared.refuting.Denied.TheVariants.{Denial, Exists}
 use Rattle.krieg_refute.specs.Refutations.{most_claims, most_claimed}
 use Rattle.krieg_refutefile.specs.Refutations.{RefutationState, state_from, is_refutation, claim_from}
@@ -40,7 +40,7 @@ use Rattle.krieg_claims.specs.Written.{denial}
 use Rattle.krieg_search.specs.Decided.{IsBetween}
 use Rattle.krieg_cli.specs.Solve.{NoneMates}
 use Rattle.krieg_cli.specs.declared.refusal.Refusal.TheVariants.{PlanExists}
-use Rattle.krieg_cli.specs.Parts.{of_refute, Decides}
+use Rattle.krieg_cli.specs.Parts.{of_search, Decides}
 use Rattle.krieg_cli.specs.Refute.{CanBeListed, denial_file, IsDenialText, Claimed}
 use Rattle.krieg_cli.proofs.BestFiles.{valid_of, some_length, alike, one_turn_of}
 use Rattle.krieg_cli.proofs.ClaimedSets.{denial_written}
@@ -145,10 +145,10 @@ none_mates d who S n cannot plan =
 
 module _ (d : Dialect) (who : Side) (S : List Pos) (n budget start left : ℕ) (same : start ≡ budget) (side : side_of S ≡ who) where
   -- what a search without an answer tells
-  pub stop_told : {X : Type 0} (view : X → List ℕ) (e : RefuteStop) → IsDenied d (side_of S) S n (Err e) → IsTaken d (side_of S) S n (Err e) start left → Decides view (Err (of_refute e)) (Claimed d who S n budget)
+  pub stop_told : {X : Type 0} (view : X → List ℕ) (e : SearchStop) → IsDenied d (side_of S) S n (Err e) → IsTaken d (side_of S) S n (Err e) start left → Decides view (Err (of_search e)) (Claimed d who S n budget)
   stop_told {X = X} view e found taken = by e (subst (λ (w : Side). IsDenied d w S n (Err e)) side found) (subst (λ (w : Side). IsTaken d w S n (Err e) start left) side taken)
     where
-      by : (e : RefuteStop) → IsDenied d who S n (Err e) → IsTaken d who S n (Err e) start left → Decides view (Err (of_refute e)) (Claimed d who S n budget)
+      by : (e : SearchStop) → IsDenied d who S n (Err e) → IsTaken d who S n (Err e) start left → Decides view (Err (of_search e)) (Claimed d who S n budget)
       by stop.Spent found taken = omega (arith, same, taken.0)
       by stop.Large found taken = (none_mates d who S n found.cannot, found.many)
       by stop.NoMemory found taken = tt

@@ -10,14 +10,10 @@ use Rattle.krieg_belief.specs.declared.beliefs.BeliefStop.{BeliefStop}
 use Rattle.krieg_belief.specs.declared.beliefs.BeliefStop.TheVariants as stop
 use Rattle.krieg_why.specs.declared.why_possible.WhyStop.{WhyStop}
 use Rattle.krieg_why.specs.declared.why_possible.WhyStop.TheVariants as shown
-use Rattle.krieg_parting.specs.declared.stop.PartStop.{PartStop as CheckStop}
-use Rattle.krieg_parting.specs.declared.stop.PartStop.TheVariants as check
+use Rattle.krieg_parting.specs.declared.stop.PartStop.{PartStop}
+use Rattle.krieg_parting.specs.declared.stop.PartStop.TheVariants as part
 use Rattle.krieg_search.specs.declared.stop.SearchStop.{SearchStop}
 use Rattle.krieg_search.specs.declared.stop.SearchStop.TheVariants as search
-use Rattle.krieg_refute.specs.declared.stop.RefuteStop.{RefuteStop}
-use Rattle.krieg_refute.specs.declared.stop.RefuteStop.TheVariants as claims
-use Rattle.krieg_refute.specs.declared.stop.DenyStop.{DenyStop}
-use Rattle.krieg_refute.specs.declared.stop.DenyStop.TheVariants as deny
 use Rattle.krieg_seats.specs.Accounts.{Account}
 use Rattle.krieg_play.specs.Played.{Sides}
 use Rattle.krieg_args.specs.declared.command.Command.{Command}
@@ -68,27 +64,16 @@ abbrev pub of_why : WhyStop → Ending
 of_why (shown.TooMany line) = Refused (TooMany line)
 of_why shown.NoMemory = NoMemory
 
--- a check without an answer
-abbrev pub of_check : CheckStop → Ending
-of_check check.Spent = Refused BudgetSpent
-of_check check.NoMemory = NoMemory
+-- a plan or a refutation that is not looked at to its end
+abbrev pub of_part : PartStop → Ending
+of_part part.Spent = Refused BudgetSpent
+of_part part.NoMemory = NoMemory
 
--- a search without an answer
+-- a search without an answer, for a plan or for claims
 abbrev pub of_search : SearchStop → Ending
 of_search search.Spent = Refused BudgetSpent
 of_search search.Large = Refused PlanTooLarge
 of_search search.NoMemory = NoMemory
-
--- claims that are not written
-abbrev pub of_refute : RefuteStop → Ending
-of_refute claims.Spent = Refused BudgetSpent
-of_refute claims.Large = Refused PlanTooLarge
-of_refute claims.NoMemory = NoMemory
-
--- a refutation that is not looked at to its end
-abbrev pub of_deny : DenyStop → Ending
-of_deny deny.Spent = Refused BudgetSpent
-of_deny deny.NoMemory = NoMemory
 
 -- a game that was not played to its stop
 abbrev pub of_play : PlayFault → Ending

@@ -3,7 +3,9 @@ ghost use Rattle.krieg_cli.specs.Ending as spec;
 
 use crate::refusal::Refusal;
 use krieg_board::NoMemory;
+use krieg_parting::PartStop;
 use krieg_ports::{ReadEnd, WriteFault};
+use krieg_search::SearchStop;
 use krieg_text::TextFault;
 
 /// How a run ends.
@@ -58,6 +60,33 @@ impl From<ReadEnd> for Ending {
             ReadEnd::TooLong => Ending::TooLong,
             ReadEnd::ReadFault => Ending::ReadFault,
             ReadEnd::NoMemory => Ending::NoMemory,
+        }
+    }
+}
+
+impl From<PartStop> for Ending {
+    ghost use Rattle.krieg_cli.specs.Parts.{of_part};
+
+    ghost from_gives = { λ stop e. e ≡ of_part stop };
+
+    fn from(stop: PartStop) -> Ending {
+        match stop {
+            PartStop::Spent => Ending::Refused(Refusal::BudgetSpent),
+            PartStop::NoMemory => Ending::NoMemory,
+        }
+    }
+}
+
+impl From<SearchStop> for Ending {
+    ghost use Rattle.krieg_cli.specs.Parts.{of_search};
+
+    ghost from_gives = { λ stop e. e ≡ of_search stop };
+
+    fn from(stop: SearchStop) -> Ending {
+        match stop {
+            SearchStop::Spent => Ending::Refused(Refusal::BudgetSpent),
+            SearchStop::Large => Ending::Refused(Refusal::PlanTooLarge),
+            SearchStop::NoMemory => Ending::NoMemory,
         }
     }
 }

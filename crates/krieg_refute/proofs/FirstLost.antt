@@ -40,8 +40,6 @@ use Rattle.krieg_search.specs.Decided as decided
 use Rattle.krieg_search.specs.Decided.{sets_in, IsDecided}
 use Rattle.krieg_refute.specs.declared.refutation.Claim.{Claim}
 use Rattle.krieg_refute.specs.declared.refuting.Denied.{Denied}
-use Rattle.krieg_refute.specs.declared.stop.RefuteStop.{RefuteStop}
-use Rattle.krieg_refute.specs.Stops.{refute_stop_of}
 use Rattle.krieg_refute.specs.Refutations.{claims_of, most_claims, most_claimed}
 use Rattle.krieg_refute.specs.Claiming.{IsLost, is_lost_opening, AreClaims}
 use Rattle.krieg_refute.specs.Refuted.{IsDenial, IsMated, IsDenied, IsTaken}
@@ -147,39 +145,39 @@ module _ (d : Dialect) (who : Side) (S : List Pos) (n : ℕ) where
       }
 
       -- or that are too many
-      pub claims_stopped : (P : RefuteStop → Type 0) (r : Result Denied RefuteStop) (stop : SearchStop) → ((x : RefuteStop) → P x → refute_stop_of stop ≡ x) → IsErrAnd r P → AreClaims d (set_at w.table set) n (Err stop) → IsDenied d who S n r
+      pub claims_stopped : (P : SearchStop → Type 0) (r : Result Denied SearchStop) (stop : SearchStop) → ((x : SearchStop) → P x → stop ≡ x) → IsErrAnd r P → AreClaims d (set_at w.table set) n (Err stop) → IsDenied d who S n r
       claims_stopped P (Ok x) stop same fails v = absurd fails
-      claims_stopped P (Err x) stop same fails v = subst (λ (y : RefuteStop). IsDenied d who S n (Err y)) (same x fails) (go stop v)
+      claims_stopped P (Err x) stop same fails v = subst (λ (y : SearchStop). IsDenied d who S n (Err y)) (same x fails) (go stop v)
         where
-          go : (stop : SearchStop) → AreClaims d (set_at w.table set) n (Err stop) → IsDenied d who S n (Err (refute_stop_of stop))
+          go : (stop : SearchStop) → AreClaims d (set_at w.table set) n (Err stop) → IsDenied d who S n (Err stop)
           go search.Spent v = absurd v
           go search.Large v = record { cannot = a.cannot; many = subst (AreMany (chess d) most_claims most_claimed) claims_are v }
           go search.NoMemory v = tt
 
-      pub claims_stopped_taken : (P : RefuteStop → Type 0) (r : Result Denied RefuteStop) (stop : SearchStop) (u : ℕ) → ((x : RefuteStop) → P x → refute_stop_of stop ≡ x) → IsErrAnd r P → AreClaims d (set_at w.table set) n (Err stop) → IsTaken d who S n r u u
+      pub claims_stopped_taken : (P : SearchStop → Type 0) (r : Result Denied SearchStop) (stop : SearchStop) (u : ℕ) → ((x : SearchStop) → P x → stop ≡ x) → IsErrAnd r P → AreClaims d (set_at w.table set) n (Err stop) → IsTaken d who S n r u u
       claims_stopped_taken P (Ok x) stop u same fails v = absurd fails
-      claims_stopped_taken P (Err x) stop u same fails v = subst (λ (y : RefuteStop). IsTaken d who S n (Err y) u u) (same x fails) (go stop v)
+      claims_stopped_taken P (Err x) stop u same fails v = subst (λ (y : SearchStop). IsTaken d who S n (Err y) u u) (same x fails) (go stop v)
         where
-          go : (stop : SearchStop) → AreClaims d (set_at w.table set) n (Err stop) → IsTaken d who S n (Err (refute_stop_of stop)) u u
+          go : (stop : SearchStop) → AreClaims d (set_at w.table set) n (Err stop) → IsTaken d who S n (Err stop) u u
           go search.Spent v = absurd v
           go search.Large v = refl
           go search.NoMemory v = refl
 
   -- the search was stopped
-  pub search_stopped : (P : RefuteStop → Type 0) (r : Result Denied RefuteStop) (stop : SearchStop) (had has : ℕ) → ((x : RefuteStop) → P x → refute_stop_of stop ≡ x) → IsErrAnd r P → IsDecided d who S n false (Err stop) had has → IsDenied d who S n r
+  pub search_stopped : (P : SearchStop → Type 0) (r : Result Denied SearchStop) (stop : SearchStop) (had has : ℕ) → ((x : SearchStop) → P x → stop ≡ x) → IsErrAnd r P → IsDecided d who S n false (Err stop) had has → IsDenied d who S n r
   search_stopped P (Ok x) stop had has same fails v = absurd fails
-  search_stopped P (Err x) stop had has same fails v = subst (λ (y : RefuteStop). IsDenied d who S n (Err y)) (same x fails) (go stop v)
+  search_stopped P (Err x) stop had has same fails v = subst (λ (y : SearchStop). IsDenied d who S n (Err y)) (same x fails) (go stop v)
     where
-      go : (stop : SearchStop) → IsDecided d who S n false (Err stop) had has → IsDenied d who S n (Err (refute_stop_of stop))
+      go : (stop : SearchStop) → IsDecided d who S n false (Err stop) had has → IsDenied d who S n (Err stop)
       go search.Spent v = tt
       go search.Large v = absurd v
       go search.NoMemory v = tt
 
-  pub search_stopped_taken : (P : RefuteStop → Type 0) (r : Result Denied RefuteStop) (stop : SearchStop) (had has u : ℕ) → ((x : RefuteStop) → P x → refute_stop_of stop ≡ x) → IsErrAnd r P → had ≡ u → IsDecided d who S n false (Err stop) had has → IsTaken d who S n r u u
+  pub search_stopped_taken : (P : SearchStop → Type 0) (r : Result Denied SearchStop) (stop : SearchStop) (had has u : ℕ) → ((x : SearchStop) → P x → stop ≡ x) → IsErrAnd r P → had ≡ u → IsDecided d who S n false (Err stop) had has → IsTaken d who S n r u u
   search_stopped_taken P (Ok x) stop had has u same fails e v = absurd fails
-  search_stopped_taken P (Err x) stop had has u same fails e v = subst (λ (y : RefuteStop). IsTaken d who S n (Err y) u u) (same x fails) (go stop v)
+  search_stopped_taken P (Err x) stop had has u same fails e v = subst (λ (y : SearchStop). IsTaken d who S n (Err y) u u) (same x fails) (go stop v)
     where
-      go : (stop : SearchStop) → IsDecided d who S n false (Err stop) had has → IsTaken d who S n (Err (refute_stop_of stop)) u u
+      go : (stop : SearchStop) → IsDecided d who S n false (Err stop) had has → IsTaken d who S n (Err stop) u u
       go search.Spent v = ((omega arith), refl)
       go search.Large v = absurd v
       go search.NoMemory v = refl

@@ -1,7 +1,6 @@
 pub mod Refutations
 pub mod Excluded
 pub mod Refuted
-pub mod Stops
 pub mod Tried
 pub mod Reasons
 pub mod Drafts

@@ -12,12 +12,12 @@ use Rattle.krieg_claims.specs.Sizes.{AreFew, AreMany}
 use Rattle.krieg_game.specs.Chess.{chess}
 use Rattle.krieg_game.specs.Outset.{outset}
 use Rattle.krieg_split.specs.Turns.{IsOwnTurn, IsOthersTurn}
+use Rattle.krieg_search.specs.declared.stop.SearchStop.{SearchStop}
+use Rattle.krieg_search.specs.declared.stop.SearchStop.TheVariants.{Spent, Large, NoMemory}
 use Rattle.krieg_search.specs.Decided.{IsAccount, IsBetween}
 use Rattle.krieg_refute.specs.declared.refutation.Claim.{Claim}
 use Rattle.krieg_refute.specs.declared.refuting.Denied.{Denied}
 use Rattle.krieg_refute.specs.declared.refuting.Denied.TheVariants.{Denial, Exists}
-use Rattle.krieg_refute.specs.declared.stop.RefuteStop.{RefuteStop}
-use Rattle.krieg_refute.specs.declared.stop.RefuteStop.TheVariants.{Spent, Large, NoMemory}
 use Rattle.krieg_refute.specs.Refutations.{claims_of, most_claims, most_claimed}
 
 -- the side that is to move in the first member
@@ -52,7 +52,7 @@ module _ (d : Dialect) (who : Side) (S : List Pos) (n : ℕ) where
 
   -- What each answer says. Since no two of the first three can hold at once, each comes exactly where it holds and nothing
   -- was wanting.
-  abbrev pub IsDenied : Result Denied RefuteStop → Type 0
+  abbrev pub IsDenied : Result Denied SearchStop → Type 0
   IsDenied (Ok (Denial cs)) = IsDenial cs.items
   IsDenied (Ok Exists) = IsMated
   IsDenied (Err Large) = IsTooLarge
@@ -61,7 +61,7 @@ module _ (d : Dialect) (who : Side) (S : List Pos) (n : ℕ) where
 
   -- An answer takes what its account says, which is at least the floor and at most what is fresh. An error takes none, and
   -- Spent comes only where fewer units are left than are fresh.
-  abbrev pub IsTaken : Result Denied RefuteStop → ℕ → ℕ → Type 0
+  abbrev pub IsTaken : Result Denied SearchStop → ℕ → ℕ → Type 0
   IsTaken (Ok x) had has = IsAccount d who S n false had has × IsBetween d who S n had has
   IsTaken (Err Spent) had has = (had < fresh (chess d) (outset d who) n S) × (has ≡ had)
   IsTaken (Err Large) had has = has ≡ had

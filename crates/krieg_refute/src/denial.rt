@@ -12,16 +12,14 @@ ghost use Rattle.krieg_theory.specs.Split as sets;
 ghost use Rattle.krieg_game.specs.Chess.{chess};
 ghost use Rattle.krieg_game.specs.Outset.{outset};
 ghost use Rattle.krieg_split.specs.Tallies.{tally_of, AreTallies};
-ghost use Rattle.krieg_split.specs.Units.{Charged};
+ghost use Rattle.krieg_split.specs.Units.{Charged, IsPaid};
 ghost use Rattle.krieg_split.specs.Turns.{IsOwnTurn};
 ghost use Rattle.krieg_refute.specs.Refutations.{refutes, is_own_turn, claims_price, claims_of, claim_of, reason_of};
 ghost use Rattle.krieg_refute.specs.Excluded.{NoneMates};
 ghost use Rattle.krieg_refute.specs.Reasons.{try_holds as try_spec, opens_with, within_opening};
-ghost use Rattle.krieg_refute.specs.Stops.{IsPaid};
 
 use crate::reasons::{are_for, is_within, reasons_hold};
 use crate::refutation::{Claim, Refutation};
-use crate::stop::DenyStop;
 use crate::tried::{Tried, last_try};
 use krieg_board::{Move, NoMemory, Side, Units};
 use krieg_pack::{Belief, Packed, unpack};
@@ -353,7 +351,7 @@ fn is_denied(alloc: Global, f: &Refutation) -> Result<bool, NoMemory>
 ///
 /// It takes exactly as many units as the splits of each claim's set by each try that is legal in some member, whether the
 /// claims hold or not. `Spent` comes exactly where fewer are left, unless memory is wanting. An error takes none.
-pub fn deny(alloc: Global, f: &Refutation, units: &mut Units) -> Result<bool, DenyStop>
+pub fn deny(alloc: Global, f: &Refutation, units: &mut Units) -> Result<bool, PartStop>
     ensures answer { IfOk result (λ yes. yes ≡ refutes f.now) }
     ensures excludes { IfOk result (λ yes. yes ≡ true → NoneMates f.now) }
     ensures units { IsPaid result (claims_price f.now.dialect f.now.claims.items)

@@ -35,11 +35,10 @@ mod denial;
 mod reasons;
 mod refutation;
 mod refuting;
-mod stop;
 mod tried;
 
 pub use denial::deny;
-pub use krieg_search::Heard;
+pub use krieg_parting::PartStop as DenyStop;
+pub use krieg_search::{Heard, SearchStop as RefuteStop};
 pub use refutation::{Claim, MOST_CLAIMED, MOST_CLAIMS, Reason, Refutation, Why};
 pub use refuting::{Denied, refute};
-pub use stop::{DenyStop, RefuteStop};

@@ -11,7 +11,6 @@ ghost use Rattle.krieg_refute.specs.Claiming.{IsLost, is_lost_opening, AreClaims
 use crate::claiming::{Claimed, claim, is_lost};
 use crate::claims::claims_of;
 use crate::refutation::Claim;
-use crate::stop::RefuteStop;
 use indexmap::IndexSet;
 use krieg_board::{MOST_MOVES, Side, Units};
 use krieg_pack::Belief;
@@ -112,7 +111,7 @@ pub fn refute(
     b: &Belief,
     moves: u8,
     units: &mut Units,
-) -> Result<Denied, RefuteStop>
+) -> Result<Denied, SearchStop>
     requires turn { IsOneSide b.now }
     requires some { 0 < moves }
     requires most { moves ≤ MOST_MOVES }

@@ -8,23 +8,10 @@ use crate::commands::counted::counted;
 use crate::ending::Ending;
 use crate::refusal::Refusal;
 use krieg_board::{NoMemory, Units};
-use krieg_checker::{CheckStop, Checked, check_owned};
+use krieg_checker::{Checked, check_owned};
 use krieg_plan::PlanFile;
 use krieg_planfile::read_plan;
 use std::alloc::Global;
-
-impl From<CheckStop> for Ending {
-    ghost use Rattle.krieg_cli.specs.Parts.{of_check};
-
-    ghost from_gives = { λ stop e. e ≡ of_check stop };
-
-    fn from(stop: CheckStop) -> Ending {
-        match stop {
-            CheckStop::Spent => Ending::Refused(Refusal::BudgetSpent),
-            CheckStop::NoMemory => Ending::NoMemory,
-        }
-    }
-}
 
 /// The line of the worst case.
 #[tactic(auto, unfolding(crate::specs::Check::worst_text))]

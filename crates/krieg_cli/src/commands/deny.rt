@@ -7,22 +7,9 @@ use crate::commands::counted::counted;
 use crate::ending::Ending;
 use crate::refusal::Refusal;
 use krieg_board::{NoMemory, Units};
-use krieg_refute::{DenyStop, Refutation, deny};
+use krieg_refute::{Refutation, deny};
 use krieg_refutefile::read_refutation;
 use std::alloc::Global;
-
-impl From<DenyStop> for Ending {
-    ghost use Rattle.krieg_cli.specs.Parts.{of_deny};
-
-    ghost from_gives = { λ stop e. e ≡ of_deny stop };
-
-    fn from(stop: DenyStop) -> Ending {
-        match stop {
-            DenyStop::Spent => Ending::Refused(Refusal::BudgetSpent),
-            DenyStop::NoMemory => Ending::NoMemory,
-        }
-    }
-}
 
 /// The line that no plan mates within so many moves.
 #[tactic(auto, unfolding(crate::specs::Deny::refuted_text))]

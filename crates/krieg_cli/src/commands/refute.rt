@@ -10,25 +10,11 @@ use crate::refusal::Refusal;
 use krieg_board::{MOST_MOVES, Side, Units};
 use krieg_fen::MOST_LISTED;
 use krieg_pack::Belief;
-use krieg_refute::{Denied, RefuteStop, refute};
+use krieg_refute::{Denied, refute};
 use krieg_refutefile::{Pieces, write_denial};
 use krieg_sheet::{Sheet, read_sheet};
 use krieg_words::Dialect;
 use std::alloc::Global;
-
-impl From<RefuteStop> for Ending {
-    ghost use Rattle.krieg_cli.specs.Parts.{of_refute};
-
-    ghost from_gives = { λ stop e. e ≡ of_refute stop };
-
-    fn from(stop: RefuteStop) -> Ending {
-        match stop {
-            RefuteStop::Spent => Ending::Refused(Refusal::BudgetSpent),
-            RefuteStop::Large => Ending::Refused(Refusal::PlanTooLarge),
-            RefuteStop::NoMemory => Ending::NoMemory,
-        }
-    }
-}
 
 /// What a search for claims comes to, within so many moves and units. The set and the claims are let go while the text is made.
 fn searched(

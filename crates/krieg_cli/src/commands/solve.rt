@@ -16,7 +16,6 @@ use crate::commands::asked::{asked, listed};
 use crate::commands::counted::counted;
 use crate::ending::Ending;
 use crate::input::MOST_INPUT;
-use crate::refusal::Refusal;
 use krieg_board::{MOST_MOVES, NoMemory, Position, Side, Units};
 use krieg_fen::MOST_LISTED;
 use krieg_pack::Belief;
@@ -26,20 +25,6 @@ use krieg_search::{Answer, SearchStop, find, solve};
 use krieg_sheet::{Sheet, read_sheet};
 use krieg_words::Dialect;
 use std::alloc::Global;
-
-impl From<SearchStop> for Ending {
-    ghost use Rattle.krieg_cli.specs.Parts.{of_search};
-
-    ghost from_gives = { λ stop e. e ≡ of_search stop };
-
-    fn from(stop: SearchStop) -> Ending {
-        match stop {
-            SearchStop::Spent => Ending::Refused(Refusal::BudgetSpent),
-            SearchStop::Large => Ending::Refused(Refusal::PlanTooLarge),
-            SearchStop::NoMemory => Ending::NoMemory,
-        }
-    }
-}
 
 /// The text of the plan file of a plan for the listed positions.
 fn file_text(
