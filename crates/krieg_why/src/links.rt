@@ -25,6 +25,22 @@ pub(crate) struct Link {
     pub(crate) reply: Move,
 }
 
+/// What all games of a sheet have in common: how the umpire speaks, who hears it, and where a game may begin. The starts
+/// are numbered from 0.
+#[derive(Drop)]
+pub(crate) struct Setting {
+    pub(crate) dialect: Dialect,
+    pub(crate) who: Side,
+    pub(crate) starts: Belief,
+}
+
+/// A game by its number, and where it stands.
+#[derive(Drop)]
+struct Game {
+    stands: Position,
+    number: usize,
+}
+
 /// The games after some lines: for each position the least one that leads to it, in the order of these games.
 pub(crate) type Tales = IndexMap<Packed, usize>;
 
@@ -69,29 +85,28 @@ fn add(tales: &mut Tales, p: &Position, number: usize) -> Result<bool, NoMemory>
 
 /// Adds the games after those of the legal moves that have the words, in the order of these moves.
 fn add_replies(
-    d: Dialect,
+    setting: &Setting,
     w: &Words,
-    p: &Position,
     moves: &[Move],
-    number: usize,
-    starts: &Belief,
+    game: Game,
     links: &mut Vec<Link>,
     tales: &mut Tales,
 ) -> Result<(), NoMemory>
-    requires legal { All (λ m. rule.is_legal p.now m ≡ true) moves.now }
-    requires kept { AreKept starts.now links.old.items tales.old.entries }
-    requires number { number < length starts.now + length links.old.items }
-    ensures { OnOk result (Adds starts.now links.old.items links.new.items tales.old.entries
-        tales.new.entries (map
-        (after_reply (tale_of (kept (map begun starts.now) links.old.items) (p.now, number)))
-        (filter (spoken.are_told d w.now p.now) moves.now))) }
+    requires legal { All (λ m. rule.is_legal game.stands m ≡ true) moves.now }
+    requires kept { AreKept setting.now.starts links.old.items tales.old.entries }
+    requires number { game.number < length setting.now.starts + length links.old.items }
+    ensures { let x = tale_of (kept (map begun setting.now.starts) links.old.items)
+        (game.stands, game.number) in
+        let told = spoken.are_told setting.now.dialect w.now game.stands in
+        OnOk result (Adds setting.now.starts links.old.items links.new.items tales.old.entries
+        tales.new.entries (map (after_reply x) (filter told moves.now))) }
 {
     for mv in moves {
-        if let Some(next) = after_told(d, w, p, *mv) {
-            let link = starts.members().len() + links.len();
+        if let Some(next) = after_told(setting.dialect, w, &game.stands, *mv) {
+            let link = setting.starts.members().len() + links.len();
             if add(tales, &next, link)? {
                 links.push(Link {
-                    before: number,
+                    before: game.number,
                     reply: *mv,
                 })?;
             }
@@ -100,45 +115,43 @@ fn add_replies(
     Ok(())
 }
 
-/// Adds the games after one line more of a game that stands in `p`.
+/// Adds the games after one line more of this game.
 #[tactic(auto, using(crate::proofs::Adding::listed))]
 fn add_next(
     alloc: Global,
-    d: Dialect,
-    who: Side,
+    setting: &Setting,
     line: &Line,
-    p: &Position,
-    number: usize,
-    starts: &Belief,
+    game: Game,
     links: &mut Vec<Link>,
     tales: &mut Tales,
 ) -> Result<(), NoMemory>
-    requires kept { AreKept starts.now links.old.items tales.old.entries }
-    requires number { number < length starts.now + length links.old.items }
-    ensures { OnOk result (Adds starts.now links.old.items links.new.items tales.old.entries
-        tales.new.entries (tales_after d who line.now
-        (tale_of (kept (map begun starts.now) links.old.items) (p.now, number)))) }
+    requires kept { AreKept setting.now.starts links.old.items tales.old.entries }
+    requires number { game.number < length setting.now.starts + length links.old.items }
+    ensures { let x = tale_of (kept (map begun setting.now.starts) links.old.items)
+        (game.stands, game.number) in
+        OnOk result (Adds setting.now.starts links.old.items links.new.items tales.old.entries
+        tales.new.entries (tales_after setting.now.dialect setting.now.who line.now x)) }
 {
     match line {
         Line::Done(mv, w) => {
-            if p.side() != who {
+            if game.stands.side() != setting.who {
                 return Ok(());
             }
-            if let Some(next) = after_told_if_legal(d, w, p, *mv) {
-                let _ = add(tales, &next, number)?;
+            if let Some(next) = after_told_if_legal(setting.dialect, w, &game.stands, *mv) {
+                let _ = add(tales, &next, game.number)?;
             }
             Ok(())
         }
         Line::Heard(w) => {
-            if p.side() == who {
+            if game.stands.side() == setting.who {
                 return Ok(());
             }
-            let moves = legal_moves(alloc, p)?;
-            add_replies(d, w, p, moves.as_slice(), number, starts, links, tales)
+            let moves = legal_moves(alloc, &game.stands)?;
+            add_replies(setting, w, moves.as_slice(), game, links, tales)
         }
         _ => {
-            if stays(d, who, line, p) {
-                let _ = add(tales, p, number)?;
+            if stays(setting.dialect, setting.who, line, &game.stands) {
+                let _ = add(tales, &game.stands, game.number)?;
             }
             Ok(())
         }
@@ -148,32 +161,25 @@ fn add_next(
 /// The games after one line more.
 pub(crate) fn tell(
     alloc: Global,
-    d: Dialect,
-    who: Side,
+    setting: &Setting,
     line: &Line,
     tales: &Tales,
-    starts: &Belief,
     links: &mut Vec<Link>,
 ) -> Result<Tales, NoMemory>
-    requires { AreKept starts.now links.old.items tales.now.entries }
-    ensures kept { IfOk result (λ t. AreKept starts.now links.new.items t.entries) }
-    ensures tales { IfOk result (λ t. tales_of starts.now links.new.items t.entries
-        ≡ tales_spec.tell d who line.now (tales_of starts.now links.old.items tales.now.entries)) }
+    requires { AreKept setting.now.starts links.old.items tales.now.entries }
+    ensures kept { IfOk result (λ t. AreKept setting.now.starts links.new.items t.entries) }
+    ensures tales { IfOk result (λ t. tales_of setting.now.starts links.new.items t.entries
+        ≡ tales_spec.tell setting.now.dialect setting.now.who line.now
+        (tales_of setting.now.starts links.old.items tales.now.entries)) }
 {
     let mut after = IndexMap::new(alloc);
     for i in 0..tales.len() {
         if let Some((k, number)) = tales.get_index(i) {
-            add_next(
-                alloc,
-                d,
-                who,
-                line,
-                &unpack(k),
-                *number,
-                starts,
-                links,
-                &mut after,
-            )?;
+            let game = Game {
+                stands: unpack(k),
+                number: *number,
+            };
+            add_next(alloc, setting, line, game, links, &mut after)?;
         }
     }
     Ok(after)

@@ -6,14 +6,14 @@ ghost use Rattle.krieg_why.specs.Links.{AreKept, tales_of};
 ghost use Rattle.krieg_why.specs.Tales.{begun, tell_all};
 
 use crate::games::{Games, numbered};
-use crate::links::{Link, Tales, begin, tell};
+use crate::links::{Link, Setting, Tales, begin, tell};
 use crate::shown::Shown;
 use crate::starts::starts_of;
 use krieg_belief::{BeliefStop, believe};
-use krieg_board::{NoMemory, Side};
+use krieg_board::NoMemory;
 use krieg_pack::Belief;
 use krieg_sheet::Sheet;
-use krieg_words::{Dialect, Line};
+use krieg_words::Line;
 use std::alloc::Global;
 
 /// Why the games of a sheet are not shown.
@@ -29,20 +29,19 @@ pub enum WhyStop {
 /// The games after all entries.
 fn tell_lines(
     alloc: Global,
-    d: Dialect,
-    who: Side,
+    setting: &Setting,
     entries: &[Line],
-    starts: &Belief,
     links: &mut Vec<Link>,
 ) -> Result<Tales, NoMemory>
     requires { links.old.items ≡ [] }
-    ensures kept { IfOk result (λ t. AreKept starts.now links.new.items t.entries) }
-    ensures tales { IfOk result (λ t. tales_of starts.now links.new.items t.entries
-        ≡ tell_all d who entries.now (map begun starts.now)) }
+    ensures kept { IfOk result (λ t. AreKept setting.now.starts links.new.items t.entries) }
+    ensures tales { IfOk result (λ t. tales_of setting.now.starts links.new.items t.entries
+        ≡ tell_all setting.now.dialect setting.now.who entries.now
+        (map begun setting.now.starts)) }
 {
-    let mut tales = begin(alloc, starts)?;
+    let mut tales = begin(alloc, &setting.starts)?;
     for line in entries {
-        tales = tell(alloc, d, who, line, &tales, starts, links)?;
+        tales = tell(alloc, setting, line, &tales, links)?;
     }
     Ok(tales)
 }
@@ -54,21 +53,19 @@ fn games_of<'a>(alloc: Global, s: &'a Sheet, possible: Belief) -> Result<Games<'
     ensures { IfOk result (λ g. AreShown s.now g) }
 {
     let starts = starts_of(alloc, s)?;
+    let setting = Setting {
+        dialect: s.dialect(),
+        who: s.side(),
+        starts,
+    };
     let mut links = Vec::new(alloc);
-    let mut tales = tell_lines(
-        alloc,
-        s.dialect(),
-        s.side(),
-        s.entries(),
-        &starts,
-        &mut links,
-    )?;
+    let mut tales = tell_lines(alloc, &setting, s.entries(), &mut links)?;
     let lasts = numbered(alloc, &tales, &possible)?;
     // What is let go in smaller parts goes back to the system, and the text of the games takes its place.
     tales.shrink_to_fit();
     drop(tales);
     drop(possible);
-    Ok(Games::kept(s, starts, links, lasts))
+    Ok(Games::kept(s, setting.starts, links, lasts))
 }
 
 /// For each position that is consistent with the sheet, in order, the least hidden game that explains it: the one

@@ -6,5 +6,5 @@ use Rattle.krieg_why.proofs.links.add_replies.Given as goal
 
 abbrev pub invariant-loop-mv : goal.invariant-loop-mv
 invariant-loop-mv l =
-    Adds l.starts l.fn.links.items l.links.items l.fn.tales.entries l.tales.entries
-    (map (after_reply (tale_of (kept (map begun l.starts) l.fn.links.items) (l.p, l.number))) (filter (are_told l.d l.w l.p) (take l.mv-index l.moves)))
+    Adds l.setting.starts l.fn.links.items l.links.items l.fn.tales.entries l.tales.entries
+    (map (after_reply (tale_of (kept (map begun l.setting.starts) l.fn.links.items) (l.game.stands, l.game.number))) (filter (are_told l.setting.dialect l.w l.game.stands) (take l.mv-index l.moves)))

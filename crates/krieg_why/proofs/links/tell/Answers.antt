@@ -20,7 +20,7 @@ add_next-requires-clause-number c =
 
 pub loop-i-preserved : goal.loop-i-preserved
 loop-i-preserved c =
-    let ps = c.args.starts.now in
+    let ps = c.args.setting.now.starts in
     let a = c.args.links.now.items in
     let b = c.loop-i.links.items in
     let es = c.args.tales.now.entries in
@@ -31,13 +31,13 @@ loop-i-preserved c =
       | in-Some+in_ok-add_next v ↦
           let n = v.in-Some.number.now in
           let at : slice_get es c.loop-i.i ≡ Some (v.in-Some.k.now, n) = search rules in
-          let g : Adds ps b links eb entries (tales_after c.args.d c.args.who c.args.line.now (tale_of (kept (map begun ps) b) (v.unpack.result, n))) = search rules in
-          tell_more ps c.args.d c.args.who c.args.line.now a b links es eb entries c.loop-i.i (v.in-Some.k.now, n) at c.requires c.loop-i.invariant
-          (subst (λ (p : Pos). Adds ps b links eb entries (tales_after c.args.d c.args.who c.args.line.now (tale_of (kept (map begun ps) b) (p, n)))) v.unpack.ensures.value g)
+          let g : Adds ps b links eb entries (tales_after c.args.setting.now.dialect c.args.setting.now.who c.args.line.now (tale_of (kept (map begun ps) b) (v.unpack.result, n))) = search rules in
+          tell_more ps c.args.setting.now.dialect c.args.setting.now.who c.args.line.now a b links es eb entries c.loop-i.i (v.in-Some.k.now, n) at c.requires c.loop-i.invariant
+          (subst (λ (p : Pos). Adds ps b links eb entries (tales_after c.args.setting.now.dialect c.args.setting.now.who c.args.line.now (tale_of (kept (map begun ps) b) (p, n)))) v.unpack.ensures.value g)
       | in_default v ↦ absurd (none_past es c.loop-i.i (search rules) (search rules))
     ]
 
 pub returns-clause-tales : goal.returns-clause-tales
 returns-clause-tales c =
     let size : length c.args.tales.now.entries ≤ c.loop-i.i = search rules in
-    tell_end c.args.starts.now c.args.d c.args.who c.args.line.now c.args.links.now.items c.loop-i.links.items c.args.tales.now.entries c.loop-i.after.entries c.loop-i.i size c.loop-i.invariant
+    tell_end c.args.setting.now.starts c.args.setting.now.dialect c.args.setting.now.who c.args.line.now c.args.links.now.items c.loop-i.links.items c.args.tales.now.entries c.loop-i.after.entries c.loop-i.i size c.loop-i.invariant

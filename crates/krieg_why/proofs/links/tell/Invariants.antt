@@ -4,4 +4,4 @@ use Rattle.krieg_why.specs.Tales.{tales_after}
 use Rattle.krieg_why.proofs.links.tell.Given as goal
 
 abbrev pub invariant-loop-i : goal.invariant-loop-i
-invariant-loop-i l = Adds l.starts l.fn.links.items l.links.items [] l.after.entries (flat_map (tales_after l.d l.who l.line) (take l.i (tales_of l.starts l.fn.links.items l.tales.entries)))
+invariant-loop-i l = Adds l.setting.starts l.fn.links.items l.links.items [] l.after.entries (flat_map (tales_after l.setting.dialect l.setting.who l.line) (take l.i (tales_of l.setting.starts l.fn.links.items l.tales.entries)))
