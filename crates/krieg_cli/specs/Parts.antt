@@ -8,8 +8,6 @@ use Rattle.krieg_ports.specs.declared.transfer.ReadEnd.{ReadEnd}
 use Rattle.krieg_ports.specs.declared.transfer.ReadEnd.TheVariants as unread
 use Rattle.krieg_belief.specs.declared.beliefs.BeliefStop.{BeliefStop}
 use Rattle.krieg_belief.specs.declared.beliefs.BeliefStop.TheVariants as stop
-use Rattle.krieg_why.specs.declared.why_possible.WhyStop.{WhyStop}
-use Rattle.krieg_why.specs.declared.why_possible.WhyStop.TheVariants as shown
 use Rattle.krieg_parting.specs.declared.stop.PartStop.{PartStop}
 use Rattle.krieg_parting.specs.declared.stop.PartStop.TheVariants as part
 use Rattle.krieg_search.specs.declared.stop.SearchStop.{SearchStop}
@@ -58,11 +56,6 @@ of_text fault.NoMemory = NoMemory
 abbrev pub of_belief : BeliefStop → Ending
 of_belief (stop.TooMany line) = Refused (TooMany line)
 of_belief stop.NoMemory = NoMemory
-
--- games that are not shown
-abbrev pub of_why : WhyStop → Ending
-of_why (shown.TooMany line) = Refused (TooMany line)
-of_why shown.NoMemory = NoMemory
 
 -- a plan or a refutation that is not looked at to its end
 abbrev pub of_part : PartStop → Ending

@@ -1,5 +1,5 @@
 -- Which hidden game explains a position that a sheet leaves open, and which of them is the least.
-use Rattle.std.specs.Prelude.{◌≡◌, ℕ, true, false, List, ◌∷◌, map}
+use Rattle.std.specs.Prelude.{◌≡◌, true, false, List, ◌∷◌, map}
 use Rattle.std.specs.List.{All, Contains}
 use Rattle.std.specs.Ordering.{is_le, then_cmp, on}
 use Rattle.std.specs.Cmp.Lexicographic.{slice_cmp}
@@ -22,10 +22,7 @@ use Rattle.krieg_sheet.specs.Sheets.{SheetState}
 use Rattle.krieg_sheet.specs.Games.{OpensWith}
 use Rattle.krieg_pack.specs.Order.{position_cmp}
 use Rattle.krieg_belief.specs.Possible.{IsPossible}
-use Rattle.krieg_belief.specs.Limits.{IsFirstExcess}
 use Rattle.krieg_why.specs.declared.shown.Shown.{Shown}
-use Rattle.krieg_why.specs.declared.why_possible.WhyStop.{WhyStop}
-use Rattle.krieg_why.specs.declared.why_possible.WhyStop.TheVariants.{TooMany, NoMemory}
 
 -- a hidden game: the position in which it stands, where it began, and the tries of both players
 pub record ShownState : Type 0 where
@@ -70,8 +67,3 @@ pub record IsLeast (s : SheetState) (x : ShownState) : Type 0 where
 pub record AreShown (s : SheetState) (xs : List ShownState) : Type 0 where
   pub possible : IsPossible s (map last_of xs)
   pub least : All (IsLeast s) xs
-
--- too many positions are possible only so; want of memory has no cause
-abbrev pub IsWhyStop : SheetState → ℕ → WhyStop → Type 0
-IsWhyStop s limit (TooMany line) = IsFirstExcess s limit line
-IsWhyStop s limit NoMemory = Unit {0}

@@ -1,7 +1,7 @@
 ghost use Rattle.std.specs.Prelude.{◌≡◌, [], IfOk, OnOk, IfErr, map};
-ghost use Rattle.krieg_belief.specs.Limits.{AllWithin};
+ghost use Rattle.krieg_belief.specs.Limits.{AllWithin, IsStop};
 ghost use Rattle.krieg_belief.specs.Possible.{IsPossible};
-ghost use Rattle.krieg_why.specs.Explained.{AreShown, IsWhyStop, state_of};
+ghost use Rattle.krieg_why.specs.Explained.{AreShown, state_of};
 ghost use Rattle.krieg_why.specs.Links.{AreKept, tales_of};
 ghost use Rattle.krieg_why.specs.Tales.{begun, tell_all};
 
@@ -15,16 +15,6 @@ use krieg_pack::Belief;
 use krieg_sheet::Sheet;
 use krieg_words::Line;
 use std::alloc::Global;
-
-/// Why the games of a sheet are not shown.
-#[derive(Clone, Copy, Debug, PartialEq, Eq)]
-pub enum WhyStop {
-    /// More positions were possible than the limit allows, first after this line of the text that
-    /// `write_sheet` writes. For the list alone it is the line that says how many positions it has.
-    TooMany { line: usize },
-    /// Memory was not found.
-    NoMemory,
-}
 
 /// The games after all entries.
 fn tell_lines(
@@ -73,33 +63,29 @@ fn games_of<'a>(alloc: Global, s: &'a Sheet, possible: Belief) -> Result<Games<'
 /// one by one, as they are read.
 ///
 /// `TooMany` exactly where `believe` answers it, with the same line. `NoMemory` where memory was not found.
-pub fn least_games<'a>(alloc: Global, s: &'a Sheet, limit: usize) -> Result<Games<'a>, WhyStop>
+pub fn least_games<'a>(alloc: Global, s: &'a Sheet, limit: usize) -> Result<Games<'a>, BeliefStop>
     ensures value { IfOk result (λ g. AreShown s.now g) }
     ensures within { OnOk result (AllWithin limit s.now) }
-    ensures stop { IfErr result (IsWhyStop s.now limit) }
+    ensures stop { IfErr result (IsStop s.now limit) }
 {
-    let possible = match believe(alloc, s, limit) {
-        Ok(possible) => possible,
-        Err(BeliefStop::TooMany { line }) => return Err(WhyStop::TooMany { line }),
-        Err(BeliefStop::NoMemory) => return Err(WhyStop::NoMemory),
-    };
+    let possible = believe(alloc, s, limit)?;
     match games_of(alloc, s, possible) {
         Ok(games) => Ok(games),
-        Err(NoMemory) => Err(WhyStop::NoMemory),
+        Err(NoMemory) => Err(BeliefStop::NoMemory),
     }
 }
 
 /// The games of `least_games`, all at once.
 ///
 /// `TooMany` exactly where `believe` answers it, with the same line. `NoMemory` where memory was not found.
-pub fn why(alloc: Global, s: &Sheet, limit: usize) -> Result<Vec<Shown>, WhyStop>
+pub fn why(alloc: Global, s: &Sheet, limit: usize) -> Result<Vec<Shown>, BeliefStop>
     ensures value { IfOk result (λ v. AreShown s.now (map state_of v.items)) }
     ensures within { OnOk result (AllWithin limit s.now) }
-    ensures stop { IfErr result (IsWhyStop s.now limit) }
+    ensures stop { IfErr result (IsStop s.now limit) }
 {
     let games = least_games(alloc, s, limit)?;
     match games.all(alloc) {
         Ok(games) => Ok(games),
-        Err(NoMemory) => Err(WhyStop::NoMemory),
+        Err(NoMemory) => Err(BeliefStop::NoMemory),
     }
 }

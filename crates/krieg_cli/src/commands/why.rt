@@ -1,4 +1,3 @@
-ghost use Rattle.std.specs.Prelude.{◌≡◌};
 ghost use Rattle.krieg_cli.specs.Parts.{Decides};
 ghost use Rattle.krieg_cli.specs.Why as spec;
 
@@ -6,21 +5,8 @@ use crate::ending::Ending;
 use crate::input::MOST_INPUT;
 use crate::refusal::Refusal;
 use krieg_sheet::{Sheet, read_sheet};
-use krieg_why::{WhyStop, least_games, write_games_of};
+use krieg_why::{least_games, write_games_of};
 use std::alloc::Global;
-
-impl From<WhyStop> for Ending {
-    ghost use Rattle.krieg_cli.specs.Parts.{of_why};
-
-    ghost from_gives = { λ stop e. e ≡ of_why stop };
-
-    fn from(stop: WhyStop) -> Ending {
-        match stop {
-            WhyStop::TooMany { line } => Ending::Refused(Refusal::TooMany(line)),
-            WhyStop::NoMemory => Ending::NoMemory,
-        }
-    }
-}
 
 /// What `why` answers to a sheet: a text that can be an input again, or none.
 fn shown(alloc: Global, sheet: &Sheet, limit: u64) -> Result<Vec<u8>, Ending>
