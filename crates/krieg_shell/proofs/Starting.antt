@@ -1,14 +1,14 @@
 -- A run with players is a start.
-use Rattle.std.proofs.Common.{◌≡◌, ℕ, List, [], ◌∷◌, Option, Some, None, inl, refl, subst}
+use Rattle.std.proofs.Common.{◌≡◌, ℕ, List, [], ◌∷◌, inl, refl, subst}
 use Rattle.krieg_seats.specs.Accounts.{Account}
 use Rattle.krieg_play.specs.Teams.{team}
 use Rattle.krieg_play.specs.Played.{Sides, sides, seen}
 use Rattle.krieg_args.specs.Command.{command_of}
-use Rattle.krieg_args.specs.Files.{Files, seat_files, lead_files}
+use Rattle.krieg_args.specs.Files.{Files}
 use Rattle.krieg_cli.specs.World.{Stream, World}
 use Rattle.krieg_cli.specs.Top.{IsRun}
 use Rattle.krieg_cli.proofs.Tables.{run_seen}
-use Rattle.krieg_shell.specs.Start.{Made, both_at, one_at, seated, StartsAt, StartsWith}
+use Rattle.krieg_shell.specs.Start.{Made, both_at, one_at, StartsAt}
 
 starts : {X : Type 0} {account : X → Account} {entry now : Sides X} {code : ℕ} {before after : World} {err err' : Stream} (players : Sides Account) (words : List (List ℕ)) →
     seen account entry ≡ players → IsRun account entry now (command_of words) code before after err err' → StartsAt players words code before after err err'
@@ -37,22 +37,3 @@ module _ {X : Type 0} {account : X → Account} {code : ℕ} {before after : Wor
   starts_playing made files white black w wo b bo now w_is wo_is b_is bo_is white_is black_is run =
       let sit : seen account (sides (team w wo) (team b bo)) ≡ both_at made files = rw (w_is, wo_is, b_is, bo_is, white_is, black_is) refl in
       starts (both_at made files) words sit run
-
--- ---- who sits, by the words
-
-module _ (made : Made) (words : List (List ℕ)) {code : ℕ} {before after : World} {err err' : Stream} where
-  by_words : (players : Sides Account) (play : Option Files) (lead : Option (List ℕ × List ℕ)) → players ≡ seated made play lead → play ≡ seat_files words → lead ≡ lead_files words →
-      StartsAt players words code before after err err' → StartsWith made words code before after err err'
-  by_words players play lead sit play_is lead_is h =
-      subst (λ o. StartsAt (seated made o (lead_files words)) words code before after err err') play_is
-      (subst (λ o. StartsAt (seated made play o) words code before after err err') lead_is
-      (subst (λ s. StartsAt s words code before after err err') sit h))
-
-  pub with_play : (files : Files) → Some files ≡ seat_files words → StartsAt (both_at made files) words code before after err err' → StartsWith made words code before after err err'
-  with_play files is h = by_words (both_at made files) (Some files) (lead_files words) refl is refl h
-
-  pub with_lead : (files : List ℕ × List ℕ) → None ≡ seat_files words → Some files ≡ lead_files words → StartsAt (one_at made files) words code before after err err' → StartsWith made words code before after err err'
-  with_lead files none is h = by_words (one_at made files) None (Some files) refl none is h
-
-  pub with_none : None ≡ seat_files words → None ≡ lead_files words → StartsAt (sides (team [] []) (team [] [])) words code before after err err' → StartsWith made words code before after err err'
-  with_none none nobody h = by_words (sides (team [] []) (team [] [])) None None refl none nobody h

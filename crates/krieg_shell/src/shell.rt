@@ -76,12 +76,18 @@ fn tell_memory<E: Sink>(err: &mut E) -> u8
     11
 }
 
+/// What a run is made of: where players come from, memory, and the words after the program's name.
+#[derive(Drop)]
+struct Call<'a, P> {
+    players: &'a P,
+    alloc: Global,
+    words: &'a [String],
+}
+
 /// A run of these words with one player on each side: White's is made of the first two files, and Black's of the last
 /// two.
 fn start_playing<P: Players, S: Source, O: Sink, E: Sink>(
-    players: &P,
-    alloc: Global,
-    words: &[String],
+    call: &Call<'_, P>,
     files: &SeatFiles<'_>,
     input: &mut S,
     out: &mut O,
@@ -95,34 +101,33 @@ fn start_playing<P: Players, S: Source, O: Sink, E: Sink>(
           wout = files.now.wout.now;
           bin = files.now.bin.now;
           bout = files.now.bout.now;
-        })) (map string_bytes words.now) result (seen input.old out.old)
+        })) (map string_bytes call.now.words.now) result (seen input.old out.old)
         (seen input.new out.new)
         (heard err.old) (heard err.new) }
 {
+    let alloc = call.alloc;
     let mut bench = Bench::new(alloc);
-    let Ok(white) = Box::new(alloc, players.player(alloc, files.win, files.wout)) else {
+    let Ok(white) = Box::new(alloc, call.players.player(alloc, files.win, files.wout)) else {
         return tell_memory(err);
     };
-    let Ok(black) = Box::new(alloc, players.player(alloc, files.bin, files.bout)) else {
+    let Ok(black) = Box::new(alloc, call.players.player(alloc, files.bin, files.bout)) else {
         return tell_memory(err);
     };
     let white: Box<dyn Seat> = white;
     let black: Box<dyn Seat> = black;
-    know_player(players, &white, files.win, files.wout);
-    know_player(players, &black, files.bin, files.bout);
+    know_player(call.players, &white, files.win, files.wout);
+    know_player(call.players, &black, files.bin, files.bout);
     if bench.white.push(white).is_err() || bench.black.push(black).is_err() {
         return tell_memory(err);
     }
-    let status = run(alloc, words, input, out, err, &mut bench);
+    let status = run(alloc, call.words, input, out, err, &mut bench);
     bench.dismiss();
     status
 }
 
 /// A run of these words with one player on White's side, who is made of these two files.
 fn start_leading<P: Players, S: Source, O: Sink, E: Sink>(
-    players: &P,
-    alloc: Global,
-    words: &[String],
+    call: &Call<'_, P>,
     tries: &str,
     told: &str,
     input: &mut S,
@@ -131,20 +136,20 @@ fn start_leading<P: Players, S: Source, O: Sink, E: Sink>(
 ) -> u8
     ensures { let seen = world S.left S.faults O.got O.faults in
         let heard = stream E.got E.faults in
-        StartsAt (one_at P.made (tries.now, told.now)) (map string_bytes words.now) result
+        StartsAt (one_at P.made (tries.now, told.now)) (map string_bytes call.now.words.now) result
         (seen input.old out.old) (seen input.new out.new)
         (heard err.old) (heard err.new) }
 {
-    let mut bench = Bench::new(alloc);
-    let Ok(opponent) = Box::new(alloc, players.player(alloc, tries, told)) else {
+    let mut bench = Bench::new(call.alloc);
+    let Ok(opponent) = Box::new(call.alloc, call.players.player(call.alloc, tries, told)) else {
         return tell_memory(err);
     };
     let opponent: Box<dyn Seat> = opponent;
-    know_player(players, &opponent, tries, told);
+    know_player(call.players, &opponent, tries, told);
     if bench.white.push(opponent).is_err() {
         return tell_memory(err);
     }
-    run(alloc, words, input, out, err, &mut bench)
+    run(call.alloc, call.words, input, out, err, &mut bench)
 }
 
 /// A run of these words with nobody on the bench.
@@ -166,27 +171,23 @@ fn start_alone<S: Source, O: Sink, E: Sink>(
 
 /// Does all that the program does with these words, over these streams, with the players that they ask for.
 fn start_with<P: Players, S: Source, O: Sink, E: Sink>(
-    players: &P,
-    alloc: Global,
-    words: &[String],
+    call: &Call<'_, P>,
     input: &mut S,
     out: &mut O,
     err: &mut E,
 ) -> u8
     ensures { let seen = world S.left S.faults O.got O.faults in
         let heard = stream E.got E.faults in
-        StartsWith P.made (map string_bytes words.now) result (seen input.old out.old)
+        StartsWith P.made (map string_bytes call.now.words.now) result (seen input.old out.old)
         (seen input.new out.new)
         (heard err.old) (heard err.new) }
 {
-    if let Some(files) = seat_files(words) {
-        return start_playing(players, alloc, words, &files, input, out, err);
+    if let Some(files) = seat_files(call.words) {
+        return start_playing(call, &files, input, out, err);
     }
-    match lead_files(words) {
-        Some((tries, told)) => {
-            start_leading(players, alloc, words, tries, told, input, out, err)
-        }
-        None => start_alone(alloc, words, input, out, err),
+    match lead_files(call.words) {
+        Some((tries, told)) => start_leading(call, tries, told, input, out, err),
+        None => start_alone(call.alloc, call.words, input, out, err),
     }
 }
 
@@ -210,7 +211,12 @@ pub fn start<R: Env + AllocGlobal + Files<File = File>, S: Source, O: Sink, E: S
     let Ok(words) = words(rt) else {
         return tell_memory(err);
     };
-    start_with(&FilePlayers { rt }, rt.alloc(), &words, input, out, err)
+    let call = Call {
+        players: &FilePlayers { rt },
+        alloc: rt.alloc(),
+        words: &words,
+    };
+    start_with(&call, input, out, err)
 }
 
 /// Does all that the program `krieg_find` does with the words that the system gives, over these streams, and gives the status

@@ -6,6 +6,6 @@ use Rattle.krieg_shell.proofs.shell.start_leading.Goals as goal
 
 pub returns : goal.returns
 returns g c =
-    starts_leading (map string_bytes c.args.words.now) g.P.Players.made c.args.tries.now c.args.told.now
+    starts_leading (map string_bytes c.args.call.now.words.now) g.P.Players.made c.args.tries.now c.args.told.now
     c.into_dyn_box-opponent.result _ _ _ _ _
     (grind (arith, common_steps, c.push.ensures.items, c.new-bench.ensures.white)) c.new-bench.ensures.white_out c.new-bench.ensures.black c.new-bench.ensures.black_out c.know_player.ensures c.run.ensures.ends
