@@ -13,3 +13,4 @@ pub mod Canonical
 pub mod Searches
 pub mod ToyTables
 pub mod ToySearch
+pub mod Common

@@ -3,21 +3,11 @@ use Rattle.std.proofs.Common.{◌≡◌, ℕ, ◌+◌, ◌≤◌, ◌<◌, Bool,
 use Rattle.std.specs.Prelude.{IfSome, option_map}
 use Rattle.std.specs.List.{list_any}
 use Rattle.std.proofs.lemmas.Bool.{and_parts, cases_Bool}
-use Rattle.krieg_theory.specs.Sets.{In}
-use Rattle.krieg_theory.specs.Game.{Game, IsGame}
-use Rattle.krieg_theory.specs.Can.{can}
-use Rattle.krieg_theory.specs.Plans.{Outset, IsOutset, openings, opening_set, is_over, can_plan}
+use Rattle.krieg_theory.proofs.Common.{In, Game, IsGame, can, Outset, IsOutset, openings, opening_set, is_over, can_plan}
 use Rattle.krieg_theory.proofs.Lists.{in_map, map_in}
-use Rattle.krieg_costs.specs.Sums.{Pair, total, once}
-use Rattle.krieg_costs.specs.Cost.{price}
-use Rattle.krieg_costs.specs.Reach.{reach_of}
-use Rattle.krieg_costs.specs.Backing.{first_lost}
+use Rattle.krieg_costs.proofs.Common.{Pair, total, once, price, reach_of, first_lost}
 use Rattle.krieg_costs.proofs.Reached.{fresh_is_reach}
-use Rattle.krieg_accounts.specs.Sound.{StoredLost, IsSound}
-use Rattle.krieg_accounts.specs.Charges.{all_owed}
-use Rattle.krieg_accounts.specs.Stretch.{CoversSets}
-use Rattle.krieg_accounts.specs.Answers.{opening_sets}
-use Rattle.krieg_accounts.specs.Laws.{SetsAnswerPlan, FloorIsTaken, FreshIsEnough, ShortIsBelowFresh}
+use Rattle.krieg_accounts.proofs.Common.{StoredLost, IsSound, all_owed, CoversSets, opening_sets, SetsAnswerPlan, FloorIsTaken, FreshIsEnough, ShortIsBelowFresh}
 use Rattle.krieg_accounts.proofs.Floors.{floor_is_charged}
 use Rattle.krieg_accounts.proofs.TryEnds.{find_map, none_fails}
 

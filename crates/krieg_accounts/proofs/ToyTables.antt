@@ -3,21 +3,11 @@ use Rattle.std.proofs.Common.{◌≡◌, ℕ, zero, suc, ◌+◌, ◌<◌, true,
 use Rattle.std.specs.Prelude.{◌==◌, IfSome, ⊤}
 use Rattle.std.specs.List.{list_all}
 use Rattle.std.proofs.lemmas.Bool.{both_ways, and_parts, eq-eqb, not_from_true}
-use Rattle.krieg_theory.specs.Sets.{In, is_nil}
-use Rattle.krieg_theory.specs.Split.{refused, tries, keys, class}
-use Rattle.krieg_theory.specs.Can.{first_try}
-use Rattle.krieg_theory.specs.Toy.{toy}
-use Rattle.krieg_theory.specs.ToyLawful.{lawful, nat_order}
+use Rattle.krieg_theory.proofs.Common.{In, is_nil, refused, tries, keys, class, first_try, toy, lawful, nat_order}
 use Rattle.std.specs.Prelude.{nat_lt}
-use Rattle.krieg_costs.specs.Sums.{Pair}
-use Rattle.krieg_costs.specs.Block.{block_pair}
-use Rattle.krieg_costs.specs.Backing.{floor_price}
+use Rattle.krieg_costs.proofs.Common.{Pair, block_pair, floor_price}
 use Rattle.krieg_costs.proofs.Costs.{legal_try}
-use Rattle.krieg_accounts.specs.Stored.{pairs}
-use Rattle.krieg_accounts.specs.Sound.{Table, known, StoredLost, StoredWon, IsEarlier, IsBacked, IsSound}
-use Rattle.krieg_accounts.specs.Stretch.{IsStretch, CoversPair, CoversTries}
-use Rattle.krieg_accounts.specs.Answers.{LostBelow}
-use Rattle.krieg_accounts.specs.Toy.{lost_within, won_within, of_two, of_nought_and_five}
+use Rattle.krieg_accounts.proofs.Common.{pairs, Table, known, StoredLost, StoredWon, IsEarlier, IsBacked, IsSound, IsStretch, CoversPair, CoversTries, LostBelow, lost_within, won_within, of_two, of_nought_and_five}
 use Rattle.krieg_accounts.proofs.Tables.{known_in}
 use Rattle.krieg_accounts.proofs.Appended.{appended}
 use Rattle.krieg_accounts.proofs.Stretches.{stretch_of_split, stretch_noted, noted_sound}

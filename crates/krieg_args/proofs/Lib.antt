@@ -1,1 +1,2 @@
 mod OtherWords
+pub mod Common

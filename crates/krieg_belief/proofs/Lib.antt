@@ -1,3 +1,4 @@
 pub mod HiddenGames
 pub mod Runs
 pub mod Prefixes
+pub mod Common

@@ -3,11 +3,7 @@ use Rattle.std.proofs.Common.{◌≡◌, ℕ, ◌+◌, ◌<◌, ◌≤◌, ◌�
 use Rattle.std.specs.Prelude.{Option, Some, None, is_some}
 use Rattle.std.proofs.lemmas.List.{get_or-replicate, get_or_past, length-replicate, ext_get_or, get_or-set_same, get_or-set_other}
 use Rattle.std.proofs.Math.ListN.{length-set}
-use Rattle.krieg_board.specs.declared.men.Man.{Man}
-use Rattle.krieg_board.specs.Squares.{squares}
-use Rattle.krieg_board.specs.Board.{Board, man_at}
-use Rattle.krieg_board.specs.Sets.{has, squares_where, set_below}
-use Rattle.krieg_board.specs.Boards.{board_of, sets_of, empty_board, AreExact}
+use Rattle.krieg_board.proofs.Common.{Man, squares, Board, man_at, has, squares_where, set_below, board_of, sets_of, empty_board, AreExact}
 
 pub nothing_board : board_of (record { white = 0; black = 0; pawns = 0; knights = 0; bishops = 0; rooks = 0; queens = 0; kings = 0 }) ≡ empty_board
 unfolding board_of empty_board squares has

@@ -1,13 +1,9 @@
 -- The facts of a valid position one by one, and a position with these facts has no fault.
 use Rattle.std.proofs.Common.{◌≡◌, Bool, true, false, not, ◌&&◌, refl, cond, length}
 use Rattle.std.specs.Prelude.{Option, Some, None}
-use Rattle.krieg_board.specs.declared.men.Side.TheVariants.{White, Black}
-use Rattle.krieg_board.specs.declared.position.BadPosition.{BadPosition}
-use Rattle.krieg_board.specs.declared.position.BadPosition.TheVariants as bad
-use Rattle.krieg_board.specs.Men.{other}
-use Rattle.krieg_board.specs.Attacks.{is_king_attacked}
-use Rattle.krieg_board.specs.Pos.{Pos}
-use Rattle.krieg_board.specs.Validity.{IsValid, first_fault, has_kings, has_pawns_inside, is_small, has_castles, has_mark}
+use Rattle.krieg_board.proofs.Common.{White, Black, other, is_king_attacked, Pos, IsValid, first_fault, has_kings, has_pawns_inside, is_small, has_castles, has_mark}
+use Rattle.krieg_faults.specs.declared.position.BadPosition.{BadPosition}
+use Rattle.krieg_faults.specs.declared.position.BadPosition.TheVariants as bad
 
 pub record Facts (p : Pos) : Type 0 where
   pub squares : length p.board ≡ 64

@@ -3,17 +3,7 @@ use Rattle.std.proofs.Common.{◌≡◌, ℕ, ◌<◌, ◌^◌, Bool, true, fals
 use Rattle.std.specs.Prelude.{Option, Some, None}
 use Rattle.std.proofs.lemmas.Bool.{and_parts, eqb-true}
 use Rattle.std.proofs.lemmas.Nat.{and_le_r}
-use Rattle.krieg_board.specs.declared.men.Side.{Side}
-use Rattle.krieg_board.specs.declared.men.Side.TheVariants.{White, Black}
-use Rattle.krieg_board.specs.declared.men.Kind.{Kind}
-use Rattle.krieg_board.specs.declared.men.Kind.TheVariants.{Pawn, King}
-use Rattle.krieg_board.specs.declared.men.Man.{Man}
-use Rattle.krieg_board.specs.Men.{is_same_bool, is_same_kind, is_same_side}
-use Rattle.krieg_board.specs.Squares.{squares, every_square, rank_of}
-use Rattle.krieg_board.specs.Board.{Board, man_at, is_of, is_man}
-use Rattle.krieg_board.specs.Boards.{is_kind}
-use Rattle.krieg_board.specs.Sets.{has}
-use Rattle.krieg_board.specs.Validity.{count_kind, has_kings, has_pawns_inside, is_pawn}
+use Rattle.krieg_board.proofs.Common.{Side, White, Black, Kind, Pawn, King, Man, is_same_bool, is_same_kind, is_same_side, squares, every_square, rank_of, Board, man_at, is_of, is_man, is_kind, has, count_kind, has_kings, has_pawns_inside, is_pawn}
 use Rattle.krieg_board.proofs.MenLemmas.{kind_side}
 use Rattle.krieg_board.proofs.OneKing.{set_empty}
 use Rattle.krieg_board.proofs.Ones.{counted_set}

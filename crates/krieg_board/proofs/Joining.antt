@@ -3,16 +3,8 @@ use Rattle.std.proofs.Common.{◌≡◌, ℕ, ◌^◌, ◌<◌, Bool, true, fals
 use Rattle.std.specs.Prelude.{Option, Some, None}
 use Rattle.std.proofs.lemmas.Bool.{eq-eqb, ne_eqb, cases_eq}
 use Rattle.std.proofs.lemmas.Nat.{or_lt}
-use Rattle.krieg_board.specs.declared.men.Side.{Side}
-use Rattle.krieg_board.specs.declared.men.Side.TheVariants.{White, Black}
-use Rattle.krieg_board.specs.declared.men.Kind.{Kind}
-use Rattle.krieg_board.specs.declared.men.Kind.TheVariants.{Pawn, Knight, Bishop, Rook, Queen, King}
-use Rattle.krieg_board.specs.declared.men.Man.{Man}
-use Rattle.krieg_board.specs.Men.{is_same_side, is_same_kind}
-use Rattle.krieg_board.specs.Board.{Board, man_at, is_of}
-use Rattle.krieg_board.specs.Sets.{has}
-use Rattle.krieg_board.specs.Boards.{is_kind, sets_of, AreExact, Show}
-use Rattle.krieg_board.specs.declared.bits.Sets.{Sets}
+use Rattle.krieg_board.proofs.Common.{Side, White, Black, Kind, Pawn, King, Man, is_same_side, is_same_kind, Board, man_at, is_of, has, is_kind, sets_of, AreExact, Show, Sets}
+use Rattle.krieg_board.specs.declared.men.Kind.TheVariants.{Knight, Bishop, Rook, Queen}
 use Rattle.krieg_board.proofs.SetLemmas.{has_or}
 use Rattle.krieg_board.proofs.BoardSets.{squares_where_small}
 use Rattle.krieg_board.proofs.Writing.{Small, write_one}

@@ -15,3 +15,4 @@ pub mod Ones
 pub mod Faults
 pub mod Searching
 pub mod Joining
+pub mod Common

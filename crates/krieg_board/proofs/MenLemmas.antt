@@ -3,15 +3,8 @@ use Rattle.std.proofs.Common.{◌≡◌, true, false, ◌&&◌, refl, inl, inr}
 use Rattle.std.proofs.Math.Bool.{and_comm}
 use Rattle.std.proofs.lemmas.Bool.{and_parts, and_right, or_cases}
 use Rattle.std.specs.Prelude.{Option, Some, None}
-use Rattle.krieg_board.specs.declared.men.Side.{Side}
-use Rattle.krieg_board.specs.declared.men.Side.TheVariants.{White, Black}
-use Rattle.krieg_board.specs.declared.men.Kind.{Kind}
-use Rattle.krieg_board.specs.declared.men.Kind.TheVariants.{Pawn, Knight, Bishop, Rook, Queen, King}
-use Rattle.krieg_board.specs.declared.men.Man.{Man}
-use Rattle.krieg_board.specs.Men.{other, is_same_side, is_same_kind}
-use Rattle.krieg_board.specs.Board.{is_man, is_of}
-use Rattle.krieg_board.specs.Boards.{is_kind}
-use Rattle.krieg_board.specs.Validity.{is_pawn}
+use Rattle.krieg_board.proofs.Common.{Side, White, Black, Kind, Pawn, King, Man, other, is_same_side, is_same_kind, is_man, is_of, is_kind, is_pawn}
+use Rattle.krieg_board.specs.declared.men.Kind.TheVariants.{Knight, Bishop, Rook, Queen}
 
 pub same_side_eq : (a b : Side) → is_same_side a b ≡ true → a ≡ b
 same_side_eq White White h = refl

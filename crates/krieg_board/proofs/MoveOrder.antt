@@ -8,14 +8,12 @@ use Rattle.std.specs.declared.cmp.Ordering.TheVariants.{Less, Equal, Greater}
 use Rattle.std.proofs.lemmas.Bool.Decides.{nat_tests}
 use Rattle.std.proofs.lemmas.Cmp.{on_total, nat_list_cmp_total}
 use Rattle.std.proofs.lemmas.Map.Lookups.{exact_bytes}
-use Rattle.krieg_board.specs.declared.men.Promo.{Promo}
-use Rattle.krieg_board.specs.declared.men.Promo.TheVariants.{Plain, Queen, Rook, Bishop, Knight}
-use Rattle.krieg_board.specs.declared.men.Move.{Move}
+use Rattle.krieg_board.proofs.Common.{Promo, Plain, Move, promo_place, move_numbers, move_cmp}
+use Rattle.krieg_board.specs.declared.men.Promo.TheVariants.{Queen, Rook, Bishop, Knight}
 use Rattle.krieg_board.specs.contracts.men.PromoOrd.TheImpl.{cmp-value as promo_cmp}
 use Rattle.krieg_board.specs.contracts.men.MoveOrd.TheImpl.{cmp-value as derived_cmp}
 use Rattle.krieg_board.specs.contracts.men.MoveOrd.TheImpl.Laws as laws
 use Rattle.krieg_board.specs.contracts.men.MovePartialEq.TheImpl as derived_eq
-use Rattle.krieg_board.specs.Order.{promo_place, move_numbers, move_cmp}
 
 promo_cmp_is : (a b : Promo) → promo_cmp.it a b ≡ nat_cmp (promo_place a) (promo_place b)
 promo_cmp_is Plain Plain = refl

@@ -3,17 +3,9 @@ use Rattle.std.proofs.Common.{◌≡◌, ℕ, ◌<◌, Bool, true, not, ◌&&◌
 use Rattle.std.proofs.lemmas.Bool.{and_from, and_parts, both_ways, eq-eqb, ne_eqb}
 use Rattle.std.specs.Int.{trailing_zeros}
 use Rattle.std.proofs.lemmas.Nat.{and_le_l}
-use Rattle.krieg_board.specs.declared.men.Side.{Side}
-use Rattle.krieg_board.specs.declared.men.Kind.TheVariants.{King}
-use Rattle.krieg_board.specs.Men.{other}
-use Rattle.krieg_board.specs.Squares.{some_square}
-use Rattle.krieg_board.specs.Board.{Board, man_at, is_of, is_man}
-use Rattle.krieg_board.specs.Attacks.{is_attacked, is_king_attacked}
-use Rattle.krieg_board.specs.Validity.{count_kind}
+use Rattle.krieg_board.proofs.Common.{Side, King, other, some_square, Board, man_at, is_of, is_man, is_attacked, is_king_attacked, count_kind, has, is_kind}
 use Rattle.krieg_board.proofs.MenLemmas.{kind_side}
 use Rattle.krieg_board.proofs.SquareTests.{some_square_at, some_square_none, some_square_tells}
-use Rattle.krieg_board.specs.Sets.{has}
-use Rattle.krieg_board.specs.Boards.{is_kind}
 use Rattle.krieg_board.proofs.SetLemmas.{has_and, has_zero, lowest}
 use Rattle.krieg_board.proofs.SameTests.{same_tests}
 use Rattle.krieg_board.proofs.Counting.{counted, one_place}

@@ -7,9 +7,7 @@ use Rattle.std.proofs.Math.Seq.{take-length}
 use Rattle.std.proofs.lemmas.Nat.{mod_below, pow_pos, ones_cat, mod-pow-add, ones-le, zero_from_ones}
 use Rattle.std.proofs.lemmas.Nat.Bits.{bit_at-lt}
 use Rattle.std.proofs.lemmas.List.Sums.{count_by_more_yes, count_by_more_no}
-use Rattle.krieg_board.specs.declared.men.Man.{Man}
-use Rattle.krieg_board.specs.Board.{Board, man_at}
-use Rattle.krieg_board.specs.Sets.{has}
+use Rattle.krieg_board.proofs.Common.{Man, Board, man_at, has}
 
 -- a set without squares
 pub ones_zero : count_ones 0 ≡ 0

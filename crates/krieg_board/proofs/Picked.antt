@@ -2,8 +2,7 @@
 use Rattle.std.proofs.Common.{◌≡◌, ℕ, zero, suc, ◌<◌, Bool, true, false, not, ◌&&◌, ◌==◌, cond, List, [], ◌++◌, ◌⊎◌, inl, inr, refl, sym, ◌∙◌, ap, arith, append-nil, append_assoc, ◌≢◌}
 use Rattle.std.proofs.Math.Bool.{and-true}
 use Rattle.std.proofs.lemmas.Bool.{eq-eqb, ne_eqb, and_right}
-use Rattle.krieg_board.specs.Squares.{gathered}
-use Rattle.krieg_board.specs.Sets.{has, IsLowest}
+use Rattle.krieg_board.proofs.Common.{gathered, has, IsLowest}
 use Rattle.krieg_board.proofs.SetLemmas.{has_zero}
 
 pub gathered_same : {A : Type 0} (g h : ℕ → List A) (n : ℕ) → ((k : ℕ) → k < n → g k ≡ h k) → gathered g n ≡ gathered h n

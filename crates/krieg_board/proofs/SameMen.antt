@@ -4,18 +4,8 @@ use Rattle.std.specs.Prelude.{Option, Some, None}
 use Rattle.std.specs.Int.RustNames.{bit_xor}
 use Rattle.std.proofs.lemmas.Bool.{and_parts, and_from, eqb-true, eq-eqb, both_ways, false_from_ne_true}
 use Rattle.std.proofs.lemmas.Nat.{and_le_l}
-use Rattle.krieg_board.specs.declared.men.Side.{Side}
-use Rattle.krieg_board.specs.declared.men.Side.TheVariants.{White, Black}
-use Rattle.krieg_board.specs.declared.men.Kind.{Kind}
-use Rattle.krieg_board.specs.declared.men.Kind.TheVariants.{Pawn, Knight, Bishop, Rook, Queen, King}
-use Rattle.krieg_board.specs.declared.men.Man.{Man}
-use Rattle.krieg_board.specs.declared.bits.Sets.{Sets}
-use Rattle.krieg_board.specs.Men.{is_same_side, is_same_kind}
-use Rattle.krieg_board.specs.Squares.{every_square}
-use Rattle.krieg_board.specs.Board.{Board, man_at, is_of}
-use Rattle.krieg_board.specs.Sets.{has}
-use Rattle.krieg_board.specs.Boards.{is_kind, Show}
-use Rattle.krieg_board.specs.Hand.{is_alike, is_same_of, has_same_men}
+use Rattle.krieg_board.proofs.Common.{Side, White, Black, Kind, Pawn, King, Man, Sets, is_same_side, is_same_kind, every_square, Board, man_at, is_of, has, is_kind, Show, is_alike, is_same_of, has_same_men}
+use Rattle.krieg_board.specs.declared.men.Kind.TheVariants.{Knight, Bishop, Rook, Queen}
 use Rattle.krieg_board.proofs.SetLemmas.{differ, has_and, has_or, has_xor, has_zero, same_sets}
 use Rattle.krieg_board.proofs.SameTests.{same_tests}
 use Rattle.krieg_board.proofs.SquareTests.{every_square_all, every_square_at}

@@ -1,8 +1,7 @@
 -- Tests over the 64 squares that agree at each square agree.
 use Rattle.std.proofs.Common.{◌≡◌, ℕ, ◌<◌, Bool, true, false, not, ◌&&◌, refl, sym, ◌∙◌, ap}
 use Rattle.std.proofs.lemmas.Bool.{and_from, and_parts, both_ways, false_from_ne_true, not-true}
-use Rattle.krieg_board.specs.Men.{is_same_bool}
-use Rattle.krieg_board.specs.Squares.{some_square, every_square}
+use Rattle.krieg_board.proofs.Common.{is_same_bool, some_square, every_square}
 use Rattle.krieg_board.proofs.SquareTests.{some_square_at, some_square_none, some_square_tells, every_square_all, every_square_at}
 
 -- tests that lead to each other are one

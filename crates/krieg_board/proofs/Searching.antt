@@ -3,11 +3,7 @@ use Rattle.std.proofs.Common.{◌≡◌, ℕ, ◌<◌, Bool, true, false, not, �
 use Rattle.std.specs.Prelude.{is_some}
 use Rattle.std.proofs.Math.Bool.{and-true, and_comm}
 use Rattle.std.proofs.lemmas.Bool.{and_from, and_right, cases_eq, ne_eqb}
-use Rattle.krieg_board.specs.declared.men.Side.{Side}
-use Rattle.krieg_board.specs.Squares.{some_square}
-use Rattle.krieg_board.specs.Board.{Board, man_at, is_of}
-use Rattle.krieg_board.specs.Attacks.{attacks, is_attacked, is_between, is_clear}
-use Rattle.krieg_board.specs.Sets.{has, IsLowest}
+use Rattle.krieg_board.proofs.Common.{Side, some_square, Board, man_at, is_of, attacks, is_attacked, is_between, is_clear, has, IsLowest}
 use Rattle.krieg_board.proofs.SetLemmas.{has_zero}
 use Rattle.krieg_board.proofs.SquareTests.{some_square_at, some_square_none}
 use Rattle.krieg_board.proofs.SameTests.{some_square_same, no_square}

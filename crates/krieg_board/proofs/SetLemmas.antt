@@ -6,7 +6,7 @@ use Rattle.std.proofs.Math.Pow.{split}
 use Rattle.std.specs.Int.{bit_at, trailing_zeros}
 use Rattle.std.specs.Int.RustNames.{bit_xor}
 use Rattle.std.proofs.lemmas.Nat.Bits.{bit_at_and, bit_at_or, bit_at_xor, bit_at-lt, bit_at-zero, bit_at-pow_same, bit_at-pow_other, bit_at_ones, same_from_bits_below, bit_at_cat_low, bit_at_cat_high, bit_at-trailing_zeros, bit_at_not, bit_at_ones_above, shr_and_one}
-use Rattle.krieg_board.specs.Sets.{has, IsLowest}
+use Rattle.krieg_board.proofs.Common.{has, IsLowest}
 
 -- the last bit of a set, moved down by the number of a square
 pub has_shifted : (n k : ℕ) → (bit_and (n / 2 ^ k) 1 == 1) ≡ has n k

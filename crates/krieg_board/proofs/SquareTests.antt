@@ -3,7 +3,7 @@ use Rattle.std.proofs.Common.{◌≡◌, ℕ, ◌<◌, Bool, true, false, length
 use Rattle.std.proofs.lemmas.List.FromFn.{length-range_with_len, get_or-range_with_len}
 use Rattle.std.proofs.lemmas.List.Folds.{list_any_at, list_any_none, list_all_at, Any-from_list_any}
 use Rattle.std.proofs.lemmas.List.Sums.{AllPass-from_list_all, list_all-from_AllPass}
-use Rattle.krieg_board.specs.Squares.{squares, some_square, every_square}
+use Rattle.krieg_board.proofs.Common.{squares, some_square, every_square}
 
 pub length_squares : length squares ≡ 64
 unfolding squares

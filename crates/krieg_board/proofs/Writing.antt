@@ -5,16 +5,8 @@ use Rattle.std.proofs.Math.ListN.{length-set}
 use Rattle.std.proofs.lemmas.Bool.{eq-eqb, ne_eqb, cases_eq}
 use Rattle.std.proofs.lemmas.List.{ext_get_or, get_or-map, get_or-set_same, get_or-set_other, length-map}
 use Rattle.std.proofs.lemmas.Nat.Bits.{bit_at_clear_same, bit_at_clear_other, bit_at_set_same, bit_at_set_other}
-use Rattle.krieg_board.specs.declared.men.Side.{Side}
-use Rattle.krieg_board.specs.declared.men.Side.TheVariants.{White, Black}
-use Rattle.krieg_board.specs.declared.men.Kind.{Kind}
-use Rattle.krieg_board.specs.declared.men.Kind.TheVariants.{Pawn, Knight, Bishop, Rook, Queen, King}
-use Rattle.krieg_board.specs.declared.men.Man.{Man}
-use Rattle.krieg_board.specs.Squares.{squares}
-use Rattle.krieg_board.specs.Board.{Board, man_at, is_of}
-use Rattle.krieg_board.specs.Sets.{has}
-use Rattle.krieg_board.specs.Boards.{is_kind, man_on, board_of, sets_of, AreExact, Show}
-use Rattle.krieg_board.specs.declared.bits.Sets.{Sets}
+use Rattle.krieg_board.proofs.Common.{Side, White, Black, Kind, Pawn, King, Man, squares, Board, man_at, is_of, has, is_kind, man_on, board_of, sets_of, AreExact, Show, Sets}
+use Rattle.krieg_board.specs.declared.men.Kind.TheVariants.{Knight, Bishop, Rook, Queen}
 use Rattle.krieg_board.proofs.SetLemmas.{has_bit, has_no_bit, has_same}
 use Rattle.krieg_board.proofs.BoardSets.{squares_where_is}
 use Rattle.krieg_board.proofs.SquareTests.{length_squares, get_or_squares}

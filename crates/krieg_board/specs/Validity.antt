@@ -11,8 +11,8 @@ use Rattle.krieg_board.specs.declared.men.Kind.{Kind}
 use Rattle.krieg_board.specs.declared.men.Kind.TheVariants.{Pawn, Rook, King}
 use Rattle.krieg_board.specs.declared.men.Man.{Man}
 use Rattle.krieg_board.specs.declared.men.Rights.{Rights}
-use Rattle.krieg_board.specs.declared.position.BadPosition.{BadPosition}
-use Rattle.krieg_board.specs.declared.position.BadPosition.TheVariants as bad
+use Rattle.krieg_faults.specs.declared.position.BadPosition.{BadPosition}
+use Rattle.krieg_faults.specs.declared.position.BadPosition.TheVariants as bad
 
 -- how many men of that side and kind there are
 abbrev pub count_kind : Board → Side → Kind → ℕ

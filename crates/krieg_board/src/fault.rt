@@ -7,11 +7,11 @@ ghost use Rattle.krieg_board.specs.declared.men.Kind.TheVariants.{Pawn, King};
 use crate::bits::{Bits, king_of, know_size};
 use crate::board::is_man;
 use crate::men::{Kind, Rights, Side};
-use crate::position::BadPosition;
 use crate::square::{
     Square, crossed_rank, file_of, home_rank, landing_rank, pawn_rank, rank_of, square_at,
 };
 use crate::threat::is_threatened;
+use krieg_faults::BadPosition;
 
 /// The squares of the first and of the last rank.
 const END_RANKS: u64 = 0xFF00_0000_0000_00FF;

@@ -21,7 +21,6 @@ mod board;
 mod fault;
 mod hand;
 mod limits;
-mod memory;
 mod men;
 mod position;
 mod set;
@@ -33,10 +32,10 @@ pub use attack::{apart, attacks, is_attacked};
 pub use bits::{Bits, Sets, king_of};
 pub use board::{Board, is_man, is_of};
 pub use hand::same_hand;
+pub use krieg_faults::{BadPosition, NoMemory};
 pub use limits::{MOST_MOVES, MOST_UNITS};
-pub use memory::NoMemory;
 pub use men::{Kind, Man, Move, Promo, Rights, Side, know_squares};
-pub use position::{BadPosition, Position, know_valid};
+pub use position::{Position, know_valid};
 pub use set::{has, lowest, only, only_if, without_lowest};
 pub use square::{
     Square, crossed_rank, file_of, home_rank, landing_rank, last_rank, pawn_rank, rank_of,

@@ -6,24 +6,8 @@ use crate::bits::{Bits, know_size};
 use crate::fault::fault_of;
 use crate::men::{Man, Rights, Side};
 use crate::square::Square;
+use krieg_faults::BadPosition;
 use std::marker::Model;
-
-/// Why a position is refused: the first of these faults, in this order, that it has.
-#[derive(Clone, Copy, Debug, PartialEq, Eq)]
-pub enum BadPosition {
-    /// A side has not exactly one king.
-    Kings,
-    /// A pawn stands on the first or the last rank.
-    PawnRank,
-    /// A side has more than 16 men or more than 8 pawns.
-    TooManyMen,
-    /// The king of the side that is not to move is attacked.
-    IdleInCheck,
-    /// A castling right is held whose king or rook has left its square.
-    Rights,
-    /// The mark is not a square that a pawn of the side not to move may just have crossed.
-    Mark,
-}
 
 /// A valid position: the men on the 64 squares, the side to move, the castling rights that are held,
 /// and the mark, which is the square that a pawn has just crossed by a two-square advance.

@@ -2,35 +2,23 @@
 use Rattle.std.proofs.Common.{◌≡◌, ℕ, ◌+◌, ◌≤◌, Bool, true, false, not, ◌&&◌, cond, List, ◌∷◌, map, Option, None, refl, sym, ap, ◌∙◌, arith}
 use Rattle.std.specs.List.{list_all, list_any}
 use Rattle.std.proofs.Math.Bool.{and_assoc}
-use Rattle.krieg_board.specs.Pos.{Pos}
-use Rattle.krieg_board.specs.declared.men.Side.{Side}
-use Rattle.krieg_words.specs.declared.dialects.Dialect.{Dialect}
-use Rattle.krieg_pack.specs.Members.{set_of}
-use Rattle.krieg_pack.specs.Order.{position_lt}
+use Rattle.krieg_board.proofs.Common.{Pos, Side}
+use Rattle.krieg_words.proofs.Common.{Dialect}
+use Rattle.krieg_pack.proofs.Common.{set_of, position_lt}
 use Rattle.krieg_pack.proofs.PositionSets.{position_order, set_of_set}
-use Rattle.krieg_theory.specs.Sets.{as_set}
-use Rattle.krieg_theory.specs.Tree.{Nothing}
-use Rattle.krieg_theory.specs.Plans.{is_over, openings, opening_set, wins_root, mates}
-use Rattle.krieg_costs.specs.Sums.{total}
+use Rattle.krieg_theory.proofs.Common.{as_set, Nothing, is_over, openings, opening_set, wins_root, mates}
+use Rattle.krieg_costs.proofs.Common.{total}
 use Rattle.krieg_costs.proofs.Totals.{total_agree}
-use Rattle.krieg_game.specs.Keys.{RootKey}
-use Rattle.krieg_game.specs.Chess.{chess}
-use Rattle.krieg_game.specs.Outset.{outset}
-use Rattle.krieg_game.specs.Classes.{class_pair}
+use Rattle.krieg_game.proofs.Common.{RootKey, chess, outset, class_pair}
 use Rattle.krieg_game.proofs.KeyLaws.{root_order}
-use Rattle.krieg_plan.specs.Trees.{PlanTrees, first_root_in}
+use Rattle.krieg_plan.proofs.Common.{PlanTrees, first_root_in}
 use Rattle.krieg_plan.proofs.WonRoots.{root_wins}
-use Rattle.krieg_checker.specs.CheckCost.{first_cost, check_cost}
-use Rattle.krieg_checker.specs.Walked.{other_cost}
-use Rattle.krieg_checker.specs.Found.{within, Tells, worse, all_won_other}
-use Rattle.krieg_checker.specs.Starting.{heard_of, roots_won, roots_cost, IsStarted}
-use Rattle.krieg_checker.specs.declared.start.Started.{Started}
+use Rattle.krieg_checker.proofs.Common.{first_cost, check_cost, other_cost, within, Tells, worse, all_won_other, heard_of, roots_won, roots_cost, IsStarted, Started, MOST_COUNTED}
 use Rattle.krieg_checker.proofs.NodeTells.{worse_within}
 use Rattle.krieg_checker.proofs.Sets.{all_map, total_map, all_agree}
 use Rattle.krieg_checker.proofs.PlanTells.{mates_parted}
 use Rattle.krieg_checker.proofs.ReachedCosts.{plan_costs}
 use Rattle.krieg_checker.proofs.ListedSets.{same_openings, same_opening_set, same_mates}
-use Rattle.krieg_checker.specs.declared.walk.TheConstants.{MOST_COUNTED}
 
 -- a root more
 pub root_more : (d : Dialect) (plan : PlanTrees) (c : RootKey × List Pos) (cs : List (RootKey × List Pos)) (need r : Option ℕ) (all : ℕ → Bool) → ((k : ℕ) → k ≤ MOST_COUNTED → within need k && roots_won d plan (c ∷ cs) k ≡ all k) →

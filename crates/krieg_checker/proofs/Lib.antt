@@ -12,3 +12,4 @@ mod Verdicts
 mod ReachedParts
 mod Once
 mod Least
+pub mod Common

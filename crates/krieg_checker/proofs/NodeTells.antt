@@ -6,14 +6,9 @@ use Rattle.std.proofs.lemmas.Bool.{and_parts, and_from, leb-true, le-leb, ltb-fa
 use Rattle.std.proofs.lemmas.Bool.Decides.{nat_tests}
 use Rattle.std.proofs.Math.Bool.{and-false}
 use Rattle.krieg_board.proofs.SameTests.{same_tests}
-use Rattle.krieg_theory.specs.Sets.{is_nil, IsOrder}
-use Rattle.krieg_theory.specs.Tree.{Try, Maybe, Edges}
-use Rattle.krieg_theory.specs.Game.{Game}
-use Rattle.krieg_theory.specs.Wins.{wins_at}
-use Rattle.krieg_theory.specs.Split.{refused, stale_in_some, keys, class}
-use Rattle.krieg_checker.specs.Found.{within, Tells, worse, one_more, own_need, all_won, all_won_other}
+use Rattle.krieg_theory.proofs.Common.{is_nil, IsOrder, Try, Maybe, Edges, Game, wins_at, refused, stale_in_some, keys, class}
+use Rattle.krieg_checker.proofs.Common.{within, Tells, worse, one_more, own_need, all_won, all_won_other, MOST_COUNTED}
 use Rattle.krieg_checker.proofs.Sets.{all_parted}
-use Rattle.krieg_checker.specs.declared.walk.TheConstants.{MOST_COUNTED}
 
 max_within : (a b k : ℕ) → nat_le (max a b) k ≡ (nat_le a k && nat_le b k)
 max_within a b k = same_tests _ _

@@ -4,12 +4,9 @@ use Rattle.std.specs.Prelude.{nat_le}
 use Rattle.std.specs.List.{list_all, list_any}
 use Rattle.std.proofs.lemmas.Bool.{leb-true, leb-false, le-leb, both_ways}
 use Rattle.std.proofs.lemmas.List.Folds.{list_all-append}
-use Rattle.krieg_theory.specs.Sets.{IsOrder}
-use Rattle.krieg_theory.specs.Game.{Game}
-use Rattle.krieg_theory.specs.Plans.{Outset, Plan, is_over, all_starts, openings, opening_set, wins_root, mates, IsWorst}
-use Rattle.krieg_checker.specs.Found.{Tells}
+use Rattle.krieg_theory.proofs.Common.{IsOrder, Game, Outset, Plan, is_over, all_starts, openings, opening_set, wins_root, mates, IsWorst}
+use Rattle.krieg_checker.proofs.Common.{Tells, MOST_COUNTED}
 use Rattle.krieg_checker.proofs.Sets.{by_keys}
-use Rattle.krieg_checker.specs.declared.walk.TheConstants.{MOST_COUNTED}
 
 module _ (G : Game) (O : Outset G) where
   one_more : (o a A X H : Bool) → X ≡ (not A && H) → ((not o && a) && X) ≡ (not (o || A) && (a && H))

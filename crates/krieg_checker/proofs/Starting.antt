@@ -2,36 +2,25 @@
 use Rattle.std.proofs.Common.{◌≡◌, ℕ, Bool, true, false, not, cond, ◌||◌, List, [], ◌∷◌, map, length, inl, inr, refl, sym, ap, subst, ◌∙◌}
 use Rattle.std.specs.Prelude.{◌↔◌, IsTrue, slice_get, Some, None}
 use Rattle.std.specs.List.{list_any, list_all}
-use Rattle.krieg_board.specs.Pos.{Pos}
-use Rattle.krieg_moves.specs.Moves.{moves, is_ended}
-use Rattle.krieg_words.specs.declared.dialects.Dialect.{Dialect}
-use Rattle.krieg_words.specs.WordsReading.{silent}
-use Rattle.krieg_board.specs.Men.{is_same_side}
-use Rattle.krieg_board.specs.declared.men.Side.{Side}
-use Rattle.krieg_board.specs.declared.men.Side.TheVariants.{White, Black}
+use Rattle.krieg_board.proofs.Common.{Pos, is_same_side, Side, White, Black}
+use Rattle.krieg_moves.proofs.Common.{moves, is_ended}
+use Rattle.krieg_words.proofs.Common.{Dialect, silent}
 use Rattle.krieg_theory.proofs.Lists.{all_at, all_from}
-use Rattle.krieg_pack.specs.Order.{position_lt}
-use Rattle.krieg_pack.specs.Members.{IsAscending, set_of}
+use Rattle.krieg_pack.proofs.Common.{position_lt, IsAscending, set_of}
 use Rattle.krieg_pack.proofs.PositionSets.{position_order, set_of_ascending}
-use Rattle.krieg_theory.specs.Sets.{In, as_set, is_nil}
-use Rattle.krieg_theory.specs.Plans.{is_over}
+use Rattle.krieg_theory.proofs.Common.{In, as_set, is_nil, is_over}
 use Rattle.krieg_theory.proofs.Ascending.{as_set_in}
-use Rattle.krieg_costs.specs.Sums.{total}
+use Rattle.krieg_costs.proofs.Common.{total}
 use Rattle.krieg_costs.proofs.Totals.{total_agree}
-use Rattle.krieg_game.specs.Classes.{class_pair, classes_in}
-use Rattle.krieg_game.specs.Outset.{outset, waits, starts}
+use Rattle.krieg_game.proofs.Common.{class_pair, classes_in, outset, waits, starts, chess, first_outcomes, opened}
 use Rattle.krieg_game.proofs.Starting.{own_start}
-use Rattle.krieg_parting.specs.Turns.{IsOwnTurn, IsOthersTurn}
+use Rattle.krieg_parting.proofs.Common.{IsOwnTurn, IsOthersTurn}
 use Rattle.krieg_parting.proofs.Advancing.{some_over, as_many}
 use Rattle.krieg_game.proofs.Classed.{openings_are_classed, first_moves_are_classed}
-use Rattle.krieg_checker.specs.CheckCost.{first_cost}
+use Rattle.krieg_checker.proofs.Common.{first_cost, IsStarted, heard_of, Started}
 use Rattle.krieg_checker.proofs.Sets.{total_none}
-use Rattle.krieg_game.specs.Chess.{chess}
-use Rattle.krieg_game.specs.ClassLaws.{first_outcomes, opened}
-use Rattle.krieg_plan.specs.Listed.{IsOneTurn}
+use Rattle.krieg_plan.proofs.Common.{IsOneTurn}
 use Rattle.krieg_plan.proofs.Listed.{get_in}
-use Rattle.krieg_checker.specs.Starting.{IsStarted, heard_of}
-use Rattle.krieg_checker.specs.declared.start.Started.{Started}
 
 any_same : (f g : Pos → Bool) (ps : List Pos) → ((p : Pos) → In p ps → f p ≡ g p) → list_any f ps ≡ list_any g ps
 any_same f g [] h = refl

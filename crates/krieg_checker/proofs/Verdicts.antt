@@ -2,16 +2,11 @@
 use Rattle.std.proofs.Common.{◌≡◌, ℕ, ◌≤◌, Bool, true, false, cond, Option, Some, None, refl, sym, ap, subst, ◌∙◌, arith}
 use Rattle.std.specs.Prelude.{nat_le}
 use Rattle.std.proofs.lemmas.Bool.{leb-true, leb-false, both_ways}
-use Rattle.krieg_theory.specs.Plans.{mates, IsWorst}
-use Rattle.krieg_game.specs.Chess.{chess}
-use Rattle.krieg_game.specs.Outset.{outset}
-use Rattle.krieg_plan.specs.Plans.{plan_of}
-use Rattle.krieg_plan.specs.declared.plan.PlanFile.{PlanFile}
-use Rattle.krieg_checker.specs.Found.{Tells}
-use Rattle.krieg_checker.specs.Verdict.{IsVerdict, verdict}
-use Rattle.krieg_checker.specs.declared.plan_check.Checked.TheVariants.{Mates, Fails}
+use Rattle.krieg_theory.proofs.Common.{mates, IsWorst}
+use Rattle.krieg_game.proofs.Common.{chess, outset}
+use Rattle.krieg_plan.proofs.Common.{plan_of, PlanFile}
+use Rattle.krieg_checker.proofs.Common.{Tells, IsVerdict, verdict, Mates, Fails, MOST_COUNTED}
 use Rattle.krieg_checker.proofs.PlanTells.{worst_is}
-use Rattle.krieg_checker.specs.declared.walk.TheConstants.{MOST_COUNTED}
 
 module _ (f : PlanFile) (small : f.worst ≤ MOST_COUNTED) where
   -- the plan mates within so many moves

@@ -3,40 +3,21 @@ use Rattle.std.proofs.Common.{◌≡◌, ℕ, suc, ◌+◌, ◌≤◌, Bool, tru
 use Rattle.std.specs.List.{list_all}
 use Rattle.std.proofs.lemmas.Bool.{le-leb}
 use Rattle.std.proofs.Math.Bool.{and_assoc}
-use Rattle.krieg_board.specs.Pos.{Pos}
-use Rattle.krieg_board.specs.declared.men.Move.{Move}
-use Rattle.krieg_theory.specs.Sets.{is_nil, same}
-use Rattle.krieg_theory.specs.Tree.{Tree, Try, Maybe, Nothing, Just, Edges, NoEdges, Edge, first_edge, size, size_other, size_edges}
-use Rattle.krieg_theory.specs.Wins.{wins_at}
-use Rattle.krieg_theory.specs.Split.{refused, keys, class}
-use Rattle.krieg_theory.specs.Game.{Game}
-use Rattle.krieg_words.specs.declared.dialects.Dialect.{Dialect}
-use Rattle.krieg_costs.specs.Sums.{total}
-use Rattle.krieg_costs.specs.Cost.{made}
+use Rattle.krieg_board.proofs.Common.{Pos, Move}
+use Rattle.krieg_theory.proofs.Common.{is_nil, same, Tree, Try, Maybe, Nothing, Just, Edges, NoEdges, Edge, first_edge, size, size_other, size_edges, wins_at, refused, keys, class, Game}
+use Rattle.krieg_words.proofs.Common.{Dialect}
+use Rattle.krieg_costs.proofs.Common.{total, made}
 use Rattle.krieg_pack.proofs.PositionSets.{position_order}
-use Rattle.krieg_game.specs.Keys.{Key, key_lt}
-use Rattle.krieg_game.specs.Chess.{chess}
-use Rattle.krieg_plan.specs.Trees.{NodeTree, edges_in}
+use Rattle.krieg_game.proofs.Common.{Key, key_lt, chess, class_pair}
+use Rattle.krieg_plan.proofs.Common.{NodeTree, edges_in, Node, out-Node, tree_of, is_ordered, is_ordered_other}
 use Rattle.krieg_plan.proofs.NodeTrees.{other_of, tree_out}
-use Rattle.krieg_plan.specs.declared.node.Node.{Node}
-use Rattle.krieg_plan.specs.declared.node.Edge.TheViews.{out-Node}
-use Rattle.krieg_plan.specs.Nodes.{tree_of}
 use Rattle.krieg_game.proofs.KeyLaws.{key_order}
-use Rattle.krieg_parting.specs.declared.stop.PartStop.{PartStop}
-use Rattle.krieg_parting.specs.declared.parts.Parted.{Parted}
-use Rattle.krieg_parting.specs.Charged.{Charged}
-use Rattle.krieg_parting.specs.Parted.{IsParted}
+use Rattle.krieg_parting.proofs.Common.{PartStop, Parted, Charged, IsParted}
 use Rattle.krieg_parting.proofs.Charges.{said}
-use Rattle.krieg_plan.specs.Ordered.{is_ordered, is_ordered_other}
 use Rattle.krieg_plan.proofs.OrderedTrees.{other_ordered}
-use Rattle.krieg_checker.specs.Found.{within, Tells, worse, own_need, all_won, all_won_other}
-use Rattle.krieg_game.specs.Classes.{class_pair}
-use Rattle.krieg_checker.specs.Tried.{IsTriedAt}
-use Rattle.krieg_checker.specs.Walked.{node_cost, other_cost, edge_cost, try_in, other_in, classes_won, classes_cost}
-use Rattle.krieg_checker.specs.declared.tried.Tried.{Tried}
+use Rattle.krieg_checker.proofs.Common.{within, Tells, worse, own_need, all_won, all_won_other, IsTriedAt, node_cost, other_cost, edge_cost, try_in, other_in, classes_won, classes_cost, Tried, MOST_COUNTED}
 use Rattle.krieg_checker.proofs.Sets.{all_map, total_map, first_all, first_costs}
 use Rattle.krieg_checker.proofs.NodeTells.{node_tells, worse_within}
-use Rattle.krieg_checker.specs.declared.walk.TheConstants.{MOST_COUNTED}
 
 pub missing_nil : (B : List Pos) → B ≡ [] → Tells (Some 0) (λ k. list_all (λ p. false) B)
 missing_nil [] e k small = sym (le-leb 0 k (omega arith))

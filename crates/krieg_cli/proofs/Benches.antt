@@ -1,26 +1,14 @@
 -- What becomes of the bench, from one call to the next.
 use Rattle.std.proofs.Common.{◌≡◌, inl, inr, ℕ, List, Option, Some, Result, Ok, Err, refl, subst, sym}
-use Rattle.krieg_board.specs.Pos.{Pos}
-use Rattle.krieg_board.specs.declared.men.Side.TheVariants.{White, Black}
-use Rattle.krieg_text.specs.Lines.{lines}
-use Rattle.krieg_text.specs.Reading.{whole}
-use Rattle.krieg_session.specs.SessionReading.{start_at}
-use Rattle.krieg_seats.specs.Accounts.{Account}
-use Rattle.krieg_play.specs.Played.{Sides}
-use Rattle.krieg_play.specs.Broken.{Refuses}
-use Rattle.krieg_play.specs.declared.outcome.PlayFault.{PlayFault}
+use Rattle.krieg_board.proofs.Common.{Pos, White, Black}
+use Rattle.krieg_text.proofs.Common.{lines, whole}
+use Rattle.krieg_session.proofs.Common.{start_at}
+use Rattle.krieg_seats.proofs.Common.{Account}
+use Rattle.krieg_play.proofs.Common.{Sides, Refuses, PlayFault}
 use Rattle.krieg_play.specs.declared.outcome.PlayFault.TheVariants as played
-use Rattle.krieg_args.specs.declared.command.Command.{Command}
-use Rattle.krieg_args.specs.declared.command.Command.TheVariants.{Play, Lead}
-use Rattle.krieg_cli.specs.World.{Stream}
-use Rattle.krieg_cli.specs.Input.{WasTaken}
-use Rattle.krieg_planfile.specs.PlanFiles.{PlanState}
-use Rattle.krieg_planfile.specs.PlanReading.{plan_at}
-use Rattle.krieg_cli.specs.Lead.{LeadsFrom, HasLed}
-use Rattle.krieg_cli.specs.Parts.{Decides, ending_of, of_play, LeavesSeats}
-use Rattle.krieg_cli.specs.Top.{LeavesBench}
-use Rattle.krieg_cli.specs.declared.ending.Ending.{Ending}
-use Rattle.krieg_cli.specs.declared.ending.Ending.TheVariants.{Answered, WriteFault, NoMemory, Refused}
+use Rattle.krieg_args.proofs.Common.{Command, Play, Lead}
+use Rattle.krieg_cli.proofs.Common.{Stream, WasTaken, LeadsFrom, HasLed, Decides, ending_of, of_play, LeavesSeats, LeavesBench, Ending, Answered, WriteFault, NoMemory, Refused}
+use Rattle.krieg_planfile.proofs.Common.{PlanState, plan_at}
 use Rattle.krieg_cli.specs.declared.refusal.Refusal.TheVariants as refusal
 
 module _ {X : Type 0} (account : X → Account) (entry now : Sides X) where

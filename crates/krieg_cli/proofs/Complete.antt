@@ -3,53 +3,23 @@ use Rattle.std.proofs.Common.{◌≡◌, Bool, ◌⊎◌, inl, inr, ℕ, ◌<◌
 use Rattle.std.specs.Prelude.{MatchBool}
 use Rattle.std.proofs.lemmas.Bool.{both_ways}
 use Rattle.std.proofs.lemmas.List.{append-nil}
-use Rattle.krieg_board.specs.Pos.{Pos}
-use Rattle.krieg_board.specs.declared.men.Side.TheVariants.{White, Black}
+use Rattle.krieg_board.proofs.Common.{Pos, White, Black}
 use Rattle.krieg_pack.proofs.PositionSets.{same_members}
-use Rattle.krieg_sheet.specs.Sheets.{SheetState}
-use Rattle.krieg_sheet.specs.Turns.{is_over}
-use Rattle.krieg_score.specs.Scores.{san_of, unsan_of}
-use Rattle.krieg_belief.specs.Possible.{IsPossible}
+use Rattle.krieg_sheet.proofs.Common.{SheetState, is_over}
+use Rattle.krieg_score.proofs.Common.{san_of, unsan_of}
+use Rattle.krieg_belief.proofs.Common.{IsPossible}
 use Rattle.krieg_belief.proofs.Prefixes.{excess_not_within}
-use Rattle.krieg_theory.specs.Sets.{is_nil}
-use Rattle.krieg_planfile.specs.PlanFiles.{PlanState}
-use Rattle.krieg_make.specs.MadeSheets.{made_sheet}
-use Rattle.krieg_words.specs.declared.line.Line.{Line}
-use Rattle.krieg_seats.specs.Accounts.{Account}
-use Rattle.krieg_play.specs.Teams.{Team, Turns, Service, BrokenCourse, HasFailed, entry_of, now_of}
-use Rattle.krieg_play.specs.Played.{Sides}
-use Rattle.krieg_args.specs.Command.{takes_input}
-use Rattle.krieg_args.specs.declared.command.Command.{Command}
-use Rattle.krieg_args.specs.declared.command.Command.TheVariants.{Solve, Check, Refute, Deny, Believe, Why, Umpire, San, Unsan, Play, Lead, Next, Find, Make, Job}
-use Rattle.krieg_args.specs.declared.command.Made.{Made}
-use Rattle.krieg_cli.specs.World.{World, FaultsRose}
-use Rattle.krieg_cli.specs.Input.{WasRead}
-use Rattle.krieg_cli.specs.Refusal.{OfText}
-use Rattle.krieg_cli.specs.Ending.{status}
-use Rattle.krieg_cli.specs.Asked.{Leaves, has_no_turn, OfPossible}
-use Rattle.krieg_cli.specs.Parts.{SearchedBy, SolvedBy}
-use Rattle.krieg_cli.specs.Refute.{Claimed, Refuted}
-use Rattle.krieg_cli.specs.Deny.{Judged}
-use Rattle.krieg_cli.specs.Check.{Checked}
-use Rattle.krieg_cli.specs.Umpire.{told_text}
-use Rattle.krieg_cli.specs.Believe.{Believed}
-use Rattle.krieg_cli.specs.Why.{Shows}
-use Rattle.krieg_planfile.specs.HeardReading.{HeardState}
-use Rattle.krieg_cli.specs.Play.{PlaysFrom, PlaysWhole}
-use Rattle.krieg_cli.specs.Lead.{LeadsFrom, LeadsWhole}
-use Rattle.krieg_cli.specs.Next.{Says}
-use Rattle.krieg_cli.specs.Live.{LivesBy}
-use Rattle.krieg_cli.specs.Make.{Makes}
-use Rattle.krieg_cli.specs.Job.{Plans, Summarizes}
-use Rattle.krieg_cli.specs.Outcome.{LiveOutcome, HasOutcome}
-use Rattle.krieg_cli.specs.Top.{ComesTo, Ends, Runs}
-use Rattle.krieg_cli.specs.Complete.{CanBeSolved, CanBeRefuted, CanBeDenied, CanBeChecked, CanBeShown, CanBeSummed, HoldsText, MustAnswer, NoneFailed, seats_since, CanPlay, BenchHolds, Completes}
-use Rattle.krieg_cli.specs.declared.refusal.Refusal.{Refusal}
+use Rattle.krieg_theory.proofs.Common.{is_nil}
+use Rattle.krieg_planfile.proofs.Common.{PlanState, HeardState}
+use Rattle.krieg_make.proofs.Common.{made_sheet}
+use Rattle.krieg_words.proofs.Common.{Line}
+use Rattle.krieg_seats.proofs.Common.{Account}
+use Rattle.krieg_play.proofs.Common.{Team, Turns, Service, BrokenCourse, HasFailed, entry_of, now_of, Sides}
+use Rattle.krieg_args.proofs.Common.{takes_input, Command, Solve, Check, Refute, Deny, Believe, Why, Umpire, San, Unsan, Play, Lead, Next, Find, Make, Job, Made}
+use Rattle.krieg_cli.proofs.Common.{World, FaultsRose, WasRead, OfText, status, Leaves, has_no_turn, OfPossible, SearchedBy, SolvedBy, Claimed, Refuted, Judged, Checked, told_text, Believed, Shows, PlaysFrom, PlaysWhole, LeadsFrom, LeadsWhole, Says, LivesBy, Makes, Plans, Summarizes, LiveOutcome, HasOutcome, ComesTo, Ends, Runs, CanBeSolved, CanBeRefuted, CanBeDenied, CanBeChecked, CanBeShown, CanBeSummed, HoldsText, MustAnswer, NoneFailed, seats_since, CanPlay, BenchHolds, Completes, Refusal, Ending, MOST_INPUT}
 use Rattle.krieg_cli.specs.declared.refusal.Refusal.TheVariants as refusal
-use Rattle.krieg_cli.specs.declared.ending.Ending.{Ending}
 use Rattle.krieg_cli.specs.declared.ending.Ending.TheVariants as ending
 use Rattle.krieg_cli.proofs.WholeGames.{text_read, given_le}
-use Rattle.krieg_cli.specs.declared.input.TheConstants.{MOST_INPUT}
 
 -- ---- solve, find and refute
 

@@ -1,16 +1,12 @@
 -- What the look at a refutation finds, as the answer to its text.
 use Rattle.std.proofs.Common.{◌≡◌, ℕ, ◌+◌, Bool, true, false, List, Ok, Err, sym, ◌∙◌, arith}
-use Rattle.krieg_refute.specs.declared.refutation.Refutation.{Refutation}
-use Rattle.krieg_parting.specs.declared.stop.PartStop.{PartStop}
+use Rattle.krieg_refute.proofs.Common.{Refutation, refutes, claims_price, NoneMates}
+use Rattle.krieg_parting.proofs.Common.{PartStop}
 use Rattle.krieg_parting.specs.declared.stop.PartStop.TheVariants as stop
-use Rattle.krieg_split.specs.Units.{IsPaid}
-use Rattle.krieg_refute.specs.Refutations.{refutes, claims_price}
-use Rattle.krieg_refute.specs.Excluded.{NoneMates}
-use Rattle.krieg_refutefile.specs.Refutations.{state_of}
+use Rattle.krieg_split.proofs.Common.{IsPaid}
+use Rattle.krieg_refutefile.proofs.Common.{state_of}
 use Rattle.krieg_refutefile.proofs.Agreeing.{refutes_same, price_same}
-use Rattle.krieg_cli.specs.Parts.{of_part, Decides}
-use Rattle.krieg_cli.specs.Deny.{refuted_text, Judged}
-use Rattle.krieg_cli.specs.declared.refusal.Refusal.TheVariants.{RefutationFails}
+use Rattle.krieg_cli.proofs.Common.{of_part, Decides, refuted_text, Judged, RefutationFails}
 
 module _ (f : Refutation) where
   module _ (budget start left : ℕ) (same : start ≡ budget) where

@@ -1,27 +1,13 @@
 -- A run of `solve` or of `find` that answers keeps the promise of the headline.
 use Rattle.std.proofs.Common.{◌≡◌, ◌⊎◌, inl, inr, ℕ, Bool, true, false, List, length, ◌≤◌, Option, Some, Result, Ok, Err, refl, sym, subst, ◌∙◌}
 use Rattle.std.specs.Io.KnownBytes.{Appends}
-use Rattle.krieg_board.specs.Pos.{Pos}
-use Rattle.krieg_text.specs.Lines.{lines}
-use Rattle.krieg_text.specs.Reading.{whole}
-use Rattle.krieg_text.specs.declared.fault.TextFault.{TextFault}
+use Rattle.krieg_board.proofs.Common.{Pos}
+use Rattle.krieg_text.proofs.Common.{lines, whole, TextFault}
 use Rattle.krieg_text.specs.declared.fault.TextFault.TheVariants as fault
-use Rattle.krieg_sheet.specs.Sheets.{SheetState}
-use Rattle.krieg_sheet.specs.SheetReading.{sheet_at}
-use Rattle.krieg_planfile.specs.PlanReading.{plan_at}
-use Rattle.krieg_args.specs.declared.command.Command.{Command}
-use Rattle.krieg_args.specs.declared.command.Command.TheVariants.{Solve, Find}
-use Rattle.krieg_cli.specs.World.{Stream, World}
-use Rattle.krieg_cli.specs.Input.{WasRead}
-use Rattle.krieg_cli.specs.Refusal.{OfText}
-use Rattle.krieg_cli.specs.Ending.{status}
-use Rattle.krieg_cli.specs.Solve.{Tells}
-use Rattle.krieg_cli.specs.Parts.{SearchedBy, SolvedBy}
-use Rattle.krieg_cli.specs.Outcome.{LiveOutcome}
-use Rattle.krieg_cli.specs.Top.{Answers, Ends, Runs, Reports}
-use Rattle.krieg_cli.specs.Headline.{WritesPlan, WritesNone, AnswersSheet}
-use Rattle.krieg_cli.specs.declared.input.TheConstants.{MOST_INPUT}
-use Rattle.krieg_cli.specs.declared.ending.Ending.{Ending}
+use Rattle.krieg_sheet.proofs.Common.{SheetState, sheet_at}
+use Rattle.krieg_planfile.proofs.Common.{plan_at}
+use Rattle.krieg_args.proofs.Common.{Command, Solve, Find}
+use Rattle.krieg_cli.proofs.Common.{Stream, World, WasRead, OfText, status, Tells, SearchedBy, SolvedBy, LiveOutcome, Answers, Ends, Runs, Reports, WritesPlan, WritesNone, AnswersSheet, MOST_INPUT, Ending}
 use Rattle.krieg_cli.proofs.WholeGames.{answered}
 
 -- what is told is what is written

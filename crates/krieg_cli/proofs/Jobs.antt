@@ -2,54 +2,30 @@
 use Rattle.std.proofs.Common.{◌≡◌, inl, inr, ℕ, zero, suc, ◌+◌, ◌≤◌, List, [], ◌∷◌, length, None, Ok, Err, ap, subst, ◌∙◌, arith}
 use Rattle.std.specs.Prelude.{false, ◌<◌}
 use Rattle.std.proofs.lemmas.Bool.{both_ways}
-use Rattle.krieg_board.specs.Pos.{Pos}
-use Rattle.krieg_board.specs.declared.men.Side.{Side}
-use Rattle.krieg_board.specs.declared.men.Side.TheVariants.{White}
-use Rattle.krieg_board.specs.declared.limits.TheConstants.{MOST_UNITS}
-use Rattle.krieg_words.specs.declared.dialects.Dialect.{Dialect}
-use Rattle.krieg_words.specs.declared.dialects.Dialect.TheVariants.{Wild16}
-use Rattle.krieg_text.specs.Writing.{put_lines}
-use Rattle.krieg_fen.specs.declared.forms.TheConstants.{MOST_LISTED}
-use Rattle.krieg_referee.specs.Games.{judge}
-use Rattle.krieg_make.specs.MadeSheets.{made_list, made_sheet}
-use Rattle.krieg_make.specs.MadeSessions.{made_session}
-use Rattle.krieg_pack.specs.Members.{set_of}
-use Rattle.krieg_pack.specs.Order.{position_lt}
+use Rattle.krieg_board.proofs.Common.{Pos, Side, White, MOST_UNITS}
+use Rattle.krieg_words.proofs.Common.{Dialect, Wild16}
+use Rattle.krieg_text.proofs.Common.{put_lines}
+use Rattle.krieg_fen.proofs.Common.{MOST_LISTED}
+use Rattle.krieg_referee.proofs.Common.{judge}
+use Rattle.krieg_make.proofs.Common.{made_list, made_sheet, made_session}
+use Rattle.krieg_pack.proofs.Common.{set_of, position_lt}
 use Rattle.krieg_pack.proofs.Counts.{as_set_le}
-use Rattle.krieg_sheet.specs.Sheets.{SheetState, new_sheet}
-use Rattle.krieg_sheet.specs.Places.{IsSheet}
-use Rattle.krieg_belief.specs.Possible.{IsPossible, HaveOneHand}
-use Rattle.krieg_belief.specs.Limits.{IsFirstExcess}
+use Rattle.krieg_sheet.proofs.Common.{SheetState, new_sheet, IsSheet}
+use Rattle.krieg_belief.proofs.Common.{IsPossible, HaveOneHand, IsFirstExcess}
 use Rattle.krieg_belief.proofs.Prefixes.{behind_entries, all_within, excess_not_within, sheet_le}
-use Rattle.krieg_theory.specs.Plans.{mates, IsWorst}
-use Rattle.krieg_game.specs.Chess.{chess}
-use Rattle.krieg_game.specs.Outset.{outset}
-use Rattle.krieg_plan.specs.Trees.{PlanTrees, plan_size}
-use Rattle.krieg_plan.specs.declared.plan.PlanFile.{PlanFile}
-use Rattle.krieg_plan.specs.declared.limits.TheConstants.{MOST_NODES}
-use Rattle.krieg_planfile.specs.PlanFiles.{PlanState, state_of}
-use Rattle.krieg_checker.specs.Charged.{Charged}
-use Rattle.krieg_plan.specs.Listed.{IsOneTurn}
-use Rattle.krieg_checker.specs.Verdict.{IsVerdict, check_cost as cost_of}
-use Rattle.krieg_checker.specs.declared.plan_check.Checked.{Checked}
-use Rattle.krieg_checker.specs.declared.plan_check.Checked.TheVariants.{Mates, Fails}
+use Rattle.krieg_theory.proofs.Common.{mates, IsWorst}
+use Rattle.krieg_game.proofs.Common.{chess, outset}
+use Rattle.krieg_plan.proofs.Common.{PlanTrees, plan_size, PlanFile, MOST_NODES, IsOneTurn}
+use Rattle.krieg_planfile.proofs.Common.{PlanState, state_of}
+use Rattle.krieg_checker.proofs.Common.{Charged, IsVerdict, Checked, Mates, Fails}
+use Rattle.krieg_checker.specs.Verdict.{check_cost as cost_of}
 use Rattle.krieg_parting.specs.declared.stop.PartStop.{PartStop as CheckStop}
 use Rattle.krieg_parting.specs.declared.stop.PartStop.TheVariants as check
-use Rattle.krieg_search.specs.Solved.{IsBest}
-use Rattle.krieg_search.specs.Planned.{IsFit}
-use Rattle.krieg_search.specs.declared.stop.SearchStop.{SearchStop}
+use Rattle.krieg_search.proofs.Common.{IsBest, IsFit, SearchStop}
 use Rattle.krieg_search.specs.declared.stop.SearchStop.TheVariants as search
-use Rattle.krieg_cli.specs.Parts.{of_search, of_part, Decides}
-use Rattle.krieg_cli.specs.Solve.{file_of, least_units, IsTooLarge, Searched}
-use Rattle.krieg_cli.specs.Check.{check_cost}
-use Rattle.krieg_cli.specs.Tally.{tally_of}
-use Rattle.krieg_cli.specs.Job.{IsFound, mates_line, checked_line, found_lines, summary_lines, summary_text, Plans, Summarizes}
-use Rattle.krieg_cli.specs.declared.commands.job.Finding.{Finding}
-use Rattle.krieg_cli.specs.declared.commands.job.Finding.TheVariants.{Plan}
-use Rattle.krieg_cli.specs.declared.commands.job.tally.Tally.{Tally}
+use Rattle.krieg_cli.proofs.Common.{of_search, of_part, Decides, file_of, least_units, IsTooLarge, Searched, check_cost, tally_of, IsFound, mates_line, checked_line, found_lines, summary_lines, summary_text, Plans, Summarizes, Finding, Plan, Tally, JOB_MOVES}
 use Rattle.krieg_cli.proofs.BestFiles.{same_turn}
 use Rattle.krieg_cli.proofs.Searching.{best_file}
-use Rattle.krieg_cli.specs.declared.commands.job.TheConstants.{JOB_MOVES}
 
 -- ---- the possible positions
 

@@ -1,24 +1,13 @@
 -- The game that `lead` writes of a plan that mates is won.
 use Rattle.std.proofs.Common.{◌≡◌, ℕ, true, List, Option, Some, Ok, sym, ap, subst, ◌∙◌}
 use Rattle.std.specs.Io.KnownBytes.{Appends}
-use Rattle.krieg_text.specs.Lines.{lines}
-use Rattle.krieg_text.specs.Reading.{whole}
-use Rattle.krieg_session.specs.SessionText.{session_text}
-use Rattle.krieg_seats.specs.Accounts.{Account}
-use Rattle.krieg_play.specs.Played.{Sides}
-use Rattle.krieg_planfile.specs.PlanFiles.{PlanState, state_of}
-use Rattle.krieg_planfile.specs.PlanReading.{plan_at}
-use Rattle.krieg_args.specs.declared.command.Command.{Command}
-use Rattle.krieg_args.specs.declared.command.Command.TheVariants.{Lead}
-use Rattle.krieg_cli.specs.Recorded.{session_of}
-use Rattle.krieg_cli.specs.Solve.{mates_all}
-use Rattle.krieg_cli.specs.Lead.{Leads, LeadsWhole}
-use Rattle.krieg_cli.specs.Live.{LivesBy}
-use Rattle.krieg_cli.specs.LedGames.{IsWonGame, LeadsToMate}
-use Rattle.krieg_cli.specs.World.{World}
-use Rattle.krieg_cli.specs.Ending.{status}
-use Rattle.krieg_cli.specs.Top.{Answers, Ends, Runs}
-use Rattle.krieg_cli.specs.declared.ending.Ending.{Ending}
+use Rattle.krieg_text.proofs.Common.{lines, whole}
+use Rattle.krieg_session.proofs.Common.{session_text}
+use Rattle.krieg_seats.proofs.Common.{Account}
+use Rattle.krieg_play.proofs.Common.{Sides}
+use Rattle.krieg_planfile.proofs.Common.{PlanState, state_of, plan_at}
+use Rattle.krieg_args.proofs.Common.{Command, Lead}
+use Rattle.krieg_cli.proofs.Common.{session_of, mates_all, Leads, LeadsWhole, LivesBy, IsWonGame, LeadsToMate, World, status, Answers, Ends, Runs, Ending}
 use Rattle.krieg_cli.proofs.WholeGames.{answered, text_read}
 
 module _ {X : Type 0} (account : X → Account) (entry now : Sides X) where

@@ -26,3 +26,4 @@ mod WholePlans
 mod WholeRecords
 mod WholeRefutations
 pub mod Tables
+pub mod Common

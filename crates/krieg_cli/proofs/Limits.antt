@@ -1,6 +1,6 @@
 -- What the limits are in numbers.
 use Rattle.std.proofs.Common.{refl, lit≤}
-use Rattle.krieg_cli.specs.Limits.{AreLimits, FitInputs}
+use Rattle.krieg_cli.proofs.Common.{AreLimits, FitInputs}
 
 pub numbers : AreLimits
 numbers =

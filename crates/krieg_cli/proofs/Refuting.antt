@@ -3,45 +3,26 @@ use Rattle.std.proofs.Common.{◌≡◌, ℕ, ◌<◌, ◌≤◌, Bool, true, fa
 use Rattle.std.specs.Prelude.{◌||◌}
 use Rattle.std.proofs.lemmas.List.{length-map}
 use Rattle.std.proofs.lemmas.Bool.{both_ways, and_parts, and_from, false_from_ne_true}
-use Rattle.krieg_board.specs.Men.{is_same_side}
-use Rattle.krieg_board.specs.Pos.{Pos}
-use Rattle.krieg_board.specs.declared.men.Side.{Side}
-use Rattle.krieg_board.specs.declared.limits.TheConstants.{MOST_MOVES}
+use Rattle.krieg_board.proofs.Common.{is_same_side, Pos, Side, MOST_MOVES}
 use Rattle.krieg_board.proofs.MenLemmas.{same_side_eq}
-use Rattle.krieg_text.specs.Lines.{lines}
-use Rattle.krieg_text.specs.Reading.{whole}
-use Rattle.krieg_sheet.specs.Sheets.{SheetState}
-use Rattle.krieg_sheet.specs.Turns.{is_my_turn, is_over}
-use Rattle.krieg_cli.specs.Asked.{has_no_turn}
-use Rattle.krieg_words.specs.declared.dialects.Dialect.{Dialect}
-use Rattle.krieg_theory.specs.Sets.{is_nil}
-use Rattle.krieg_theory.specs.Plans.{can_plan}
+use Rattle.krieg_text.proofs.Common.{lines, whole}
+use Rattle.krieg_sheet.proofs.Common.{SheetState, is_my_turn, is_over}
+use Rattle.krieg_cli.proofs.Common.{has_no_turn, NoneMates, PlanExists, of_search, Decides, CanBeListed, denial_file, IsDenialText, Claimed}
+use Rattle.krieg_words.proofs.Common.{Dialect}
+use Rattle.krieg_theory.proofs.Common.{is_nil, can_plan}
 use Rattle.krieg_theory.proofs.Lists.{all_from}
 use Rattle.krieg_theory.proofs.Planned.{mates_shows}
 use Rattle.krieg_game.proofs.ChessLaws.{chess_is_game, outset_is_lawful}
 use Rattle.krieg_costs.specs.Refutation as theory
-use Rattle.krieg_game.specs.Chess.{chess}
-use Rattle.krieg_game.specs.Outset.{outset}
-use Rattle.krieg_belief.specs.Possible.{HaveOneHand}
-use Rattle.krieg_split.specs.Turns.{IsOwnTurn}
-use Rattle.krieg_refute.specs.Refuted.{side_of, IsOneSide, IsDenial, IsMated, IsDenied, IsTaken}
-use Rattle.krieg_refute.specs.declared.refutation.Claim.{Claim}
-use Rattle.krieg_search.specs.declared.stop.SearchStop.{SearchStop}
+use Rattle.krieg_game.proofs.Common.{chess, outset}
+use Rattle.krieg_belief.proofs.Common.{HaveOneHand}
+use Rattle.krieg_split.proofs.Common.{IsOwnTurn}
+use Rattle.krieg_refute.proofs.Common.{side_of, IsOneSide, IsDenial, IsMated, IsDenied, IsTaken, Claim, Denial, Exists, most_claims, most_claimed}
+use Rattle.krieg_search.proofs.Common.{SearchStop, IsBetween}
 use Rattle.krieg_search.specs.declared.stop.SearchStop.TheVariants as stop
-use Rattle.krieg_refute.specs.declared.refuting.Denied.TheVariants.{Denial, Exists}
-use Rattle.krieg_refute.specs.Refutations.{most_claims, most_claimed}
-use Rattle.krieg_refutefile.specs.Refutations.{RefutationState, state_from, is_refutation, claim_from}
-use Rattle.krieg_refutefile.specs.Writable.{CanBeWritten, IsTurnOf}
-use Rattle.krieg_refutefile.specs.RefutationFormat.{refutation_at}
-use Rattle.krieg_refutefile.specs.RefutationText.{refutation_text, text_bound}
+use Rattle.krieg_refutefile.proofs.Common.{RefutationState, state_from, is_refutation, claim_from, CanBeWritten, IsTurnOf, refutation_at, refutation_text, text_bound}
 use Rattle.krieg_refutefile.proofs.Agreeing.{states_from, claims_again, positions_same, reasons_same}
-use Rattle.krieg_claims.specs.Sizes.{AreFew}
-use Rattle.krieg_claims.specs.Written.{denial}
-use Rattle.krieg_search.specs.Decided.{IsBetween}
-use Rattle.krieg_cli.specs.Solve.{NoneMates}
-use Rattle.krieg_cli.specs.declared.refusal.Refusal.TheVariants.{PlanExists}
-use Rattle.krieg_cli.specs.Parts.{of_search, Decides}
-use Rattle.krieg_cli.specs.Refute.{CanBeListed, denial_file, IsDenialText, Claimed}
+use Rattle.krieg_claims.proofs.Common.{AreFew, denial}
 use Rattle.krieg_cli.proofs.BestFiles.{valid_of, some_length, alike, one_turn_of}
 use Rattle.krieg_cli.proofs.ClaimedSets.{denial_written}
 use Rattle.krieg_cli.proofs.ToldClaims.{told_claims}

@@ -2,12 +2,8 @@
 use Rattle.std.proofs.Common.{◌≡◌, ℕ, List, Result, Ok, Err, refl, inl, inr}
 use Rattle.std.specs.Prelude.{OnOk, OnErr}
 use Rattle.std.specs.Io.KnownBytes.{Appends}
-use Rattle.krieg_ports.specs.Bytes.{AppendsPrefix}
-use Rattle.krieg_cli.specs.World.{Stream, FaultsRose, NoFault}
-use Rattle.krieg_cli.specs.Ending.{line_of}
-use Rattle.krieg_cli.specs.Top.{Gets, Reports}
-use Rattle.krieg_cli.specs.declared.ending.Ending.{Ending}
-use Rattle.krieg_cli.specs.declared.ending.Ending.TheVariants.{Answered}
+use Rattle.krieg_ports.proofs.Common.{AppendsPrefix}
+use Rattle.krieg_cli.proofs.Common.{Stream, FaultsRose, NoFault, line_of, Gets, Reports, Ending, Answered}
 
 gets : {A E : Type 0} (r : Result A E) (line : List ℕ) (before after : Stream) →
     OnOk r (Appends before.bytes after.bytes line) → OnOk r (NoFault before after) → OnErr r (AppendsPrefix before.bytes after.bytes line) → OnErr r (FaultsRose before after) →

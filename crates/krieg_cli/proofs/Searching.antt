@@ -2,23 +2,16 @@
 use Rattle.std.proofs.Common.{◌≡◌, ℕ, suc, ◌≤◌, Bool, true, false, List, length, Result, Ok, Err, refl, ap, subst, arith}
 use Rattle.std.specs.Prelude.{MatchBool}
 use Rattle.std.proofs.lemmas.List.{take_all}
-use Rattle.krieg_board.specs.Pos.{Pos}
-use Rattle.krieg_board.specs.declared.men.Side.{Side}
-use Rattle.krieg_words.specs.declared.dialects.Dialect.{Dialect}
-use Rattle.krieg_words.specs.declared.line.Line.{Line}
+use Rattle.krieg_board.proofs.Common.{Pos, Side}
+use Rattle.krieg_words.proofs.Common.{Dialect, Line}
 use Rattle.krieg_pack.proofs.PositionSets.{same_members}
-use Rattle.krieg_sheet.specs.Sheets.{SheetState}
-use Rattle.krieg_belief.specs.Possible.{IsPossible}
-use Rattle.krieg_belief.specs.Limits.{AllWithin}
-use Rattle.krieg_plan.specs.Trees.{PlanTrees}
-use Rattle.krieg_plan.specs.declared.limits.TheConstants.{MOST_NODES}
-use Rattle.krieg_search.specs.Solved.{IsBest, IsAnswer, IsCharged, IsChargedAtMost}
-use Rattle.krieg_search.specs.declared.best_plan.Answer.{Answer}
-use Rattle.krieg_search.specs.declared.stop.SearchStop.{SearchStop}
+use Rattle.krieg_sheet.proofs.Common.{SheetState}
+use Rattle.krieg_belief.proofs.Common.{IsPossible, AllWithin}
+use Rattle.krieg_plan.proofs.Common.{PlanTrees, MOST_NODES}
+use Rattle.krieg_search.proofs.Common.{IsBest, IsAnswer, IsCharged, IsChargedAtMost, Answer, SearchStop}
 use Rattle.krieg_search.specs.declared.stop.SearchStop.TheVariants as search
-use Rattle.krieg_cli.specs.Parts.{of_search, Decides, SearchedBy}
+use Rattle.krieg_cli.proofs.Common.{of_search, Decides, SearchedBy, file_of, IsBestFile, Searched, Tells}
 use Rattle.krieg_cli.proofs.Asking.{IsLater}
-use Rattle.krieg_cli.specs.Solve.{file_of, IsBestFile, Searched, Tells}
 
 -- where a search may stop at all, no more is possible than the limit
 pub few_possible : (s : SheetState) (limit : ℕ) (S : List Pos) → AllWithin limit s → IsPossible s S → length S ≤ limit

@@ -2,25 +2,16 @@
 use Rattle.std.proofs.Common.{◌≡◌, true, List, [], ◌∷◌, None, refl, sym, ap, subst, ◌∙◌, arith}
 use Rattle.std.specs.List.{All, Contains}
 use Rattle.std.proofs.lemmas.List.Elements.{All-nil, All-contains}
-use Rattle.krieg_board.specs.Men.{is_same_side}
-use Rattle.krieg_board.specs.Pos.{Pos}
-use Rattle.krieg_board.specs.Validity.{IsValid}
-use Rattle.krieg_board.specs.declared.men.Side.{Side}
-use Rattle.krieg_board.specs.declared.men.Move.{Move}
+use Rattle.krieg_board.proofs.Common.{is_same_side, Pos, IsValid, Side, Move}
 use Rattle.krieg_moves.proofs.Hands.{same_hand_alike}
 use Rattle.krieg_moves.proofs.KeepsValid.{valid_after}
 use Rattle.krieg_moves.proofs.Turns.{side_after}
-use Rattle.krieg_words.specs.declared.dialects.Dialect.{Dialect}
-use Rattle.krieg_words.specs.declared.line.Line.{Line}
-use Rattle.krieg_words.specs.declared.line.Line.TheVariants.{Opens, Illegal, Done, Heard, Early, Over}
-use Rattle.krieg_theory.specs.Sets.{In}
-use Rattle.krieg_sheet.specs.Sheets.{SheetState, new_sheet}
-use Rattle.krieg_sheet.specs.Games.{Gives, Consistent}
-use Rattle.krieg_sheet.specs.Places.{IsSheet, IsTold}
-use Rattle.krieg_sheet.specs.Turns.{first_turn, turn_behind, turn_of, is_my_turn}
+use Rattle.krieg_words.proofs.Common.{Dialect, Line, Opens, Illegal, Done, Heard, Early, Over}
+use Rattle.krieg_theory.proofs.Common.{In}
+use Rattle.krieg_sheet.proofs.Common.{SheetState, new_sheet, Gives, Consistent, IsSheet, IsTold, first_turn, turn_behind, turn_of, is_my_turn}
 use Rattle.krieg_sheet.proofs.OneHand.{one_hand}
-use Rattle.krieg_belief.specs.Possible.{IsPossible}
-use Rattle.krieg_split.specs.Turns.{IsOwnTurn}
+use Rattle.krieg_belief.proofs.Common.{IsPossible}
+use Rattle.krieg_split.proofs.Common.{IsOwnTurn}
 use Rattle.krieg_cli.proofs.BestFiles.{all_of}
 
 -- each done move passes the turn

@@ -1,32 +1,17 @@
 -- What a run shows, where more is known of what seats make of a text.
 use Rattle.std.proofs.Common.{◌≡◌, ℕ, List, map, Option, Some, None, Result, Ok, Err, ap, subst, inl, inr}
-use Rattle.krieg_board.specs.Pos.{Pos}
-use Rattle.krieg_text.specs.Lines.{lines}
-use Rattle.krieg_text.specs.Reading.{whole}
-use Rattle.krieg_text.specs.declared.fault.TextFault.{TextFault}
+use Rattle.krieg_board.proofs.Common.{Pos}
+use Rattle.krieg_text.proofs.Common.{lines, whole, TextFault}
 use Rattle.krieg_text.specs.declared.fault.TextFault.TheVariants as fault
-use Rattle.krieg_session.specs.SessionReading.{start_at}
-use Rattle.krieg_seats.specs.Accounts.{Account}
-use Rattle.krieg_play.specs.Played.{Sides, seen, seen_team}
-use Rattle.krieg_play.specs.declared.outcome.PlayFault.TheVariants.{Vacant, Seat, NoMemory}
+use Rattle.krieg_session.proofs.Common.{start_at}
+use Rattle.krieg_seats.proofs.Common.{Account}
+use Rattle.krieg_play.proofs.Common.{Sides, seen, seen_team, Vacant, Seat, NoMemory}
 use Rattle.krieg_play.proofs.Seen.{played_seen, refuses_seen}
-use Rattle.krieg_args.specs.declared.command.Command.{Command}
-use Rattle.krieg_args.specs.declared.command.Command.TheVariants.{Play, Lead}
-use Rattle.krieg_cli.specs.World.{Stream, World}
-use Rattle.krieg_cli.specs.Outcome.{LiveOutcome, HasOutcome}
-use Rattle.krieg_planfile.specs.PlanFiles.{PlanState}
-use Rattle.krieg_planfile.specs.PlanReading.{plan_at}
-use Rattle.krieg_robot.specs.declared.led.Led.{Led}
-use Rattle.krieg_robot.specs.declared.led.LeadFault.{LeadFault}
+use Rattle.krieg_args.proofs.Common.{Command, Play, Lead}
+use Rattle.krieg_cli.proofs.Common.{Stream, World, LiveOutcome, HasOutcome, PlaysFrom, PlaysWhole, HasBegun, OpponentChanges, IsLedTo, IsGivenUp, LeadsFrom, LeadsWhole, HasLedText, LivesBy, ComesTo, Ends, Runs, LeavesBench, IsRun, Refusal, NoSuchPosition, NoSeat, SeatFault, Ending, Answered, WriteFault, Refused}
+use Rattle.krieg_planfile.proofs.Common.{PlanState, plan_at}
+use Rattle.krieg_robot.proofs.Common.{Led, LeadFault}
 use Rattle.krieg_robot.specs.declared.led.LeadFault.TheVariants as lead
-use Rattle.krieg_cli.specs.Play.{PlaysFrom, PlaysWhole, HasBegun}
-use Rattle.krieg_cli.specs.Lead.{OpponentChanges, IsLedTo, IsGivenUp, LeadsFrom, LeadsWhole, HasLedText}
-use Rattle.krieg_cli.specs.Live.{LivesBy}
-use Rattle.krieg_cli.specs.Top.{ComesTo, Ends, Runs, LeavesBench, IsRun}
-use Rattle.krieg_cli.specs.declared.refusal.Refusal.{Refusal}
-use Rattle.krieg_cli.specs.declared.refusal.Refusal.TheVariants.{NoSuchPosition, NoSeat, SeatFault}
-use Rattle.krieg_cli.specs.declared.ending.Ending.{Ending}
-use Rattle.krieg_cli.specs.declared.ending.Ending.TheVariants.{Answered, WriteFault, Refused}
 use Rattle.krieg_cli.specs.declared.ending.Ending.TheVariants as ending
 
 abbrev Follows : LiveOutcome → LiveOutcome → Type 0

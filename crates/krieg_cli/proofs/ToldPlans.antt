@@ -1,35 +1,18 @@
 -- The canonical plan of valid positions can be told: every move is one of the board, and all words are those of a game.
 use Rattle.std.proofs.Common.{◌≡◌, Bool, true, false, not, List, [], ◌∷◌, map, is_some, refl, sym, ap, subst, inl, inr}
 use Rattle.std.proofs.lemmas.Bool.{both_ways, not-true, not-false}
-use Rattle.krieg_board.specs.Men.{is_same_side}
-use Rattle.krieg_board.specs.Pos.{Pos}
-use Rattle.krieg_board.specs.Validity.{IsValid}
-use Rattle.krieg_board.specs.declared.men.Side.{Side}
-use Rattle.krieg_board.specs.declared.men.Move.{Move}
-use Rattle.krieg_fen.specs.MoveText.{IsOnBoard}
-use Rattle.krieg_moves.specs.After.{after}
-use Rattle.krieg_moves.specs.Legal.{is_legal}
-use Rattle.krieg_moves.specs.Moves.{moves, all_moves}
+use Rattle.krieg_board.proofs.Common.{is_same_side, Pos, IsValid, Side, Move}
+use Rattle.krieg_fen.proofs.Common.{IsOnBoard}
+use Rattle.krieg_moves.proofs.Common.{after, is_legal, moves, all_moves}
 use Rattle.krieg_moves.proofs.KeepsValid.{valid_after}
 use Rattle.krieg_moves.proofs.LegalMoves.{legal_squares}
-use Rattle.krieg_words.specs.WordsOfMoves.{words, opening}
-use Rattle.krieg_words.specs.ToldWords.{told}
-use Rattle.krieg_words.specs.declared.dialects.Dialect.{Dialect}
+use Rattle.krieg_words.proofs.Common.{words, opening, told, Dialect}
 use Rattle.krieg_words.proofs.SaidLaws.{opening_said, words_said}
 use Rattle.krieg_words.proofs.ToldLaws.{told_fits, told_said}
-use Rattle.krieg_theory.specs.Sets.{In, is_nil}
-use Rattle.krieg_theory.specs.Tree.{Try, Maybe, Nothing, Just, Edges, NoEdges, Edge}
-use Rattle.krieg_theory.specs.Split.{refused, legal_in_some, keys, class}
-use Rattle.krieg_theory.specs.Canonical.{IsCanon, IsCanonOther, AreCanon, edge_keys}
-use Rattle.krieg_theory.specs.Plans.{openings, opening_set, AreCanonRoots, IsCanonPlan}
-use Rattle.krieg_game.specs.Keys.{Key, RootKey}
-use Rattle.krieg_game.specs.Chess.{chess}
-use Rattle.krieg_game.specs.Outset.{outset}
-use Rattle.krieg_game.specs.Laws.{ComesAbout}
-use Rattle.krieg_game.specs.OutsetLaws.{ComesFirst}
-use Rattle.krieg_plan.specs.Trees.{NodeTree, PlanTrees}
-use Rattle.krieg_planfile.specs.NodeText.{IsToldIn, IsToldKey, IsTold, IsToldOther, AreTold}
-use Rattle.krieg_planfile.specs.PlanFiles.{IsToldRoot, AreToldRoots, AreRootsOf}
+use Rattle.krieg_theory.proofs.Common.{In, is_nil, Try, Maybe, Nothing, Just, Edges, NoEdges, Edge, refused, legal_in_some, keys, class, IsCanon, IsCanonOther, AreCanon, edge_keys, openings, opening_set, AreCanonRoots, IsCanonPlan}
+use Rattle.krieg_game.proofs.Common.{Key, RootKey, chess, outset, ComesAbout, ComesFirst}
+use Rattle.krieg_plan.proofs.Common.{NodeTree, PlanTrees}
+use Rattle.krieg_planfile.proofs.Common.{IsToldIn, IsToldKey, IsTold, IsToldOther, AreTold, IsToldRoot, AreToldRoots, AreRootsOf}
 use Rattle.krieg_theory.proofs.Lists.{any_at, filter_in}
 use Rattle.krieg_game.proofs.Splitting.{classes_come_about}
 use Rattle.krieg_game.proofs.Starting.{openings_are_members, openings_come_first, openings_occur}

@@ -2,41 +2,20 @@
 use Rattle.std.proofs.Common.{◌≡◌, ℕ, ◌≤◌, List, [], ◌∷◌, length, map, Option, Some, None, Result, Ok, Err, refl, sym, ap, subst, ◌∙◌, arith, length-append}
 use Rattle.std.specs.Prelude.{IfSome}
 use Rattle.std.specs.Io.KnownBytes.{Appends, Consumes}
-use Rattle.krieg_board.specs.declared.men.Side.{Side}
-use Rattle.krieg_text.specs.Lines.{lines}
-use Rattle.krieg_text.specs.Reading.{whole}
-use Rattle.krieg_text.specs.declared.fault.TextFault.{TextFault}
+use Rattle.krieg_board.proofs.Common.{Side}
+use Rattle.krieg_text.proofs.Common.{lines, whole, TextFault, TextKind}
 use Rattle.krieg_text.specs.declared.fault.TextFault.TheVariants as fault
-use Rattle.krieg_text.specs.declared.fault.TextKind.{TextKind}
 use Rattle.krieg_text.specs.declared.fault.TextKind.TheVariants as kind
-use Rattle.krieg_words.specs.WordsOfMoves.{opening}
-use Rattle.krieg_words.specs.ToldWords.{told}
-use Rattle.krieg_words.specs.Line.{told_line}
-use Rattle.krieg_words.specs.declared.line.Line.{Line}
+use Rattle.krieg_words.proofs.Common.{opening, told, told_line, Line}
 use Rattle.krieg_referee.proofs.Stripping.{lines_strip}
-use Rattle.krieg_sheet.specs.SheetReading.{sheet_at}
-use Rattle.krieg_sheet.specs.SheetText.{sheet_text}
+use Rattle.krieg_sheet.proofs.Common.{sheet_at, sheet_text}
 use Rattle.krieg_belief.proofs.Prefixes.{excess_not_within}
-use Rattle.krieg_session.specs.Sessions.{SessionState}
-use Rattle.krieg_session.specs.SessionReading.{session_at}
-use Rattle.krieg_session.specs.Laws.{IsGame}
+use Rattle.krieg_session.proofs.Common.{SessionState, session_at, IsGame}
 use Rattle.krieg_session.proofs.LastPositions.{last_is_consistent}
 use Rattle.krieg_session.proofs.SessionFormat.{sheets_again, code_game}
 use Rattle.krieg_ports.proofs.ToldBytes.{Consumes_all}
-use Rattle.krieg_args.specs.declared.command.Command.{Command}
-use Rattle.krieg_args.specs.declared.command.Command.TheVariants.{Believe, Umpire}
-use Rattle.krieg_cli.specs.World.{Stream, World}
-use Rattle.krieg_cli.specs.Input.{WasRead}
-use Rattle.krieg_cli.specs.Refusal.{text_status, refusal_status, OfText}
-use Rattle.krieg_cli.specs.Ending.{status}
-use Rattle.krieg_cli.specs.Believe.{Believed}
-use Rattle.krieg_cli.specs.Umpire.{told_text}
-use Rattle.krieg_cli.specs.Outcome.{LiveOutcome}
-use Rattle.krieg_cli.specs.Top.{ComesTo, Answers, Ends, Runs}
-use Rattle.krieg_cli.specs.WholeGames.{heard_sheet, standing, stripped, IsUmpired, IsHeard, TellsGame, EndsOnHeard, UmpiresGames, BelievesGames}
-use Rattle.krieg_cli.specs.declared.refusal.Refusal.{Refusal}
-use Rattle.krieg_cli.specs.declared.refusal.Refusal.TheVariants.{BadText, TooMany}
-use Rattle.krieg_cli.specs.declared.ending.Ending.{Ending}
+use Rattle.krieg_args.proofs.Common.{Command, Believe, Umpire}
+use Rattle.krieg_cli.proofs.Common.{Stream, World, WasRead, text_status, refusal_status, OfText, status, Believed, told_text, LiveOutcome, ComesTo, Answers, Ends, Runs, heard_sheet, standing, stripped, IsUmpired, IsHeard, TellsGame, EndsOnHeard, UmpiresGames, BelievesGames, Refusal, BadText, TooMany, Ending}
 use Rattle.krieg_cli.specs.declared.ending.Ending.TheVariants as ending
 
 -- Status 0 is that of an answer alone.

@@ -2,23 +2,11 @@
 use Rattle.std.proofs.Common.{◌≡◌, ℕ, List, Option, Some, Result, Ok, Err, ap, subst, ◌∙◌, arith}
 use Rattle.std.proofs.lemmas.Bool.{both_ways}
 use Rattle.std.specs.Io.KnownBytes.{Appends}
-use Rattle.krieg_text.specs.Lines.{lines}
-use Rattle.krieg_text.specs.Reading.{whole}
-use Rattle.krieg_planfile.specs.PlanFiles.{PlanState}
-use Rattle.krieg_planfile.specs.PlanReading.{plan_at}
+use Rattle.krieg_text.proofs.Common.{lines, whole}
+use Rattle.krieg_planfile.proofs.Common.{PlanState, plan_at}
 use Rattle.krieg_planfile.proofs.ReadSizes.{read_within}
-use Rattle.krieg_args.specs.declared.command.Command.{Command}
-use Rattle.krieg_args.specs.declared.command.Command.TheVariants.{Check}
-use Rattle.krieg_cli.specs.World.{World}
-use Rattle.krieg_cli.specs.Refusal.{OfText}
-use Rattle.krieg_cli.specs.Ending.{status}
-use Rattle.krieg_cli.specs.Check.{worst_text, Checked}
-use Rattle.krieg_cli.specs.Outcome.{LiveOutcome}
-use Rattle.krieg_cli.specs.Top.{ComesTo, Ends, Runs}
-use Rattle.krieg_cli.specs.WholePlans.{IsSolution, EndsOnSolution, ChecksSolutions}
-use Rattle.krieg_cli.specs.declared.refusal.Refusal.{Refusal}
-use Rattle.krieg_cli.specs.declared.refusal.Refusal.TheVariants.{BudgetSpent, PlanFails}
-use Rattle.krieg_cli.specs.declared.ending.Ending.{Ending}
+use Rattle.krieg_args.proofs.Common.{Command, Check}
+use Rattle.krieg_cli.proofs.Common.{World, OfText, status, worst_text, Checked, LiveOutcome, ComesTo, Ends, Runs, IsSolution, EndsOnSolution, ChecksSolutions, Refusal, BudgetSpent, PlanFails, Ending}
 use Rattle.krieg_cli.specs.declared.ending.Ending.TheVariants as ending
 use Rattle.krieg_cli.proofs.WholeGames.{text_read, given_le}
 

@@ -2,32 +2,14 @@
 use Rattle.std.proofs.Common.{◌≡◌, ℕ, ◌<◌, ◌≤◌, List, length, Option, Some, Result, Ok, Err, refl, sym, ap, subst, ◌∙◌, arith}
 use Rattle.std.proofs.lemmas.Bool.{both_ways}
 use Rattle.std.specs.Io.KnownBytes.{Appends}
-use Rattle.krieg_board.specs.Pos.{Pos}
-use Rattle.krieg_text.specs.Lines.{lines}
-use Rattle.krieg_text.specs.Reading.{whole}
-use Rattle.krieg_text.specs.declared.fault.TextFault.{TextFault}
+use Rattle.krieg_board.proofs.Common.{Pos}
+use Rattle.krieg_text.proofs.Common.{lines, whole, TextFault}
 use Rattle.krieg_text.specs.declared.fault.TextFault.TheVariants as fault
-use Rattle.krieg_sheet.specs.Sheets.{SheetState}
-use Rattle.krieg_sheet.specs.SheetReading.{sheet_at}
-use Rattle.krieg_refutefile.specs.Refutations.{RefutationState}
-use Rattle.krieg_refutefile.specs.RefutationFormat.{refutation_at}
+use Rattle.krieg_sheet.proofs.Common.{SheetState, sheet_at}
+use Rattle.krieg_refutefile.proofs.Common.{RefutationState, refutation_at}
 use Rattle.krieg_refutefile.proofs.Sizes.{read_short}
-use Rattle.krieg_args.specs.declared.command.Command.{Command}
-use Rattle.krieg_args.specs.declared.command.Command.TheVariants.{Refute, Deny}
-use Rattle.krieg_cli.specs.World.{World}
-use Rattle.krieg_cli.specs.Input.{WasRead}
-use Rattle.krieg_cli.specs.Refusal.{OfText}
-use Rattle.krieg_cli.specs.Ending.{status}
-use Rattle.krieg_cli.specs.Refute.{IsDenialText, Refuted}
-use Rattle.krieg_cli.specs.Deny.{Judged}
-use Rattle.krieg_cli.specs.Headline.{HasSheet}
-use Rattle.krieg_cli.specs.Outcome.{LiveOutcome}
-use Rattle.krieg_cli.specs.Top.{ComesTo, Answers, Ends, Runs}
-use Rattle.krieg_cli.specs.WholeRefutations.{IsRefutation, sheet_file, WritesRefutation, RefutesSheets, EndsOnRefutation, DeniesRefutations}
-use Rattle.krieg_cli.specs.declared.input.TheConstants.{MOST_INPUT}
-use Rattle.krieg_cli.specs.declared.refusal.Refusal.{Refusal}
-use Rattle.krieg_cli.specs.declared.refusal.Refusal.TheVariants.{BudgetSpent, RefutationFails}
-use Rattle.krieg_cli.specs.declared.ending.Ending.{Ending}
+use Rattle.krieg_args.proofs.Common.{Command, Refute, Deny}
+use Rattle.krieg_cli.proofs.Common.{World, WasRead, OfText, status, IsDenialText, Refuted, Judged, HasSheet, LiveOutcome, ComesTo, Answers, Ends, Runs, IsRefutation, sheet_file, WritesRefutation, RefutesSheets, EndsOnRefutation, DeniesRefutations, MOST_INPUT, Refusal, BudgetSpent, RefutationFails, Ending}
 use Rattle.krieg_cli.specs.declared.ending.Ending.TheVariants as ending
 use Rattle.krieg_cli.proofs.WholeGames.{answered, text_read, given_le}
 

@@ -1,7 +1,7 @@
 -- What is refused of an input: the status with which the program ends, and what the line on err says.
 use Rattle.std.specs.Prelude.{ℕ, ◌≡◌, List, Option, Some, None, Result, Ok, Err, codes}
-use Rattle.krieg_board.specs.declared.position.BadPosition.{BadPosition}
-use Rattle.krieg_board.specs.declared.position.BadPosition.TheVariants as bad
+use Rattle.krieg_faults.specs.declared.position.BadPosition.{BadPosition}
+use Rattle.krieg_faults.specs.declared.position.BadPosition.TheVariants as bad
 use Rattle.krieg_text.specs.declared.fault.TextFault.{TextFault}
 use Rattle.krieg_text.specs.declared.fault.TextFault.TheVariants as fault
 use Rattle.krieg_text.specs.declared.fault.TextKind.{TextKind}

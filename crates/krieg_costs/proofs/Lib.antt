@@ -8,3 +8,4 @@ pub mod Refuted
 pub mod LostSets
 pub mod WonSets
 pub mod Backed
+pub mod Common

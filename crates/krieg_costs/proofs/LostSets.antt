@@ -2,16 +2,10 @@
 use Rattle.std.proofs.Common.{◌≡◌, ℕ, zero, suc, ◌≤◌, ◌<◌, true, false, List, [], ◌∷◌, length, Option, Some, None, refl, subst, inl, inr, arith}
 use Rattle.std.specs.Prelude.{IfSome}
 use Rattle.std.proofs.lemmas.Bool.{both_ways}
-use Rattle.krieg_theory.specs.Sets.{In, is_nil}
-use Rattle.krieg_theory.specs.Game.{Game, IsGame}
-use Rattle.krieg_theory.specs.Split.{refused, legal_in_some, tries, class}
-use Rattle.krieg_theory.specs.Can.{can}
+use Rattle.krieg_theory.proofs.Common.{In, is_nil, Game, IsGame, refused, legal_in_some, tries, class, can}
 use Rattle.krieg_theory.proofs.Lists.{in_flat, flat_in}
 use Rattle.krieg_theory.proofs.Steps.{refused_lt}
-use Rattle.krieg_costs.specs.Sums.{Pair}
-use Rattle.krieg_costs.specs.Block.{Block, Lives, Stale, LostClass, LostRefused, NoBlock, block, pair_of, block_pair}
-use Rattle.krieg_costs.specs.Backing.{behind, lost_within, lost}
-use Rattle.krieg_costs.specs.BackingRules.{KeepsLost}
+use Rattle.krieg_costs.proofs.Common.{Pair, Block, Lives, Stale, LostClass, LostRefused, NoBlock, block, pair_of, block_pair, behind, lost_within, lost, KeepsLost}
 use Rattle.krieg_costs.proofs.Costs.{try_legal, legal_try}
 use Rattle.krieg_costs.proofs.Reached.{Inside, class_some}
 use Rattle.krieg_costs.proofs.Blocks.{BlockSays, block_says}

@@ -5,14 +5,10 @@ use Rattle.std.proofs.lemmas.Bool.{ne_eqb, lt-leb, cases_lt}
 use Rattle.std.proofs.lemmas.Option.{cond_some}
 use Rattle.std.proofs.lemmas.List.{append-nil, take_at, drop_at, take_all}
 use Rattle.std.proofs.lemmas.List.Splits.{join_with_byte-slice_split}
-use Rattle.krieg_board.specs.declared.men.Kind.{Kind}
-use Rattle.krieg_board.specs.declared.men.Kind.TheVariants.{Pawn, Knight, Bishop, Rook, Queen, King}
-use Rattle.krieg_board.specs.Board.{Board}
-use Rattle.krieg_text.specs.Pieces.{pieces}
-use Rattle.krieg_fen.specs.Letters.{capital, small_letter, kind_by, man_of}
-use Rattle.krieg_fen.specs.Ranks.{Row, squares_at, row_of, onto_row, eight, ranks_of, board_of}
-use Rattle.krieg_fen.specs.FenText.{rank_at}
-use Rattle.krieg_fen.specs.Spelling.{SpellRanks, SpellsBoard}
+use Rattle.krieg_board.proofs.Common.{Kind, Pawn, King, Board}
+use Rattle.krieg_board.specs.declared.men.Kind.TheVariants.{Knight, Bishop, Rook, Queen}
+use Rattle.krieg_text.proofs.Common.{pieces}
+use Rattle.krieg_fen.proofs.Common.{capital, small_letter, kind_by, man_of, Row, squares_at, row_of, onto_row, eight, ranks_of, board_of, rank_at, SpellRanks, SpellsBoard}
 use Rattle.krieg_text.proofs.Free.{Above, above_append, above_less, pieces_first, pieces_last}
 use Rattle.krieg_fen.proofs.RankTexts.{rank_long}
 

@@ -1,22 +1,10 @@
 -- A position that was written is read again.
 use Rattle.std.proofs.Common.{◌≡◌, ℕ, ◌+◌, ◌/◌, ◌%◌, ◌<◌, Bool, true, false, cond, ◌||◌, eqb, eqb-true, List, [], ◌∷◌, Option, Some, None, Result, Ok, refl, ap, ◌∙◌, arith}
 use Rattle.std.proofs.lemmas.Bool.{and_parts}
-use Rattle.krieg_board.specs.declared.men.Side.{Side}
-use Rattle.krieg_board.specs.declared.men.Side.TheVariants.{White, Black}
-use Rattle.krieg_board.specs.declared.men.Rights.{Rights}
-use Rattle.krieg_board.specs.Men.{other}
-use Rattle.krieg_board.specs.Squares.{rank_of, crossed_rank}
-use Rattle.krieg_board.specs.Board.{Board}
-use Rattle.krieg_board.specs.Pos.{Pos}
-use Rattle.krieg_board.specs.Validity.{IsValid, has_mark}
+use Rattle.krieg_board.proofs.Common.{Side, White, Black, Rights, other, rank_of, crossed_rank, Board, Pos, IsValid, has_mark}
 use Rattle.krieg_board.proofs.Facts.{facts}
-use Rattle.krieg_text.specs.Outcomes.{◌>>=◌}
-use Rattle.krieg_fen.specs.MoveText.{square_of}
-use Rattle.krieg_text.specs.Pieces.{pieces}
-use Rattle.krieg_fen.specs.Fields.{side_of, rights_of, mark_of, mark_at}
-use Rattle.krieg_fen.specs.declared.fen.FenFault.{FenFault}
-use Rattle.krieg_fen.specs.Fen.{field, unless, checked, position_at, position_of}
-use Rattle.krieg_fen.specs.FenText.{board_text, side_text, rights_text, mark_text, state_text, position_text}
+use Rattle.krieg_text.proofs.Common.{◌>>=◌, pieces}
+use Rattle.krieg_fen.proofs.Common.{square_of, side_of, rights_of, mark_of, mark_at, FenFault, field, unless, checked, position_at, position_of, board_text, side_text, rights_text, mark_text, state_text, position_text}
 use Rattle.krieg_fen.proofs.MoveTexts.{square_again}
 use Rattle.krieg_text.proofs.Free.{Above, pieces_first, pieces_last}
 use Rattle.krieg_fen.proofs.RankTexts.{board_above, board_again}

@@ -3,19 +3,11 @@ use Rattle.std.proofs.Common.{◌≡◌, ℕ, ◌≤◌, Bool, true, false, cond
 use Rattle.std.specs.Prelude.{codes}
 use Rattle.std.specs.Str.{bytes_eq}
 use Rattle.std.proofs.lemmas.Slice.Eq.{bytes_eq-Decides}
-use Rattle.krieg_board.specs.Pos.{Pos}
-use Rattle.krieg_board.specs.declared.men.Side.{Side}
-use Rattle.krieg_board.specs.declared.men.Side.TheVariants.{White, Black}
-use Rattle.krieg_text.specs.declared.fault.TextKind.TheVariants.{Syntax, Count}
-use Rattle.krieg_fen.specs.declared.fen.FenFault.{FenFault}
-use Rattle.krieg_fen.specs.declared.fen.FenFault.TheVariants.{Fields, Field, Bad}
-use Rattle.krieg_fen.specs.Fen.{position_of}
-use Rattle.krieg_fen.specs.Spelling.{Spells}
-use Rattle.krieg_fen.specs.Forms.{side_line, side_form, list_line, list_form, position_kind, position_form, start_form}
-use Rattle.krieg_fen.specs.declared.forms.TheConstants.{MOST_LISTED}
+use Rattle.krieg_board.proofs.Common.{Pos, Side, White, Black}
+use Rattle.krieg_text.proofs.Common.{Syntax, Count, Behind}
+use Rattle.krieg_fen.proofs.Common.{FenFault, Fields, Field, Bad, position_of, Spells, side_line, side_form, list_line, list_form, position_kind, position_form, start_form, MOST_LISTED}
 use Rattle.krieg_fen.proofs.PositionSpellings.{position_spells, position_reads}
 use Rattle.krieg_text.proofs.FormSpellings.{number_is, number_read}
-use Rattle.krieg_text.specs.Languages.{Behind}
 use Rattle.krieg_text.proofs.Formats.{IsForm, named_form}
 
 -- a side

@@ -1,15 +1,7 @@
 -- A position has the hand of itself.
 use Rattle.std.proofs.Common.{◌≡◌, Bool, true, false, not, cond, Option, Some, None, refl}
-use Rattle.krieg_board.specs.Men.{is_same_side, is_same_kind, is_same_bool}
-use Rattle.krieg_board.specs.Board.{man_at}
-use Rattle.krieg_board.specs.Pos.{Pos}
-use Rattle.krieg_board.specs.Hand.{is_same_of, has_same_men, has_same_rights, same_hand}
-use Rattle.krieg_board.specs.declared.men.Side.{Side}
-use Rattle.krieg_board.specs.declared.men.Side.TheVariants.{White, Black}
-use Rattle.krieg_board.specs.declared.men.Kind.{Kind}
-use Rattle.krieg_board.specs.declared.men.Kind.TheVariants.{Pawn, Knight, Bishop, Rook, Queen, King}
-use Rattle.krieg_board.specs.declared.men.Man.{Man}
-use Rattle.krieg_board.specs.declared.men.Rights.{Rights}
+use Rattle.krieg_board.proofs.Common.{is_same_side, is_same_kind, is_same_bool, man_at, Pos, is_same_of, has_same_men, has_same_rights, same_hand, Side, White, Black, Kind, Pawn, King, Man, Rights}
+use Rattle.krieg_board.specs.declared.men.Kind.TheVariants.{Knight, Bishop, Rook, Queen}
 use Rattle.krieg_board.proofs.SquareTests.{every_square_all}
 
 side_self : (a : Side) → is_same_side a a ≡ true

@@ -16,3 +16,4 @@ pub mod FormSpellings
 pub mod Listings
 pub mod HandOfItself
 pub mod ListGrammars
+pub mod Common

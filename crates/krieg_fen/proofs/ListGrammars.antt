@@ -2,29 +2,9 @@
 use Rattle.std.proofs.Common.{◌≡◌, ◌≢◌, inl, inr, ℕ, zero, suc, Bool, true, false, cond, List, [], ◌∷◌, ◌++◌, length, Option, Some, None, Result, Ok, Err, refl, sym, ap, subst, ◌∙◌, arith}
 use Rattle.std.specs.Prelude.{◌⊎◌, unwrap_or, replicate, IfErr, codes}
 use Rattle.std.proofs.lemmas.List.Elements.{All-nil, All-cons, All-head, All-tail}
-use Rattle.krieg_board.specs.Pos.{Pos}
-use Rattle.krieg_board.specs.Hand.{same_hand}
-use Rattle.krieg_board.specs.Attacks.{attacks, is_attacked, is_king_attacked}
-use Rattle.krieg_board.specs.Squares.{squares, some_square, every_square}
-use Rattle.krieg_board.specs.Validity.{IsValid, first_fault, has_pawns_inside}
-use Rattle.krieg_board.specs.Board.{Board}
-use Rattle.krieg_board.specs.declared.men.Side.{Side}
-use Rattle.krieg_board.specs.declared.men.Side.TheVariants.{White, Black}
-use Rattle.krieg_board.specs.declared.men.Kind.TheVariants.{King}
-use Rattle.krieg_text.specs.declared.fault.TextFault.{TextFault}
-use Rattle.krieg_text.specs.declared.fault.TextFault.TheVariants.{NoMemory}
-use Rattle.krieg_text.specs.declared.fault.TextKind.{TextKind}
-use Rattle.krieg_text.specs.declared.fault.TextKind.TheVariants.{Differs, OutOfPlace}
-use Rattle.krieg_fen.specs.declared.forms.Turn.{Turn}
-use Rattle.krieg_fen.specs.declared.forms.Turn.TheVariants.{Either, Own}
-use Rattle.krieg_text.specs.Outcomes.{◌>>=◌}
-use Rattle.krieg_fen.specs.Fields.{no_rights}
-use Rattle.krieg_fen.specs.FenText.{position_text}
-use Rattle.krieg_text.specs.Reading.{Place, place, taken, GivesOn}
-use Rattle.krieg_fen.specs.Forms.{side_line, side_form, list_line, list_form, position_form, has_turn, matching, listed_form, positions_at, listing_at, start_form}
-use Rattle.krieg_text.specs.Languages.{One, Nothing, Times, Any, ◌⨾◌}
-use Rattle.krieg_text.specs.FirstBad.{is_beyond_form, IsFormed, Has, FirstBad}
-use Rattle.krieg_fen.specs.Listing.{ListGrammar, ListingGrammar}
+use Rattle.krieg_board.proofs.Common.{Pos, same_hand, attacks, is_attacked, is_king_attacked, squares, some_square, every_square, IsValid, first_fault, has_pawns_inside, Board, Side, White, Black, King}
+use Rattle.krieg_text.proofs.Common.{TextFault, NoMemory, TextKind, Differs, OutOfPlace, ◌>>=◌, Place, place, taken, GivesOn, One, Nothing, Times, Any, ◌⨾◌, is_beyond_form, IsFormed, Has, FirstBad, behind_or}
+use Rattle.krieg_fen.proofs.Common.{Turn, Either, Own, no_rights, position_text, side_line, side_form, list_line, list_form, position_form, has_turn, matching, listed_form, positions_at, listing_at, start_form, ListGrammar, ListingGrammar}
 use Rattle.krieg_text.proofs.FirstBadLine.{code_bad_from}
 use Rattle.krieg_fen.proofs.FormSpellings.{side_again, count_again, position_read}
 use Rattle.krieg_text.proofs.Goings.{goes_by}
@@ -32,7 +12,6 @@ use Rattle.krieg_text.proofs.Grammars.{untold, KeepsTo, HasForm, line_keeps, pur
 use Rattle.krieg_fen.proofs.HandOfItself.{hand_self}
 use Rattle.krieg_fen.proofs.ListSpellings.{written_spells, listed_spells}
 use Rattle.krieg_text.proofs.FormGrammars.{form_of, value_form}
-use Rattle.krieg_text.specs.Formats.{behind_or}
 use Rattle.krieg_text.proofs.NameLemmas.{behind_again}
 
 -- ---- a position that may stand first

@@ -3,24 +3,9 @@ use Rattle.std.proofs.Common.{◌≡◌, ℕ, zero, suc, ◌+◌, Bool, true, fa
 use Rattle.std.specs.Prelude.{unwrap_or, IfOk}
 use Rattle.std.specs.List.{All}
 use Rattle.std.proofs.lemmas.List.Elements.{All-nil, All-cons}
-use Rattle.krieg_board.specs.Pos.{Pos}
-use Rattle.krieg_board.specs.Hand.{same_hand}
-use Rattle.krieg_board.specs.Validity.{IsValid}
-use Rattle.krieg_board.specs.declared.men.Side.{Side}
-use Rattle.krieg_text.specs.declared.fault.TextFault.{TextFault}
-use Rattle.krieg_text.specs.declared.fault.TextKind.{TextKind}
-use Rattle.krieg_text.specs.declared.fault.TextKind.TheVariants.{Differs, OutOfPlace}
-use Rattle.krieg_fen.specs.declared.fen.FenFault.{FenFault}
-use Rattle.krieg_fen.specs.declared.fen.FenFault.TheVariants.{Fields, Field, Bad}
-use Rattle.krieg_fen.specs.declared.forms.Turn.{Turn}
-use Rattle.krieg_fen.specs.declared.forms.Turn.TheVariants.{Either}
-use Rattle.krieg_text.specs.Outcomes.{◌>>=◌}
-use Rattle.krieg_fen.specs.Fen.{position_of}
-use Rattle.krieg_fen.specs.FenText.{position_text}
-use Rattle.krieg_fen.specs.Spelling.{Spells}
-use Rattle.krieg_text.specs.Reading.{Place, place, on, GivesOn}
-use Rattle.krieg_fen.specs.Forms.{position_kind, position_form, has_turn, matching, listed_form, positions_at}
-use Rattle.krieg_fen.specs.Listing.{Suits, SpellList, IsListed}
+use Rattle.krieg_board.proofs.Common.{Pos, same_hand, IsValid, Side}
+use Rattle.krieg_text.proofs.Common.{TextFault, TextKind, Differs, OutOfPlace, ◌>>=◌, Place, place, on, GivesOn}
+use Rattle.krieg_fen.proofs.Common.{FenFault, Fields, Field, Bad, Turn, Either, position_of, position_text, Spells, position_kind, position_form, has_turn, matching, listed_form, positions_at, Suits, SpellList, IsListed}
 use Rattle.krieg_text.proofs.Locality.{ok_is}
 use Rattle.krieg_fen.proofs.FenTexts.{position_again}
 use Rattle.krieg_fen.proofs.PositionSpellings.{position_spells, position_reads}

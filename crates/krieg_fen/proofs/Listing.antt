@@ -2,14 +2,9 @@
 use Rattle.std.proofs.Common.{◌≡◌, ℕ, zero, suc, ◌+◌, ◌-◌, ◌<◌, ◌≤◌, List, [], ◌∷◌, ◌++◌, Option, Some, Result, Ok, Err, refl, sym, ap, ◌∙◌, append_assoc, arith}
 use Rattle.std.proofs.lemmas.List.{append-nil}
 use Rattle.std.specs.Prelude.{slice_get, unwrap_or}
-use Rattle.krieg_board.specs.Pos.{Pos}
-use Rattle.krieg_board.specs.declared.men.Side.{Side}
-use Rattle.krieg_text.specs.declared.fault.TextFault.{TextFault}
-use Rattle.krieg_text.specs.declared.fault.TextFault.TheVariants.{At, NoMemory}
-use Rattle.krieg_text.specs.Outcomes.{◌>>=◌}
-use Rattle.krieg_text.specs.Reading.{Place, taken, GivesOn}
-use Rattle.krieg_fen.specs.declared.forms.Turn.{Turn}
-use Rattle.krieg_fen.specs.Forms.{listed_form, positions_at}
+use Rattle.krieg_board.proofs.Common.{Pos, Side}
+use Rattle.krieg_text.proofs.Common.{TextFault, At, NoMemory, ◌>>=◌, Place, taken, GivesOn}
+use Rattle.krieg_fen.proofs.Common.{Turn, listed_form, positions_at}
 use Rattle.krieg_text.proofs.Locality.{IsLocal, local_pure, local_taken, local_bind}
 
 -- what is read, after the positions of the front

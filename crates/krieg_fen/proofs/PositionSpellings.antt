@@ -2,21 +2,11 @@
 use Rattle.std.proofs.Common.{◌≡◌, ℕ, List, [], ◌∷◌, length, Option, Some, None, Result, Ok, Err, refl, sym, ap, ◌∙◌, arith}
 use Rattle.std.specs.List.{join_with_byte}
 use Rattle.std.proofs.lemmas.List.Splits.{join_with_byte-slice_split}
-use Rattle.krieg_board.specs.declared.men.Side.{Side}
-use Rattle.krieg_board.specs.declared.men.Rights.{Rights}
-use Rattle.krieg_board.specs.declared.position.BadPosition.{BadPosition}
-use Rattle.krieg_board.specs.Board.{Board}
-use Rattle.krieg_board.specs.Pos.{Pos}
-use Rattle.krieg_board.specs.Validity.{IsValid, first_fault}
+use Rattle.krieg_board.proofs.Common.{Side, Rights, Board, Pos, IsValid, first_fault}
+use Rattle.krieg_faults.specs.declared.position.BadPosition.{BadPosition}
 use Rattle.krieg_board.proofs.Facts.{facts}
-use Rattle.krieg_text.specs.Outcomes.{◌>>=◌}
-use Rattle.krieg_text.specs.Pieces.{pieces}
-use Rattle.krieg_fen.specs.Ranks.{board_of}
-use Rattle.krieg_fen.specs.Fields.{side_of, rights_of, mark_of}
-use Rattle.krieg_fen.specs.declared.fen.FenFault.{FenFault}
-use Rattle.krieg_fen.specs.Fen.{clocks_at, unless, checked, position_at, position_of}
-use Rattle.krieg_fen.specs.FenText.{side_text, rights_text, mark_text}
-use Rattle.krieg_fen.specs.Spelling.{AreClocks, Spells}
+use Rattle.krieg_text.proofs.Common.{◌>>=◌, pieces}
+use Rattle.krieg_fen.proofs.Common.{board_of, side_of, rights_of, mark_of, FenFault, clocks_at, unless, checked, position_at, position_of, side_text, rights_text, mark_text, AreClocks, Spells}
 use Rattle.krieg_text.proofs.Free.{above_less}
 use Rattle.krieg_fen.proofs.FenTexts.{side_again, side_above, rights_again, rights_above, mark_again, mark_above, parts, parts_again}
 use Rattle.krieg_fen.proofs.BoardSpellings.{board_spells, board_long, board_high, board_reads, AllAbove, pieces_join}

@@ -5,17 +5,10 @@ use Rattle.std.proofs.Math.Bool.{and-true}
 use Rattle.std.proofs.lemmas.Bool.{cases_lt}
 use Rattle.std.proofs.lemmas.List.{ext_get_or, get_or-set_same, get_or-set_other, length-set}
 use Rattle.std.proofs.lemmas.Nat.Bits.{bit_at_ones}
-use Rattle.krieg_board.specs.declared.bits.Sets.{Sets}
-use Rattle.krieg_board.specs.declared.men.Side.{Side}
-use Rattle.krieg_board.specs.declared.men.Side.TheVariants.{White, Black}
-use Rattle.krieg_board.specs.declared.men.Kind.{Kind}
-use Rattle.krieg_board.specs.declared.men.Kind.TheVariants.{Pawn, Knight, Bishop, Rook, Queen, King}
-use Rattle.krieg_board.specs.declared.men.Man.{Man}
-use Rattle.krieg_board.specs.Board.{Board, man_at, is_of}
-use Rattle.krieg_board.specs.Boards.{Show, is_kind}
-use Rattle.krieg_board.specs.Sets.{has}
+use Rattle.krieg_board.proofs.Common.{Sets, Side, White, Black, Kind, Pawn, King, Man, Board, man_at, is_of, Show, is_kind, has}
+use Rattle.krieg_board.specs.declared.men.Kind.TheVariants.{Knight, Bishop, Rook, Queen}
 use Rattle.krieg_board.proofs.SetLemmas.{differ, has_and, has_or, has_xor, has_bit, has_zero}
-use Rattle.krieg_fen.specs.FenText.{rank_text, rank_at, AreRanks}
+use Rattle.krieg_fen.proofs.Common.{rank_text, rank_at, AreRanks}
 use Rattle.krieg_fen.proofs.RankTexts.{rank_long, rank_man}
 use Rattle.krieg_fen.proofs.RankWriting.{down}
 

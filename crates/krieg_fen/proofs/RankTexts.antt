@@ -2,16 +2,10 @@
 use Rattle.std.proofs.Common.{◌≡◌, ℕ, zero, suc, ◌+◌, ◌-◌, ◌*◌, ◌<◌, ◌≤◌, Bool, true, cond, ◌&&◌, leb, eq-eqb, List, [], ◌∷◌, ◌++◌, length, take, drop, replicate, Option, Some, None, refl, sym, ap, ◌∙◌, arith, append_assoc, take-add}
 use Rattle.std.proofs.lemmas.Bool.{le-leb, and_from}
 use Rattle.std.proofs.lemmas.List.{append-nil, length-take-le, length-drop, take_all, get_or-take, get_or-drop}
-use Rattle.krieg_board.specs.declared.men.Man.{Man}
-use Rattle.krieg_board.specs.declared.men.Side.{Side}
-use Rattle.krieg_board.specs.declared.men.Side.TheVariants.{White, Black}
-use Rattle.krieg_board.specs.declared.men.Kind.{Kind}
-use Rattle.krieg_board.specs.declared.men.Kind.TheVariants.{Pawn, Knight, Bishop, Rook, Queen, King}
-use Rattle.krieg_board.specs.Board.{Board, man_at}
-use Rattle.krieg_text.specs.Pieces.{pieces}
-use Rattle.krieg_fen.specs.Letters.{letter}
-use Rattle.krieg_fen.specs.Ranks.{Row, squares_at, row_of, onto_row, eight, ranks_of, board_of}
-use Rattle.krieg_fen.specs.FenText.{run, row_text, rank_text, rank_at, ranks_text, board_text}
+use Rattle.krieg_board.proofs.Common.{Man, Side, White, Black, Kind, Pawn, King, Board, man_at}
+use Rattle.krieg_board.specs.declared.men.Kind.TheVariants.{Knight, Bishop, Rook, Queen}
+use Rattle.krieg_text.proofs.Common.{pieces}
+use Rattle.krieg_fen.proofs.Common.{letter, Row, squares_at, row_of, onto_row, eight, ranks_of, board_of, run, row_text, rank_text, rank_at, ranks_text, board_text}
 use Rattle.krieg_text.proofs.Free.{Above, above_append, above_less, pieces_first, pieces_last}
 
 abbrev man : Side → Kind → Option Man

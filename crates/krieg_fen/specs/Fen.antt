@@ -2,7 +2,7 @@
 use Rattle.std.specs.Prelude.{ℕ, List, [], ◌∷◌, Option, Some, None, Result, Ok, Err, if◌then◌else◌}
 use Rattle.krieg_board.specs.Pos.{Pos}
 use Rattle.krieg_board.specs.Validity.{first_fault}
-use Rattle.krieg_board.specs.declared.position.BadPosition.{BadPosition}
+use Rattle.krieg_faults.specs.declared.position.BadPosition.{BadPosition}
 use Rattle.krieg_fen.specs.declared.fen.FenFault.{FenFault}
 use Rattle.krieg_fen.specs.declared.fen.FenFault.TheVariants.{Fields, Field, Bad}
 use Rattle.krieg_text.specs.Outcomes.{◌>>=◌}

@@ -1,10 +1,6 @@
 -- Two readers, one after the other, and a value made of what both gave.
 use Rattle.std.proofs.Common.{◌≡◌, ℕ, ◌+◌, List, [], ◌++◌, length, Result, Ok, refl, sym, ap, subst, ◌∙◌, append_assoc, arith, length-append}
-use Rattle.krieg_text.specs.declared.fault.TextFault.{TextFault}
-use Rattle.krieg_text.specs.Formats.{Always}
-use Rattle.krieg_text.specs.Outcomes.{◌>>=◌}
-use Rattle.krieg_text.specs.Reading.{Place, place, LineReader}
-use Rattle.krieg_text.specs.Languages.{Language, Nothing, Any, ◌⨾◌}
+use Rattle.krieg_text.proofs.Common.{TextFault, Always, ◌>>=◌, Place, place, LineReader, Language, Nothing, Any, ◌⨾◌}
 use Rattle.krieg_text.proofs.Formats.{IsFormat}
 use Rattle.krieg_text.proofs.Goings.{GoesBy, goes_by, bind_goes, then_goes, made_goes}
 use Rattle.krieg_text.proofs.Grammars.{untold, pure_keeps, same_keeps}

@@ -1,10 +1,7 @@
 -- What the lines of a format say is a value that may be written.
 use Rattle.std.proofs.Common.{ℕ, zero, suc, List, [], ◌∷◌}
-use Rattle.krieg_text.specs.Languages.{Language}
-use Rattle.krieg_format.specs.Lines.{Line}
-use Rattle.krieg_format.specs.Descriptions.{Format, line, told, counted, also, made, times}
-use Rattle.krieg_format.specs.Tables.{Each, table}
-use Rattle.krieg_format.specs.Written.{EachFits, Fits}
+use Rattle.krieg_text.proofs.Common.{Language}
+use Rattle.krieg_format.proofs.Common.{Line, Format, line, told, counted, also, made, times, Each, table, EachFits, Fits}
 
 -- what a line owes
 abbrev pub IsFitting : {A : Type 0} {F : List ℕ → Type 0} → Line A F → Type 0

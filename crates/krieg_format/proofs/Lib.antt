@@ -6,3 +6,4 @@ pub mod Leaves
 pub mod Repeats
 pub mod LeafTexts
 pub mod Fitting
+pub mod Common

@@ -6,23 +6,13 @@ use Rattle.std.specs.declared.cmp.Ordering.{Ordering}
 use Rattle.std.specs.declared.cmp.Ordering.TheVariants.{Less, Equal, Greater}
 use Rattle.std.proofs.lemmas.Simd.{map-map}
 use Rattle.std.proofs.lemmas.List.{map-append}
-use Rattle.krieg_board.specs.Men.{is_same_side}
-use Rattle.krieg_board.specs.Pos.{Pos}
-use Rattle.krieg_board.specs.declared.men.Side.{Side}
-use Rattle.krieg_moves.specs.Moves.{moves}
-use Rattle.krieg_words.specs.Words.{Said, words_cmp}
-use Rattle.krieg_words.specs.WordsOfMoves.{opening}
-use Rattle.krieg_words.specs.ToldWords.{told}
-use Rattle.krieg_words.specs.declared.dialects.Dialect.{Dialect}
+use Rattle.krieg_board.proofs.Common.{is_same_side, Pos, Side}
+use Rattle.krieg_moves.proofs.Common.{moves}
+use Rattle.krieg_words.proofs.Common.{Said, words_cmp, opening, told, Dialect}
 use Rattle.krieg_words.proofs.OrderLaws.{words_cmp_self}
-use Rattle.krieg_pack.specs.Members.{set_of}
-use Rattle.krieg_theory.specs.Sets.{In, same, insert_once, at_key, keys_in}
-use Rattle.krieg_theory.specs.Plans.{all_starts}
-use Rattle.krieg_game.specs.Keys.{Key, RootKey, key_lt, root_lt}
-use Rattle.krieg_game.specs.Chess.{chess, outcome}
-use Rattle.krieg_game.specs.Outset.{outset, starts}
-use Rattle.krieg_game.specs.Classes.{classes_in}
-use Rattle.krieg_game.specs.ClassLaws.{first_outcomes, first_heard, OutcomesAreClassed, FirstMovesAreClassed, OpeningsAreClassed}
+use Rattle.krieg_pack.proofs.Common.{set_of}
+use Rattle.krieg_theory.proofs.Common.{In, same, insert_once, at_key, keys_in, all_starts}
+use Rattle.krieg_game.proofs.Common.{Key, RootKey, key_lt, root_lt, chess, outcome, outset, starts, classes_in, first_outcomes, first_heard, OutcomesAreClassed, FirstMovesAreClassed, OpeningsAreClassed}
 use Rattle.krieg_game.proofs.Starting.{own_start, first_moves}
 
 pub outcomes_are_classed : (d : Dialect) → OutcomesAreClassed d

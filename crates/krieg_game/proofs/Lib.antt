@@ -12,3 +12,4 @@ pub mod Pools
 mod Between
 mod Buckets
 pub mod Classed
+pub mod Common

@@ -2,14 +2,9 @@
 use Rattle.std.proofs.Common.{◌≡◌, ℕ, ◌+◌, ◌*◌, ◌/◌, ◌%◌, nat_eq, sym, ap, subst, ◌∙◌, arith}
 use Rattle.std.specs.Ordering.{is_eq, nat_cmp}
 use Rattle.std.proofs.lemmas.Bool.Decides.{nat_tests}
-use Rattle.krieg_words.specs.Words.{Said, IsSaid}
-use Rattle.krieg_theory.specs.Sets.{same}
-use Rattle.krieg_game.specs.Keys.{Key, key_cmp, key_lt}
-use Rattle.krieg_words.specs.WordNumbers.{words_number, words_at}
-use Rattle.krieg_game.specs.KeyNumbers.{key_number, key_at, AreSaid}
-use Rattle.krieg_words.specs.declared.word_numbers.TheConstants.{WORDS_LIMIT}
-use Rattle.krieg_game.specs.PackedKey.{unpacked_key, IsPacked}
-use Rattle.krieg_game.specs.declared.heard.Heard.TheInside.{Inside}
+use Rattle.krieg_words.proofs.Common.{Said, IsSaid, words_number, words_at, WORDS_LIMIT}
+use Rattle.krieg_theory.proofs.Common.{same}
+use Rattle.krieg_game.proofs.Common.{Key, key_cmp, key_lt, key_number, key_at, AreSaid, unpacked_key, IsPacked, Inside}
 use Rattle.krieg_game.proofs.KeyLaws.{key_is}
 use Rattle.krieg_game.proofs.KeyNumbers.{key_number_cmp, key_back}
 

@@ -1,9 +1,7 @@
 -- Pools that hold the same outcomes.
 use Rattle.std.proofs.Common.{◌≡◌, ℕ, ◌+◌, ◌<◌, List, [], ◌∷◌, ◌++◌, map, take, get_or, length, sym, ap, ◌∙◌, append_assoc}
 use Rattle.std.proofs.lemmas.List.{append-nil, map_more}
-use Rattle.krieg_game.specs.Outcomes.{KeyedPosition}
-use Rattle.krieg_game.specs.Classes.{outcome_set, classes_in}
-use Rattle.krieg_game.specs.Buckets.{Holds}
+use Rattle.krieg_game.proofs.Common.{KeyedPosition, outcome_set, classes_in, Holds}
 use Rattle.krieg_game.proofs.OutcomeSets.{sets_have_the_classes, sets_may_grow}
 
 -- a pool that has grown by what comes of one more

@@ -1,19 +1,13 @@
 -- What a class has, in the words of chess.
 use Rattle.std.proofs.Common.{Bool, true, false, not, cond, List, [], ◌∷◌, filter, sym, ap, ◌∙◌}
-use Rattle.krieg_board.specs.Pos.{Pos}
-use Rattle.krieg_board.specs.declared.men.Move.{Move}
-use Rattle.krieg_moves.specs.After.{after}
-use Rattle.krieg_moves.specs.Legal.{is_legal}
-use Rattle.krieg_pack.specs.Members.{IsAscending}
-use Rattle.krieg_moves.specs.Moves.{moves}
-use Rattle.krieg_words.specs.Words.{Said}
-use Rattle.krieg_words.specs.WordsOfMoves.{words}
-use Rattle.krieg_words.specs.declared.dialects.Dialect.{Dialect}
-use Rattle.krieg_theory.specs.Laws.{ComesBy}
+use Rattle.krieg_board.proofs.Common.{Pos, Move}
+use Rattle.krieg_moves.proofs.Common.{after, is_legal, moves}
+use Rattle.krieg_pack.proofs.Common.{IsAscending}
+use Rattle.krieg_words.proofs.Common.{Said, words, Dialect}
+use Rattle.krieg_theory.proofs.Common.{ComesBy}
 use Rattle.krieg_theory.proofs.Lists.{in_map, map_in, filter_in}
 use Rattle.krieg_theory.proofs.Theorems.{classes_are_split}
-use Rattle.krieg_game.specs.Chess.{chess, outcome, outcomes}
-use Rattle.krieg_game.specs.Laws.{ComesAbout, ClassesComeAbout, RefusedAscends}
+use Rattle.krieg_game.proofs.Common.{chess, outcome, outcomes, ComesAbout, ClassesComeAbout, RefusedAscends}
 use Rattle.krieg_game.proofs.ChessLaws.{chess_is_game}
 
 filter_up : (f : Pos → Bool) (ps : List Pos) → IsAscending ps → IsAscending (filter f ps)

@@ -9,3 +9,4 @@ mod MatedKing
 mod Mates
 mod KnightMoves
 mod RoundVerdicts
+pub mod Common

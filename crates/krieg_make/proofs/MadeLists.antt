@@ -4,20 +4,12 @@ use Rattle.std.proofs.lemmas.Bool.{le-leb}
 use Rattle.std.proofs.lemmas.List.Elements.{All-nil, All-cons, All-head, All-tail}
 use Rattle.std.specs.List.{All, list_all, range_with_len}
 use Rattle.std.proofs.lemmas.List.FromFn.{length-map-range_with_len, map-range_with_len_more}
-use Rattle.krieg_board.specs.Boards.{empty_board}
-use Rattle.krieg_board.specs.Hand.{same_hand, has_same_men}
-use Rattle.krieg_board.specs.Pos.{Pos}
-use Rattle.krieg_board.specs.Squares.{squares, every_square}
-use Rattle.krieg_board.specs.declared.men.Side.TheVariants.{White}
+use Rattle.krieg_board.proofs.Common.{empty_board, same_hand, has_same_men, Pos, squares, every_square, White}
 use Rattle.krieg_moves.proofs.Hands.{Alike, same_hand_alike, alike_same_hand, alike_back, alike_through}
-use Rattle.krieg_fen.specs.declared.forms.TheConstants.{MOST_LISTED}
-use Rattle.krieg_sheet.specs.Lists.{list_fault, other_hand, differs}
-use Rattle.krieg_sheet.specs.declared.sheet.SheetFault.TheVariants.{Count}
-use Rattle.krieg_make.specs.Laws.{AreCounted}
-use Rattle.krieg_make.specs.MadePositions.{made_board, made_position, pair_at, pairs}
-use Rattle.krieg_make.specs.MadeSheets.{made_count, made_number, made_positions, made_list}
+use Rattle.krieg_fen.proofs.Common.{MOST_LISTED}
+use Rattle.krieg_sheet.proofs.Common.{list_fault, other_hand, differs, Count}
+use Rattle.krieg_make.proofs.Common.{AreCounted, made_board, made_position, pair_at, pairs, made_count, made_number, made_positions, made_list, POSITION_COUNT}
 use Rattle.krieg_make.proofs.Numbers.{all_within}
-use Rattle.krieg_make.specs.declared.position.TheConstants.{POSITION_COUNT}
 
 looks_like_first : ℕ → Bool
 looks_like_first i = same_hand (made_position 0) (made_position i) White

@@ -1,6 +1,6 @@
 -- The tries of a session, round by round.
 use Rattle.std.proofs.Common.{◌≡◌, ℕ, ◌+◌, [], ◌++◌, refl, add-one}
-use Rattle.krieg_make.specs.MadeSessions.{made_tries, round_of}
+use Rattle.krieg_make.proofs.Common.{made_tries, round_of}
 
 pub no_rounds : (s : ℕ) → made_tries s 0 ≡ []
 unfolding made_tries

@@ -3,14 +3,10 @@ use Rattle.std.proofs.Common.{◌≡◌, ℕ, ◌<◌, Bool, true, ◌&&◌, ◌
 use Rattle.std.proofs.lemmas.Bool.{and_parts, eqb-true}
 use Rattle.std.specs.Prelude.{is_none}
 use Rattle.std.specs.List.{list_all, range_with_len}
-use Rattle.krieg_board.specs.Attacks.{attacks, is_attacked, is_between, is_clear, is_king_attacked}
-use Rattle.krieg_board.specs.Boards.{empty_board}
-use Rattle.krieg_board.specs.Squares.{squares, every_square, some_square}
-use Rattle.krieg_board.specs.Validity.{IsValid, first_fault, has_pawns_inside}
+use Rattle.krieg_board.proofs.Common.{attacks, is_attacked, is_between, is_clear, is_king_attacked, empty_board, squares, every_square, some_square, IsValid, first_fault, has_pawns_inside}
 use Rattle.krieg_moves.proofs.Shapes.{none_from}
-use Rattle.krieg_make.specs.MadePositions.{made_board, made_position, pair_at, pairs}
+use Rattle.krieg_make.proofs.Common.{made_board, made_position, pair_at, pairs, POSITION_COUNT}
 use Rattle.krieg_make.proofs.Numbers.{all_within}
-use Rattle.krieg_make.specs.declared.position.TheConstants.{POSITION_COUNT}
 
 has_no_fault : ℕ → Bool
 has_no_fault i = length (made_position i).board == 64 && is_none (first_fault (made_position i))

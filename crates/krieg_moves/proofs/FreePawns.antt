@@ -3,31 +3,16 @@ use Rattle.std.proofs.Common.{◌≡◌, ℕ, zero, suc, ◌+◌, ◌*◌, ◌^�
 use Rattle.std.proofs.Math.Bool.{and-false, or-false}
 use Rattle.std.proofs.lemmas.Bool.{cases_lt, lt-ltb, le-ltb, eqb-true, eq-eqb, ne_eqb}
 use Rattle.std.proofs.lemmas.Nat.Bits.{bit_at_above}
-use Rattle.krieg_board.specs.declared.men.Side.{Side}
-use Rattle.krieg_board.specs.declared.men.Side.TheVariants.{White, Black}
-use Rattle.krieg_board.specs.declared.men.Kind.TheVariants.{Pawn}
-use Rattle.krieg_board.specs.Men.{other}
-use Rattle.krieg_board.specs.Squares.{squares, every_square, file_of, rank_of, pawn_rank, landing_rank, gathered, last_rank}
-use Rattle.krieg_board.specs.Attacks.{is_forward, attacks}
-use Rattle.krieg_board.specs.Board.{Board, man_at, is_empty, is_of}
-use Rattle.krieg_board.specs.Sets.{has, squares_where}
+use Rattle.krieg_board.proofs.Common.{Side, White, Black, Pawn, other, squares, every_square, file_of, rank_of, pawn_rank, landing_rank, gathered, last_rank, is_forward, attacks, Board, man_at, is_empty, is_of, has, squares_where, Pos, IsValid}
 use Rattle.krieg_board.proofs.SetLemmas.{has_no_bit, has_and}
-use Rattle.krieg_rays.specs.Rays.{goes}
+use Rattle.krieg_rays.proofs.Common.{goes}
 use Rattle.krieg_rays.proofs.Entries.{agree, agree_at}
-use Rattle.krieg_moves.specs.After.{crossed, is_marked}
-use Rattle.krieg_moves.specs.Legal.{is_step, is_double_step, is_legal}
-use Rattle.krieg_moves.specs.Moves.{plain_move, can_go, promotes, moves_from, moves_of}
-use Rattle.krieg_moves.specs.Ways.{ahead, two_ahead, ahead_west, ahead_east, one_if, total, ways_from, ways}
+use Rattle.krieg_moves.proofs.Common.{crossed, is_marked, is_step, is_double_step, is_legal, plain_move, can_go, promotes, moves_from, moves_of, ahead, two_ahead, ahead_west, ahead_east, one_if, total, ways_from, ways, IsGuard, is_answered, Guard, IsFreePawn}
 use Rattle.std.specs.Prelude.{None}
 use Rattle.std.specs.List.{filter}
 use Rattle.std.proofs.lemmas.Nat.{and_le_l}
-use Rattle.krieg_board.specs.Pos.{Pos}
-use Rattle.krieg_board.specs.Validity.{IsValid}
 use Rattle.krieg_board.proofs.BoardSets.{has_squares_where, squares_where_small}
 use Rattle.krieg_rays.proofs.Attacking.{pawn_from}
-use Rattle.krieg_moves.specs.Guarding.{IsGuard, is_answered}
-use Rattle.krieg_moves.specs.declared.guard.Guard.{Guard}
-use Rattle.krieg_moves.specs.Targets.{IsFreePawn}
 use Rattle.krieg_moves.proofs.Counting.{counted_from}
 use Rattle.krieg_moves.proofs.Going.{attacks_is}
 use Rattle.krieg_moves.proofs.PawnGoing.{forward_or_captures, free_answered}

@@ -31,3 +31,4 @@ pub mod Officers
 pub mod Shifts
 pub mod PawnWays
 pub mod FreePawns
+pub mod Common

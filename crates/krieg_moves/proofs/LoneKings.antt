@@ -4,28 +4,13 @@ use Rattle.std.proofs.Common.{◌≡◌, ◌≢◌, ℕ, ◌<◌, ◌^◌, Bool,
 use Rattle.std.specs.Prelude.{Option, Some, None, count_ones, slice_set}
 use Rattle.std.proofs.Math.Bool.{or-false, and-false, and-true}
 use Rattle.std.proofs.lemmas.Bool.{cases_eq, eqb-true, eq-eqb, ne_eqb, false_from_ne_true, and_parts, both_ways}
-use Rattle.krieg_board.specs.Men.{other, is_same_side, is_same_kind}
-use Rattle.krieg_board.specs.Pos.{Pos}
-use Rattle.krieg_board.specs.Sets.{has}
-use Rattle.krieg_board.specs.Board.{Board, man_at, is_of, is_man}
-use Rattle.krieg_board.specs.Attacks.{can_reach, is_attacked, is_king_attacked}
-use Rattle.krieg_board.specs.Validity.{IsValid}
-use Rattle.krieg_board.specs.declared.men.Side.{Side}
-use Rattle.krieg_board.specs.declared.men.Side.TheVariants.{White}
-use Rattle.krieg_board.specs.declared.men.Kind.TheVariants.{Pawn, Rook, King}
-use Rattle.krieg_board.specs.declared.men.Man.{Man}
-use Rattle.krieg_board.specs.declared.men.Move.{Move}
+use Rattle.krieg_board.proofs.Common.{other, is_same_side, is_same_kind, Pos, has, Board, man_at, is_of, is_man, can_reach, is_attacked, is_king_attacked, IsValid, Side, White, Pawn, King, Man, Move}
+use Rattle.krieg_board.specs.declared.men.Kind.TheVariants.{Rook}
 use Rattle.krieg_board.proofs.Facts.{facts}
 use Rattle.krieg_board.proofs.MenLemmas.{is_man_tells, is_man_other_kind, same_side_self, other_other}
-use Rattle.krieg_rays.specs.Rays.{goes}
+use Rattle.krieg_rays.proofs.Common.{goes}
 use Rattle.krieg_rays.proofs.Attacking.{king_from}
-use Rattle.krieg_moves.specs.Wings.{corner, king_square, arrival}
-use Rattle.krieg_moves.specs.After.{moved, placed, board_after, after, after_by}
-use Rattle.krieg_moves.specs.Legal.{is_legal, is_candidate, holds, can_castle}
-use Rattle.krieg_moves.specs.Moves.{can_go, plain_move, moves, moves_from}
-use Rattle.krieg_moves.specs.Targets.{is_king_step, is_step_of_king, IsAlone}
-use Rattle.krieg_moves.specs.declared.wing.Wing.{Wing}
-use Rattle.krieg_moves.specs.declared.wing.Wing.TheVariants.{Short, Long}
+use Rattle.krieg_moves.proofs.Common.{corner, king_square, arrival, moved, placed, board_after, after, after_by, is_legal, is_candidate, holds, can_castle, can_go, plain_move, moves, moves_from, is_king_step, is_step_of_king, IsAlone, Wing, Short, Long}
 use Rattle.krieg_moves.proofs.Boards.{man_at_moved_to, man_at_moved_from, man_at_moved_other}
 use Rattle.krieg_moves.proofs.Castling.{rook_stands, squares_apart}
 use Rattle.krieg_moves.proofs.Counting.{counted_plain, lone_counted}

@@ -2,21 +2,9 @@
 use Rattle.std.proofs.Common.{◌≡◌, ℕ, Bool, true, false, not, ◌&&◌, ◌||◌, refl, ◌==◌, ◌+◌, arith, sym, ◌≢◌, ◌∙◌, ap, inl, inr, subst}
 use Rattle.std.proofs.lemmas.Bool.{and_from, and_parts, cond-false, cond-true, or_cases, eqb-true, eq-eqb, ne_eqb}
 use Rattle.std.specs.Prelude.{Some, None, is_none}
-use Rattle.krieg_board.specs.declared.men.Side.{Side}
-use Rattle.krieg_board.specs.declared.men.Side.TheVariants.{White, Black}
-use Rattle.krieg_board.specs.declared.men.Kind.{Kind}
-use Rattle.krieg_board.specs.declared.men.Kind.TheVariants.{Pawn}
-use Rattle.krieg_board.specs.declared.men.Man.{Man}
-use Rattle.krieg_board.specs.declared.men.Move.{Move}
-use Rattle.krieg_board.specs.Men.{other, is_same_side, is_same_kind}
-use Rattle.krieg_board.specs.Pos.{Pos}
-use Rattle.krieg_board.specs.Squares.{file_of, rank_of, square_at, pawn_rank, crossed_rank, landing_rank, last_rank}
-use Rattle.krieg_board.specs.Board.{Board, man_at, is_of, is_man, is_empty}
-use Rattle.krieg_board.specs.Attacks.{attacks, is_forward}
-use Rattle.krieg_board.specs.Validity.{has_mark, is_crossed}
+use Rattle.krieg_board.proofs.Common.{Side, White, Black, Kind, Pawn, Man, Move, other, is_same_side, is_same_kind, Pos, file_of, rank_of, square_at, pawn_rank, crossed_rank, landing_rank, last_rank, Board, man_at, is_of, is_man, is_empty, attacks, is_forward, has_mark, is_crossed}
 use Rattle.krieg_board.proofs.MenLemmas.{same_side_self, same_kind_eq, other_other}
-use Rattle.krieg_moves.specs.After.{board_after, moved, is_marked, is_advance, crossed, mark_after}
-use Rattle.krieg_moves.specs.Legal.{is_move_of_kind, is_plain, is_step, is_double_step, is_pawn_capture, is_pawn_move, has_promotion}
+use Rattle.krieg_moves.proofs.Common.{board_after, moved, is_marked, is_advance, crossed, mark_after, is_move_of_kind, is_plain, is_step, is_double_step, is_pawn_capture, is_pawn_move, has_promotion}
 use Rattle.krieg_moves.proofs.Boards.{man_at_moved_to, man_at_moved_from, man_at_moved_other}
 use Rattle.krieg_moves.proofs.Movers.{Mover}
 use Rattle.krieg_moves.proofs.Shapes.{board_after_plain}

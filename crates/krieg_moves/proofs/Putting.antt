@@ -2,14 +2,8 @@
 use Rattle.std.proofs.Common.{◌≡◌, ℕ, ◌<◌, Bool, true, false, not, ◌&&◌, ◌||◌, ◌==◌, ◌⊎◌, inl, inr, refl, sym, ◌∙◌, ap, ◌≢◌}
 use Rattle.std.specs.Prelude.{Option, Some, None, is_some}
 use Rattle.std.proofs.lemmas.Bool.{and_parts, and_from, cases_eq, not-true}
-use Rattle.krieg_board.specs.declared.men.Side.{Side}
-use Rattle.krieg_board.specs.declared.men.Side.TheVariants.{White, Black}
-use Rattle.krieg_board.specs.declared.men.Kind.{Kind}
-use Rattle.krieg_board.specs.declared.men.Kind.TheVariants.{Pawn, Knight, Bishop, Rook, Queen, King}
-use Rattle.krieg_board.specs.declared.men.Man.{Man}
-use Rattle.krieg_board.specs.Squares.{squares, every_square}
-use Rattle.krieg_board.specs.Board.{Board, man_at}
-use Rattle.krieg_board.specs.Attacks.{attacks, man_attacks, can_reach, slides, is_clear, is_between}
+use Rattle.krieg_board.proofs.Common.{Side, White, Black, Kind, Pawn, King, Man, squares, every_square, Board, man_at, attacks, man_attacks, can_reach, slides, is_clear, is_between}
+use Rattle.krieg_board.specs.declared.men.Kind.TheVariants.{Knight, Bishop, Rook, Queen}
 use Rattle.krieg_board.proofs.SameTests.{same_tests}
 use Rattle.krieg_board.proofs.SquareTests.{every_square_all, every_square_at}
 

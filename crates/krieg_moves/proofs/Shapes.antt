@@ -2,22 +2,10 @@
 use Rattle.std.proofs.Common.{◌≡◌, ℕ, true, false, not, ◌&&◌, ◌||◌, refl, ◌==◌, sym, ◌∙◌, subst}
 use Rattle.std.proofs.lemmas.Bool.{and_left, and_parts, cond-false}
 use Rattle.std.specs.Prelude.{Option, Some, None, is_none}
-use Rattle.krieg_board.specs.declared.men.Side.{Side}
-use Rattle.krieg_board.specs.declared.men.Kind.{Kind}
-use Rattle.krieg_board.specs.declared.men.Kind.TheVariants.{Pawn, King}
-use Rattle.krieg_board.specs.declared.men.Man.{Man}
-use Rattle.krieg_board.specs.declared.men.Move.{Move}
-use Rattle.krieg_board.specs.Men.{is_same_kind}
-use Rattle.krieg_board.specs.Pos.{Pos}
-use Rattle.krieg_board.specs.Squares.{file_of}
-use Rattle.krieg_board.specs.Board.{Board, man_at, is_man}
-use Rattle.krieg_board.specs.Attacks.{attacks, can_reach, slides, is_clear, man_attacks}
+use Rattle.krieg_board.proofs.Common.{Side, Kind, Pawn, King, Man, Move, is_same_kind, Pos, file_of, Board, man_at, is_man, attacks, can_reach, slides, is_clear, man_attacks}
 use Rattle.krieg_board.proofs.Facts.{Facts}
 use Rattle.krieg_board.proofs.MenLemmas.{is_man_tells}
-use Rattle.krieg_moves.specs.Wings.{king_square, arrival}
-use Rattle.krieg_moves.specs.After.{board_after, moved, is_en_passant, is_castling, is_marked}
-use Rattle.krieg_moves.specs.declared.wing.Wing.{Wing}
-use Rattle.krieg_moves.specs.declared.wing.Wing.TheVariants.{Short, Long}
+use Rattle.krieg_moves.proofs.Common.{king_square, arrival, board_after, moved, is_en_passant, is_castling, is_marked, Wing, Short, Long}
 use Rattle.krieg_moves.proofs.Effects.{Effect, Effect_moved}
 use Rattle.krieg_moves.proofs.Movers.{Mover, attacked_no_king}
 

@@ -1,14 +1,8 @@
 -- What a legal move tells: the game goes on where there is one, and it passes the turn.
 use Rattle.std.proofs.Common.{◌≡◌, true, false, List, [], ◌∷◌, Option, Some, None, refl, arith}
 use Rattle.std.specs.List.{Contains}
-use Rattle.krieg_board.specs.Men.{other}
-use Rattle.krieg_board.specs.Pos.{Pos}
-use Rattle.krieg_board.specs.Board.{man_at, is_of}
-use Rattle.krieg_board.specs.declared.men.Man.{Man}
-use Rattle.krieg_board.specs.declared.men.Move.{Move}
-use Rattle.krieg_moves.specs.Legal.{is_legal}
-use Rattle.krieg_moves.specs.After.{after, after_by}
-use Rattle.krieg_moves.specs.Moves.{moves, is_nil, is_ended}
+use Rattle.krieg_board.proofs.Common.{other, Pos, man_at, is_of, Man, Move}
+use Rattle.krieg_moves.proofs.Common.{is_legal, after, after_by, moves, is_nil, is_ended}
 use Rattle.krieg_moves.proofs.LegalMoves.{legal_own}
 use Rattle.krieg_moves.proofs.Listed.{legal_listed}
 

@@ -3,17 +3,10 @@ use Rattle.std.proofs.Common.{◌≡◌, ℕ, zero, suc, ◌+◌, ◌-◌, ◌*�
 use Rattle.std.specs.Prelude.{Option, Some, None}
 use Rattle.std.specs.Int.RustNames.{bit_xor}
 use Rattle.std.proofs.lemmas.Nat.{and_le_l}
-use Rattle.krieg_board.specs.Sets.{has}
-use Rattle.krieg_board.specs.Board.{Board, man_at, is_of}
-use Rattle.krieg_board.specs.Boards.{is_kind, Show}
-use Rattle.krieg_board.specs.declared.bits.Sets.{Sets}
-use Rattle.krieg_board.specs.declared.men.Side.{Side}
-use Rattle.krieg_board.specs.declared.men.Side.TheVariants.{White, Black}
-use Rattle.krieg_board.specs.declared.men.Kind.{Kind}
-use Rattle.krieg_board.specs.declared.men.Kind.TheVariants.{Pawn, Knight, Bishop, Rook, Queen, King}
-use Rattle.krieg_board.specs.declared.men.Man.{Man}
+use Rattle.krieg_board.proofs.Common.{has, Board, man_at, is_of, is_kind, Show, Sets, Side, White, Black, Kind, Pawn, King, Man}
+use Rattle.krieg_board.specs.declared.men.Kind.TheVariants.{Knight, Bishop, Rook, Queen}
 use Rattle.krieg_board.proofs.SetLemmas.{has_and, has_or, has_xor, has_not, differ}
-use Rattle.krieg_pack.specs.Codes.{man_code}
+use Rattle.krieg_pack.proofs.Common.{man_code}
 
 -- what is known of one square: its code, the bits of the code, and which sets of men have it
 pub record Row : Type 0 where

@@ -8,3 +8,4 @@ pub mod Membership
 pub mod Sorting
 pub mod Counts
 pub mod PositionSets
+pub mod Common

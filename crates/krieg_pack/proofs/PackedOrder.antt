@@ -10,14 +10,9 @@ use Rattle.std.proofs.lemmas.Bool.{eq-eqb, ne_eqb, eqb-true, not-false}
 use Rattle.std.proofs.lemmas.Bool.Decides.{nat_tests}
 use Rattle.std.proofs.lemmas.Cmp.{ranked, by_ranked}
 use Rattle.std.proofs.lemmas.List.{length-map, get_or-map, ext_get_or}
-use Rattle.krieg_board.specs.Board.{man_at}
-use Rattle.krieg_board.specs.Pos.{Pos}
-use Rattle.krieg_board.specs.Sets.{has, IsLowest}
+use Rattle.krieg_board.proofs.Common.{man_at, Pos, has, IsLowest}
 use Rattle.krieg_board.proofs.SetLemmas.{has_zero, lowest}
-use Rattle.krieg_pack.specs.Codes.{numbers, man_code}
-use Rattle.krieg_pack.specs.Order.{position_cmp}
-use Rattle.krieg_pack.specs.Packing.{state}
-use Rattle.krieg_pack.specs.declared.packed.Packed.TheInside.{Inside}
+use Rattle.krieg_pack.proofs.Common.{numbers, man_code, position_cmp, state, Inside}
 use Rattle.krieg_pack.proofs.Unpacking.{Stand}
 use Rattle.krieg_pack.proofs.CodePairs.{AreApart}
 

@@ -4,13 +4,10 @@ use Rattle.std.specs.List.{dedup}
 use Rattle.std.specs.List.Sorted.{IsSorted, IsPermutation, IsBinarySearchResult, IsSearchInRange}
 use Rattle.std.specs.Cmp.Lexicographic.{pointwise}
 use Rattle.std.specs.Prelude.{Result, is_ok}
-use Rattle.krieg_board.specs.Pos.{Pos}
-use Rattle.krieg_theory.specs.Sets.{In, IsOrder}
+use Rattle.krieg_board.proofs.Common.{Pos}
+use Rattle.krieg_theory.proofs.Common.{In, IsOrder}
 use Rattle.krieg_theory.proofs.Ascending.{same_set, as_set_ascending, in_as_set, as_set_in}
-use Rattle.krieg_pack.specs.Order.{position_cmp, position_eq, position_lt}
-use Rattle.krieg_pack.specs.Members.{IsAscending, IsSetOf, set_of}
-use Rattle.krieg_pack.specs.OrderLaws.{position_total}
-use Rattle.krieg_pack.specs.SameNumbers.{same_position}
+use Rattle.krieg_pack.proofs.Common.{position_cmp, position_eq, position_lt, IsAscending, IsSetOf, set_of, position_total, same_position}
 use Rattle.krieg_pack.proofs.Sorting.{is_order, sorted_set, found, pointwise_same, pointwise_self}
 use Rattle.krieg_pack.proofs.Counts.{part_le, as_set_early}
 

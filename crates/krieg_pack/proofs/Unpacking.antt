@@ -2,19 +2,10 @@
 use Rattle.std.proofs.Common.{◌≡◌, ℕ, ◌+◌, ◌*◌, ◌^◌, ◌<◌, ◌≤◌, cond, length, refl, sym, ap, subst, ◌∙◌, arith, map}
 use Rattle.std.proofs.lemmas.List.{length-map, ext_get_or, get_or-map}
 use Rattle.std.specs.Prelude.{None}
-use Rattle.krieg_board.specs.Men.{bits_of}
-use Rattle.krieg_board.specs.Pos.{Pos}
-use Rattle.krieg_board.specs.Board.{Board, man_at}
-use Rattle.krieg_board.specs.Sets.{has}
-use Rattle.krieg_board.specs.Squares.{squares}
-use Rattle.krieg_board.specs.Validity.{IsValid}
+use Rattle.krieg_board.proofs.Common.{bits_of, Pos, Board, man_at, has, squares, IsValid}
 use Rattle.krieg_board.proofs.BoardSets.{has_squares_where, squares_where_is, squares_where_small}
 use Rattle.krieg_board.proofs.SquareTests.{length_squares, get_or_squares}
-use Rattle.krieg_pack.specs.Codes.{man_code, mark_code, side_code}
-use Rattle.krieg_pack.specs.Decoding.{man_of, mark_of, side_of, rights_of}
-use Rattle.krieg_pack.specs.Packing.{plane, code_at, packed, unpacked, IsPacked}
-use Rattle.krieg_pack.specs.declared.packed.Packed.TheInside.{Inside}
-use Rattle.krieg_pack.specs.CodesBack.{man_back, side_back, mark_back, rights_back}
+use Rattle.krieg_pack.proofs.Common.{man_code, mark_code, side_code, man_of, mark_of, side_of, rights_of, plane, code_at, packed, unpacked, IsPacked, Inside, man_back, side_back, mark_back, rights_back}
 use Rattle.krieg_pack.proofs.CodeBits.{code_from_bits}
 
 -- a set that has the squares whose code has bit i

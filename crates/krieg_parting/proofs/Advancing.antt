@@ -3,22 +3,13 @@ use Rattle.std.proofs.Common.{◌≡◌, Bool, false, not, ◌&&◌, ◌||◌, L
 use Rattle.std.proofs.Math.Bool.{or_assoc, or-false}
 use Rattle.std.specs.List.{list_any}
 use Rattle.std.proofs.lemmas.List.{length-map}
-use Rattle.krieg_board.specs.Men.{is_same_side}
-use Rattle.krieg_board.specs.Pos.{Pos}
-use Rattle.krieg_board.specs.declared.men.Side.{Side}
-use Rattle.krieg_moves.specs.Moves.{moves, is_ended}
-use Rattle.krieg_words.specs.WordsOfMoves.{opening}
-use Rattle.krieg_words.specs.declared.dialects.Dialect.{Dialect}
-use Rattle.krieg_theory.specs.Plans.{is_over}
-use Rattle.krieg_game.specs.Chess.{chess, outcome}
-use Rattle.krieg_game.specs.Outset.{outset, waits, starts, first_move}
-use Rattle.krieg_game.specs.Classes.{outcome_set}
-use Rattle.krieg_game.specs.ClassLaws.{first_outcomes}
+use Rattle.krieg_board.proofs.Common.{is_same_side, Pos, Side}
+use Rattle.krieg_moves.proofs.Common.{moves, is_ended}
+use Rattle.krieg_words.proofs.Common.{opening, Dialect}
+use Rattle.krieg_theory.proofs.Common.{is_over}
+use Rattle.krieg_game.proofs.Common.{chess, outcome, outset, waits, starts, first_move, outcome_set, first_outcomes, Holds}
 use Rattle.krieg_game.proofs.Starting.{first_moves, over_is_ended}
-use Rattle.krieg_parting.specs.Turns.{IsOthersTurn}
-use Rattle.krieg_game.specs.Buckets.{Holds}
-use Rattle.krieg_parting.specs.FirstMoves.{IsAdvanced, AreFirstMoves}
-use Rattle.krieg_parting.specs.declared.firsts.FirstMoves.{FirstMoves}
+use Rattle.krieg_parting.proofs.Common.{IsOthersTurn, IsAdvanced, AreFirstMoves, FirstMoves}
 use Rattle.krieg_game.proofs.Pools.{holds_grown, holds_all}
 
 -- what was found, and what the rest adds, is all

@@ -1,9 +1,7 @@
 -- What is taken one after another.
 use Rattle.std.proofs.Common.{◌≡◌, ℕ, ◌+◌, ◌≤◌, Result, Ok, Err, subst, arith}
 use Rattle.std.specs.Result.{IsErrAnd}
-use Rattle.krieg_parting.specs.declared.stop.PartStop.{PartStop}
-use Rattle.krieg_parting.specs.declared.stop.PartStop.TheVariants.{Spent, NoMemory}
-use Rattle.krieg_parting.specs.Charged.{Charged}
+use Rattle.krieg_parting.proofs.Common.{PartStop, Spent, NoMemory, Charged}
 
 -- a step was too dear: with what comes later, all is
 pub stopped : {A B : Type 0} (Q : PartStop → Type 0) (r : Result B PartStop) (e : PartStop) (holds : A → Type 0) (wanted : B → Type 0) (cost all old mid new : ℕ) →

@@ -3,20 +3,12 @@ use Rattle.std.proofs.Common.{◌≡◌, ℕ, suc, ◌+◌, Bool, true, false, c
 use Rattle.std.proofs.Math.Bool.{or_assoc, or-false}
 use Rattle.std.proofs.lemmas.List.{append-nil}
 use Rattle.std.proofs.lemmas.Bool.{both_ways}
-use Rattle.krieg_board.specs.Pos.{Pos}
-use Rattle.krieg_board.specs.declared.men.Move.{Move}
-use Rattle.krieg_moves.specs.Legal.{is_legal}
-use Rattle.krieg_words.specs.declared.dialects.Dialect.{Dialect}
-use Rattle.krieg_theory.specs.Split.{refused, stale_in_some, given, all_outcomes}
-use Rattle.krieg_game.specs.Chess.{chess, stalemates}
-use Rattle.krieg_game.specs.Classes.{outcome_set}
-use Rattle.krieg_game.specs.Buckets.{Holds}
-use Rattle.krieg_parting.specs.Charged.{Charged}
-use Rattle.krieg_parting.specs.Mating.{replies}
-use Rattle.krieg_parting.specs.declared.stop.PartStop.{PartStop}
-use Rattle.krieg_parting.specs.Wanted.{is_wanted}
-use Rattle.krieg_parting.specs.Gathering.{IsAdded, IsGathered}
-use Rattle.krieg_parting.specs.declared.parts.Gathered.{Gathered}
+use Rattle.krieg_board.proofs.Common.{Pos, Move}
+use Rattle.krieg_moves.proofs.Common.{is_legal}
+use Rattle.krieg_words.proofs.Common.{Dialect}
+use Rattle.krieg_theory.proofs.Common.{refused, stale_in_some, given, all_outcomes}
+use Rattle.krieg_game.proofs.Common.{chess, stalemates, outcome_set, Holds}
+use Rattle.krieg_parting.proofs.Common.{Charged, replies, PartStop, is_wanted, IsAdded, IsGathered, Gathered}
 use Rattle.krieg_game.proofs.Pools.{holds_grown, holds_all}
 use Rattle.krieg_parting.proofs.Charges.{said}
 use Rattle.krieg_parting.proofs.LastMoves.{given_length}

@@ -5,3 +5,4 @@ pub mod LastMoves
 pub mod Gathering
 mod Trying
 pub mod Advancing
+pub mod Common

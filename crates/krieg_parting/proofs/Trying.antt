@@ -3,11 +3,8 @@ use Rattle.std.proofs.Common.{◌≡◌, Bool, true, false, ◌||◌, List, [], 
 use Rattle.std.proofs.Math.Bool.{or_assoc, or-false}
 use Rattle.std.proofs.lemmas.List.{append-nil}
 use Rattle.std.specs.List.{list_any}
-use Rattle.krieg_board.specs.Pos.{Pos}
-use Rattle.krieg_board.specs.declared.men.Move.{Move}
-use Rattle.krieg_parting.specs.Mating.{lives, refuses, IsTried, AreTried}
-use Rattle.krieg_parting.specs.Wanted.{is_wanted}
-use Rattle.krieg_parting.specs.declared.last_move.Mating.{Mating}
+use Rattle.krieg_board.proofs.Common.{Pos, Move}
+use Rattle.krieg_parting.proofs.Common.{lives, refuses, IsTried, AreTried, is_wanted, Mating}
 use Rattle.krieg_parting.proofs.Gathering.{filtered_more}
 use Rattle.krieg_parting.proofs.Wanted.{wanted_before}
 

@@ -1,12 +1,8 @@
 -- The last key alone ascends, and so does none.
 use Rattle.std.proofs.Common.{◌≡◌, ℕ, ◌-◌, ◌≤◌, true, List, [], ◌∷◌, length, map, drop, refl, arith, length-drop}
-use Rattle.krieg_theory.specs.Canonical.{edge_keys}
-use Rattle.krieg_game.specs.Keys.{key_lt, root_lt}
-use Rattle.krieg_plan.specs.Ordered.{is_ascending}
-use Rattle.krieg_plan.specs.Nodes.{edge_of, as_edges}
-use Rattle.krieg_plan.specs.Roots.{root_of}
-use Rattle.krieg_plan.specs.declared.node.Edge.{Edge}
-use Rattle.krieg_plan.specs.declared.plan.Root.{Root}
+use Rattle.krieg_theory.proofs.Common.{edge_keys}
+use Rattle.krieg_game.proofs.Common.{key_lt, root_lt}
+use Rattle.krieg_plan.proofs.Common.{is_ascending, edge_of, as_edges, root_of, Edge, Root}
 
 edges_short : (es : List Edge) → length es ≤ 1 → is_ascending key_lt (edge_keys (as_edges (map edge_of es))) ≡ true
 edges_short [] h = refl

@@ -8,3 +8,4 @@ mod Lookups
 mod LastKeys
 mod OrderedNodes
 mod DeepNodes
+pub mod Common

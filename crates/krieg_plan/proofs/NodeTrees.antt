@@ -1,16 +1,11 @@
 -- What a node means, part by part: as it is taken apart, and as it is made.
 use Rattle.std.proofs.Common.{◌≡◌, Some, None, refl, ◌∙◌, map}
 use Rattle.std.specs.Prelude.{option_map}
-use Rattle.krieg_board.specs.declared.men.Move.{Move}
-use Rattle.krieg_theory.specs.Tree.{Try, Maybe, Edges}
-use Rattle.krieg_game.specs.Keys.{Key}
-use Rattle.krieg_plan.specs.Trees.{NodeTree}
-use Rattle.krieg_plan.specs.Nodes.{tree_of, edge_of, as_other, as_edges, edge_step, node_step}
-use Rattle.krieg_plan.specs.declared.node.Node.{Node}
-use Rattle.krieg_plan.specs.declared.node.Edge.{Edge}
-use Rattle.krieg_plan.specs.declared.node.Edge.TheOpen.{Node-F, Edge-F}
-use Rattle.krieg_plan.specs.declared.node.Edge.TheViews.{out-Node, out-Edge, roll-Node, roll-Edge}
-use Rattle.krieg_plan.specs.declared.node.Edge.TheFolds.{map-Node, fold_out-Node, fold_out-Edge, fold-roll-Node, fold-roll-Edge}
+use Rattle.krieg_board.proofs.Common.{Move}
+use Rattle.krieg_theory.proofs.Common.{Try, Maybe, Edges}
+use Rattle.krieg_game.proofs.Common.{Key}
+use Rattle.krieg_plan.proofs.Common.{NodeTree, tree_of, edge_of, as_other, as_edges, edge_step, node_step, Node, Edge, Node-F, Edge-F, out-Node, roll-Node, roll-Edge, map-Node, fold_out-Node, fold_out-Edge, fold-roll-Node, fold-roll-Edge}
+use Rattle.krieg_plan.specs.declared.node.Edge.TheViews.{out-Edge}
 
 -- one layer of a node, with nodes below it
 abbrev pub Layer : Type 0

@@ -2,13 +2,10 @@
 use Rattle.std.proofs.Common.{◌≡◌, true, false, ◌&&◌, [], ◌∷◌, map, refl, sym, ap, ◌∙◌}
 use Rattle.std.specs.Prelude.{if◌then◌else◌}
 use Rattle.std.proofs.lemmas.Bool.{and_parts}
-use Rattle.krieg_board.specs.declared.men.Move.{Move}
-use Rattle.krieg_theory.specs.Sets.{same}
-use Rattle.krieg_theory.specs.Tree.{Try, Maybe, Just, Edges, NoEdges, Edge, first_edge}
-use Rattle.krieg_theory.specs.Canonical.{edge_keys}
-use Rattle.krieg_game.specs.Keys.{Key, RootKey, key_lt, root_lt}
-use Rattle.krieg_plan.specs.Trees.{NodeTree, PlanTrees, edges_in, first_edge_in, first_root_in}
-use Rattle.krieg_plan.specs.Ordered.{is_ascending, is_ordered, is_ordered_other, are_ordered, is_ordered_plan, are_ordered_roots}
+use Rattle.krieg_board.proofs.Common.{Move}
+use Rattle.krieg_theory.proofs.Common.{same, Try, Maybe, Just, Edges, NoEdges, Edge, first_edge, edge_keys}
+use Rattle.krieg_game.proofs.Common.{Key, RootKey, key_lt, root_lt}
+use Rattle.krieg_plan.proofs.Common.{NodeTree, PlanTrees, edges_in, first_edge_in, first_root_in, is_ascending, is_ordered, is_ordered_other, are_ordered, is_ordered_plan, are_ordered_roots}
 
 -- the keys of a node's edges
 pub own_keys : (n : NodeTree) → is_ordered n ≡ true → is_ascending key_lt (edge_keys (edges_in n)) ≡ true

@@ -1,16 +1,10 @@
 -- A plan wins from a root exactly where the tree that is found there wins.
 use Rattle.std.proofs.Common.{◌≡◌, ℕ, Bool, true, false, cond, [], ◌∷◌, refl}
-use Rattle.krieg_board.specs.Pos.{Pos}
-use Rattle.krieg_board.specs.declared.men.Side.{Side}
-use Rattle.krieg_words.specs.declared.dialects.Dialect.{Dialect}
-use Rattle.krieg_theory.specs.Sets.{same}
-use Rattle.krieg_theory.specs.Tree.{Just}
-use Rattle.krieg_theory.specs.Wins.{wins, wins_other}
-use Rattle.krieg_theory.specs.Plans.{wins_root}
-use Rattle.krieg_game.specs.Keys.{RootKey, root_lt}
-use Rattle.krieg_game.specs.Chess.{chess}
-use Rattle.krieg_game.specs.Outset.{outset}
-use Rattle.krieg_plan.specs.Trees.{PlanTrees, first_root_in}
+use Rattle.krieg_board.proofs.Common.{Pos, Side}
+use Rattle.krieg_words.proofs.Common.{Dialect}
+use Rattle.krieg_theory.proofs.Common.{same, Just, wins, wins_other, wins_root}
+use Rattle.krieg_game.proofs.Common.{RootKey, root_lt, chess, outset}
+use Rattle.krieg_plan.proofs.Common.{PlanTrees, first_root_in}
 
 pub root_wins : (d : Dialect) (who : Side) (rs : PlanTrees) (key : RootKey) (p : Pos) (k : ℕ) → wins_root (chess d) (outset d who) rs key p k ≡ wins_other (chess d) (first_root_in rs key) p k
 root_wins d who [] key p k = refl

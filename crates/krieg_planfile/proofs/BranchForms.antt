@@ -1,23 +1,10 @@
 -- The lines of branches, be they edges or roots: what the reading of one needs of its form.
 use Rattle.std.proofs.Common.{◌≡◌, inl, inr, ℕ, Bool, true, false, cond, List, Option, Result, Ok, Err, refl, sym, subst, arith}
 use Rattle.std.specs.Prelude.{◌⊎◌, ◌&&◌, is_some}
-use Rattle.krieg_text.specs.declared.fault.TextKind.{TextKind}
-use Rattle.krieg_text.specs.declared.fault.TextKind.TheVariants.{OutOfPlace}
-use Rattle.krieg_text.specs.FirstBad.{is_beyond_form}
-use Rattle.krieg_text.specs.Outcomes.{◌>>=◌}
-use Rattle.krieg_text.specs.Writing.{Pieces, joined}
-use Rattle.krieg_words.specs.ToldWords.{no_kinds}
-use Rattle.krieg_words.specs.Words.{Said}
-use Rattle.krieg_words.specs.declared.dialects.Dialect.{Dialect}
-use Rattle.krieg_words.specs.declared.dialects.Dialect.TheVariants.{Wild16, Anytry, Plain}
-use Rattle.krieg_words.specs.declared.words.End.TheVariants.{Goes}
-use Rattle.krieg_words.specs.declared.words.Took.TheVariants.{Nothing}
-use Rattle.krieg_game.specs.Keys.{Key, RootKey, key_lt, root_lt}
-use Rattle.krieg_planfile.specs.NodeForms.{follows, placed, on_form}
-use Rattle.krieg_planfile.specs.NodeText.{on_line, IsToldIn, IsToldKey}
-use Rattle.krieg_planfile.specs.PlanReading.{is_root_of, root_placed, root_form}
-use Rattle.krieg_planfile.specs.PlanSpelling.{IsRootOf}
-use Rattle.krieg_planfile.specs.PlanText.{root_line}
+use Rattle.krieg_text.proofs.Common.{TextKind, OutOfPlace, is_beyond_form, ◌>>=◌, Pieces, joined}
+use Rattle.krieg_words.proofs.Common.{no_kinds, Said, Dialect, Wild16, Anytry, Plain, Goes, Nothing}
+use Rattle.krieg_game.proofs.Common.{Key, RootKey, key_lt, root_lt}
+use Rattle.krieg_planfile.proofs.Common.{follows, placed, on_form, on_line, IsToldIn, IsToldKey, is_root_of, root_placed, root_form, IsRootOf, root_line}
 use Rattle.krieg_planfile.proofs.KeyForms.{any_on, any_root, on_spells, on_again, root_spells, root_again}
 
 -- A line of the form is that of a key that can be told, fits and follows the last one; in the grammar the key may be in any order.

@@ -1,13 +1,9 @@
 -- Reading branches one after another.
 use Rattle.std.proofs.Common.{◌≡◌, ℕ, suc, ◌+◌, ◌-◌, ◌<◌, ◌≤◌, List, [], ◌∷◌, ◌++◌, Option, Some, Result, Ok, Err, refl, sym, ap, ◌∙◌, append_assoc, arith}
 use Rattle.std.proofs.lemmas.List.{append-nil}
-use Rattle.krieg_text.specs.declared.fault.TextFault.{TextFault}
-use Rattle.krieg_text.specs.declared.fault.TextFault.TheVariants.{At, NoMemory}
-use Rattle.krieg_text.specs.declared.fault.TextKind.{TextKind}
-use Rattle.krieg_text.specs.Outcomes.{◌>>=◌}
-use Rattle.krieg_text.specs.Reading.{Place, GivesOn}
-use Rattle.krieg_plan.specs.Trees.{NodeTree}
-use Rattle.krieg_planfile.specs.NodeReading.{NodeReader, branch_by, branches_by}
+use Rattle.krieg_text.proofs.Common.{TextFault, At, NoMemory, TextKind, ◌>>=◌, Place, GivesOn}
+use Rattle.krieg_plan.proofs.Common.{NodeTree}
+use Rattle.krieg_planfile.proofs.Common.{NodeReader, branch_by, branches_by}
 
 module _ {K : Type 0} (node : NodeReader) (form : Option K → List ℕ → Result K TextKind) where
   -- what is read, after the branches of the front

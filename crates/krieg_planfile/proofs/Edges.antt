@@ -1,15 +1,11 @@
 -- Edges as a list of branches.
 use Rattle.std.proofs.Common.{◌≡◌, ℕ, suc, ◌+◌, Bool, true, ◌&&◌, max, List, [], ◌∷◌, ◌++◌, map, length, refl, ap}
-use Rattle.krieg_board.specs.declared.men.Move.{Move}
-use Rattle.krieg_theory.specs.Tree.{Edges, NoEdges, Edge, size, size_edges, depth, depth_edges}
-use Rattle.krieg_theory.specs.Canonical.{edge_keys}
-use Rattle.krieg_words.specs.declared.dialects.Dialect.{Dialect}
-use Rattle.krieg_game.specs.Keys.{Key}
-use Rattle.krieg_plan.specs.Nodes.{as_edges}
-use Rattle.krieg_plan.specs.Ordered.{is_ordered, are_ordered}
-use Rattle.krieg_plan.specs.Trees.{NodeTree}
-use Rattle.krieg_planfile.specs.NodeText.{edge_count, node_lines, on_line, edges_lines, branches_lines, IsToldKey, AreTold, AreToldBranches}
-use Rattle.krieg_planfile.specs.PlanSpelling.{HaveFewEdges, HaveFewBranches}
+use Rattle.krieg_board.proofs.Common.{Move}
+use Rattle.krieg_theory.proofs.Common.{Edges, NoEdges, Edge, size, size_edges, depth, depth_edges, edge_keys}
+use Rattle.krieg_words.proofs.Common.{Dialect}
+use Rattle.krieg_game.proofs.Common.{Key}
+use Rattle.krieg_plan.proofs.Common.{as_edges, is_ordered, are_ordered, NodeTree}
+use Rattle.krieg_planfile.proofs.Common.{edge_count, node_lines, on_line, edges_lines, branches_lines, IsToldKey, AreTold, AreToldBranches, HaveFewEdges, HaveFewBranches}
 
 -- the list of them
 abbrev pub edges_of : Edges Move Key → List (Key × NodeTree)

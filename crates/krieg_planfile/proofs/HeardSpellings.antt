@@ -4,25 +4,12 @@ use Rattle.std.specs.Prelude.{IfOk, IfErr, is_some}
 use Rattle.std.specs.List.{All}
 use Rattle.std.proofs.lemmas.List.{append-nil}
 use Rattle.std.proofs.lemmas.List.Elements.{All-nil, All-cons, All-head, All-tail}
-use Rattle.krieg_text.specs.declared.fault.TextFault.{TextFault}
-use Rattle.krieg_text.specs.declared.fault.TextFault.TheVariants.{At, NoMemory}
-use Rattle.krieg_text.specs.declared.fault.TextKind.{TextKind}
-use Rattle.krieg_text.specs.declared.fault.TextKind.TheVariants.{Syntax}
-use Rattle.krieg_text.specs.Formats.{Always}
-use Rattle.krieg_text.specs.Outcomes.{◌>>=◌}
-use Rattle.krieg_text.specs.Reading.{Place, place, on, Gives}
+use Rattle.krieg_text.proofs.Common.{TextFault, At, NoMemory, TextKind, Syntax, Always, ◌>>=◌, Place, place, on, Gives}
 use Rattle.krieg_text.proofs.FirstBadLine.{first_bad}
 use Rattle.krieg_text.proofs.Locality.{ok_is}
 use Rattle.krieg_text.proofs.Takings.{Read, read_whole}
-use Rattle.krieg_words.specs.LineReading.{line_in}
-use Rattle.krieg_words.specs.declared.dialects.Dialect.{Dialect}
-use Rattle.krieg_words.specs.declared.line.Line.{Line}
-use Rattle.krieg_planfile.specs.HeardReading.{HeardState, heard_form, all_by, heard_plan}
-use Rattle.krieg_planfile.specs.HeardSpelling.{SpellsHeard, SpellsLines, FirstBadHeard, IsHeardReading}
-use Rattle.krieg_planfile.specs.NodeForms.{or_syntax}
-use Rattle.krieg_planfile.specs.PlanFiles.{PlanState, IsPlanFile}
-use Rattle.krieg_planfile.specs.PlanReading.{plan_at}
-use Rattle.krieg_planfile.specs.PlanSpelling.{SpellsPlan, PlanGrammar}
+use Rattle.krieg_words.proofs.Common.{line_in, Dialect, Line}
+use Rattle.krieg_planfile.proofs.Common.{HeardState, heard_form, all_by, heard_plan, SpellsHeard, SpellsLines, FirstBadHeard, IsHeardReading, or_syntax, PlanState, IsPlanFile, plan_at, SpellsPlan, PlanGrammar}
 use Rattle.krieg_planfile.proofs.PlanGrammars.{plan_goes}
 use Rattle.krieg_planfile.proofs.PlanSpellings.{whole_plan, all_again}
 

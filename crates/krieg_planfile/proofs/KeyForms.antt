@@ -4,27 +4,16 @@ use Rattle.std.specs.Prelude.{codes, slice_index, ◌==◌, ◌&&◌, is_some}
 use Rattle.std.specs.List.{list_all}
 use Rattle.std.proofs.lemmas.Bool.{and_parts, and_from}
 use Rattle.std.proofs.lemmas.List.{take_more, take_all}
-use Rattle.krieg_text.specs.declared.fault.TextKind.{TextKind}
-use Rattle.krieg_text.specs.declared.fault.TextKind.TheVariants.{OutOfPlace}
-use Rattle.krieg_text.specs.Names.{behind, cut}
-use Rattle.krieg_text.specs.Outcomes.{◌>>=◌}
-use Rattle.krieg_text.specs.Writing.{joined}
+use Rattle.krieg_text.proofs.Common.{TextKind, OutOfPlace, behind, cut, ◌>>=◌, joined}
 use Rattle.krieg_text.proofs.Formats.{IsForm, named_form}
 use Rattle.krieg_text.proofs.NameLemmas.{behind_again, behind_spells, cut_again, cut_spells}
 use Rattle.krieg_text.proofs.Takings.{steps}
-use Rattle.krieg_words.specs.Words.{Said, IsSaid}
-use Rattle.krieg_words.specs.WordsText.{words_text}
-use Rattle.krieg_words.specs.WordsReading.{words_in}
-use Rattle.krieg_words.specs.declared.dialects.Dialect.{Dialect}
+use Rattle.krieg_words.proofs.Common.{Said, IsSaid, words_text, words_in, Dialect}
 use Rattle.krieg_words.proofs.CleanWords.{words_no_slash}
 use Rattle.krieg_words.proofs.PartLaws.{Free}
 use Rattle.krieg_words.proofs.WordsLaws.{words_spell, words_again}
-use Rattle.krieg_game.specs.Keys.{Key, RootKey, key_lt, root_lt}
-use Rattle.krieg_planfile.specs.NodeForms.{unspaced, words_at, both, key_across, key_in, or_syntax, any_on_form, follows, placed, on_form}
-use Rattle.krieg_planfile.specs.NodeText.{on_line, IsToldKey}
-use Rattle.krieg_planfile.specs.PlanFiles.{IsToldRoot}
-use Rattle.krieg_planfile.specs.PlanReading.{root_with, root_in, any_root_form, is_root_of, root_placed, root_form}
-use Rattle.krieg_planfile.specs.PlanText.{root_line}
+use Rattle.krieg_game.proofs.Common.{Key, RootKey, key_lt, root_lt}
+use Rattle.krieg_planfile.proofs.Common.{unspaced, words_at, both, key_across, key_in, or_syntax, any_on_form, follows, placed, on_form, on_line, IsToldKey, IsToldRoot, root_with, root_in, any_root_form, is_root_of, root_placed, root_form, root_line}
 
 -- ---- the space before the slash
 

@@ -17,3 +17,4 @@ mod HeardSpellings
 pub mod TextSizes
 mod PlanSizes
 pub mod ReadSizes
+pub mod Common

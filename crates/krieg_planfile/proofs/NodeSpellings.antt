@@ -2,26 +2,16 @@
 use Rattle.std.proofs.Common.{◌≡◌, ℕ, zero, suc, ◌+◌, ◌-◌, ◌≤◌, Bool, true, false, ◌&&◌, max, List, [], ◌∷◌, ◌++◌, map, length, Option, Some, None, Result, Ok, Err, refl, sym, ap, subst, ◌∙◌, arith, append_assoc}
 use Rattle.std.proofs.lemmas.Bool.{and_from}
 use Rattle.std.proofs.lemmas.List.{map-append}
-use Rattle.krieg_board.specs.declared.men.Move.{Move}
-use Rattle.krieg_text.specs.declared.fault.TextKind.{TextKind}
-use Rattle.krieg_text.specs.declared.fault.TextKind.TheVariants.{Deep}
-use Rattle.krieg_text.specs.Outcomes.{◌>>=◌}
-use Rattle.krieg_text.specs.Reading.{Place, taken}
-use Rattle.krieg_text.specs.Writing.{Pieces, joined}
+use Rattle.krieg_board.proofs.Common.{Move}
+use Rattle.krieg_text.proofs.Common.{TextKind, Deep, ◌>>=◌, Place, taken, Pieces, joined}
 use Rattle.krieg_text.proofs.Locality.{ok_is}
 use Rattle.krieg_text.proofs.Takings.{steps, taken_at}
-use Rattle.krieg_theory.specs.Tree.{Try, Maybe, Just, Edges, size, size_other, depth, depth_other, depth_edges}
+use Rattle.krieg_theory.proofs.Common.{Try, Maybe, Just, Edges, size, size_other, depth, depth_other, depth_edges, edge_keys}
 use Rattle.krieg_theory.specs.Tree as tree
-use Rattle.krieg_theory.specs.Canonical.{edge_keys}
-use Rattle.krieg_words.specs.declared.dialects.Dialect.{Dialect}
-use Rattle.krieg_game.specs.Keys.{Key, key_lt}
-use Rattle.krieg_plan.specs.Nodes.{as_edges}
-use Rattle.krieg_plan.specs.Trees.{NodeTree}
-use Rattle.krieg_plan.specs.Ordered.{is_ascending, is_ordered, is_ordered_other, are_ordered}
-use Rattle.krieg_planfile.specs.declared.forms.Play.{Play}
-use Rattle.krieg_planfile.specs.NodeForms.{play_form, on_form, follows}
-use Rattle.krieg_planfile.specs.NodeReading.{NodeReader, other_by, branch_by, branches_by, below_by, deep_form, node_at}
-use Rattle.krieg_planfile.specs.NodeText.{edge_count, is_just, play_line, on_line, node_lines, other_lines, edges_lines, branches_lines, IsToldKey, IsTold, IsToldOther, AreToldBranches}
+use Rattle.krieg_words.proofs.Common.{Dialect}
+use Rattle.krieg_game.proofs.Common.{Key, key_lt}
+use Rattle.krieg_plan.proofs.Common.{as_edges, NodeTree, is_ascending, is_ordered, is_ordered_other, are_ordered}
+use Rattle.krieg_planfile.proofs.Common.{Play, play_form, on_form, follows, NodeReader, other_by, branch_by, branches_by, below_by, deep_form, node_at, edge_count, is_just, play_line, on_line, node_lines, other_lines, edges_lines, branches_lines, IsToldKey, IsTold, IsToldOther, AreToldBranches}
 use Rattle.krieg_planfile.proofs.BranchForms.{IsBranchForm, edges_form}
 use Rattle.krieg_planfile.proofs.Edges.{branches_size, branches_depth, are_ordered_branches, lines_of_edges, count_of_edges, told_edges, size_of_edges, depth_of_edges, ordered_edges, keys_of_edges}
 use Rattle.krieg_planfile.proofs.PlayForms.{SaysPlay, play_spells}

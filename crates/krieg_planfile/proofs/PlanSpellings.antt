@@ -5,35 +5,19 @@ use Rattle.std.specs.List.{All}
 use Rattle.std.proofs.lemmas.Bool.{and_parts}
 use Rattle.std.proofs.lemmas.List.{append-nil, map-append}
 use Rattle.std.proofs.lemmas.List.Elements.{All-nil, All-cons}
-use Rattle.krieg_board.specs.Hand.{same_hand}
-use Rattle.krieg_board.specs.Men.{is_same_side}
-use Rattle.krieg_board.specs.Pos.{Pos}
-use Rattle.krieg_board.specs.declared.men.Side.{Side}
-use Rattle.krieg_text.specs.declared.fault.TextFault.{TextFault}
-use Rattle.krieg_fen.specs.declared.forms.Turn.{Turn}
-use Rattle.krieg_text.specs.Formats.{Always, IsReading}
-use Rattle.krieg_fen.specs.Forms.{listing_at, has_turn}
-use Rattle.krieg_fen.specs.Listing.{SpellList, SpellsListing}
-use Rattle.krieg_text.specs.Outcomes.{◌>>=◌}
-use Rattle.krieg_text.specs.Reading.{Place, place, taken, whole, Gives}
-use Rattle.krieg_text.specs.Writing.{joined}
+use Rattle.krieg_board.proofs.Common.{same_hand, is_same_side, Pos, Side}
+use Rattle.krieg_text.proofs.Common.{TextFault, Always, IsReading, ◌>>=◌, Place, place, taken, whole, Gives, joined}
+use Rattle.krieg_fen.proofs.Common.{Turn, listing_at, has_turn, SpellList, SpellsListing}
 use Rattle.krieg_text.proofs.Formats.{reading_as}
 use Rattle.krieg_fen.proofs.Listings.{listing_spells, listing_reads}
 use Rattle.krieg_fen.proofs.ListSpellings.{spelled_valid}
 use Rattle.krieg_text.proofs.Locality.{ok_is}
 use Rattle.krieg_text.proofs.Takings.{steps, taken_at, taken_again, Read, whole_read, read_whole}
-use Rattle.krieg_words.specs.declared.dialects.Dialect.{Dialect}
-use Rattle.krieg_game.specs.Keys.{RootKey, root_lt}
-use Rattle.krieg_theory.specs.Tree.{Try, size, depth}
-use Rattle.krieg_plan.specs.Ordered.{is_ordered_plan, is_ascending, are_ordered_roots}
-use Rattle.krieg_plan.specs.Trees.{PlanTrees, plan_size, plan_depth}
-use Rattle.krieg_plan.specs.declared.limits.TheConstants.{MOST_NODES, MOST_ON_PATH}
-use Rattle.krieg_planfile.specs.NodeReading.{branches_by, node_at}
-use Rattle.krieg_planfile.specs.NodeText.{AreToldBranches, branches_lines}
-use Rattle.krieg_planfile.specs.PlanFiles.{PlanState, waits, AreAlike, AreToldRoots, AreRootsOf, IsPlanFile}
-use Rattle.krieg_planfile.specs.PlanReading.{worst_form, roots_form, end_form, root_form, turn_in, heading_at, claim_at, plan_at}
-use Rattle.krieg_planfile.specs.PlanSpelling.{IsVersion, IsRootOf, SpellsPlan, PlanGrammar}
-use Rattle.krieg_planfile.specs.PlanText.{root_line, roots_lines, worst_line, count_line, claim_lines}
+use Rattle.krieg_words.proofs.Common.{Dialect}
+use Rattle.krieg_game.proofs.Common.{RootKey, root_lt}
+use Rattle.krieg_theory.proofs.Common.{Try, size, depth}
+use Rattle.krieg_plan.proofs.Common.{is_ordered_plan, is_ascending, are_ordered_roots, PlanTrees, plan_size, plan_depth, MOST_NODES, MOST_ON_PATH}
+use Rattle.krieg_planfile.proofs.Common.{branches_by, node_at, AreToldBranches, branches_lines, PlanState, waits, AreAlike, AreToldRoots, AreRootsOf, IsPlanFile, worst_form, roots_form, end_form, root_form, turn_in, heading_at, claim_at, plan_at, IsVersion, IsRootOf, SpellsPlan, PlanGrammar, root_line, roots_lines, worst_line, count_line, claim_lines}
 use Rattle.krieg_planfile.proofs.BranchForms as branches
 use Rattle.krieg_planfile.proofs.Edges.{branches_size, branches_depth}
 use Rattle.krieg_planfile.proofs.Headings.{heading_format}

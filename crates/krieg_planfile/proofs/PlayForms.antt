@@ -4,17 +4,9 @@ use Rattle.std.specs.Prelude.{codes, ◌==◌}
 use Rattle.std.specs.Char.{is_ascii_digit}
 use Rattle.std.specs.List.{list_all}
 use Rattle.std.proofs.lemmas.Bool.{and_from, ne_eqb}
-use Rattle.krieg_board.specs.declared.men.Move.{Move}
-use Rattle.krieg_text.specs.declared.fault.TextKind.{TextKind}
-use Rattle.krieg_text.specs.declared.fault.TextKind.TheVariants.{Count, Large}
-use Rattle.krieg_text.specs.declared.number.NumberFault.{NumberFault}
-use Rattle.krieg_text.specs.declared.number.NumberFault.TheVariants.{NotPlain, OutOfRange}
-use Rattle.krieg_text.specs.Decimals.{number_text, number_between}
-use Rattle.krieg_text.specs.Forms.{ranged}
-use Rattle.krieg_fen.specs.MoveText.{move_text, move_of, IsOnBoard}
-use Rattle.krieg_text.specs.Names.{behind, cut}
-use Rattle.krieg_text.specs.Outcomes.{◌>>=◌}
-use Rattle.krieg_text.specs.Writing.{joined}
+use Rattle.krieg_board.proofs.Common.{Move}
+use Rattle.krieg_text.proofs.Common.{TextKind, Count, Large, NumberFault, NotPlain, OutOfRange, number_text, number_between, ranged, behind, cut, ◌>>=◌, joined}
+use Rattle.krieg_fen.proofs.Common.{move_text, move_of, IsOnBoard}
 use Rattle.krieg_fen.proofs.CleanTexts.{move_above}
 use Rattle.krieg_text.proofs.Formats.{IsForm, named_form}
 use Rattle.krieg_text.proofs.Free.{Above}
@@ -22,10 +14,8 @@ use Rattle.krieg_fen.proofs.MoveTexts.{move_spells, move_again}
 use Rattle.krieg_text.proofs.NameLemmas.{behind_again, behind_spells, cut_again, cut_spells}
 use Rattle.krieg_text.proofs.Numbers.{between_spells, between_again, digits_again}
 use Rattle.krieg_text.proofs.Takings.{steps}
-use Rattle.krieg_planfile.specs.declared.forms.Play.{Play}
-use Rattle.krieg_planfile.specs.NodeForms.{edges_form, play_with, no_or_edges, moved_form, played_form, any_play_form, play_form}
-use Rattle.krieg_planfile.specs.NodeText.{no_text, play_line}
-use Rattle.krieg_plan.specs.declared.limits.TheConstants.{MOST_NODES}
+use Rattle.krieg_planfile.proofs.Common.{Play, edges_form, play_with, no_or_edges, moved_form, played_form, any_play_form, play_form, no_text, play_line}
+use Rattle.krieg_plan.proofs.Common.{MOST_NODES}
 
 -- ---- what is read
 

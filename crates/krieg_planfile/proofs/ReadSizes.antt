@@ -4,26 +4,11 @@ use Rattle.std.specs.Prelude.{◌==◌, ◌&&◌, codes, IfOk, nat_le, is_some, 
 use Rattle.std.specs.List.{join_with_byte, list_all}
 use Rattle.std.specs.Char.{is_ascii_digit}
 use Rattle.std.proofs.lemmas.Bool.{and_parts}
-use Rattle.krieg_board.specs.Board.{Board}
-use Rattle.krieg_board.specs.Pos.{Pos}
-use Rattle.krieg_board.specs.declared.men.Man.{Man}
-use Rattle.krieg_board.specs.declared.men.Side.{Side}
-use Rattle.krieg_text.specs.Lines.{lines, onto_line}
-use Rattle.krieg_text.specs.Writing.{Pieces, joined}
-use Rattle.krieg_fen.specs.declared.forms.Turn.{Turn}
-use Rattle.krieg_fen.specs.Fields.{is_clock}
-use Rattle.krieg_fen.specs.FenText.{rank_at, side_text, rights_text, mark_text}
-use Rattle.krieg_fen.specs.Letters.{man_of}
-use Rattle.krieg_fen.specs.Listing.{SpellList}
-use Rattle.krieg_fen.specs.Ranks.{Row, squares_at, row_of, onto_row}
-use Rattle.krieg_fen.specs.Spelling.{SpellRanks, AreClocks, Spells}
-use Rattle.krieg_text.specs.Reading.{whole, Gives}
-use Rattle.krieg_text.specs.declared.fault.TextFault.{TextFault}
-use Rattle.krieg_words.specs.declared.dialects.Dialect.{Dialect}
-use Rattle.krieg_planfile.specs.PlanFiles.{PlanState}
-use Rattle.krieg_planfile.specs.PlanReading.{turn_in, plan_at, read_bound}
-use Rattle.krieg_planfile.specs.PlanSpelling.{IsVersion}
-use Rattle.krieg_planfile.specs.PlanText.{claim_lines}
+use Rattle.krieg_board.proofs.Common.{Board, Pos, Man, Side}
+use Rattle.krieg_text.proofs.Common.{lines, onto_line, Pieces, joined, whole, Gives, TextFault}
+use Rattle.krieg_fen.proofs.Common.{Turn, is_clock, rank_at, side_text, rights_text, mark_text, man_of, SpellList, Row, squares_at, row_of, onto_row, SpellRanks, AreClocks, Spells}
+use Rattle.krieg_words.proofs.Common.{Dialect}
+use Rattle.krieg_planfile.proofs.Common.{PlanState, turn_in, plan_at, read_bound, IsVersion, claim_lines}
 use Rattle.krieg_planfile.proofs.PlanSizes.{named_short, claim_short}
 use Rattle.krieg_planfile.proofs.PlanSpellings.{whole_plan}
 use Rattle.krieg_planfile.proofs.TextSizes.{dialect_short, side_line_short, taken_short, side_short, rights_short, mark_short, size}

@@ -1,18 +1,9 @@
 -- What the calls of both sides make of any courses so far.
 use Rattle.std.proofs.Common.{◌≡◌, ℕ, List, [], length, refl, sym, ap, ◌∙◌, subst, arith, inl, inr, Result, Ok, Err}
-use Rattle.krieg_board.specs.declared.men.Side.{Side}
-use Rattle.krieg_board.specs.declared.men.Side.TheVariants.{White, Black}
-use Rattle.krieg_words.specs.declared.line.Line.{Line}
-use Rattle.krieg_seats.specs.Accounts.{Account}
-use Rattle.krieg_seats.specs.declared.seat.SeatFault.{SeatFault}
-use Rattle.krieg_seats.specs.declared.seat.SeatFault.TheVariants.{Failed, NoMemory}
-use Rattle.krieg_play.specs.Teams.{Team, Turns, Stays, MayBeShort, Course, BrokenCourse}
-use Rattle.krieg_play.specs.Played.{Sides}
-use Rattle.krieg_play.specs.Calls.{AfterTelling, Tells, TakesTurn, seat_counts}
-use Rattle.krieg_play.specs.Broken.{Breaks}
-use Rattle.krieg_play.specs.Passes.{AfterBoth, TellsBoth, AfterAsk, AsksOne, fault_of}
-use Rattle.krieg_play.specs.declared.outcome.PlayFault.{PlayFault}
-use Rattle.krieg_play.specs.declared.turn.Turn.{Turn}
+use Rattle.krieg_board.proofs.Common.{Side, White, Black}
+use Rattle.krieg_words.proofs.Common.{Line}
+use Rattle.krieg_seats.proofs.Common.{Account, SeatFault, Failed, NoMemory}
+use Rattle.krieg_play.proofs.Common.{Team, Turns, Stays, MayBeShort, Course, BrokenCourse, Sides, AfterTelling, Tells, TakesTurn, seat_counts, Breaks, AfterBoth, TellsBoth, AfterAsk, AsksOne, fault_of, PlayFault, Turn}
 use Rattle.krieg_play.proofs.Courses.{course_weakens}
 
 -- where counts stay, none fell

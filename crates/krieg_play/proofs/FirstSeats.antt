@@ -2,7 +2,7 @@
 use Rattle.std.proofs.Common.{◌≡◌, ◌<◌, List, [], ◌∷◌, length, refl, sym, ap, arith}
 use Rattle.std.specs.Prelude.{slice_set, slice_index_or}
 use Rattle.std.specs.List.{remove}
-use Rattle.krieg_play.specs.Calls.{FirstChanges}
+use Rattle.krieg_play.proofs.Common.{FirstChanges}
 
 pub first_written : {X : Type 0} (R : X → X → Type 0) (xs : List X) (x y : X) → 0 < length xs → x ≡ slice_index_or xs 0 x → R x y →
     FirstChanges R xs (slice_set xs 0 y)

@@ -1,18 +1,10 @@
 -- The lines of a game's log are what each side hears of its tries, in the words of the dialect that tells all.
 use Rattle.std.proofs.Common.{◌≡◌, ℕ, List, [], ◌∷◌, map, refl, sym, ap, ◌∙◌}
-use Rattle.krieg_board.specs.Pos.{Pos}
-use Rattle.krieg_board.specs.declared.men.Side.{Side}
-use Rattle.krieg_words.specs.WordsOfMoves.{opening}
-use Rattle.krieg_words.specs.Line.{told_line}
-use Rattle.krieg_words.specs.declared.dialects.Dialect.TheVariants.{Wild16}
-use Rattle.krieg_words.specs.declared.line.Line.{Line}
+use Rattle.krieg_board.proofs.Common.{Pos, Side}
+use Rattle.krieg_words.proofs.Common.{opening, told_line, Wild16, Line}
 use Rattle.krieg_words.specs.declared.line.Line.TheVariants as line
-use Rattle.krieg_referee.specs.Hearing.{heard, lines_for}
-use Rattle.krieg_referee.specs.Games.{GameState, judge}
-use Rattle.krieg_referee.specs.declared.verdict.Judged.{Judged}
-use Rattle.krieg_play.specs.Games.{events_of, IsGameFrom}
-use Rattle.krieg_play.specs.Played.{lines_of}
-use Rattle.krieg_play.specs.Calls.{lines_to}
+use Rattle.krieg_referee.proofs.Common.{heard, lines_for, GameState, judge, Judged}
+use Rattle.krieg_play.proofs.Common.{events_of, IsGameFrom, lines_of, lines_to}
 
 told_wild : (l : Line) → told_line Wild16 l ≡ l
 told_wild (line.Opens w) = refl

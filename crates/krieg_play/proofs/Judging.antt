@@ -1,25 +1,11 @@
 -- One more try of a game.
 use Rattle.std.proofs.Common.{◌≡◌, ℕ, ◌+◌, ◌≤◌, List, [], ◌∷◌, ◌++◌, length, length-append, refl, sym, ap, ◌∙◌, subst, inr, arith, Result, Ok, Err, Option, None, option_to_list}
 use Rattle.std.proofs.lemmas.List.Elements.{filter_map-append}
-use Rattle.krieg_board.specs.Pos.{Pos}
-use Rattle.krieg_board.specs.declared.men.Side.{Side}
-use Rattle.krieg_board.specs.declared.men.Side.TheVariants.{White, Black}
-use Rattle.krieg_words.specs.WordsOfMoves.{opening}
-use Rattle.krieg_words.specs.declared.line.Line.{Line}
-use Rattle.krieg_words.specs.declared.line.Line.TheVariants.{Opens}
-use Rattle.krieg_referee.specs.Verdicts.{next}
-use Rattle.krieg_referee.specs.Games.{GameState, judge, judged, last}
-use Rattle.krieg_referee.specs.Hearing.{line_for, lines_for}
-use Rattle.krieg_referee.specs.declared.verdict.Event.{Event}
-use Rattle.krieg_referee.specs.declared.verdict.Judged.{Judged}
-use Rattle.krieg_seats.specs.Accounts.{Account}
-use Rattle.krieg_play.specs.Teams.{Turns, Stays, Course}
-use Rattle.krieg_play.specs.Games.{events_of, AreOnTurn, IsGameFrom}
-use Rattle.krieg_play.specs.Played.{Sides, by_side, Courses, lines_of, turns_so_far, last_turns, LastAsk}
-use Rattle.krieg_play.specs.Broken.{Breaks}
-use Rattle.krieg_play.specs.Calls.{lines_to}
-use Rattle.krieg_play.specs.Passes.{seat_count, HasTried, AfterBoth, TellsBoth, Judges}
-use Rattle.krieg_play.specs.declared.outcome.PlayFault.{PlayFault}
+use Rattle.krieg_board.proofs.Common.{Pos, Side, White, Black}
+use Rattle.krieg_words.proofs.Common.{opening, Line, Opens}
+use Rattle.krieg_referee.proofs.Common.{next, GameState, judge, judged, last, line_for, lines_for, Event, Judged}
+use Rattle.krieg_seats.proofs.Common.{Account}
+use Rattle.krieg_play.proofs.Common.{Turns, Stays, Course, events_of, AreOnTurn, IsGameFrom, Sides, by_side, Courses, lines_of, turns_so_far, last_turns, LastAsk, Breaks, lines_to, seat_count, HasTried, AfterBoth, TellsBoth, Judges, PlayFault}
 use Rattle.krieg_play.proofs.Courses.{course_grows, both_counted}
 use Rattle.krieg_play.proofs.HeardLines.{heard_is, lines_are}
 use Rattle.krieg_play.proofs.Tellings.{lone}

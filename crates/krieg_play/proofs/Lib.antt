@@ -10,3 +10,4 @@ pub mod Turning
 pub mod Stopping
 pub mod Opening
 pub mod Seen
+pub mod Common

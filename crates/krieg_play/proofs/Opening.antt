@@ -1,23 +1,10 @@
 -- How a game begins: both sides are told the opening words.
 use Rattle.std.proofs.Common.{◌≡◌, ℕ, ◌+◌, ◌<◌, List, [], ◌∷◌, length, refl, sym, ap, ◌∙◌, subst, inl, arith, Result, Ok, Err, Some, None, option_to_list}
-use Rattle.krieg_board.specs.Pos.{Pos}
-use Rattle.krieg_words.specs.WordsOfMoves.{opening}
-use Rattle.krieg_words.specs.declared.line.Line.{Line}
-use Rattle.krieg_words.specs.declared.line.Line.TheVariants.{Opens}
-use Rattle.krieg_board.specs.declared.men.Side.{Side}
-use Rattle.krieg_board.specs.declared.men.Side.TheVariants.{White, Black}
-use Rattle.krieg_referee.specs.Games.{GameState}
-use Rattle.krieg_referee.specs.declared.verdict.Judged.{Judged}
-use Rattle.krieg_referee.specs.declared.verdict.Stop.{Stop}
-use Rattle.krieg_seats.specs.Accounts.{Account}
-use Rattle.krieg_play.specs.Teams.{team}
-use Rattle.krieg_play.specs.Games.{IsGameFrom}
-use Rattle.krieg_play.specs.Played.{Sides, sides, by_side, Courses, lines_of, turns_so_far, IsUnderway, IsPlayed}
-use Rattle.krieg_play.specs.Broken.{IsBroken, Refuses}
-use Rattle.krieg_play.specs.Calls.{lines_to}
-use Rattle.krieg_play.specs.Passes.{AfterBoth, TellsBoth, PlaysOn, ComesTo}
-use Rattle.krieg_play.specs.declared.outcome.PlayFault.{PlayFault}
-use Rattle.krieg_play.specs.declared.outcome.PlayFault.TheVariants.{Vacant, Seat, NoMemory}
+use Rattle.krieg_board.proofs.Common.{Pos, Side, White, Black}
+use Rattle.krieg_words.proofs.Common.{opening, Line, Opens}
+use Rattle.krieg_referee.proofs.Common.{GameState, Judged, Stop}
+use Rattle.krieg_seats.proofs.Common.{Account}
+use Rattle.krieg_play.proofs.Common.{team, IsGameFrom, Sides, sides, by_side, Courses, lines_of, turns_so_far, IsUnderway, IsPlayed, IsBroken, Refuses, lines_to, AfterBoth, TellsBoth, PlaysOn, ComesTo, PlayFault, Vacant, Seat, NoMemory}
 use Rattle.krieg_play.proofs.BothSides.{short_course}
 use Rattle.krieg_play.proofs.Courses.{course_starts}
 

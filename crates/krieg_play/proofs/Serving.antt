@@ -1,12 +1,11 @@
 -- What becomes of the account of a seat, from one call to the next.
 use Rattle.std.proofs.Common.{◌≡◌, ℕ, zero, suc, ◌+◌, List, [], ◌∷◌, ◌++◌, length, length-append, refl, sym, ap, ◌∙◌, append_assoc, Ok, arith}
 use Rattle.std.proofs.lemmas.List.{append-nil}
-use Rattle.krieg_ports.specs.Faults.{one_more, many_more}
-use Rattle.krieg_board.specs.declared.men.Move.{Move}
-use Rattle.krieg_words.specs.declared.line.Line.{Line}
-use Rattle.krieg_seats.specs.Accounts.{Account, Asked}
-use Rattle.krieg_seats.specs.declared.seat.Say.TheVariants.{Try}
-use Rattle.krieg_play.specs.Teams.{Serves}
+use Rattle.krieg_ports.proofs.Common.{one_more, many_more}
+use Rattle.krieg_board.proofs.Common.{Move}
+use Rattle.krieg_words.proofs.Common.{Line}
+use Rattle.krieg_seats.proofs.Common.{Account, Asked, Try}
+use Rattle.krieg_play.proofs.Common.{Serves}
 
 -- nothing
 pub serves_none : (a : Account) → Serves [] [] 0 a a

@@ -1,18 +1,11 @@
 -- What the calls of one side make of any course so far.
 use Rattle.std.proofs.Common.{◌≡◌, ℕ, ◌+◌, ◌<◌, ◌≤◌, List, [], ◌∷◌, ◌++◌, length, refl, sym, ap, ◌∙◌, subst, inl, inr, arith, Result, Ok, Err, Option, Some, option_to_list}
 use Rattle.std.proofs.lemmas.List.{append-nil}
-use Rattle.krieg_ports.specs.Faults.{one_more, Rose}
-use Rattle.krieg_board.specs.declared.men.Move.{Move}
-use Rattle.krieg_words.specs.declared.line.Line.{Line}
-use Rattle.krieg_seats.specs.Accounts.{Account, Asked, Told}
-use Rattle.krieg_seats.specs.declared.seat.Say.{Say}
-use Rattle.krieg_seats.specs.declared.seat.Say.TheVariants.{Try, Leave}
-use Rattle.krieg_seats.specs.declared.seat.SeatFault.{SeatFault}
-use Rattle.krieg_seats.specs.declared.seat.SeatFault.TheVariants.{Failed, NoMemory}
-use Rattle.krieg_play.specs.Teams.{Team, team, Turns, Stays, HasFailed, HasLeft, IsGone, MayBeShort, Course}
-use Rattle.krieg_play.specs.Calls.{ToldAll, BreaksOff, FirstChanges, AfterTelling, Relieves, Tells, once_more, one_try, AfterTurn, TakesTurn, EndsTurn, relieved_turn}
-use Rattle.krieg_play.specs.declared.turn.Turn.{Turn}
-use Rattle.krieg_play.specs.declared.turn.Turn.TheVariants.{Tried}
+use Rattle.krieg_ports.proofs.Common.{one_more, Rose}
+use Rattle.krieg_board.proofs.Common.{Move}
+use Rattle.krieg_words.proofs.Common.{Line}
+use Rattle.krieg_seats.proofs.Common.{Account, Asked, Told, Say, Try, Leave, SeatFault, Failed, NoMemory}
+use Rattle.krieg_play.proofs.Common.{Team, team, Turns, Stays, HasFailed, HasLeft, IsGone, MayBeShort, Course, ToldAll, BreaksOff, FirstChanges, AfterTelling, Relieves, Tells, once_more, one_try, AfterTurn, TakesTurn, EndsTurn, relieved_turn, Turn, Tried}
 use Rattle.krieg_play.proofs.Serving.{only_hears, tries_move, asked_in_vain}
 use Rattle.krieg_play.proofs.Courses.{course_changes, course_moves, course_weakens}
 use Rattle.krieg_play.proofs.Tellings.{one_told}

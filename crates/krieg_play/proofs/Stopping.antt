@@ -1,15 +1,10 @@
 -- How a game stops.
 use Rattle.std.proofs.Common.{◌≡◌, ℕ, ◌-◌, ◌<◌, ◌≤◌, Bool, true, false, not, length, refl, sym, ap, ◌∙◌, subst, arith, Result, Ok, Err, Option, Some, None}
-use Rattle.krieg_board.specs.Pos.{Pos}
-use Rattle.krieg_board.specs.declared.men.Side.{Side}
-use Rattle.krieg_moves.specs.Moves.{is_ended}
-use Rattle.krieg_referee.specs.Games.{GameState}
-use Rattle.krieg_referee.specs.declared.verdict.Stop.{Stop}
-use Rattle.krieg_referee.specs.declared.verdict.Stop.TheVariants.{Ended, Left, AsksUsed}
-use Rattle.krieg_seats.specs.Accounts.{Account}
-use Rattle.krieg_play.specs.Played.{Sides, seats_of}
-use Rattle.krieg_play.specs.Passes.{seat_count, AfterPass, Passes, PlaysOn}
-use Rattle.krieg_play.specs.declared.outcome.PlayFault.{PlayFault}
+use Rattle.krieg_board.proofs.Common.{Pos, Side}
+use Rattle.krieg_moves.proofs.Common.{is_ended}
+use Rattle.krieg_referee.proofs.Common.{GameState, Stop, Ended, Left, AsksUsed}
+use Rattle.krieg_seats.proofs.Common.{Account}
+use Rattle.krieg_play.proofs.Common.{Sides, seats_of, seat_count, AfterPass, Passes, PlaysOn, PlayFault}
 use Rattle.krieg_play.proofs.Courses.{both_counted}
 
 pub stops_ended : {X : Type 0} (account : X → Account) (start : Pos) (seats : ℕ) (now : Sides X) (game : GameState) → is_ended game.position ≡ true → PlaysOn account (Ok Ended) start seats now now game game

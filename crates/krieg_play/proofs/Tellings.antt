@@ -4,15 +4,12 @@ use Rattle.std.specs.Prelude.{slice_index_or, Option, Some, None, option_to_list
 use Rattle.std.specs.List.{cons_option}
 use Rattle.std.proofs.lemmas.List.{append-nil, take_more}
 use Rattle.std.proofs.lemmas.List.Elements.{filter_map-append}
-use Rattle.krieg_ports.specs.Faults.{Rose}
-use Rattle.krieg_words.specs.declared.line.Line.{Line}
-use Rattle.krieg_board.specs.declared.men.Side.{Side}
-use Rattle.krieg_referee.specs.declared.verdict.Judged.{Judged}
-use Rattle.krieg_referee.specs.Hearing.{line_for, lines_for}
-use Rattle.krieg_seats.specs.Accounts.{Account, Told}
-use Rattle.krieg_seats.specs.declared.seat.SeatFault.{SeatFault}
-use Rattle.krieg_seats.specs.declared.seat.SeatFault.TheVariants.{Failed, NoMemory}
-use Rattle.krieg_play.specs.Calls.{ToldAll, BreaksOff}
+use Rattle.krieg_ports.proofs.Common.{Rose}
+use Rattle.krieg_words.proofs.Common.{Line}
+use Rattle.krieg_board.proofs.Common.{Side}
+use Rattle.krieg_referee.proofs.Common.{Judged, line_for, lines_for}
+use Rattle.krieg_seats.proofs.Common.{Account, Told, SeatFault, Failed, NoMemory}
+use Rattle.krieg_play.proofs.Common.{ToldAll, BreaksOff}
 
 -- a seat that heard some more lines
 abbrev pub hearing : Account → List Line → Account

@@ -3,26 +3,11 @@ use Rattle.std.proofs.Common.{◌≡◌, ℕ, ◌+◌, ◌-◌, ◌<◌, ◌≤�
 use Rattle.std.specs.List.{cons_option}
 use Rattle.std.proofs.lemmas.List.{append-nil}
 use Rattle.std.proofs.lemmas.List.Elements.{filter_map-append}
-use Rattle.krieg_board.specs.Pos.{Pos}
-use Rattle.krieg_board.specs.declared.men.Side.{Side}
-use Rattle.krieg_board.specs.declared.men.Side.TheVariants.{White, Black}
-use Rattle.krieg_board.specs.declared.men.Move.{Move}
-use Rattle.krieg_words.specs.declared.line.Line.{Line}
-use Rattle.krieg_referee.specs.Games.{GameState}
-use Rattle.krieg_referee.specs.declared.verdict.Event.{Event}
-use Rattle.krieg_referee.specs.declared.verdict.Judged.{Judged}
-use Rattle.krieg_seats.specs.Accounts.{Account}
-use Rattle.krieg_seats.specs.declared.seat.SeatFault.{SeatFault}
-use Rattle.krieg_seats.specs.declared.seat.SeatFault.TheVariants.{Failed}
-use Rattle.krieg_play.specs.Teams.{Team, Turns, turns_since, turns_of, Stays, Course}
-use Rattle.krieg_play.specs.Games.{events_of, tries_of, try_of}
-use Rattle.krieg_play.specs.Played.{Sides, seats_of, relieved, all_relieved, used_up, IsAskedWithin, last_ask, Courses, lines_of, turns_so_far, last_turns, IsWhole, LastAsk, IsUnderway}
-use Rattle.krieg_play.specs.Broken.{Breaks, IsBroken}
-use Rattle.krieg_play.specs.Calls.{lines_to, AfterTurn}
-use Rattle.krieg_play.specs.Passes.{seat_count, HasTried, AfterAsk, AsksOne, Passes, Judges, fault_of}
-use Rattle.krieg_play.specs.declared.outcome.PlayFault.{PlayFault}
-use Rattle.krieg_play.specs.declared.turn.Turn.{Turn}
-use Rattle.krieg_play.specs.declared.turn.Turn.TheVariants.{Tried, Relieved, Left}
+use Rattle.krieg_board.proofs.Common.{Pos, Side, White, Black, Move}
+use Rattle.krieg_words.proofs.Common.{Line}
+use Rattle.krieg_referee.proofs.Common.{GameState, Event, Judged}
+use Rattle.krieg_seats.proofs.Common.{Account, SeatFault, Failed}
+use Rattle.krieg_play.proofs.Common.{Team, Turns, turns_since, turns_of, Stays, Course, events_of, tries_of, try_of, Sides, seats_of, relieved, all_relieved, used_up, IsAskedWithin, last_ask, Courses, lines_of, turns_so_far, last_turns, IsWhole, LastAsk, IsUnderway, Breaks, IsBroken, lines_to, AfterTurn, seat_count, HasTried, AfterAsk, AsksOne, Passes, Judges, fault_of, PlayFault, Turn, Tried, Relieved, Left}
 use Rattle.krieg_play.proofs.Courses.{course_starts, course_counts, both_counted, seated}
 use Rattle.krieg_play.proofs.BothSides.{white_breaks, black_breaks}
 use Rattle.krieg_play.proofs.HeardLines.{lines_are}

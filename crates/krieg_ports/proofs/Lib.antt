@@ -1,1 +1,2 @@
 pub mod ToldBytes
+pub mod Common

@@ -3,15 +3,11 @@ use Rattle.std.proofs.Common.{◌≡◌, ℕ, ◌<◌, Bool, true, false, not, �
 use Rattle.std.proofs.lemmas.Bool.{and_parts, not-true}
 use Rattle.std.proofs.Math.Bool.{and-or_distrib_right}
 use Rattle.krieg_board.specs.declared.men.Kind.TheVariants.{Bishop, Rook}
-use Rattle.krieg_board.specs.declared.men.Side.TheVariants.{White}
-use Rattle.krieg_board.specs.Men.{is_same_bool}
-use Rattle.krieg_board.specs.Squares.{squares, every_square}
-use Rattle.krieg_board.specs.Attacks.{is_inside, is_between}
-use Rattle.krieg_board.specs.Sets.{has}
+use Rattle.krieg_board.proofs.Common.{White, is_same_bool, squares, every_square, is_inside, is_between, has}
 use Rattle.krieg_board.proofs.SquareTests.{every_square_at}
 use Rattle.krieg_board.proofs.SetLemmas.{has_and, has_or, has_zero}
 use Rattle.krieg_board.proofs.SameTests.{every_square_same, same_bool_eq}
-use Rattle.krieg_rays.specs.Rays.{goes, is_seen, is_open, is_on_file, is_on_rank, is_on_rising, is_on_falling}
+use Rattle.krieg_rays.proofs.Common.{goes, is_seen, is_open, is_on_file, is_on_rank, is_on_rising, is_on_falling}
 use Rattle.krieg_rays.proofs.Entries.{agree, agree_at}
 
 -- between s and k lie the squares of the line with the numbers between

@@ -12,3 +12,4 @@ pub mod Kings
 pub mod ByKind
 pub mod Behind
 pub mod PinsBehind
+pub mod Common

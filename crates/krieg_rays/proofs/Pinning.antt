@@ -4,22 +4,11 @@ use Rattle.std.specs.Prelude.{Option, Some, None, is_some}
 use Rattle.std.proofs.lemmas.Bool.{both_ways, cases_eq, eq-eqb, ne_eqb, not-true}
 use Rattle.std.proofs.lemmas.List.{get_or-set_other}
 use Rattle.std.proofs.Math.Bool.{and-true, and-false, or-false, and-or_distrib_right}
-use Rattle.krieg_board.specs.declared.men.Side.{Side}
-use Rattle.krieg_board.specs.declared.men.Side.TheVariants.{White, Black}
-use Rattle.krieg_board.specs.declared.men.Kind.TheVariants.{Pawn, Knight, Bishop, Rook, Queen, King}
-use Rattle.krieg_board.specs.declared.men.Man.{Man}
-use Rattle.krieg_board.specs.Men.{other}
-use Rattle.krieg_board.specs.Squares.{squares, every_square, some_square}
-use Rattle.krieg_board.specs.Board.{Board, man_at, is_of, is_man}
-use Rattle.krieg_board.specs.Boards.{is_kind}
-use Rattle.krieg_board.specs.Attacks.{attacks, man_attacks, is_between, is_clear}
-use Rattle.krieg_board.specs.Sets.{has}
-use Rattle.krieg_board.specs.Validity.{count_kind}
+use Rattle.krieg_board.proofs.Common.{Side, White, Black, Pawn, King, Man, other, squares, every_square, some_square, Board, man_at, is_of, is_man, is_kind, attacks, man_attacks, is_between, is_clear, has, count_kind}
+use Rattle.krieg_board.specs.declared.men.Kind.TheVariants.{Knight, Bishop, Rook, Queen}
 use Rattle.krieg_board.proofs.SquareTests.{every_square_at, some_square_none}
 use Rattle.krieg_board.proofs.SameTests.{every_square_same, some_square_same}
-use Rattle.krieg_rays.specs.Rays.{goes}
-use Rattle.krieg_rays.specs.Pinned.{is_pinned, is_pinned_by}
-use Rattle.krieg_rays.specs.Snipers.{is_near, is_sniper, is_only}
+use Rattle.krieg_rays.proofs.Common.{goes, is_pinned, is_pinned_by, is_near, is_sniper, is_only}
 use Rattle.krieg_rays.proofs.Kings.{king_search}
 use Rattle.krieg_rays.proofs.Spans.{is_between_turned}
 use Rattle.krieg_rays.proofs.Symmetry.{rook_turned, bishop_turned}

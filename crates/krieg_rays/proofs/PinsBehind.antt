@@ -4,20 +4,11 @@ use Rattle.std.specs.Prelude.{Some, None}
 use Rattle.std.proofs.lemmas.Bool.{cases_eq, eq-eqb, ne_eqb}
 use Rattle.std.proofs.Math.Bool.{or-false, and-false, and-true}
 use Rattle.std.proofs.lemmas.List.{get_or-set_other}
-use Rattle.krieg_board.specs.Men.{other}
-use Rattle.krieg_board.specs.Sets.{has}
-use Rattle.krieg_board.specs.Board.{Board, man_at, is_of, is_man}
-use Rattle.krieg_board.specs.Boards.{is_kind}
-use Rattle.krieg_board.specs.Validity.{count_kind}
-use Rattle.krieg_board.specs.declared.men.Side.{Side}
-use Rattle.krieg_board.specs.declared.men.Side.TheVariants.{White}
-use Rattle.krieg_board.specs.declared.men.Kind.TheVariants.{Rook, Bishop, Queen, King}
-use Rattle.krieg_board.specs.declared.men.Man.{Man}
+use Rattle.krieg_board.proofs.Common.{other, has, Board, man_at, is_of, is_man, is_kind, count_kind, Side, White, King, Man}
+use Rattle.krieg_board.specs.declared.men.Kind.TheVariants.{Rook, Bishop, Queen}
 use Rattle.krieg_board.proofs.SetLemmas.{has_zero}
 use Rattle.krieg_board.proofs.SquareTests.{some_square_none}
-use Rattle.krieg_rays.specs.Rays.{goes}
-use Rattle.krieg_rays.specs.Pinned.{is_pinned}
-use Rattle.krieg_rays.specs.Snipers.{is_sniper}
+use Rattle.krieg_rays.proofs.Common.{goes, is_pinned, is_sniper}
 use Rattle.krieg_rays.proofs.Attacking.{emptied}
 use Rattle.krieg_rays.proofs.Pinning.{shields, some_sniper_pins}
 

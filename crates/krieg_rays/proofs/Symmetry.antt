@@ -1,11 +1,8 @@
 -- Where men go reads the same from both ends, but for pawns, whose sides change.
 use Rattle.std.proofs.Common.{◌≡◌, ℕ, ◌<◌, true, refl, sym}
-use Rattle.krieg_board.specs.declared.men.Kind.TheVariants.{Pawn, Knight, Bishop, Rook, King}
-use Rattle.krieg_board.specs.declared.men.Side.{Side}
-use Rattle.krieg_board.specs.declared.men.Side.TheVariants.{White, Black}
-use Rattle.krieg_board.specs.Men.{other}
-use Rattle.krieg_board.specs.Squares.{squares, every_square}
-use Rattle.krieg_rays.specs.Rays.{goes}
+use Rattle.krieg_board.specs.declared.men.Kind.TheVariants.{Knight, Bishop, Rook}
+use Rattle.krieg_board.proofs.Common.{Pawn, King, Side, White, Black, other, squares, every_square}
+use Rattle.krieg_rays.proofs.Common.{goes}
 use Rattle.krieg_rays.proofs.Entries.{agree, agree_at}
 
 knights : agree (goes Knight White) (λ s k. goes Knight White k s) ≡ true

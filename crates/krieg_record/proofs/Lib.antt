@@ -15,3 +15,4 @@ pub mod RecordGrammars
 pub mod RecordReadings
 pub mod SanLines
 pub mod RecordTexts
+pub mod Common

@@ -5,30 +5,14 @@ use Rattle.std.specs.Prelude.{Option, Some, None, Result, Ok, Err, is_none}
 use Rattle.std.specs.List.{filter, Contains, All, AllPairs}
 use Rattle.std.proofs.lemmas.List.Elements.{filter_passes, All-head, All-tail}
 use Rattle.std.proofs.lemmas.List.Kept.{AllPairs-filter}
-use Rattle.krieg_board.specs.Men.{is_same_bool}
-use Rattle.krieg_board.specs.Pos.{Pos}
-use Rattle.krieg_board.specs.Squares.{squares}
-use Rattle.krieg_board.specs.declared.men.Move.{Move}
+use Rattle.krieg_board.proofs.Common.{is_same_bool, Pos, squares, Move}
 use Rattle.krieg_board.specs.declared.men.Promo.TheVariants as promo
 use Rattle.krieg_board.proofs.SquareTests.{length_squares, get_or_squares}
-use Rattle.krieg_moves.specs.After.{after}
-use Rattle.krieg_moves.specs.Legal.{is_legal}
+use Rattle.krieg_moves.proofs.Common.{after, is_legal}
 use Rattle.krieg_moves.proofs.LegalMoves.{legal}
 use Rattle.krieg_moves.proofs.Movers.{below_from}
-use Rattle.krieg_record.specs.declared.notation.Officer.TheVariants.{King}
-use Rattle.krieg_record.specs.declared.notation.Movement.{Movement}
-use Rattle.krieg_record.specs.declared.notation.Movement.TheVariants.{Castles, ByOfficer, ByPawn}
-use Rattle.krieg_record.specs.declared.notation.Notation.{Notation}
-use Rattle.krieg_record.specs.declared.san_reading.SanFault.{SanFault}
-use Rattle.krieg_record.specs.declared.san_reading.SanFault.TheVariants.{Syntax, Unknown, Several, NoMemory}
-use Rattle.krieg_record.specs.NotationText.{Says}
-use Rattle.krieg_record.specs.NotationReading.{notation_of}
+use Rattle.krieg_record.proofs.Common.{King, Movement, Castles, ByOfficer, ByPawn, Notation, SanFault, Syntax, Unknown, Several, NoMemory, Says, notation_of, kind_of, is_own, castling, captures, fits, san_text, move_from, goes_from, the_only, meant_by, meant, is_pawn_capture, is_movement, is_ending, is_matched, is_same_promo, Matches, IsOnly, Means}
 use Rattle.krieg_board.specs.declared.men.Kind.TheVariants as kind
-use Rattle.krieg_record.specs.MoveTraits.{kind_of, is_own, castling, captures}
-use Rattle.krieg_record.specs.Disambiguation.{fits}
-use Rattle.krieg_record.specs.San.{san_text}
-use Rattle.krieg_record.specs.SanReading.{move_from, goes_from, the_only, meant_by, meant}
-use Rattle.krieg_record.specs.Matching.{is_pawn_capture, is_movement, is_ending, is_matched, is_same_promo, Matches, IsOnly, Means}
 use Rattle.krieg_record.proofs.NotationTexts.{notation_spells, notation_again, says_one}
 use Rattle.krieg_record.proofs.MoveTellings.{castling_tells, officer_plain}
 use Rattle.krieg_record.proofs.Disambiguations.{same_move}

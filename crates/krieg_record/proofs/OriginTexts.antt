@@ -2,9 +2,7 @@
 use Rattle.std.proofs.Common.{◌≡◌, ℕ, ◌+◌, ◌-◌, ◌<◌, ◌≤◌, Bool, true, false, cond, leb, List, [], ◌∷◌, ◌++◌, Option, Some, None, refl, sym, ap, ◌∙◌, subst, arith}
 use Rattle.std.proofs.lemmas.Bool.{and_parts, leb-true}
 use Rattle.std.proofs.lemmas.Bool.Decides.{nat_tests}
-use Rattle.krieg_record.specs.declared.notation.Origin.{Origin}
-use Rattle.krieg_record.specs.NotationText.{told, file_text, rank_text, IsCoordinate}
-use Rattle.krieg_record.specs.NotationReading.{file_named, rank_named, coordinate_told, one_told, square_told, both_told}
+use Rattle.krieg_record.proofs.Common.{Origin, told, file_text, rank_text, IsCoordinate, file_named, rank_named, coordinate_told, one_told, square_told, both_told}
 
 pub file_again : (f : ℕ) → f < 8 → file_named (97 + f) ≡ Some f
 file_again f lt = grind (arith, nat_tests)

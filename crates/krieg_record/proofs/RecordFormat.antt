@@ -2,19 +2,13 @@
 use Rattle.std.proofs.Common.{◌≡◌, ℕ, List, [], ◌++◌, Ok, refl, sym, ap, subst, ◌∙◌, arith}
 use Rattle.std.specs.Prelude.{codes}
 use Rattle.std.proofs.lemmas.Fmt.{decimal_digit}
-use Rattle.krieg_board.specs.Pos.{Pos}
-use Rattle.krieg_text.specs.declared.fault.TextKind.TheVariants.{Version}
-use Rattle.krieg_text.specs.Formats.{Always}
-use Rattle.krieg_text.specs.Forms.{version_form}
-use Rattle.krieg_text.specs.Languages.{Language, Behind, One, UpToLast}
-use Rattle.krieg_text.specs.Reading.{LineReader, taken}
-use Rattle.krieg_fen.specs.Forms.{start_form}
-use Rattle.krieg_fen.specs.Spelling.{Spells}
+use Rattle.krieg_board.proofs.Common.{Pos}
+use Rattle.krieg_text.proofs.Common.{Version, Always, version_form, Language, Behind, One, UpToLast, LineReader, taken}
+use Rattle.krieg_fen.proofs.Common.{start_form, Spells}
 use Rattle.krieg_fen.proofs.FormSpellings.{starts_form}
 use Rattle.krieg_text.proofs.FormSpellings.{number_is, number_read}
 use Rattle.krieg_text.proofs.Formats.{IsForm, IsFormat, IsFormatIf, line_format, last_part, part_then, items_format}
-use Rattle.krieg_record.specs.RecordReading.{record_version, step_form, moves_at, record_at}
-use Rattle.krieg_record.specs.RecordSpelling.{SpellsMoves, SpellsRecord}
+use Rattle.krieg_record.proofs.Common.{record_version, step_form, moves_at, record_at, SpellsMoves, SpellsRecord}
 use Rattle.krieg_record.proofs.MoveLines.{Spelled, Ended, moves_form}
 
 -- the same values from the same lines, said otherwise

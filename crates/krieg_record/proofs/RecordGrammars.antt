@@ -1,31 +1,16 @@
 -- The reader of a record keeps to the grammar.
 use Rattle.std.proofs.Common.{◌≡◌, ◌⊎◌, inl, inr, ℕ, Bool, true, false, List, [], ◌∷◌, ◌++◌, Result, Ok, Err, refl, ap, subst, ◌∙◌}
 use Rattle.std.specs.Prelude.{codes}
-use Rattle.krieg_board.specs.Men.{is_same_side}
-use Rattle.krieg_board.specs.Pos.{Pos}
-use Rattle.krieg_board.specs.declared.men.Move.{Move}
-use Rattle.krieg_text.specs.declared.fault.TextKind.{TextKind}
-use Rattle.krieg_text.specs.declared.fault.TextKind.TheVariants.{OutOfPlace}
-use Rattle.krieg_text.specs.FirstBad.{Has, is_beyond_form}
-use Rattle.krieg_text.specs.Formats.{Always}
-use Rattle.krieg_text.specs.Languages.{One}
-use Rattle.krieg_text.specs.Outcomes.{◌>>=◌}
-use Rattle.krieg_text.specs.Reading.{taken, goes_on, stops}
+use Rattle.krieg_board.proofs.Common.{is_same_side, Pos, Move}
+use Rattle.krieg_text.proofs.Common.{TextKind, OutOfPlace, Has, is_beyond_form, Always, One, ◌>>=◌, taken, goes_on, stops}
 use Rattle.krieg_text.proofs.Formats.{IsStep}
 use Rattle.krieg_text.proofs.Grammars.{untold, KeepsTo, HasForm, line_keeps, then_keeps, made_keeps}
 use Rattle.krieg_fen.proofs.ListGrammars.{some_start}
 use Rattle.krieg_text.proofs.FormGrammars.{form_of}
 use Rattle.krieg_text.proofs.LoopGrammars.{Goes, HasLoopForm, loop_keeps}
-use Rattle.krieg_record.specs.declared.san_reading.SanFault.{SanFault}
+use Rattle.krieg_record.proofs.Common.{SanFault, RecordLine, Played, Means, after_all, record_version, marked, in_turn, move_by, move_form, led, step_form, moves_at, record_at, IsMoveLine, RecordGrammar, meant}
 use Rattle.krieg_record.specs.declared.san_reading.SanFault.TheVariants as fault
-use Rattle.krieg_record.specs.declared.record_reading.RecordLine.{RecordLine}
-use Rattle.krieg_record.specs.declared.record_reading.RecordLine.TheVariants.{Played}
-use Rattle.krieg_record.specs.Matching.{Means}
-use Rattle.krieg_record.specs.Records.{after_all}
-use Rattle.krieg_record.specs.RecordReading.{record_version, marked, in_turn, move_by, move_form, led, step_form, moves_at, record_at}
-use Rattle.krieg_record.specs.RecordSpelling.{IsMoveLine, RecordGrammar}
-use Rattle.krieg_fen.specs.Forms.{start_form}
-use Rattle.krieg_record.specs.SanReading.{meant}
+use Rattle.krieg_fen.proofs.Common.{start_form}
 use Rattle.krieg_record.proofs.Meanings.{meant_means}
 use Rattle.krieg_record.proofs.MoveLines.{Spelled, Ended, marks_again, line_again, step_is, moves_form}
 use Rattle.krieg_record.proofs.RecordFormat.{versions_form}

@@ -3,12 +3,9 @@ use Rattle.std.proofs.Common.{◌≡◌, Bool, true, ◌&&◌, [], sym, ◌∙�
 use Rattle.std.proofs.lemmas.Bool.{and_parts, and_from}
 use Rattle.krieg_costs.specs.Refutation as theory
 use Rattle.krieg_costs.proofs.Refuted.{refutation_excludes}
-use Rattle.krieg_game.specs.Chess.{chess}
-use Rattle.krieg_game.specs.Outset.{outset}
+use Rattle.krieg_game.proofs.Common.{chess, outset}
 use Rattle.krieg_game.proofs.ChessLaws.{chess_is_game, outset_is_lawful}
-use Rattle.krieg_refute.specs.declared.refutation.Refutation.{Refutation}
-use Rattle.krieg_refute.specs.Refutations.{claims_of, is_own_turn}
-use Rattle.krieg_refute.specs.Excluded.{NoneMates}
+use Rattle.krieg_refute.proofs.Common.{Refutation, claims_of, is_own_turn, NoneMates}
 
 module _ (f : Refutation) where
   pub excluded : (held denied : Bool) → held ≡ theory.claims_hold (chess f.dialect) [] (claims_of f.dialect f.claims.items)

@@ -16,3 +16,4 @@ pub mod FirstLost
 pub mod FromEmpty
 pub mod Sides
 pub mod Excluding
+pub mod Common

@@ -2,23 +2,17 @@
 use Rattle.std.proofs.Common.{◌≡◌, ℕ, suc, ◌+◌, ◌-◌, ◌<◌, List, [], ◌∷◌, ◌++◌, length, map, take, get_or, sym, ap, subst, ◌∙◌, arith}
 use Rattle.std.specs.Prelude.{IfSome}
 use Rattle.std.proofs.lemmas.List.{map-append, take_more}
-use Rattle.krieg_board.specs.Pos.{Pos}
-use Rattle.krieg_board.specs.declared.men.Move.{Move}
-use Rattle.krieg_words.specs.declared.dialects.Dialect.{Dialect}
-use Rattle.krieg_theory.specs.Sets.{In}
-use Rattle.krieg_costs.specs.Block.{block_pair}
-use Rattle.krieg_costs.specs.Refutation.{Reason}
-use Rattle.krieg_claims.specs.InOrder.{add_all}
-use Rattle.krieg_claims.specs.Written.{reason_at}
+use Rattle.krieg_board.proofs.Common.{Pos, Move}
+use Rattle.krieg_words.proofs.Common.{Dialect}
+use Rattle.krieg_theory.proofs.Common.{In}
+use Rattle.krieg_costs.proofs.Common.{block_pair, Reason}
+use Rattle.krieg_claims.proofs.Common.{add_all, reason_at, behind_try, WalksTries, Stands, HasTries}
 use Rattle.krieg_claims.proofs.Adding.{all_more}
-use Rattle.krieg_claims.specs.Walks.{behind_try, WalksTries}
-use Rattle.krieg_claims.specs.Standing.{Stands, HasTries}
 use Rattle.krieg_claims.proofs.Walking.{walks_try, reasons_keep}
-use Rattle.krieg_game.specs.Keys.{Key}
-use Rattle.krieg_game.specs.Chess.{chess}
+use Rattle.krieg_game.proofs.Common.{Key, chess}
 use Rattle.krieg_game.proofs.ChessLaws.{chess_is_game}
 use Rattle.krieg_refute.specs.declared.refutation.Reason.{Reason as Reason'}
-use Rattle.krieg_refute.specs.Refutations.{why_of, reason_of}
+use Rattle.krieg_refute.proofs.Common.{why_of, reason_of}
 
 module _ (d : Dialect) where
   abbrev pub told : List (List Pos × ℕ) → ℕ → List Pos → List Move → List (Move × Reason Key)

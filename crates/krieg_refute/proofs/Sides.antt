@@ -1,12 +1,9 @@
 -- Whose turn it is, by the first member.
 use Rattle.std.proofs.Common.{◌≡◌, true, ◌⊎◌, List, [], ◌∷◌, inl, inr, refl}
 use Rattle.std.proofs.lemmas.Bool.{both_ways}
-use Rattle.krieg_board.specs.Men.{is_same_side}
-use Rattle.krieg_board.specs.Pos.{Pos}
-use Rattle.krieg_board.specs.declared.men.Side.{Side}
-use Rattle.krieg_board.specs.declared.men.Side.TheVariants.{White, Black}
-use Rattle.krieg_split.specs.Turns.{IsOwnTurn, IsOthersTurn}
-use Rattle.krieg_refute.specs.Refuted.{side_of, IsOneSide}
+use Rattle.krieg_board.proofs.Common.{is_same_side, Pos, Side, White, Black}
+use Rattle.krieg_split.proofs.Common.{IsOwnTurn, IsOthersTurn}
+use Rattle.krieg_refute.proofs.Common.{side_of, IsOneSide}
 
 same_side : (s : Side) → is_same_side s s ≡ true
 same_side White = refl

@@ -1,12 +1,8 @@
 -- Which lines stand before the positions of a claim.
 use Rattle.std.proofs.Common.{◌≡◌, ℕ, ◌<◌, ◌≤◌, ◌^◌, List, ◌∷◌, ◌++◌, Option, Some, None, Result, Ok, Err, refl, ap, subst, ◌∙◌, arith}
 use Rattle.std.specs.Prelude.{codes}
-use Rattle.krieg_board.specs.declared.limits.TheConstants.{MOST_MOVES}
-use Rattle.krieg_text.specs.declared.number.NumberFault.{NumberFault}
-use Rattle.krieg_text.specs.declared.number.NumberFault.TheVariants.{NotPlain, OutOfRange}
-use Rattle.krieg_text.specs.Decimals.{number_text, number_between}
-use Rattle.krieg_text.specs.Names.{cut}
-use Rattle.krieg_text.specs.Writing.{joined}
+use Rattle.krieg_board.proofs.Common.{MOST_MOVES}
+use Rattle.krieg_text.proofs.Common.{NumberFault, NotPlain, OutOfRange, number_text, number_between, cut, joined}
 use Rattle.krieg_text.proofs.CleanTexts.{number_above, number_line}
 use Rattle.krieg_text.proofs.Formats.{IsForm, named_form}
 use Rattle.krieg_text.proofs.Free.{above_less}
@@ -15,13 +11,11 @@ use Rattle.krieg_text.proofs.NameLemmas.{cut_again, cut_spells}
 use Rattle.krieg_text.proofs.Numbers.{between_spells, between_again}
 use Rattle.krieg_words.proofs.CleanWords.{above_free}
 use Rattle.krieg_words.proofs.PartLaws.{Free}
-use Rattle.krieg_refute.specs.declared.refutation.TheConstants.{MOST_CLAIMED}
+use Rattle.krieg_refute.proofs.Common.{MOST_CLAIMED}
 use Rattle.krieg_format.proofs.Judged.{IsLine}
 use Rattle.krieg_format.proofs.Leaves.{formed_law}
 use Rattle.krieg_format.proofs.Writing.{IsWritten}
-use Rattle.krieg_refutefile.specs.LineForms.{both_numbers, sizes_by, sizes_form, claim_form}
-use Rattle.krieg_refutefile.specs.RefutationLines.{AreSizes, a_claim}
-use Rattle.krieg_refutefile.specs.RefutationText.{claim_line}
+use Rattle.krieg_refutefile.proofs.Common.{both_numbers, sizes_by, sizes_form, claim_form, AreSizes, a_claim, claim_line}
 
 abbrev IsSizes : List ℕ → ℕ × ℕ → Type 0
 IsSizes text h = (text ≡ number_text h.0 ++ (32 ∷ number_text h.1)) × AreSizes h

@@ -12,3 +12,4 @@ mod Loops
 mod RefutationTexts
 pub mod Agreeing
 pub mod Sizes
+pub mod Common

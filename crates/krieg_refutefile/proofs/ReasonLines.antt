@@ -3,45 +3,27 @@ use Rattle.std.proofs.Common.{◌≡◌, ℕ, ◌+◌, ◌<◌, ◌≤◌, Bool,
 use Rattle.std.specs.Prelude.{codes, slice_index}
 use Rattle.std.specs.Str.{bytes_eq}
 use Rattle.std.proofs.lemmas.Slice.Eq.{bytes_eq-Decides}
-use Rattle.krieg_board.specs.declared.men.Move.{Move}
-use Rattle.krieg_board.specs.declared.men.Promo.TheVariants.{Plain}
-use Rattle.krieg_text.specs.declared.fault.TextKind.{TextKind}
-use Rattle.krieg_text.specs.declared.fault.TextKind.TheVariants.{OutOfPlace}
-use Rattle.krieg_text.specs.declared.number.NumberFault.{NumberFault}
-use Rattle.krieg_text.specs.declared.number.NumberFault.TheVariants.{NotPlain, OutOfRange}
-use Rattle.krieg_text.specs.Decimals.{number_text, number_between}
-use Rattle.krieg_text.specs.FirstBad.{Has}
-use Rattle.krieg_text.specs.Forms.{ranged}
-use Rattle.krieg_text.specs.Lines.{is_line}
-use Rattle.krieg_text.specs.Names.{behind, cut}
-use Rattle.krieg_text.specs.Outcomes.{◌>>=◌}
-use Rattle.krieg_text.specs.Writing.{joined}
+use Rattle.krieg_board.proofs.Common.{Move, Plain}
+use Rattle.krieg_text.proofs.Common.{TextKind, OutOfPlace, NumberFault, NotPlain, OutOfRange, number_text, number_between, Has, ranged, is_line, behind, cut, ◌>>=◌, joined}
 use Rattle.krieg_text.proofs.CleanTexts.{number_line}
 use Rattle.krieg_text.proofs.Formats.{IsForm}
 use Rattle.krieg_text.proofs.Free.{above_less}
 use Rattle.krieg_text.proofs.LineTexts.{line_above, line_append}
 use Rattle.krieg_text.proofs.NameLemmas.{behind_again, behind_spells, cut_again, cut_spells}
 use Rattle.krieg_text.proofs.Numbers.{between_spells, between_again}
-use Rattle.krieg_fen.specs.MoveText.{move_text, move_of}
+use Rattle.krieg_fen.proofs.Common.{move_text, move_of}
 use Rattle.krieg_fen.proofs.CleanTexts.{move_above, move_line}
 use Rattle.krieg_fen.proofs.MoveTexts.{move_spells, move_again}
-use Rattle.krieg_words.specs.WordsText.{words_text}
-use Rattle.krieg_words.specs.declared.dialects.Dialect.{Dialect}
+use Rattle.krieg_words.proofs.Common.{words_text, Dialect}
 use Rattle.krieg_words.proofs.CleanWords.{words_above, above_free}
-use Rattle.krieg_game.specs.Keys.{Key}
-use Rattle.krieg_planfile.specs.NodeForms.{key_in}
+use Rattle.krieg_game.proofs.Common.{Key}
+use Rattle.krieg_planfile.proofs.Common.{key_in}
 use Rattle.krieg_planfile.proofs.KeyForms.{key_spells, key_again}
-use Rattle.krieg_refute.specs.declared.refutation.TheConstants.{MOST_CLAIMS}
-use Rattle.krieg_refute.specs.declared.refutation.Why.{Why}
-use Rattle.krieg_refute.specs.declared.refutation.Why.TheVariants.{Lives, Stale, Class, Refused}
-use Rattle.krieg_refute.specs.declared.refutation.Reason.{Reason}
+use Rattle.krieg_refute.proofs.Common.{MOST_CLAIMS, Why, Lives, Stale, Class, Refused, Reason}
 use Rattle.krieg_format.proofs.Judged.{IsLine, Sample}
 use Rattle.krieg_format.proofs.Leaves.{formed_law, formed_some}
 use Rattle.krieg_format.proofs.Writing.{IsWritten}
-use Rattle.krieg_refutefile.specs.LineForms.{place_form, cut_last, class_with, class_form, citing_form, why_form, reason_by, reason_form}
-use Rattle.krieg_refutefile.specs.RefutationLines.{a_reason}
-use Rattle.krieg_refutefile.specs.RefutationText.{why_pieces, reason_line}
-use Rattle.krieg_refutefile.specs.Writable.{CitesBelow, IsToldWhy, IsToldReason}
+use Rattle.krieg_refutefile.proofs.Common.{place_form, cut_last, class_with, class_form, citing_form, why_form, reason_by, reason_form, a_reason, why_pieces, reason_line, CitesBelow, IsToldWhy, IsToldReason}
 use Rattle.krieg_refutefile.proofs.ClaimLines.{number_free}
 use Rattle.krieg_refutefile.proofs.LastCuts.{last_spells, last_again}
 

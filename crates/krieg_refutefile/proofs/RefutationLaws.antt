@@ -1,34 +1,19 @@
 -- A refutation file: what is read is what is spelled, and a fault is the first bad line.
 use Rattle.std.proofs.Common.{◌≡◌, ℕ, ◌≤◌, Bool, true, false, List, ◌++◌, Option, Some, None, Result, Ok, refl, sym, ap, ◌∙◌, arith}
 use Rattle.std.specs.Prelude.{codes}
-use Rattle.krieg_board.specs.Pos.{Pos}
-use Rattle.krieg_board.specs.declared.men.Side.{Side}
-use Rattle.krieg_board.specs.declared.men.Side.TheVariants.{White}
-use Rattle.krieg_text.specs.declared.fault.TextFault.{TextFault}
-use Rattle.krieg_text.specs.declared.fault.TextKind.{TextKind}
-use Rattle.krieg_text.specs.declared.fault.TextKind.TheVariants.{Version, Count, Differs, OutOfPlace, Large}
-use Rattle.krieg_text.specs.Decimals.{number_text}
-use Rattle.krieg_text.specs.FirstBad.{is_beyond_form, Has}
-use Rattle.krieg_text.specs.Forms.{number_form}
-use Rattle.krieg_text.specs.Formats.{Always, IsReading}
-use Rattle.krieg_text.specs.Reading.{whole, Gives}
-use Rattle.krieg_text.specs.Writing.{joined}
+use Rattle.krieg_board.proofs.Common.{Pos, Side, White}
+use Rattle.krieg_text.proofs.Common.{TextFault, TextKind, Version, Count, Differs, OutOfPlace, Large, number_text, is_beyond_form, Has, number_form, Always, IsReading, whole, Gives, joined}
 use Rattle.krieg_text.proofs.FormSpellings.{number_read}
-use Rattle.krieg_fen.specs.Forms.{side_form, position_form}
+use Rattle.krieg_fen.proofs.Common.{side_form, position_form}
 use Rattle.krieg_fen.proofs.FormSpellings.{positions, side_spells, side_again}
 use Rattle.krieg_fen.proofs.ListGrammars.{lone_kings, kings_valid, written_form}
-use Rattle.krieg_words.specs.Dialects.{unnamed_dialect}
-use Rattle.krieg_words.specs.Versions.{dialect_form}
-use Rattle.krieg_words.specs.declared.dialects.Dialect.{Dialect}
+use Rattle.krieg_words.proofs.Common.{unnamed_dialect, dialect_form, Dialect}
 use Rattle.krieg_words.proofs.VersionSpellings.{line_is, line_read}
-use Rattle.krieg_format.specs.Lines.{literal_form}
+use Rattle.krieg_format.proofs.Common.{literal_form}
 use Rattle.krieg_format.proofs.Judged.{IsLine, Sample, each_length}
 use Rattle.krieg_format.proofs.Leaves.{IsBeyond, formed_law, formed_some, literal_law, number_law, tested_law, which_law, telling_law}
 use Rattle.krieg_format.proofs.Reading.{Owes, format_reading}
-use Rattle.krieg_refutefile.specs.Refutations.{RefutationState}
-use Rattle.krieg_refutefile.specs.RefutationLines.{a_version, a_moves, a_list, a_claims, a_tries, a_dialect, a_side, a_position, a_claim, a_reason, where_not, listed, Totals}
-use Rattle.krieg_refutefile.specs.RefutationFormat.{set_format, claim_format, refutation_format, refutation_at, SpellsRefutation, RefutationGrammar}
-use Rattle.krieg_refutefile.specs.RefutationText.{claim_line}
+use Rattle.krieg_refutefile.proofs.Common.{RefutationState, a_version, a_moves, a_list, a_claims, a_tries, a_dialect, a_side, a_position, a_claim, a_reason, where_not, listed, Totals, set_format, claim_format, refutation_format, refutation_at, SpellsRefutation, RefutationGrammar, claim_line}
 use Rattle.krieg_refutefile.proofs.ClaimLines.{claim_law, some_claim}
 use Rattle.krieg_refutefile.proofs.ReasonLines.{reason_law, some_reason}
 

@@ -3,17 +3,13 @@ use Rattle.std.proofs.Common.{◌≡◌, ℕ, ◌+◌, List, [], ◌∷◌, ◌+
 use Rattle.std.specs.List.{All, flat_map}
 use Rattle.std.proofs.lemmas.List.{append-nil, length-map}
 use Rattle.std.proofs.lemmas.List.Elements.{All-nil, All-cons, All-weaker}
-use Rattle.krieg_board.specs.Pos.{Pos}
-use Rattle.krieg_board.specs.declared.men.Side.{Side}
-use Rattle.krieg_text.specs.Writing.{alone, put_lines}
+use Rattle.krieg_board.proofs.Common.{Pos, Side}
+use Rattle.krieg_text.proofs.Common.{alone, put_lines}
 use Rattle.krieg_text.proofs.Writings.{lines_then}
-use Rattle.krieg_fen.specs.ListText.{position_line}
-use Rattle.krieg_words.specs.declared.dialects.Dialect.{Dialect}
-use Rattle.krieg_refute.specs.declared.refutation.Claim.{Claim}
-use Rattle.krieg_refutefile.specs.Parts.{IsTold, AreTold}
-use Rattle.krieg_refutefile.specs.RefutationText.{numbered, claim_lines, head_lines, refutation_lines}
-use Rattle.krieg_refutefile.specs.Refutations.{claim_state_of, state_from}
-use Rattle.krieg_refutefile.specs.Writable.{IsToldReason, AreToldClaims}
+use Rattle.krieg_fen.proofs.Common.{position_line}
+use Rattle.krieg_words.proofs.Common.{Dialect}
+use Rattle.krieg_refute.proofs.Common.{Claim}
+use Rattle.krieg_refutefile.proofs.Common.{IsTold, AreTold, numbered, claim_lines, head_lines, refutation_lines, claim_state_of, state_from, IsToldReason, AreToldClaims}
 
 pub flat_last : {A B : Type 0} (f : A → List B) (xs : List A) (x : A) → flat_map f (xs ++ x ∷ []) ≡ flat_map f xs ++ f x
 flat_last f [] x = append-nil (f x)

@@ -4,29 +4,16 @@ use Rattle.std.specs.List.{cons_option}
 use Rattle.std.proofs.lemmas.Bool.{both_ways}
 use Rattle.std.proofs.lemmas.List.{append-nil}
 use Rattle.std.proofs.lemmas.List.Elements.{filter_map-append}
-use Rattle.krieg_ports.specs.Faults.{Rose, one_more}
-use Rattle.krieg_board.specs.Men.{other, is_same_side}
-use Rattle.krieg_board.specs.Pos.{Pos}
-use Rattle.krieg_board.specs.declared.men.Side.{Side}
-use Rattle.krieg_board.specs.declared.men.Side.TheVariants.{White, Black}
-use Rattle.krieg_board.specs.declared.men.Move.{Move}
+use Rattle.krieg_ports.proofs.Common.{Rose, one_more}
+use Rattle.krieg_board.proofs.Common.{other, is_same_side, Pos, Side, White, Black, Move}
 use Rattle.krieg_board.proofs.MenLemmas.{same_side_eq, same_side_self, same_side_other}
-use Rattle.krieg_referee.specs.Games.{GameState}
-use Rattle.krieg_referee.specs.declared.verdict.Event.{Event}
-use Rattle.krieg_words.specs.declared.line.Line.{Line}
-use Rattle.krieg_seats.specs.Accounts.{Account, once_asked}
-use Rattle.krieg_seats.specs.declared.seat.Say.TheVariants.{Try, Leave}
-use Rattle.krieg_play.specs.Games.{events_of, tries_of, try_of}
-use Rattle.krieg_play.specs.Played.{played_counts, once}
-use Rattle.krieg_play.specs.Teams.{Serves, Stays, HasLeft}
+use Rattle.krieg_referee.proofs.Common.{GameState, Event}
+use Rattle.krieg_words.proofs.Common.{Line}
+use Rattle.krieg_seats.proofs.Common.{Account, once_asked, Try, Leave}
+use Rattle.krieg_play.proofs.Common.{events_of, tries_of, try_of, played_counts, once, Serves, Stays, HasLeft}
 use Rattle.krieg_play.proofs.Serving.{serves_none, tries_move, asked_in_vain, serves_more}
-use Rattle.krieg_plan.specs.declared.plan.PlanFile.{PlanFile}
-use Rattle.krieg_robot.specs.Stands.{next_try}
-use Rattle.krieg_robot.specs.Followers.{Follower, follow_file, stand_of, say_of, said_so}
-use Rattle.krieg_robot.specs.Leading.{stand_after, IsTried, AreTried, lines_of, LastAsk, IsBroken}
-use Rattle.krieg_robot.specs.Turns.{TurnAsked, IsUnderway, HasTried, IsLeft}
-use Rattle.krieg_robot.specs.declared.led.LeadFault.{LeadFault}
-use Rattle.krieg_robot.specs.declared.led.LeadFault.TheVariants.{Seat, NoMemory}
+use Rattle.krieg_plan.proofs.Common.{PlanFile}
+use Rattle.krieg_robot.proofs.Common.{next_try, Follower, follow_file, stand_of, say_of, said_so, stand_after, IsTried, AreTried, lines_of, LastAsk, IsBroken, TurnAsked, IsUnderway, HasTried, IsLeft, LeadFault, Seat, NoMemory}
 use Rattle.krieg_robot.proofs.Moving.{is_other}
 use Rattle.krieg_robot.proofs.Breaking.{IsShort, breaks_by}
 

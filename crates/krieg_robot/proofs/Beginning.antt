@@ -1,24 +1,12 @@
 -- How a game that a plan leads begins.
 use Rattle.std.proofs.Common.{◌≡◌, ℕ, List, [], ◌∷◌, ◌++◌, refl, sym, ap, subst, ◌∙◌, inl, arith, Result, Ok, Err}
-use Rattle.krieg_board.specs.Men.{other}
-use Rattle.krieg_board.specs.Pos.{Pos}
-use Rattle.krieg_board.specs.declared.men.Side.{Side}
-use Rattle.krieg_words.specs.WordsOfMoves.{opening}
-use Rattle.krieg_words.specs.Line.{told_line}
-use Rattle.krieg_words.specs.declared.dialects.Dialect.{Dialect}
-use Rattle.krieg_words.specs.declared.line.Line.{Line}
-use Rattle.krieg_words.specs.declared.line.Line.TheVariants.{Opens}
-use Rattle.krieg_referee.specs.Games.{GameState}
-use Rattle.krieg_referee.specs.Hearing.{heard}
-use Rattle.krieg_referee.specs.declared.verdict.Stop.{Stop}
-use Rattle.krieg_seats.specs.Accounts.{Account, new_account}
+use Rattle.krieg_board.proofs.Common.{other, Pos, Side}
+use Rattle.krieg_words.proofs.Common.{opening, told_line, Dialect, Line, Opens}
+use Rattle.krieg_referee.proofs.Common.{GameState, heard, Stop}
+use Rattle.krieg_seats.proofs.Common.{Account, new_account}
 use Rattle.krieg_play.proofs.Serving.{serves_none, only_hears}
-use Rattle.krieg_plan.specs.declared.plan.PlanFile.{PlanFile}
-use Rattle.krieg_robot.specs.Followers.{Follower}
-use Rattle.krieg_robot.specs.Leading.{IsLed, IsBroken}
-use Rattle.krieg_robot.specs.Turns.{hearing, BothTold, IsUnderway}
-use Rattle.krieg_robot.specs.declared.led.LeadFault.{LeadFault}
-use Rattle.krieg_robot.specs.declared.led.LeadFault.TheVariants.{NoMemory}
+use Rattle.krieg_plan.proofs.Common.{PlanFile}
+use Rattle.krieg_robot.proofs.Common.{Follower, IsLed, IsBroken, hearing, BothTold, IsUnderway, LeadFault, NoMemory}
 use Rattle.krieg_robot.proofs.Breaking.{IsShort, breaks_by}
 
 abbrev begun_game : Pos → ℕ → GameState

@@ -1,16 +1,13 @@
 -- What the opponent did where a game is given up.
 use Rattle.std.proofs.Common.{◌≡◌, ℕ, ◌+◌, ◌≤◌, List, [], ◌++◌, ap, subst, ◌∙◌, append_assoc, arith}
 use Rattle.std.proofs.lemmas.List.{append-nil}
-use Rattle.krieg_ports.specs.Faults.{Rose}
-use Rattle.krieg_board.specs.declared.men.Move.{Move}
-use Rattle.krieg_words.specs.declared.line.Line.{Line}
-use Rattle.krieg_seats.specs.Accounts.{Account}
-use Rattle.krieg_play.specs.Teams.{Serves, Stays}
+use Rattle.krieg_ports.proofs.Common.{Rose}
+use Rattle.krieg_board.proofs.Common.{Move}
+use Rattle.krieg_words.proofs.Common.{Line}
+use Rattle.krieg_seats.proofs.Common.{Account}
+use Rattle.krieg_play.proofs.Common.{Serves, Stays}
 use Rattle.krieg_play.proofs.Serving.{serves_more}
-use Rattle.krieg_robot.specs.Leading.{Breaks, broken_counts}
-use Rattle.krieg_robot.specs.Turns.{fault_counts}
-use Rattle.krieg_robot.specs.declared.led.LeadFault.{LeadFault}
-use Rattle.krieg_robot.specs.declared.led.LeadFault.TheVariants.{Seat, NoMemory}
+use Rattle.krieg_robot.proofs.Common.{Breaks, broken_counts, fault_counts, LeadFault, Seat, NoMemory}
 
 -- a call that met a fault, and asked him so often in vain
 pub record IsShort (fault : LeadFault) (told due : List Line) (vain : ℕ) (before now : Account) : Type 0 where

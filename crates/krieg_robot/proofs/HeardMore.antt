@@ -3,17 +3,10 @@ use Rattle.std.proofs.Common.{◌≡◌, List, [], ◌∷◌, ◌++◌, refl, ap
 use Rattle.std.specs.List.{cons_option}
 use Rattle.std.proofs.lemmas.List.{map-append, append-nil}
 use Rattle.std.proofs.lemmas.List.Elements.{filter_map-append}
-use Rattle.krieg_board.specs.Pos.{Pos}
-use Rattle.krieg_board.specs.declared.men.Side.{Side}
-use Rattle.krieg_words.specs.WordsOfMoves.{opening}
-use Rattle.krieg_words.specs.Line.{told_line}
-use Rattle.krieg_words.specs.declared.dialects.Dialect.{Dialect}
-use Rattle.krieg_words.specs.declared.line.Line.{Line}
+use Rattle.krieg_board.proofs.Common.{Pos, Side}
+use Rattle.krieg_words.proofs.Common.{opening, told_line, Dialect, Line}
 use Rattle.krieg_words.specs.declared.line.Line.TheVariants as line
-use Rattle.krieg_referee.specs.Games.{judge, judged, last}
-use Rattle.krieg_referee.specs.Hearing.{heard, line_for, lines_for}
-use Rattle.krieg_referee.specs.declared.verdict.Event.{Event}
-use Rattle.krieg_referee.specs.declared.verdict.Judged.{Judged}
+use Rattle.krieg_referee.proofs.Common.{judge, judged, last, heard, line_for, lines_for, Event, Judged}
 use Rattle.krieg_play.proofs.Judging.{judge_end}
 
 cons_of : (o : Option Line) (ls : List Line) → cons_option o ls ≡ option_to_list o ++ ls

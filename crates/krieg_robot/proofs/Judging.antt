@@ -2,30 +2,15 @@
 use Rattle.std.proofs.Common.{◌≡◌, ℕ, ◌+◌, List, [], ◌∷◌, ◌++◌, length, map, refl, sym, ap, subst, ◌∙◌, inr, arith, Result, Ok, Err, Option, Some, None, option_to_list}
 use Rattle.std.specs.Prelude.{option_map}
 use Rattle.std.proofs.lemmas.List.{append-nil}
-use Rattle.krieg_board.specs.Men.{other}
-use Rattle.krieg_board.specs.Pos.{Pos}
-use Rattle.krieg_board.specs.declared.men.Move.{Move}
-use Rattle.krieg_board.specs.declared.men.Side.{Side}
-use Rattle.krieg_board.specs.declared.men.Side.TheVariants.{White, Black}
-use Rattle.krieg_words.specs.Line.{told_line}
-use Rattle.krieg_words.specs.declared.dialects.Dialect.{Dialect}
-use Rattle.krieg_words.specs.declared.line.Line.{Line}
-use Rattle.krieg_referee.specs.Verdicts.{verdict, next}
-use Rattle.krieg_referee.specs.Games.{GameState, judged}
-use Rattle.krieg_referee.specs.Hearing.{heard, line_for}
-use Rattle.krieg_referee.specs.declared.verdict.Event.{Event}
-use Rattle.krieg_referee.specs.declared.verdict.Verdict.{Verdict}
-use Rattle.krieg_seats.specs.Accounts.{Account}
-use Rattle.krieg_play.specs.Teams.{Serves}
-use Rattle.krieg_play.specs.Games.{events_of, tries_of, IsGameFrom}
-use Rattle.krieg_play.specs.Played.{once}
+use Rattle.krieg_board.proofs.Common.{other, Pos, Move, Side, White, Black}
+use Rattle.krieg_words.proofs.Common.{told_line, Dialect, Line}
+use Rattle.krieg_referee.proofs.Common.{verdict, next, GameState, judged, heard, line_for, Event, Verdict}
+use Rattle.krieg_seats.proofs.Common.{Account}
+use Rattle.krieg_play.proofs.Common.{Serves, events_of, tries_of, IsGameFrom, once}
 use Rattle.krieg_play.proofs.Judging.{events_end, game_stepped}
 use Rattle.krieg_play.proofs.Serving.{only_hears, serves_more}
-use Rattle.krieg_plan.specs.declared.plan.PlanFile.{PlanFile}
-use Rattle.krieg_robot.specs.Followers.{Follower}
-use Rattle.krieg_robot.specs.Leading.{AreTried, lines_of, LastAsk, IsBroken}
-use Rattle.krieg_robot.specs.Turns.{hearing, HearsPart, BothTold, IsUnderway, HasTried, Judges}
-use Rattle.krieg_robot.specs.declared.led.LeadFault.{LeadFault}
+use Rattle.krieg_plan.proofs.Common.{PlanFile}
+use Rattle.krieg_robot.proofs.Common.{Follower, AreTried, lines_of, LastAsk, IsBroken, hearing, HearsPart, BothTold, IsUnderway, HasTried, Judges, LeadFault}
 use Rattle.krieg_robot.proofs.HeardMore.{heard_end}
 use Rattle.krieg_robot.proofs.Breaking.{IsShort, breaks_by}
 

@@ -8,3 +8,4 @@ mod Asking
 mod Judging
 mod Passing
 mod Beginning
+pub mod Common

@@ -1,23 +1,14 @@
 -- What a legal move makes of the turn, and what its words tell of the end.
 use Rattle.std.proofs.Common.{◌≡◌, Bool, true, false, not, cond, refl, ap, ◌∙◌}
 use Rattle.std.proofs.lemmas.Bool.{and_parts}
-use Rattle.krieg_board.specs.Men.{other, is_same_side}
-use Rattle.krieg_board.specs.Pos.{Pos}
-use Rattle.krieg_board.specs.declared.men.Side.{Side}
-use Rattle.krieg_board.specs.declared.men.Side.TheVariants.{White, Black}
-use Rattle.krieg_board.specs.declared.men.Move.{Move}
-use Rattle.krieg_moves.specs.Legal.{is_legal}
-use Rattle.krieg_moves.specs.After.{after}
-use Rattle.krieg_moves.specs.Moves.{moves, all_moves, in_check, is_ended, is_mate, is_stalemate}
+use Rattle.krieg_board.proofs.Common.{other, is_same_side, Pos, Side, White, Black, Move}
+use Rattle.krieg_moves.proofs.Common.{is_legal, after, moves, all_moves, in_check, is_ended, is_mate, is_stalemate}
 use Rattle.krieg_moves.proofs.Turns.{side_after}
-use Rattle.krieg_words.specs.WordsOfMoves.{words}
-use Rattle.krieg_words.specs.ToldWords.{told}
-use Rattle.krieg_words.specs.declared.words.End.TheVariants.{Goes, Mate, Stalemate}
-use Rattle.krieg_words.specs.declared.dialects.Dialect.{Dialect}
-use Rattle.krieg_theory.specs.Sets.{In}
+use Rattle.krieg_words.proofs.Common.{words, told, Goes, Mate, Stalemate, Dialect}
+use Rattle.krieg_theory.proofs.Common.{In}
 use Rattle.krieg_theory.proofs.Lists.{in_filter}
 use Rattle.krieg_game.proofs.MoveOrder.{legal_listed}
-use Rattle.krieg_robot.specs.Stands.{is_mated}
+use Rattle.krieg_robot.proofs.Common.{is_mated}
 
 -- ---- whose turn it is
 

@@ -1,17 +1,10 @@
 -- What a turn makes of a game that a plan leads, and how the game stops.
 use Rattle.std.proofs.Common.{◌≡◌, ◌<◌, Bool, true, false, sym, ap, subst, ◌∙◌, arith, Result, Ok, Err, Option, Some, None}
-use Rattle.krieg_board.specs.Men.{is_same_side}
-use Rattle.krieg_board.specs.declared.men.Side.{Side}
-use Rattle.krieg_board.specs.declared.men.Move.{Move}
-use Rattle.krieg_moves.specs.Moves.{is_ended}
-use Rattle.krieg_referee.specs.Games.{GameState}
-use Rattle.krieg_referee.specs.declared.verdict.Stop.TheVariants.{Ended, Left, AsksUsed}
-use Rattle.krieg_seats.specs.Accounts.{Account}
-use Rattle.krieg_seats.specs.declared.seat.Say.{Say}
-use Rattle.krieg_seats.specs.declared.seat.Say.TheVariants.{Try, Leave}
-use Rattle.krieg_robot.specs.Followers.{Follower}
-use Rattle.krieg_robot.specs.Turns.{TurnAsked, AfterPass, Passes, Judges, LeadsOn}
-use Rattle.krieg_robot.specs.declared.led.LeadFault.{LeadFault}
+use Rattle.krieg_board.proofs.Common.{is_same_side, Side, Move}
+use Rattle.krieg_moves.proofs.Common.{is_ended}
+use Rattle.krieg_referee.proofs.Common.{GameState, Ended, Left, AsksUsed}
+use Rattle.krieg_seats.proofs.Common.{Account, Say, Try, Leave}
+use Rattle.krieg_robot.proofs.Common.{Follower, TurnAsked, AfterPass, Passes, Judges, LeadsOn, LeadFault}
 use Rattle.krieg_robot.proofs.Asking.{asked, left, fails, event}
 
 -- ---- a turn

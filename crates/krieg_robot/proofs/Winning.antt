@@ -2,38 +2,20 @@
 use Rattle.std.proofs.Common.{◌≡◌, ℕ, suc, ◌+◌, Bool, true, false, not, cond, List, [], ◌∷◌, ◌++◌, length, filter, map, option_to_list, refl, sym, ap, subst, ◌∙◌, append_assoc, Some, None, arith, inl}
 use Rattle.std.proofs.lemmas.Bool.{and_parts, both_ways, not-true, cond-true, cond-false}
 use Rattle.std.proofs.lemmas.List.{append-nil}
-use Rattle.krieg_board.specs.Men.{other, is_same_side}
-use Rattle.krieg_board.specs.Pos.{Pos}
-use Rattle.krieg_board.specs.declared.men.Side.{Side}
+use Rattle.krieg_board.proofs.Common.{other, is_same_side, Pos, Side}
 use Rattle.krieg_board.proofs.MenLemmas.{same_side_self}
-use Rattle.krieg_moves.specs.After.{after}
-use Rattle.krieg_moves.specs.Moves.{moves, is_ended, is_mate}
-use Rattle.krieg_words.specs.WordsOfMoves.{words, opening}
-use Rattle.krieg_words.specs.ToldWords.{told}
-use Rattle.krieg_words.specs.Line.{told_line}
-use Rattle.krieg_words.specs.declared.dialects.Dialect.{Dialect}
-use Rattle.krieg_words.specs.declared.line.Line.{Line}
-use Rattle.krieg_referee.specs.Verdicts.{next}
-use Rattle.krieg_referee.specs.Games.{judge, judged, last}
-use Rattle.krieg_referee.specs.Hearing.{heard, line_for}
-use Rattle.krieg_referee.specs.declared.verdict.Event.{Event}
-use Rattle.krieg_referee.specs.declared.verdict.Judged.{Judged}
-use Rattle.krieg_referee.specs.declared.verdict.Stop.TheVariants.{Ended, Left}
-use Rattle.krieg_play.specs.Games.{events_of, AreOnTurn}
+use Rattle.krieg_moves.proofs.Common.{after, moves, is_ended, is_mate}
+use Rattle.krieg_words.proofs.Common.{words, opening, told, told_line, Dialect, Line}
+use Rattle.krieg_referee.proofs.Common.{next, judge, judged, last, heard, line_for, Event, Judged, Ended, Left}
+use Rattle.krieg_play.proofs.Common.{events_of, AreOnTurn}
 use Rattle.krieg_play.proofs.Judging.{last_end}
-use Rattle.krieg_theory.specs.Sets.{In}
+use Rattle.krieg_theory.proofs.Common.{In}
 use Rattle.krieg_theory.proofs.Lists.{all_at}
-use Rattle.krieg_game.specs.OutsetLaws.{mates_from}
+use Rattle.krieg_game.proofs.Common.{mates_from}
 use Rattle.krieg_game.proofs.Starting.{mates_from_each}
-use Rattle.krieg_plan.specs.Trees.{PlanTrees, first_root_in}
-use Rattle.krieg_plan.specs.Listed.{IsOneTurn}
-use Rattle.krieg_plan.specs.Plans.{plan_of}
-use Rattle.krieg_plan.specs.declared.plan.PlanFile.{PlanFile}
+use Rattle.krieg_plan.proofs.Common.{PlanTrees, first_root_in, IsOneTurn, plan_of, PlanFile}
 use Rattle.krieg_plan.proofs.WonRoots.{root_wins}
-use Rattle.krieg_robot.specs.Stands.{Stand, Unopened, Opened, At, Sent, Won, Lost, opened, follow_on, follow, next_try}
-use Rattle.krieg_robot.specs.Followers.{is_first}
-use Rattle.krieg_robot.specs.Leading.{stand_after, IsTried, AreTried, own_moves, is_own_move, LeadStops}
-use Rattle.krieg_robot.specs.Laws.{MatingPlanWins}
+use Rattle.krieg_robot.proofs.Common.{Stand, Unopened, Opened, At, Sent, Won, Lost, opened, follow_on, follow, next_try, is_first, stand_after, IsTried, AreTried, own_moves, is_own_move, LeadStops, MatingPlanWins}
 use Rattle.krieg_robot.proofs.Following.{follow_more}
 use Rattle.krieg_robot.proofs.HeardMore.{heard_end}
 use Rattle.krieg_robot.proofs.Moving.{is_other, legal_in}

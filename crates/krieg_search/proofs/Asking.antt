@@ -1,14 +1,11 @@
 -- The sets of openings, one after another.
 use Rattle.std.proofs.Common.{Bool, ◌≡◌, ℕ, ◌+◌, suc, ◌<◌, true, false, List, ◌∷◌, length, drop, get_or, refl, subst, arith}
-use Rattle.krieg_board.specs.Pos.{Pos}
-use Rattle.krieg_words.specs.declared.dialects.Dialect.{Dialect}
-use Rattle.krieg_accounts.specs.Stretch.{CoversSet, CoversSets}
-use Rattle.krieg_game.specs.Chess.{chess}
-use Rattle.krieg_table.specs.Interned.{Interned, set_at}
-use Rattle.krieg_search.specs.declared.openings.Opening.{Opening}
-use Rattle.krieg_search.specs.Searched.{IsSearched, TellsSet, TellsSets}
-use Rattle.krieg_search.specs.Opened.{AreNumbered}
-use Rattle.krieg_search.specs.Decided.{sets_in}
+use Rattle.krieg_board.proofs.Common.{Pos}
+use Rattle.krieg_words.proofs.Common.{Dialect}
+use Rattle.krieg_accounts.proofs.Common.{CoversSet, CoversSets}
+use Rattle.krieg_game.proofs.Common.{chess}
+use Rattle.krieg_table.proofs.Common.{Interned, set_at}
+use Rattle.krieg_search.proofs.Common.{Opening, IsSearched, TellsSet, TellsSets, AreNumbered, sets_in}
 use Rattle.krieg_search.proofs.Checking.{IsChecking, at_item, item_in, next_covers, set_lost, set_won}
 
 -- the next opening is asked for

@@ -2,20 +2,13 @@
 use Rattle.std.proofs.Common.{◌≡◌, ℕ, suc, Bool, true, false, not, ◌&&◌, ◌||◌, ◌⊎◌, List, ◌∷◌, map, find, Option, Some, None, refl, sym, ap, inl, inr, ◌∙◌}
 use Rattle.std.specs.Prelude.{◌==◌, option_map, if◌then◌else◌}
 use Rattle.std.proofs.lemmas.Bool.{cases_Bool, cond-true, cond-false, eqb-true, not_from_true, not_from_false}
-use Rattle.krieg_board.specs.Pos.{Pos}
-use Rattle.krieg_board.specs.declared.men.Move.{Move}
-use Rattle.krieg_words.specs.declared.dialects.Dialect.{Dialect}
-use Rattle.krieg_theory.specs.Sets.{is_nil}
-use Rattle.krieg_theory.specs.Split.{refused, stale_in_some, keys, class}
-use Rattle.krieg_theory.specs.Can.{can}
-use Rattle.krieg_costs.specs.Block.{Lives, Stale, LostClass, LostRefused, NoBlock, lives_in_some, by_class, block}
+use Rattle.krieg_board.proofs.Common.{Pos, Move}
+use Rattle.krieg_words.proofs.Common.{Dialect}
+use Rattle.krieg_theory.proofs.Common.{is_nil, refused, stale_in_some, keys, class, can}
+use Rattle.krieg_costs.proofs.Common.{Lives, Stale, LostClass, LostRefused, NoBlock, lives_in_some, by_class, block}
 use Rattle.krieg_accounts.proofs.TryEnds.{find_map}
-use Rattle.krieg_game.specs.Keys.{Key}
-use Rattle.krieg_game.specs.Chess.{chess}
-use Rattle.krieg_game.specs.Classes.{class_pair}
-use Rattle.krieg_game.specs.declared.classes.Class.{Class}
-use Rattle.krieg_search.specs.declared.left.Left.{Left}
-use Rattle.krieg_search.specs.Leaving.{Leaves}
+use Rattle.krieg_game.proofs.Common.{Key, chess, class_pair, Class}
+use Rattle.krieg_search.proofs.Common.{Left, Leaves}
 
 -- a key that is found beside its set
 pub keyed_some : (f : Key → List Pos) (o : Option Key) (key : Key) (C : List Pos) → option_map {T = Key} {U = Key × List Pos} (λ k. (k, f k)) o ≡ Some (key, C) → (o ≡ Some key) × (f key ≡ C)

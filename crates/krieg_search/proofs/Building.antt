@@ -2,37 +2,23 @@
 use Rattle.std.proofs.Common.{Bool, ◌≡◌, ℕ, suc, ◌+◌, ◌-◌, ◌≤◌, ◌<◌, ◌^◌, true, false, ◌⊎◌, inl, inr, List, [], ◌∷◌, map, Some, Result, Ok, Err, max, refl, sym, ap, subst, ◌∙◌, arith}
 use Rattle.std.specs.Result.{IsErrAnd}
 use Rattle.std.proofs.Math.Nat.{le-max_left, le-max_right}
-use Rattle.krieg_board.specs.Pos.{Pos}
-use Rattle.krieg_board.specs.declared.men.Move.{Move}
-use Rattle.krieg_words.specs.declared.dialects.Dialect.{Dialect}
-use Rattle.krieg_theory.specs.Sets.{In, is_nil}
-use Rattle.krieg_theory.specs.Tree.{Try, Maybe, Just, Edges, size, size_other, size_edges, depth, depth_other, depth_edges}
-use Rattle.krieg_theory.specs.Split.{refused, keys, class}
-use Rattle.krieg_theory.specs.Can.{can}
-use Rattle.krieg_theory.specs.Computed.{edge_with, edges_of, canon}
+use Rattle.krieg_board.proofs.Common.{Pos, Move}
+use Rattle.krieg_words.proofs.Common.{Dialect}
+use Rattle.krieg_theory.proofs.Common.{In, is_nil, Try, Maybe, Just, Edges, size, size_other, size_edges, depth, depth_other, depth_edges, refused, keys, class, can, edge_with, edges_of, canon}
 use Rattle.krieg_theory.proofs.Lists.{map_in}
 use Rattle.krieg_theory.proofs.Built.{canon_wins}
 use Rattle.krieg_theory.proofs.Unique.{can_upto}
-use Rattle.krieg_costs.specs.Cost.{made}
-use Rattle.krieg_accounts.specs.Sound.{known, IsSound}
-use Rattle.krieg_accounts.specs.Charges.{charged}
-use Rattle.krieg_accounts.specs.Laws.{refused_canon}
+use Rattle.krieg_costs.proofs.Common.{made}
+use Rattle.krieg_accounts.proofs.Common.{known, IsSound, charged, refused_canon}
 use Rattle.krieg_accounts.proofs.Tables.{result_can}
 use Rattle.krieg_accounts.proofs.Canonical.{class_won, refused_won, split_paid, stored_is_canon}
-use Rattle.krieg_game.specs.Keys.{Key}
-use Rattle.krieg_game.specs.Chess.{chess}
-use Rattle.krieg_game.specs.Classes.{class_pair}
+use Rattle.krieg_game.proofs.Common.{Key, chess, class_pair}
 use Rattle.krieg_game.proofs.ChessLaws.{chess_is_game}
-use Rattle.krieg_split.specs.Parted.{IsParted}
-use Rattle.krieg_parting.specs.declared.parts.Parted.{Parted}
-use Rattle.krieg_plan.specs.Trees.{NodeTree}
-use Rattle.krieg_table.specs.Interned.{Interned}
-use Rattle.krieg_table.specs.Entries.{entries}
-use Rattle.krieg_search.specs.declared.stop.SearchStop.{SearchStop}
-use Rattle.krieg_search.specs.declared.stop.SearchStop.TheVariants.{Spent, Large, NoMemory}
-use Rattle.krieg_search.specs.Searched.{AreCounted, IsNumbered, IsReady, sets_of}
-use Rattle.krieg_search.specs.Opened.{AddsSets}
-use Rattle.krieg_search.specs.Built.{WonBy, Builds, IsPaidFor, edges_for}
+use Rattle.krieg_split.proofs.Common.{IsParted}
+use Rattle.krieg_parting.proofs.Common.{Parted}
+use Rattle.krieg_plan.proofs.Common.{NodeTree}
+use Rattle.krieg_table.proofs.Common.{Interned, entries}
+use Rattle.krieg_search.proofs.Common.{SearchStop, Spent, Large, NoMemory, AreCounted, IsNumbered, IsReady, sets_of, AddsSets, WonBy, Builds, IsPaidFor, edges_for}
 use Rattle.krieg_search.proofs.Leaving.{sets_are}
 use Rattle.krieg_search.proofs.Searching.{more_itself, more_then}
 

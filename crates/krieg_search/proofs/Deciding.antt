@@ -6,51 +6,26 @@ use Rattle.std.specs.List.{list_all, list_any}
 use Rattle.std.specs.Result.{IsErrAnd}
 use Rattle.std.proofs.lemmas.Bool.{both_ways}
 use Rattle.std.proofs.lemmas.Simd.{map-map}
-use Rattle.krieg_board.specs.Pos.{Pos}
-use Rattle.krieg_board.specs.declared.men.Move.{Move}
-use Rattle.krieg_board.specs.declared.men.Side.{Side}
-use Rattle.krieg_words.specs.declared.dialects.Dialect.{Dialect}
-use Rattle.krieg_theory.specs.Sets.{In}
-use Rattle.krieg_theory.specs.Can.{can}
-use Rattle.krieg_theory.specs.Plans.{openings, opening_set, is_over, can_plan}
+use Rattle.krieg_board.proofs.Common.{Pos, Move, Side}
+use Rattle.krieg_words.proofs.Common.{Dialect}
+use Rattle.krieg_theory.proofs.Common.{In, can, openings, opening_set, is_over, can_plan}
 use Rattle.krieg_theory.proofs.Lists.{all_at}
-use Rattle.krieg_costs.specs.Sums.{IsOnce, once}
-use Rattle.krieg_costs.specs.Cost.{first_made}
-use Rattle.krieg_costs.specs.Reach.{reach_of, fresh}
+use Rattle.krieg_costs.proofs.Common.{IsOnce, once, first_made, reach_of, fresh}
 use Rattle.krieg_costs.proofs.Pairs.{once_in}
-use Rattle.krieg_pack.specs.Order.{position_lt}
-use Rattle.krieg_accounts.specs.Stored.{stored, pairs}
-use Rattle.krieg_accounts.specs.Sound.{known, IsSound}
-use Rattle.krieg_accounts.specs.Charges.{charged}
-use Rattle.krieg_accounts.specs.Stretch.{IsStretch, FallsShort, CoversSets}
-use Rattle.krieg_accounts.specs.Answers.{AnswersSets, opening_sets, AnswersPlan}
+use Rattle.krieg_pack.proofs.Common.{position_lt}
+use Rattle.krieg_accounts.proofs.Common.{stored, pairs, known, IsSound, charged, IsStretch, FallsShort, CoversSets, AnswersSets, opening_sets, AnswersPlan}
 use Rattle.krieg_accounts.proofs.Canonical.{by_least}
 use Rattle.krieg_accounts.proofs.Searches.{empty_sound, reach_covers, short_is_below_fresh, sets_answer_plan}
 use Rattle.krieg_accounts.proofs.Tables.{in_known}
 use Rattle.krieg_accounts.proofs.TryEnds.{all_map}
-use Rattle.krieg_game.specs.Keys.{RootKey}
-use Rattle.krieg_game.specs.Chess.{chess}
-use Rattle.krieg_game.specs.Outset.{outset}
+use Rattle.krieg_game.proofs.Common.{RootKey, chess, outset}
 use Rattle.krieg_game.specs.ClassLaws as game
 use Rattle.krieg_game.proofs.ChessLaws.{chess_is_game, outset_is_lawful}
-use Rattle.krieg_parting.specs.declared.stop.PartStop.{PartStop}
+use Rattle.krieg_parting.proofs.Common.{PartStop}
 use Rattle.krieg_parting.specs.declared.stop.PartStop.TheVariants as split
-use Rattle.krieg_split.specs.Units.{Charged}
-use Rattle.krieg_table.specs.Interned.{Interned}
-use Rattle.krieg_table.specs.Entries.{entries}
-use Rattle.krieg_table.specs.Table.{IsMore}
-use Rattle.krieg_search.specs.declared.openings.Opening.{Opening}
-use Rattle.krieg_search.specs.declared.decide.Found.{Found}
-use Rattle.krieg_search.specs.declared.decide.Decided.{Decided}
-use Rattle.krieg_search.specs.declared.decide.Decided.TheVariants.{Over}
-use Rattle.krieg_search.specs.declared.stop.SearchStop.{SearchStop}
-use Rattle.krieg_search.specs.declared.stop.SearchStop.TheVariants.{Spent, Large, NoMemory}
-use Rattle.krieg_search.specs.Stops.{stop_of}
-use Rattle.krieg_search.specs.Searched.{AreCounted, IsReady, IsSearched, Stretches, TellsSets}
-use Rattle.krieg_search.specs.Opened.{opening_in, AreNumbered, AreAdded, IsOpened}
-use Rattle.krieg_search.specs.Built.{WonBy}
-use Rattle.krieg_search.specs.Notes.{AreNotes}
-use Rattle.krieg_search.specs.Decided.{sets_in, IsAccount, IsFound, IsLost, IsWon, IsDecided}
+use Rattle.krieg_split.proofs.Common.{Charged}
+use Rattle.krieg_table.proofs.Common.{Interned, entries, IsMore}
+use Rattle.krieg_search.proofs.Common.{Opening, Found, Decided, Over, SearchStop, Spent, Large, NoMemory, stop_of, AreCounted, IsReady, IsSearched, Stretches, TellsSets, opening_in, AreNumbered, AreAdded, IsOpened, WonBy, AreNotes, sets_in, IsAccount, IsFound, IsLost, IsWon, IsDecided}
 use Rattle.krieg_search.proofs.Searching.{ready_from}
 use Rattle.krieg_search.proofs.OpenedSets.{same_openings, numbered_more}
 

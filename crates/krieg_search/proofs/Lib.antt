@@ -20,3 +20,4 @@ mod Ordering
 pub mod Solving
 mod Turning
 mod ChessLaws
+pub mod Common

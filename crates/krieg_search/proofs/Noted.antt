@@ -9,22 +9,13 @@ use Rattle.std.proofs.lemmas.List.{map-append, take_all}
 use Rattle.std.proofs.lemmas.List.Elements.{All-nil, All-push, All-weaker}
 use Rattle.std.proofs.lemmas.Bool.{cases_Bool, cond-true, cond-false, and_parts, eqb-true}
 use Rattle.indexmap.specs.IndexMap.{insert_entry}
-use Rattle.krieg_board.specs.Pos.{Pos}
-use Rattle.krieg_board.specs.declared.men.Move.{Move}
-use Rattle.krieg_words.specs.declared.dialects.Dialect.{Dialect}
-use Rattle.krieg_theory.specs.Sets.{In}
-use Rattle.krieg_theory.specs.Split.{refused, class, tries}
-use Rattle.krieg_theory.specs.Can.{can}
+use Rattle.krieg_board.proofs.Common.{Pos, Move}
+use Rattle.krieg_words.proofs.Common.{Dialect}
+use Rattle.krieg_theory.proofs.Common.{In, refused, class, tries, can}
 use Rattle.krieg_costs.specs.Block as theory
-use Rattle.krieg_game.specs.Keys.{Key}
-use Rattle.krieg_game.specs.Chess.{chess}
-use Rattle.krieg_table.specs.Interned.{Interned, set_at}
-use Rattle.krieg_table.specs.Table.{IsMore}
-use Rattle.krieg_search.specs.declared.notes.Asked.{Asked}
-use Rattle.krieg_search.specs.declared.notes.Note.{Note}
-use Rattle.krieg_search.specs.declared.notes.Block.{Block}
-use Rattle.krieg_search.specs.declared.notes.Block.TheVariants.{AtOnce, Class, Refused}
-use Rattle.krieg_search.specs.Notes.{Rows, Noted, notes_in, same_asked, IsLostPart, IsBlock, IsRow, AreNotes}
+use Rattle.krieg_game.proofs.Common.{Key, chess}
+use Rattle.krieg_table.proofs.Common.{Interned, set_at, IsMore}
+use Rattle.krieg_search.proofs.Common.{Asked, Note, Block, AtOnce, Class, Refused, Rows, Noted, notes_in, same_asked, IsLostPart, IsBlock, IsRow, AreNotes}
 
 equal_asked : (a b : Asked) → same_asked a b ≡ true → a ≡ b
 equal_asked a b h =

@@ -3,27 +3,18 @@ use Rattle.std.proofs.Common.{Bool, ◌≡◌, ℕ, zero, suc, ◌<◌, ◌^◌,
 use Rattle.std.specs.Prelude.{option_map}
 use Rattle.std.specs.Result.{IsErrAnd}
 use Rattle.std.proofs.lemmas.Bool.{both_ways}
-use Rattle.krieg_board.specs.Pos.{Pos}
-use Rattle.krieg_board.specs.declared.men.Move.{Move}
-use Rattle.krieg_words.specs.declared.dialects.Dialect.{Dialect}
-use Rattle.krieg_theory.specs.Can.{first_try}
-use Rattle.krieg_costs.specs.Cost.{price}
-use Rattle.krieg_costs.specs.Backing.{floor_price}
-use Rattle.krieg_pack.specs.Order.{position_lt}
-use Rattle.krieg_accounts.specs.Stored.{stored, AddsResult}
-use Rattle.krieg_accounts.specs.Sound.{known, IsBacked}
-use Rattle.krieg_accounts.specs.Stretch.{CoversPair, CoversTries}
+use Rattle.krieg_board.proofs.Common.{Pos, Move}
+use Rattle.krieg_words.proofs.Common.{Dialect}
+use Rattle.krieg_theory.proofs.Common.{first_try}
+use Rattle.krieg_costs.proofs.Common.{price, floor_price}
+use Rattle.krieg_pack.proofs.Common.{position_lt}
+use Rattle.krieg_accounts.proofs.Common.{stored, AddsResult, known, IsBacked, CoversPair, CoversTries}
 use Rattle.krieg_accounts.proofs.Tables.{result_can}
 use Rattle.krieg_accounts.proofs.Stretches.{stretch_noted, short_noted, still_unknown}
-use Rattle.krieg_game.specs.Chess.{chess}
+use Rattle.krieg_game.proofs.Common.{chess}
 use Rattle.krieg_game.proofs.ChessLaws.{chess_is_game}
-use Rattle.krieg_table.specs.declared.known.Known.{Known}
-use Rattle.krieg_table.specs.Interned.{Interned, sets, set_at}
-use Rattle.krieg_table.specs.Entries.{try_of, entries}
-use Rattle.krieg_table.specs.Table.{IsMore, IsNoted}
-use Rattle.krieg_search.specs.declared.stop.SearchStop.{SearchStop}
-use Rattle.krieg_search.specs.declared.stop.SearchStop.TheVariants.{Spent, Large, NoMemory}
-use Rattle.krieg_search.specs.Searched.{IsReady, IsSearched, Stretches, TellsSet}
+use Rattle.krieg_table.proofs.Common.{Known, Interned, sets, set_at, try_of, entries, IsMore, IsNoted}
+use Rattle.krieg_search.proofs.Common.{SearchStop, Spent, Large, NoMemory, IsReady, IsSearched, Stretches, TellsSet}
 use Rattle.krieg_search.proofs.Searching.{more_then, searched_nothing}
 
 -- the sets of a table by their places

@@ -1,32 +1,16 @@
 -- The plan of the opening sets is the best one.
 use Rattle.std.proofs.Common.{Bool, ◌≡◌, ℕ, ◌<◌, ◌^◌, true, false, max, List, [], ◌∷◌, map, Ok, refl, sym, ap, subst, ◌∙◌, arith}
 use Rattle.std.proofs.lemmas.Bool.{both_ways, false_from_ne_true}
-use Rattle.krieg_board.specs.Pos.{Pos}
-use Rattle.krieg_board.specs.declared.men.Move.{Move}
-use Rattle.krieg_board.specs.declared.men.Side.{Side}
-use Rattle.krieg_words.specs.declared.dialects.Dialect.{Dialect}
-use Rattle.krieg_theory.specs.Tree.{Maybe, Nothing, Just}
-use Rattle.krieg_theory.specs.Can.{least}
-use Rattle.krieg_theory.specs.Computed.{canon}
-use Rattle.krieg_theory.specs.Plans.{greatest, openings, opening_set, roots_of, root_with, can_plan, canon_plan, canon_worst}
+use Rattle.krieg_board.proofs.Common.{Pos, Move, Side}
+use Rattle.krieg_words.proofs.Common.{Dialect}
+use Rattle.krieg_theory.proofs.Common.{Maybe, Nothing, Just, least, canon, greatest, openings, opening_set, roots_of, root_with, can_plan, canon_plan, canon_worst}
 use Rattle.krieg_theory.proofs.Planned.{mates_shows, canon_plan_is, canon_plan_worst, worst_enough, worst_least}
 use Rattle.krieg_accounts.proofs.Stretches.{weaker}
-use Rattle.krieg_game.specs.Keys.{Key, RootKey}
-use Rattle.krieg_game.specs.Chess.{chess}
-use Rattle.krieg_game.specs.Outset.{outset}
+use Rattle.krieg_game.proofs.Common.{Key, RootKey, chess, outset}
 use Rattle.krieg_game.proofs.ChessLaws.{chess_is_game, outset_is_lawful}
-use Rattle.krieg_plan.specs.Trees.{PlanTrees}
-use Rattle.krieg_plan.specs.Plans.{plan_of}
-use Rattle.krieg_plan.specs.Ordered.{is_ordered_plan}
-use Rattle.krieg_search.specs.declared.best_plan.Answer.{Answer}
-use Rattle.krieg_search.specs.declared.best_plan.Answer.TheVariants.{Mates, None}
-use Rattle.krieg_search.specs.declared.decide.Found.{Found}
-use Rattle.krieg_table.specs.Entries.{entries}
-use Rattle.krieg_search.specs.Opened.{opening_in}
-use Rattle.krieg_search.specs.Decided.{IsWon}
-use Rattle.krieg_search.specs.Built.{IsPaidFor, with_root, roots_for}
-use Rattle.krieg_search.specs.Planned.{IsUnfit, IsPlan, IsPlanned}
-use Rattle.krieg_search.specs.Solved.{IsBest, NoneMates, IsLarge, IsAnswer}
+use Rattle.krieg_plan.proofs.Common.{PlanTrees, plan_of, is_ordered_plan}
+use Rattle.krieg_search.proofs.Common.{Answer, Mates, None, Found, opening_in, IsWon, IsPaidFor, with_root, roots_for, IsUnfit, IsPlan, IsPlanned, IsBest, NoneMates, IsLarge, IsAnswer}
+use Rattle.krieg_table.proofs.Common.{entries}
 use Rattle.krieg_search.proofs.Ordering.{plan_ordered}
 
 module _ (d : Dialect) (who : Side) (S : List Pos) (n : ℕ) where

@@ -3,12 +3,9 @@ use Rattle.std.proofs.Common.{◌≡◌, ℕ, ◌<◌, List, [], ◌∷◌, leng
 use Rattle.std.specs.Prelude.{All}
 use Rattle.std.proofs.lemmas.List.{get_or-map, length-map}
 use Rattle.std.proofs.lemmas.List.Elements.{All-map}
-use Rattle.krieg_board.specs.Pos.{Pos}
-use Rattle.krieg_board.specs.declared.men.Move.{Move}
-use Rattle.krieg_split.specs.Tallies.{tally_of}
-use Rattle.krieg_search.specs.Tried.{move_of, IsTold}
-use Rattle.krieg_search.specs.declared.tried.Try.{Try}
-use Rattle.krieg_search.specs.declared.tried.Try.TheVariants.{Plain, Counted}
+use Rattle.krieg_board.proofs.Common.{Pos, Move}
+use Rattle.krieg_split.proofs.Common.{tally_of}
+use Rattle.krieg_search.proofs.Common.{move_of, IsTold, Try, Plain, Counted}
 
 -- nothing is told
 pub plain_moves : (ts : List Move) → map move_of (map (λ t. Plain t) ts) ≡ ts

@@ -1,23 +1,16 @@
 -- The tries of a set, one after another.
 use Rattle.std.proofs.Common.{Bool, ◌≡◌, ℕ, ◌+◌, ◌≤◌, ◌<◌, true, false, List, length, take, get_or, Option, Some, None, sym, subst}
-use Rattle.krieg_board.specs.Pos.{Pos}
-use Rattle.krieg_board.specs.declared.men.Move.{Move}
-use Rattle.krieg_words.specs.declared.dialects.Dialect.{Dialect}
-use Rattle.krieg_theory.specs.Split.{legal_in_some, tries}
-use Rattle.krieg_theory.specs.Can.{first_try}
-use Rattle.krieg_costs.specs.Sums.{total}
-use Rattle.krieg_costs.specs.Cost.{made, price}
-use Rattle.krieg_costs.specs.Backing.{floor_price}
-use Rattle.krieg_accounts.specs.Sound.{IsBacked}
-use Rattle.krieg_accounts.specs.Stretch.{CoversTry, CoversTries}
-use Rattle.krieg_accounts.specs.Answers.{LostBelow}
+use Rattle.krieg_board.proofs.Common.{Pos, Move}
+use Rattle.krieg_words.proofs.Common.{Dialect}
+use Rattle.krieg_theory.proofs.Common.{legal_in_some, tries, first_try}
+use Rattle.krieg_costs.proofs.Common.{total, made, price, floor_price}
+use Rattle.krieg_accounts.proofs.Common.{IsBacked, CoversTry, CoversTries, LostBelow}
 use Rattle.krieg_accounts.proofs.Covering.{covers_try}
 use Rattle.krieg_accounts.proofs.TryWalk.{FailedTo, legal_at, first_here, first_none, price_here, price_none, price_within, price_more, failed_more, backed_here, backed_none}
-use Rattle.krieg_game.specs.Chess.{chess}
+use Rattle.krieg_game.proofs.Common.{chess}
 use Rattle.krieg_game.proofs.ChessLaws.{chess_is_game}
-use Rattle.krieg_table.specs.Interned.{Interned}
-use Rattle.krieg_table.specs.Entries.{entries}
-use Rattle.krieg_search.specs.Searched.{IsReady, IsSearched, TellsTry}
+use Rattle.krieg_table.proofs.Common.{Interned, entries}
+use Rattle.krieg_search.proofs.Common.{IsReady, IsSearched, TellsTry}
 use Rattle.krieg_search.proofs.Searching.{searched_nothing, searched_then}
 
 module _ (d : Dialect) (cut : Bool) where

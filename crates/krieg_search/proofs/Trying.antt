@@ -3,29 +3,18 @@ use Rattle.std.proofs.Common.{◌≡◌, ℕ, suc, ◌+◌, ◌-◌, ◌<◌, Bo
 use Rattle.std.specs.Prelude.{IfSome, IsTrue, ◌↔◌}
 use Rattle.std.specs.List.{list_all}
 use Rattle.std.proofs.lemmas.Bool.{both_ways, or_left}
-use Rattle.krieg_board.specs.Pos.{Pos}
-use Rattle.krieg_board.specs.declared.men.Move.{Move}
-use Rattle.krieg_words.specs.declared.dialects.Dialect.{Dialect}
-use Rattle.krieg_theory.specs.Sets.{In, is_nil}
-use Rattle.krieg_theory.specs.Split.{refused, legal_in_some}
-use Rattle.krieg_theory.specs.Can.{can, begins}
+use Rattle.krieg_board.proofs.Common.{Pos, Move}
+use Rattle.krieg_words.proofs.Common.{Dialect}
+use Rattle.krieg_theory.proofs.Common.{In, is_nil, refused, legal_in_some, can, begins}
 use Rattle.krieg_theory.proofs.Steps.{refused_lt}
-use Rattle.krieg_costs.specs.Cost.{made}
-use Rattle.krieg_accounts.specs.Sound.{known, StoredLost, StoredWon}
-use Rattle.krieg_accounts.specs.Stretch.{CoversSet, CoversTry, CoversSets}
-use Rattle.krieg_accounts.specs.Answers.{classes}
+use Rattle.krieg_costs.proofs.Common.{made}
+use Rattle.krieg_accounts.proofs.Common.{known, StoredLost, StoredWon, CoversSet, CoversTry, CoversSets, classes}
 use Rattle.krieg_accounts.proofs.Covering as covering
 use Rattle.krieg_accounts.proofs.TryEnds.{begins_class, begins_rest, answered_class, answered_all, answered_rest}
-use Rattle.krieg_game.specs.Chess.{chess}
+use Rattle.krieg_game.proofs.Common.{chess}
 use Rattle.krieg_game.proofs.ChessLaws.{chess_is_game}
-use Rattle.krieg_table.specs.Interned.{Interned, set_at}
-use Rattle.krieg_table.specs.Entries.{entries}
-use Rattle.krieg_search.specs.declared.left.Left.{Left}
-use Rattle.krieg_search.specs.declared.search.LostClass.{LostClass}
-use Rattle.krieg_search.specs.declared.notes.Block.TheVariants.{AtOnce, Class, Refused}
-use Rattle.krieg_search.specs.Searched.{IsNumbered, IsReady, IsSearched, TellsSet, TellsTry, TellsSets, sets_of}
-use Rattle.krieg_search.specs.Blocked.{TellsFirst, TellsBlock}
-use Rattle.krieg_search.specs.Leaving.{FailsAtOnce, Leaves, IsLeft}
+use Rattle.krieg_table.proofs.Common.{Interned, set_at, entries}
+use Rattle.krieg_search.proofs.Common.{Left, LostClass, AtOnce, Class, Refused, IsNumbered, IsReady, IsSearched, TellsSet, TellsTry, TellsSets, sets_of, TellsFirst, TellsBlock, FailsAtOnce, Leaves, IsLeft}
 use Rattle.krieg_search.proofs.Leaving.{sets_are}
 use Rattle.krieg_search.proofs.Blocked.{class_blocks, refused_blocks}
 use Rattle.krieg_search.proofs.Searching.{searched_split, searched_then, searched_number}

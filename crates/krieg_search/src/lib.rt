@@ -18,7 +18,7 @@
 //! for each number of moves, so that no set is searched twice for the same number of moves.
 //!
 //! `find` may cut tries (`cut`): there a try also fails at once where some reply to it leaves a position that is no mate
-//! in time even for a player who sees it. krieg_sight finds that out, and krieg_seeing has the law. Nothing is stored then
+//! in time even for a player who sees it. krieg_sight finds that out, and krieg_theory has the law. Nothing is stored then
 //! of what lies below the try, so the floor of what a search takes does not hold for `find`. It holds for `solve`, which
 //! cuts none. The table that `decide` gives has a block of each try of a lost set only where none was cut.
 //!

@@ -2,18 +2,10 @@
 use Rattle.std.proofs.Common.{◌≡◌, List, [], ◌∷◌, ◌++◌, map, Option, Some, None, refl, ap, ◌∙◌}
 use Rattle.std.specs.List.{flat_map, cons_option}
 use Rattle.std.proofs.lemmas.List.Elements.{filter_map-append}
-use Rattle.krieg_board.specs.declared.men.Side.{Side}
-use Rattle.krieg_board.specs.declared.men.Side.TheVariants.{White, Black}
-use Rattle.krieg_words.specs.WordsOfMoves.{opening}
-use Rattle.krieg_words.specs.Line.{told_line}
-use Rattle.krieg_words.specs.declared.dialects.Dialect.{Dialect}
-use Rattle.krieg_words.specs.declared.line.Line.{Line}
-use Rattle.krieg_words.specs.declared.line.Line.TheVariants.{Opens}
-use Rattle.krieg_referee.specs.declared.verdict.Judged.{Judged}
-use Rattle.krieg_referee.specs.Games.{judge}
-use Rattle.krieg_referee.specs.Hearing.{line_for, lines_for}
-use Rattle.krieg_session.specs.Telling.{players_line, both_lines, if_of, lines_of}
-use Rattle.krieg_session.specs.Laws.{LinesAreHeard}
+use Rattle.krieg_board.proofs.Common.{Side, White, Black}
+use Rattle.krieg_words.proofs.Common.{opening, told_line, Dialect, Line, Opens}
+use Rattle.krieg_referee.proofs.Common.{Judged, judge, line_for, lines_for}
+use Rattle.krieg_session.proofs.Common.{players_line, both_lines, if_of, lines_of, LinesAreHeard}
 
 -- a player's line of one try
 abbrev own : Dialect → Option Line → List Line

@@ -1,25 +1,12 @@
 -- The position in which a game stands is consistent with the sheet of each player.
 use Rattle.std.proofs.Common.{◌≡◌, Bool, true, false, not, cond, List, [], ◌∷◌, map, Option, Some, refl, arith}
 use Rattle.std.specs.List.{cons_option}
-use Rattle.krieg_board.specs.Men.{is_same_side}
-use Rattle.krieg_board.specs.Pos.{Pos}
-use Rattle.krieg_board.specs.declared.men.Side.{Side}
-use Rattle.krieg_board.specs.declared.men.Side.TheVariants.{White, Black}
-use Rattle.krieg_board.specs.declared.men.Move.{Move}
-use Rattle.krieg_moves.specs.Legal.{is_legal}
-use Rattle.krieg_moves.specs.Moves.{is_ended}
-use Rattle.krieg_words.specs.WordsOfMoves.{words}
-use Rattle.krieg_words.specs.Line.{told_line}
-use Rattle.krieg_words.specs.declared.dialects.Dialect.{Dialect}
-use Rattle.krieg_words.specs.declared.line.Line.{Line}
-use Rattle.krieg_referee.specs.declared.verdict.Event.{Event}
-use Rattle.krieg_referee.specs.declared.verdict.Verdict.{Verdict}
-use Rattle.krieg_referee.specs.declared.verdict.Verdict.TheVariants.{Over, Early, Illegal, Done}
-use Rattle.krieg_referee.specs.Verdicts.{verdict, next, position_after}
-use Rattle.krieg_referee.specs.Games.{judge, judged, last}
-use Rattle.krieg_referee.specs.Hearing.{line_for, lines_for, own_line, others_line}
-use Rattle.krieg_sheet.specs.Games.{Gives}
-use Rattle.krieg_session.specs.Laws.{LastIsConsistent}
+use Rattle.krieg_board.proofs.Common.{is_same_side, Pos, Side, White, Black, Move}
+use Rattle.krieg_moves.proofs.Common.{is_legal, is_ended}
+use Rattle.krieg_words.proofs.Common.{words, told_line, Dialect, Line}
+use Rattle.krieg_referee.proofs.Common.{Event, Verdict, Over, Early, Illegal, Done, verdict, next, position_after, judge, judged, last, line_for, lines_for, own_line, others_line}
+use Rattle.krieg_sheet.proofs.Common.{Gives}
+use Rattle.krieg_session.proofs.Common.{LastIsConsistent}
 
 -- the trier, the player and the side to move
 not_mine : (mover who turn : Side) → is_same_side mover turn ≡ false → is_same_side mover who ≡ true → is_same_side turn who ≡ false

@@ -4,3 +4,4 @@ pub mod InPlace
 pub mod SheetsOfGames
 pub mod SessionFormat
 pub mod LastPositions
+pub mod Common

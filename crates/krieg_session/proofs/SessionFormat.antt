@@ -2,24 +2,9 @@
 use Rattle.std.proofs.Common.{◌≡◌, inl, ℕ, true, List, [], ◌∷◌, ◌++◌, map, Option, Some, None, Result, Ok, Err, refl, sym, ap, subst, ◌∙◌}
 use Rattle.std.specs.Prelude.{codes, IfOk}
 use Rattle.std.proofs.lemmas.List.Elements.{All-nil, All-cons, All-head, All-tail}
-use Rattle.krieg_board.specs.Pos.{Pos}
-use Rattle.krieg_board.specs.declared.men.Side.{Side}
-use Rattle.krieg_board.specs.declared.men.Side.TheVariants.{White, Black}
-use Rattle.krieg_board.specs.declared.men.Move.{Move}
-use Rattle.krieg_text.specs.declared.fault.TextFault.{TextFault}
-use Rattle.krieg_text.specs.declared.fault.TextKind.{TextKind}
-use Rattle.krieg_text.specs.Outcomes.{◌>>=◌}
-use Rattle.krieg_text.specs.Names.{behind}
-use Rattle.krieg_text.specs.Lines.{lines, is_line, AreLines}
-use Rattle.krieg_fen.specs.FenText.{position_text}
-use Rattle.krieg_fen.specs.MoveText.{move_of, move_text, IsOnBoard}
-use Rattle.krieg_fen.specs.Spelling.{Spells}
-use Rattle.krieg_text.specs.Reading.{taken, whole, Step, goes_on, stops, Gives}
-use Rattle.krieg_fen.specs.Forms.{position_form, start_form, side_mark}
-use Rattle.krieg_text.specs.Writing.{joined}
-use Rattle.krieg_text.specs.FirstBad.{Has}
-use Rattle.krieg_text.specs.Formats.{behind_or, Always, IsReading}
-use Rattle.krieg_text.specs.Languages.{Behind, One, UpToLast}
+use Rattle.krieg_board.proofs.Common.{Pos, Side, White, Black, Move}
+use Rattle.krieg_text.proofs.Common.{TextFault, TextKind, ◌>>=◌, behind, lines, is_line, AreLines, taken, whole, Step, goes_on, stops, Gives, joined, Has, behind_or, Always, IsReading, Behind, One, UpToLast}
+use Rattle.krieg_fen.proofs.Common.{position_text, move_of, move_text, IsOnBoard, Spells, position_form, start_form, side_mark}
 use Rattle.krieg_fen.proofs.CleanTexts.{move_line, position_line, mark_line}
 use Rattle.krieg_fen.proofs.FormSpellings.{positions, starts_form}
 use Rattle.krieg_text.proofs.Formats.{IsFormat, word_is, line_format, last_part, part_then, IsStep, IsItemForm, items_format, whole_found, whole_only, reading}
@@ -32,23 +17,13 @@ use Rattle.krieg_fen.proofs.ListSpellings.{written_spells}
 use Rattle.krieg_fen.proofs.MoveTexts.{move_spells, move_again}
 use Rattle.krieg_text.proofs.NameLemmas.{behind_spells, behind_again}
 use Rattle.krieg_text.proofs.Writings.{put_lines_is, joined_alone}
-use Rattle.krieg_words.specs.declared.dialects.Dialect.{Dialect}
-use Rattle.krieg_words.specs.Versions.{version_lines, version_at, SpellVersion}
+use Rattle.krieg_words.proofs.Common.{Dialect, version_lines, version_at, SpellVersion}
 use Rattle.krieg_words.proofs.VersionFormats.{version_format, version_keeps}
 use Rattle.krieg_words.proofs.VersionTexts.{version_are}
-use Rattle.krieg_referee.specs.declared.verdict.Event.{Event}
-use Rattle.krieg_referee.specs.declared.verdict.Stop.{Stop}
-use Rattle.krieg_referee.specs.declared.verdict.Stop.TheVariants.{Ended, Left, AsksUsed}
+use Rattle.krieg_referee.proofs.Common.{Event, Stop, Ended, Left, AsksUsed}
 use Rattle.krieg_sheet.proofs.SheetsAgain.{sheet_again}
 use Rattle.krieg_session.proofs.SheetsOfGames.{sheets_in_place}
-use Rattle.krieg_session.specs.Sessions.{SessionState}
-use Rattle.krieg_session.specs.SessionReading.{tried, white_try, try_form, last_lines, last_form, unless_last, line_form, led, event_form, events_at, session_at, session_version_at, start_at}
-use Rattle.krieg_session.specs.SessionSpelling.{SpellsTry, SpellsSession, SessionGrammar, SpellsStart, StartGrammar}
-use Rattle.krieg_session.specs.SessionText.{event_line, last_text, session_lines, session_text}
-use Rattle.krieg_session.specs.Telling.{sheet_of}
-use Rattle.krieg_session.specs.Laws.{AreTries, IsGame, SessionsAreReadBack, SheetsAreReadBack}
-use Rattle.krieg_session.specs.declared.reading.SessionLine.{SessionLine}
-use Rattle.krieg_session.specs.declared.reading.SessionLine.TheVariants.{Try, Last}
+use Rattle.krieg_session.proofs.Common.{SessionState, tried, white_try, try_form, last_lines, last_form, unless_last, line_form, led, event_form, events_at, session_at, session_version_at, start_at, SpellsTry, SpellsSession, SessionGrammar, SpellsStart, StartGrammar, event_line, last_text, session_lines, session_text, sheet_of, AreTries, IsGame, SessionsAreReadBack, SheetsAreReadBack, SessionLine, Try, Last}
 
 -- The forms.
 

@@ -3,34 +3,18 @@ use Rattle.std.proofs.Common.{◌≡◌, Bool, true, false, not, cond, List, [],
 use Rattle.std.specs.Prelude.{IfSome}
 use Rattle.std.specs.List.{All, cons_option}
 use Rattle.std.proofs.lemmas.List.Elements.{All-nil, All-cons, All-head, All-tail}
-use Rattle.krieg_board.specs.Men.{is_same_side}
-use Rattle.krieg_board.specs.Pos.{Pos}
-use Rattle.krieg_board.specs.Validity.{IsValid}
-use Rattle.krieg_board.specs.declared.men.Side.{Side}
-use Rattle.krieg_board.specs.declared.men.Move.{Move}
-use Rattle.krieg_fen.specs.MoveText.{IsOnBoard}
-use Rattle.krieg_moves.specs.Legal.{is_legal}
-use Rattle.krieg_moves.specs.Moves.{is_ended}
+use Rattle.krieg_board.proofs.Common.{is_same_side, Pos, IsValid, Side, Move}
+use Rattle.krieg_fen.proofs.Common.{IsOnBoard}
+use Rattle.krieg_moves.proofs.Common.{is_legal, is_ended}
 use Rattle.krieg_moves.proofs.LegalMoves.{legal}
 use Rattle.krieg_moves.proofs.KeepsValid.{valid_after}
-use Rattle.krieg_words.specs.Words.{Said, IsSaid}
-use Rattle.krieg_words.specs.PawnTries.{tries}
-use Rattle.krieg_words.specs.WordsOfMoves.{words, opening}
-use Rattle.krieg_words.specs.Line.{told_line, IsLine}
-use Rattle.krieg_words.specs.declared.dialects.Dialect.{Dialect}
-use Rattle.krieg_words.specs.declared.line.Line.{Line}
+use Rattle.krieg_words.proofs.Common.{Said, IsSaid, tries, words, opening, told_line, IsLine, Dialect, Line}
 use Rattle.krieg_words.specs.declared.line.Line.TheVariants as line
 use Rattle.krieg_words.proofs.SaidLaws.{opening_said, words_said}
 use Rattle.krieg_words.proofs.ToldLaws.{told_fits, told_line_fits, told_said}
-use Rattle.krieg_referee.specs.declared.verdict.Event.{Event}
-use Rattle.krieg_referee.specs.declared.verdict.Verdict.{Verdict}
-use Rattle.krieg_referee.specs.declared.verdict.Verdict.TheVariants.{Over, Early, Illegal, Done}
-use Rattle.krieg_referee.specs.Verdicts.{verdict, next, position_after}
-use Rattle.krieg_referee.specs.Games.{judge, judged}
-use Rattle.krieg_referee.specs.Hearing.{line_for, lines_for, own_line, others_line}
-use Rattle.krieg_sheet.specs.Turns.{are_in_place}
-use Rattle.krieg_sheet.specs.Places.{IsTold}
-use Rattle.krieg_session.specs.Laws.{AreTries, SheetsAreInPlace}
+use Rattle.krieg_referee.proofs.Common.{Event, Verdict, Over, Early, Illegal, Done, verdict, next, position_after, judge, judged, line_for, lines_for, own_line, others_line}
+use Rattle.krieg_sheet.proofs.Common.{are_in_place, IsTold}
+use Rattle.krieg_session.proofs.Common.{AreTries, SheetsAreInPlace}
 use Rattle.krieg_session.proofs.InPlace.{opening_ends, entries_in_place}
 
 -- what a dialect tells of a line is a line

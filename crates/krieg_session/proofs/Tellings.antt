@@ -5,23 +5,14 @@ use Rattle.std.specs.List.{flat_map}
 use Rattle.std.proofs.lemmas.List.{map-append, append-nil}
 use Rattle.std.proofs.lemmas.List.Elements.{filter_map-append}
 use Rattle.std.proofs.lemmas.Grind.{flat_map-append}
-use Rattle.krieg_board.specs.Pos.{Pos}
-use Rattle.krieg_board.specs.declared.men.Side.{Side}
-use Rattle.krieg_text.specs.Writing.{Appends}
-use Rattle.krieg_words.specs.WordsOfMoves.{opening}
-use Rattle.krieg_words.specs.ToldWords.{told}
-use Rattle.krieg_words.specs.Line.{told_line}
-use Rattle.krieg_words.specs.declared.dialects.Dialect.{Dialect}
-use Rattle.krieg_words.specs.declared.line.Line.{Line}
+use Rattle.krieg_board.proofs.Common.{Pos, Side}
+use Rattle.krieg_text.proofs.Common.{Appends}
+use Rattle.krieg_words.proofs.Common.{opening, told, told_line, Dialect, Line}
 use Rattle.krieg_words.proofs.ToldLaws.{told_line_fits}
-use Rattle.krieg_referee.specs.declared.verdict.Event.{Event}
-use Rattle.krieg_referee.specs.declared.verdict.Judged.{Judged}
-use Rattle.krieg_referee.specs.Verdicts.{next}
-use Rattle.krieg_referee.specs.Games.{judge, judged, last}
-use Rattle.krieg_referee.specs.Hearing.{line_for, lines_for, strip}
+use Rattle.krieg_referee.proofs.Common.{Event, Judged, next, judge, judged, last, line_for, lines_for, strip}
 use Rattle.krieg_referee.proofs.Stripping.{lines_strip}
-use Rattle.krieg_sheet.specs.SheetText.{entry_line, sheet_text}
-use Rattle.krieg_session.specs.Telling.{heard_lines, both_lines, marked_line, umpire_text}
+use Rattle.krieg_sheet.proofs.Common.{entry_line, sheet_text}
+use Rattle.krieg_session.proofs.Common.{heard_lines, both_lines, marked_line, umpire_text}
 
 pub ruleset fitting = (told_line_fits)
 

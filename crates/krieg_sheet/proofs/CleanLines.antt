@@ -3,23 +3,14 @@ use Rattle.std.proofs.Common.{◌≡◌, ◌≤◌, true, List, [], ◌∷◌, m
 use Rattle.std.specs.Prelude.{codes}
 use Rattle.std.specs.List.{All}
 use Rattle.std.proofs.lemmas.List.Elements.{All-tail}
-use Rattle.krieg_fen.specs.declared.forms.TheConstants.{MOST_LISTED}
-use Rattle.krieg_text.specs.Lines.{is_line, AreLines}
-use Rattle.krieg_fen.specs.FenText.{position_text}
-use Rattle.krieg_fen.specs.Listing.{list_head}
+use Rattle.krieg_fen.proofs.Common.{MOST_LISTED, position_text, list_head}
+use Rattle.krieg_text.proofs.Common.{is_line, AreLines}
 use Rattle.krieg_text.proofs.LineTexts.{line_above, lines_append}
 use Rattle.krieg_fen.proofs.CleanTexts.{positions_are, list_head_are}
-use Rattle.krieg_words.specs.declared.dialects.Dialect.{Dialect}
-use Rattle.krieg_words.specs.declared.line.Line.{Line}
-use Rattle.krieg_words.specs.declared.line.Line.TheVariants.{Opens}
-use Rattle.krieg_words.specs.Words.{Said}
-use Rattle.krieg_words.specs.Line.{line_text, IsLine}
-use Rattle.krieg_words.specs.Versions.{version_lines}
+use Rattle.krieg_words.proofs.Common.{Dialect, Line, Opens, Said, line_text, IsLine, version_lines}
 use Rattle.krieg_words.proofs.CleanWords as words
 use Rattle.krieg_words.proofs.VersionTexts.{version_are}
-use Rattle.krieg_sheet.specs.Sheets.{SheetState}
-use Rattle.krieg_sheet.specs.Places.{IsTold, IsOpening, IsSheet}
-use Rattle.krieg_sheet.specs.SheetText.{opens_lines}
+use Rattle.krieg_sheet.proofs.Common.{SheetState, IsTold, IsOpening, IsSheet, opens_lines}
 use Rattle.krieg_sheet.proofs.SheetTexts.{written_lines}
 
 line_line : (d : Dialect) (l : Line) → IsLine l → is_line (line_text d l) ≡ true

@@ -1,14 +1,9 @@
 -- What one line of a sheet leads to.
 use Rattle.std.proofs.Common.{◌≡◌, ℕ, ◌+◌, List, [], ◌∷◌, Option, Some, None, Result, Ok, Err, sym, ap, ◌∙◌}
-use Rattle.krieg_text.specs.declared.fault.TextFault.{TextFault}
-use Rattle.krieg_text.specs.declared.fault.TextFault.TheVariants.{At}
-use Rattle.krieg_text.specs.declared.fault.TextKind.{TextKind}
-use Rattle.krieg_text.specs.Outcomes.{◌>>=◌}
-use Rattle.krieg_text.specs.Reading.{Place, place, on, goes_on, stops, line_at}
+use Rattle.krieg_text.proofs.Common.{TextFault, At, TextKind, ◌>>=◌, Place, place, on, goes_on, stops, line_at}
 use Rattle.krieg_text.proofs.Locality.{ok_is}
-use Rattle.krieg_words.specs.declared.line.Line.{Line}
-use Rattle.krieg_sheet.specs.Sheets.{SheetState}
-use Rattle.krieg_sheet.specs.SheetReading.{next_form, led, followed_by, entries_at}
+use Rattle.krieg_words.proofs.Common.{Line}
+use Rattle.krieg_sheet.proofs.Common.{SheetState, next_form, led, followed_by, entries_at}
 
 -- where no line is left
 pub entries_end : (s : SheetState) (from : Place) (e : TextFault) → line_at from ≡ Err e → entries_at s from ≡ Err e

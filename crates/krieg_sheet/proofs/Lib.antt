@@ -8,3 +8,4 @@ pub mod CleanLines
 pub mod SheetsAgain
 pub mod SheetsSpell
 pub mod OneHand
+pub mod Common

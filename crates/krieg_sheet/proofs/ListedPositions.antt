@@ -3,20 +3,12 @@ use Rattle.std.proofs.Common.{◌≡◌, ℕ, ◌+◌, ◌≤◌, Bool, true, fa
 use Rattle.std.specs.List.{All}
 use Rattle.std.proofs.lemmas.Bool.{leb-true}
 use Rattle.std.proofs.lemmas.List.Elements.{All-tail}
-use Rattle.krieg_board.specs.Pos.{Pos}
-use Rattle.krieg_board.specs.Hand.{same_hand}
-use Rattle.krieg_board.specs.Validity.{IsValid}
-use Rattle.krieg_board.specs.declared.men.Side.{Side}
-use Rattle.krieg_fen.specs.FenText.{position_text}
-use Rattle.krieg_fen.specs.Listing.{SpellList, SpellsListing, list_head}
-use Rattle.krieg_text.specs.Reading.{Place}
-use Rattle.krieg_fen.specs.declared.forms.Turn.TheVariants.{Either}
-use Rattle.krieg_fen.specs.Forms.{listing_at}
-use Rattle.krieg_fen.specs.declared.forms.TheConstants.{MOST_LISTED}
+use Rattle.krieg_board.proofs.Common.{Pos, same_hand, IsValid, Side}
+use Rattle.krieg_fen.proofs.Common.{position_text, SpellList, SpellsListing, list_head, Either, listing_at, MOST_LISTED}
+use Rattle.krieg_text.proofs.Common.{Place}
 use Rattle.krieg_fen.proofs.ListSpellings.{written_spells, spelled_valid}
 use Rattle.krieg_fen.proofs.Listings.{listing_spells}
-use Rattle.krieg_sheet.specs.Lists.{other_hand, differs, list_fault}
-use Rattle.krieg_sheet.specs.declared.sheet.SheetFault.TheVariants.{Count}
+use Rattle.krieg_sheet.proofs.Common.{other_hand, differs, list_fault, Count}
 
 -- What is read with one hand.
 same_hands : (ts : List (List ℕ)) (ps : List Pos) (who : Side) (f : Pos) (k : ℕ) → SpellList Either who (Some f) ts ps → other_hand who f k ps ≡ None

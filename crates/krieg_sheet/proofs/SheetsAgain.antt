@@ -6,36 +6,16 @@ use Rattle.std.specs.List.{All}
 use Rattle.std.proofs.lemmas.Bool.{and_parts}
 use Rattle.std.proofs.lemmas.List.{append-nil}
 use Rattle.std.proofs.lemmas.List.Elements.{All-tail}
-use Rattle.krieg_board.specs.Men.{is_same_side}
-use Rattle.krieg_board.specs.Pos.{Pos}
-use Rattle.krieg_board.specs.declared.men.Side.{Side}
-use Rattle.krieg_text.specs.declared.fault.TextFault.{TextFault}
-use Rattle.krieg_text.specs.declared.fault.TextKind.TheVariants.{OutOfPlace}
-use Rattle.krieg_text.specs.Outcomes.{◌>>=◌}
-use Rattle.krieg_fen.specs.FenText.{position_text}
-use Rattle.krieg_text.specs.Lines.{lines}
-use Rattle.krieg_text.specs.Reading.{Place, place, whole}
-use Rattle.krieg_fen.specs.declared.forms.Turn.TheVariants.{Either}
-use Rattle.krieg_fen.specs.Forms.{listing_at}
-use Rattle.krieg_fen.specs.Listing.{list_head}
+use Rattle.krieg_board.proofs.Common.{is_same_side, Pos, Side}
+use Rattle.krieg_text.proofs.Common.{TextFault, OutOfPlace, ◌>>=◌, lines, Place, place, whole}
+use Rattle.krieg_fen.proofs.Common.{position_text, Either, listing_at, list_head}
 use Rattle.krieg_fen.proofs.Listings.{listing_reads}
 use Rattle.krieg_text.proofs.Takings.{Read, read_whole}
 use Rattle.krieg_text.proofs.LineTexts.{lines_again}
-use Rattle.krieg_words.specs.Words.{Said}
-use Rattle.krieg_words.specs.Line.{line_text}
-use Rattle.krieg_words.specs.LineReading.{line_in}
-use Rattle.krieg_words.specs.declared.dialects.Dialect.{Dialect}
-use Rattle.krieg_words.specs.declared.line.Line.{Line}
-use Rattle.krieg_words.specs.declared.line.Line.TheVariants.{Opens, Illegal, Done, Heard, Early, Over}
-use Rattle.krieg_words.specs.Versions.{version_lines}
+use Rattle.krieg_words.proofs.Common.{Said, line_text, line_in, Dialect, Line, Opens, Illegal, Done, Heard, Early, Over, version_lines}
 use Rattle.krieg_words.proofs.VersionSpellings.{version_reads}
 use Rattle.krieg_words.proofs.LineLaws.{line_again}
-use Rattle.krieg_sheet.specs.Sheets.{SheetState, new_sheet, entered}
-use Rattle.krieg_sheet.specs.Turns.{first_turn, over_at_first, turn_after, over_after, may_stand, are_in_place, turn_of, is_over, is_in_place}
-use Rattle.krieg_sheet.specs.Places.{OpeningFits, IsOpening, IsTold, IsSheet}
-use Rattle.krieg_sheet.specs.SheetReading.{may_follow, followed_by, placed, next_form, entries_at, sheet_at, sheet_version_at}
-use Rattle.krieg_sheet.specs.SheetText.{opens_lines, sheet_text}
-use Rattle.krieg_sheet.specs.SheetSpelling.{told_lines, SpellsSheet}
+use Rattle.krieg_sheet.proofs.Common.{SheetState, new_sheet, entered, first_turn, over_at_first, turn_after, over_after, may_stand, are_in_place, turn_of, is_over, is_in_place, OpeningFits, IsOpening, IsTold, IsSheet, may_follow, followed_by, placed, next_form, entries_at, sheet_at, sheet_version_at, opens_lines, sheet_text, told_lines, SpellsSheet}
 use Rattle.krieg_sheet.proofs.Entering.{turn_behind_push, over_behind_push}
 use Rattle.krieg_sheet.proofs.Entries.{entries_last, entries_more}
 use Rattle.krieg_sheet.proofs.CleanLines.{sheet_are}

@@ -6,32 +6,16 @@ use Rattle.std.specs.Str.{bytes_eq}
 use Rattle.std.proofs.lemmas.Bool.{ne_eqb}
 use Rattle.std.proofs.lemmas.List.{append-nil}
 use Rattle.std.proofs.lemmas.Slice.Eq.{bytes_eq-Decides}
-use Rattle.krieg_board.specs.Pos.{Pos}
-use Rattle.krieg_board.specs.declared.men.Side.{Side}
-use Rattle.krieg_text.specs.declared.fault.TextFault.{TextFault}
-use Rattle.krieg_text.specs.declared.fault.TextKind.{TextKind}
-use Rattle.krieg_text.specs.declared.fault.TextKind.TheVariants.{OutOfPlace}
-use Rattle.krieg_text.specs.Outcomes.{◌>>=◌}
-use Rattle.krieg_text.specs.Reading.{Place, place, on, goes_on, stops, whole}
-use Rattle.krieg_fen.specs.declared.forms.Turn.TheVariants.{Either}
-use Rattle.krieg_fen.specs.Forms.{listing_at}
+use Rattle.krieg_board.proofs.Common.{Pos, Side}
+use Rattle.krieg_text.proofs.Common.{TextFault, TextKind, OutOfPlace, ◌>>=◌, Place, place, on, goes_on, stops, whole}
+use Rattle.krieg_fen.proofs.Common.{Either, listing_at, SpellsListing}
 use Rattle.krieg_text.proofs.Locality.{ok_is}
-use Rattle.krieg_fen.specs.Listing.{SpellsListing}
 use Rattle.krieg_fen.proofs.Listings.{listing_spells}
 use Rattle.krieg_text.proofs.Takings.{steps, whole_read}
-use Rattle.krieg_words.specs.Words.{Said}
-use Rattle.krieg_words.specs.Line.{line_text}
-use Rattle.krieg_words.specs.LineReading.{line_in}
-use Rattle.krieg_words.specs.Versions.{SpellVersion, version_at}
-use Rattle.krieg_words.specs.declared.dialects.Dialect.{Dialect}
-use Rattle.krieg_words.specs.declared.line.Line.{Line}
-use Rattle.krieg_words.specs.declared.line.Line.TheVariants.{Opens, Illegal, Done, Heard, Early, Over}
+use Rattle.krieg_words.proofs.Common.{Said, line_text, line_in, SpellVersion, version_at, Dialect, Line, Opens, Illegal, Done, Heard, Early, Over}
 use Rattle.krieg_words.proofs.LineLaws.{line_spells}
 use Rattle.krieg_words.proofs.VersionSpellings.{version_spells}
-use Rattle.krieg_sheet.specs.Sheets.{SheetState, new_sheet, entered}
-use Rattle.krieg_sheet.specs.SheetReading.{may_open, may_follow, with_opening, followed_by, placed, next_form, led, entries_at, sheet_at, sheet_version_at}
-use Rattle.krieg_sheet.specs.SheetText.{opens_lines}
-use Rattle.krieg_sheet.specs.SheetSpelling.{SpellsSheet}
+use Rattle.krieg_sheet.proofs.Common.{SheetState, new_sheet, entered, may_open, may_follow, with_opening, followed_by, placed, next_form, led, entries_at, sheet_at, sheet_version_at, opens_lines, SpellsSheet}
 
 -- the lines after the positions
 abbrev NextIs : SheetState → List ℕ → Option Line → Type 0

@@ -1,3 +1,4 @@
 pub mod Theorems
 pub mod Telling
 pub mod Looking
+pub mod Common

@@ -4,7 +4,7 @@ use Rattle.std.specs.List.{list_any}
 use Rattle.krieg_board.specs.Pos.{Pos}
 use Rattle.krieg_board.specs.declared.men.Move.{Move}
 use Rattle.krieg_words.specs.declared.dialects.Dialect.{Dialect}
-use Rattle.krieg_seeing.specs.Seen.{sees, escapes_in_some}
+use Rattle.krieg_theory.specs.Seen.{sees, escapes_in_some}
 use Rattle.krieg_game.specs.Chess.{chess}
 use Rattle.krieg_sight.specs.Seen.{mates_within, flees}
 

@@ -4,7 +4,7 @@
 //! mate in time even for a player who sees it. What is found of a position is kept by a `Sight`, which looks at no more
 //! positions than it was given. Where it does not find out, it tells nothing: only the answer `true` is claimed.
 //!
-//! `Seen` in `specs/` says what such a mate is, and `laws` that it is that of `krieg_seeing`, whatever the dialect.
+//! `Seen` in `specs/` says what such a mate is, and `laws` that it is that of `krieg_theory`, whatever the dialect.
 //! `seeing` looks for it move by move, and `memo` has what is known: of a position the greatest number of moves within
 //! which it was found to be no mate, and the least within which it may be one. `flight` asks it of the replies to a try.
 //!

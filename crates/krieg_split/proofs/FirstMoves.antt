@@ -1,26 +1,16 @@
 -- The first moves in a set, and what they are at the opponent's turn.
 use Rattle.std.proofs.Common.{◌≡◌, suc, ◌+◌, Bool, false, cond, not, List, [], ◌∷◌, map, length, refl, sym, ap, ◌∙◌, arith}
 use Rattle.std.proofs.lemmas.Simd.{map-map}
-use Rattle.krieg_board.specs.Men.{is_same_side}
-use Rattle.krieg_board.specs.Pos.{Pos}
-use Rattle.krieg_board.specs.declared.men.Side.{Side}
-use Rattle.krieg_moves.specs.Moves.{moves}
-use Rattle.krieg_words.specs.declared.dialects.Dialect.{Dialect}
-use Rattle.krieg_costs.specs.Cost.{first_made}
-use Rattle.krieg_costs.specs.Sums.{total}
+use Rattle.krieg_board.proofs.Common.{is_same_side, Pos, Side}
+use Rattle.krieg_moves.proofs.Common.{moves}
+use Rattle.krieg_words.proofs.Common.{Dialect}
+use Rattle.krieg_costs.proofs.Common.{first_made, total}
 use Rattle.krieg_costs.proofs.Totals.{total_agree}
-use Rattle.krieg_game.specs.Chess.{chess}
-use Rattle.krieg_game.specs.Outset.{outset, waits, starts}
-use Rattle.krieg_game.specs.Classes.{class_pair, classes_in}
-use Rattle.krieg_game.specs.ClassLaws.{first_outcomes, both_heard}
-use Rattle.krieg_game.specs.declared.classes.Class.{Class}
+use Rattle.krieg_game.proofs.Common.{chess, outset, waits, starts, class_pair, classes_in, first_outcomes, both_heard, Class}
 use Rattle.krieg_game.proofs.Classed.{first_moves_are_classed}
-use Rattle.krieg_parting.specs.FirstMoves.{AreFirstMoves}
-use Rattle.krieg_parting.specs.declared.firsts.FirstMoves.{FirstMoves}
+use Rattle.krieg_parting.proofs.Common.{AreFirstMoves, FirstMoves}
 use Rattle.krieg_parting.proofs.Advancing.{some_over, as_many}
-use Rattle.krieg_split.specs.Turns.{IsOthersTurn}
-use Rattle.krieg_split.specs.Firsts.{first_cost, first_pair, AreFirsts, AreOpeningSets}
-use Rattle.krieg_split.specs.declared.firsts.Firsts.{Firsts}
+use Rattle.krieg_split.proofs.Common.{IsOthersTurn, first_cost, first_pair, AreFirsts, AreOpeningSets, Firsts}
 
 -- the members, and their moves
 pub by_members : (B : List Pos) → first_cost B ≡ length B + total (λ p. length (moves p)) B

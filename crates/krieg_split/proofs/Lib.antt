@@ -5,3 +5,4 @@ mod Renaming
 mod FirstMoves
 mod TryLists
 mod Tallying
+pub mod Common

@@ -11,27 +11,20 @@ use Rattle.std.proofs.lemmas.List.Elements.{All-map}
 use Rattle.std.proofs.lemmas.Option.{slice_get_within, get_or_from_slice_get}
 use Rattle.std.specs.Prelude.{All}
 use Rattle.std.specs.List.{slice_get, list_any}
-use Rattle.krieg_board.specs.Pos.{Pos}
-use Rattle.krieg_board.specs.declared.men.Move.{Move}
-use Rattle.krieg_moves.specs.After.{after}
-use Rattle.krieg_moves.specs.Legal.{is_legal}
-use Rattle.krieg_moves.specs.Moves.{moves, all_moves, is_mate}
+use Rattle.krieg_board.proofs.Common.{Pos, Move}
+use Rattle.krieg_moves.proofs.Common.{after, is_legal, moves, all_moves, is_mate}
 use Rattle.krieg_moves.proofs.Counting.{few_moves}
-use Rattle.krieg_words.specs.declared.dialects.Dialect.{Dialect}
-use Rattle.krieg_words.specs.declared.dialects.Dialect.TheVariants.{Wild16}
+use Rattle.krieg_words.proofs.Common.{Dialect, Wild16}
 use Rattle.krieg_pack.proofs.Membership.{in_at}
-use Rattle.krieg_theory.specs.Sets.{In}
+use Rattle.krieg_theory.proofs.Common.{In}
 use Rattle.krieg_theory.specs.Split as theory
 use Rattle.krieg_theory.proofs.Lists.{filter_in, any_from}
-use Rattle.krieg_costs.specs.Sums.{total}
+use Rattle.krieg_costs.proofs.Common.{total}
 use Rattle.krieg_costs.proofs.Totals.{total_append}
-use Rattle.krieg_game.specs.Chess.{chess}
-use Rattle.krieg_parting.specs.Mating.{lives, replies}
+use Rattle.krieg_game.proofs.Common.{chess}
+use Rattle.krieg_parting.proofs.Common.{lives, replies}
 use Rattle.krieg_split.proofs.TryLists.{at_head}
-use Rattle.krieg_split.specs.Tallies.{tally_of, tally_with, AreTallies}
-use Rattle.krieg_split.specs.declared.listed.Listed.{Listed}
-use Rattle.krieg_split.specs.declared.large.TheConstants.{MOST_COUNTED}
-use Rattle.krieg_split.specs.declared.tallies.Tally.{Tally}
+use Rattle.krieg_split.proofs.Common.{tally_of, tally_with, AreTallies, Listed, MOST_COUNTED, Tally}
 
 -- a move that stands in the list of the legal ones
 pub listed_is_legal : (p : Pos) (ms : List Move) (k : ℕ) (t : Move) → ms ≡ moves p → slice_get ms k ≡ Some t → is_legal p t ≡ true

@@ -4,3 +4,4 @@ pub mod RowEntries
 pub mod Noting
 pub mod Onces
 pub mod Calls
+pub mod Common

@@ -1,20 +1,14 @@
 -- The rows once a result has come.
 use Rattle.std.proofs.Common.{◌≡◌, ℕ, zero, suc, ◌+◌, ◌≤◌, ◌<◌, true, false, ◌⊎◌, inl, inr, List, [], ◌∷◌, ◌++◌, length, set, slice_index_or, Option, Some, None, option_map, refl, sym, ap, subst, ◌∙◌, arith}
 use Rattle.std.proofs.lemmas.Bool.{cases_Bool, both_ways}
-use Rattle.krieg_board.specs.Pos.{Pos}
-use Rattle.krieg_board.specs.declared.men.Move.{Move}
-use Rattle.krieg_board.specs.declared.limits.TheConstants.{MOST_MOVES}
-use Rattle.krieg_pack.specs.Order.{position_lt}
+use Rattle.krieg_board.proofs.Common.{Pos, Move, MOST_MOVES}
+use Rattle.krieg_pack.proofs.Common.{position_lt}
 use Rattle.krieg_pack.proofs.PositionSets.{position_order}
-use Rattle.krieg_theory.specs.Sets.{In}
-use Rattle.krieg_costs.specs.Sums.{total, IsOnce}
-use Rattle.krieg_accounts.specs.Stored.{PairOf, Entries, same_entry, stored, pairs, AddsResult}
+use Rattle.krieg_theory.proofs.Common.{In}
+use Rattle.krieg_costs.proofs.Common.{total, IsOnce}
+use Rattle.krieg_accounts.proofs.Common.{PairOf, Entries, same_entry, stored, pairs, AddsResult}
 use Rattle.krieg_accounts.proofs.Appended.{entry_is, entry_refl}
-use Rattle.krieg_table.specs.declared.known.Known.{Known}
-use Rattle.krieg_table.specs.Results.{Results, known_for}
-use Rattle.krieg_table.specs.Interned.{Row, Interned, sets, row_at, set_at, known_at, with_result}
-use Rattle.krieg_table.specs.Entries.{try_of, row_entries, entries}
-use Rattle.krieg_table.specs.Table.{IsTable, IsNoted}
+use Rattle.krieg_table.proofs.Common.{Known, Results, known_for, Row, Interned, sets, row_at, set_at, known_at, with_result, try_of, row_entries, entries, IsTable, IsNoted}
 use Rattle.krieg_table.proofs.RowEntries.{or_else, stored_append, other_set, before_first, at_place, others_stay, row_total}
 
 one : (i : ℕ) → suc i ≡ 1 + i

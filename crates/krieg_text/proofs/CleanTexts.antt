@@ -3,8 +3,7 @@ use Rattle.std.proofs.Common.{◌≡◌, ℕ, ◌^◌, ◌<◌, ◌≤◌, true,
 use Rattle.std.proofs.lemmas.Bool.{and_parts, leb-true}
 use Rattle.std.specs.List.{list_all}
 use Rattle.std.specs.Char.{is_ascii_digit}
-use Rattle.krieg_text.specs.Lines.{is_line}
-use Rattle.krieg_text.specs.Decimals.{number_text}
+use Rattle.krieg_text.proofs.Common.{is_line, number_text}
 use Rattle.krieg_text.proofs.Free.{Above}
 use Rattle.krieg_text.proofs.Numbers.{digits_again}
 use Rattle.krieg_text.proofs.LineTexts.{line_above}

@@ -2,14 +2,7 @@
 use Rattle.std.proofs.Common.{◌≡◌, ◌≢◌, inl, inr, ℕ, ◌+◌, Bool, true, false, List, [], ◌∷◌, ◌++◌, length, Result, Ok, Err, refl, sym, ap, subst, ◌∙◌, append_assoc, arith}
 use Rattle.std.specs.Prelude.{◌⊎◌, IfErr}
 use Rattle.std.proofs.lemmas.List.{append-nil}
-use Rattle.krieg_text.specs.declared.fault.TextFault.{TextFault}
-use Rattle.krieg_text.specs.declared.fault.TextFault.TheVariants.{At, NoMemory}
-use Rattle.krieg_text.specs.declared.fault.TextKind.{TextKind}
-use Rattle.krieg_text.specs.declared.fault.TextKind.TheVariants.{Syntax}
-use Rattle.krieg_text.specs.Outcomes.{◌>>=◌}
-use Rattle.krieg_text.specs.Reading.{Place, place, LineReader, ended, whole, Gives, GivesOn}
-use Rattle.krieg_text.specs.Languages.{Language, Begins}
-use Rattle.krieg_text.specs.FirstBad.{is_beyond_form, IsGoodTo, GoesOn, FirstBad}
+use Rattle.krieg_text.proofs.Common.{TextFault, At, NoMemory, TextKind, Syntax, ◌>>=◌, Place, place, LineReader, ended, whole, Gives, GivesOn, Language, Begins, is_beyond_form, IsGoodTo, GoesOn, FirstBad}
 use Rattle.krieg_text.proofs.Locality.{ReadFrom, FaultAt}
 use Rattle.krieg_text.proofs.Grammars.{Judged, untold}
 use Rattle.krieg_text.proofs.Goings.{GoesBy}

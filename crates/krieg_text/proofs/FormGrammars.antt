@@ -1,8 +1,7 @@
 -- Forms that keep to a grammar: its lines are told by the form alone, or by the value that the form gives of them.
 use Rattle.std.proofs.Common.{◌≡◌, inl, inr, ℕ, true, List, Result, Ok, Err, refl, sym, subst}
 use Rattle.std.specs.Prelude.{◌⊎◌}
-use Rattle.krieg_text.specs.declared.fault.TextKind.{TextKind}
-use Rattle.krieg_text.specs.FirstBad.{is_beyond_form, IsFormed, Has}
+use Rattle.krieg_text.proofs.Common.{TextKind, is_beyond_form, IsFormed, Has}
 use Rattle.krieg_text.proofs.Grammars.{untold, HasForm}
 
 -- a form whose lines are all told by the form alone

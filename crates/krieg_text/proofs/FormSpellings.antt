@@ -1,11 +1,6 @@
 -- Which lines have the form of a number after a name.
 use Rattle.std.proofs.Common.{◌≡◌, ℕ, ◌<◌, ◌≤◌, ◌^◌, List, ◌++◌, Option, Some, None, Result, Ok, Err, refl, ap, ◌∙◌}
-use Rattle.krieg_text.specs.declared.fault.TextKind.{TextKind}
-use Rattle.krieg_text.specs.declared.number.NumberFault.{NumberFault}
-use Rattle.krieg_text.specs.declared.number.NumberFault.TheVariants.{NotPlain, OutOfRange}
-use Rattle.krieg_text.specs.Names.{behind}
-use Rattle.krieg_text.specs.Decimals.{number_text, number_between}
-use Rattle.krieg_text.specs.Forms.{number_form, number_behind, ranged}
+use Rattle.krieg_text.proofs.Common.{TextKind, NumberFault, NotPlain, OutOfRange, behind, number_text, number_between, number_form, number_behind, ranged}
 use Rattle.krieg_text.proofs.NameLemmas.{behind_again, behind_spells}
 use Rattle.krieg_text.proofs.Numbers.{between_spells, between_again}
 

@@ -4,13 +4,7 @@ use Rattle.std.specs.Prelude.{IfOk}
 use Rattle.std.specs.Str.{bytes_eq}
 use Rattle.std.proofs.lemmas.List.{append-nil}
 use Rattle.std.proofs.lemmas.Slice.Eq.{bytes_eq-Decides}
-use Rattle.krieg_text.specs.declared.fault.TextFault.{TextFault}
-use Rattle.krieg_text.specs.declared.fault.TextKind.{TextKind}
-use Rattle.krieg_text.specs.Names.{behind}
-use Rattle.krieg_text.specs.Outcomes.{◌>>=◌}
-use Rattle.krieg_text.specs.Reading.{Place, place, LineReader, on, taken, whole, Step, goes_on, stops, up_to_last, Gives}
-use Rattle.krieg_text.specs.Languages.{Language, Then, One, UpToLast, Behind}
-use Rattle.krieg_text.specs.Formats.{behind_or, named, one_of, Always, IsReading}
+use Rattle.krieg_text.proofs.Common.{TextFault, TextKind, behind, ◌>>=◌, Place, place, LineReader, on, taken, whole, Step, goes_on, stops, up_to_last, Gives, Language, Then, One, UpToLast, Behind, behind_or, named, one_of, Always, IsReading}
 use Rattle.krieg_text.proofs.Locality.{IsLocal, ok_is, local_pure, local_taken, Holds, followed, local_bind, local_bind_if}
 use Rattle.krieg_text.proofs.Loops.{loop, local_loop}
 use Rattle.krieg_text.proofs.FirstBadLine.{code_first_bad}

@@ -2,7 +2,7 @@
 use Rattle.std.proofs.Common.{◌≡◌, ℕ, ◌<◌, ◌≤◌, eq-eqb, List, [], ◌∷◌, ◌++◌, refl, ap, arith}
 use Rattle.std.proofs.lemmas.Bool.{ne_eqb}
 use Rattle.std.specs.List.{onto_first}
-use Rattle.krieg_text.specs.Pieces.{pieces}
+use Rattle.krieg_text.proofs.Common.{pieces}
 
 -- every byte is above n
 abbrev pub Above : ℕ → List ℕ → Type 0

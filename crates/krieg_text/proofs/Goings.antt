@@ -3,15 +3,7 @@
 use Rattle.std.proofs.Common.{◌≡◌, inl, inr, ℕ, ◌+◌, ◌≤◌, true, List, [], ◌∷◌, ◌++◌, length, Result, Ok, Err, refl, sym, ap, subst, ◌∙◌, append_assoc, arith, length-append}
 use Rattle.std.specs.Prelude.{◌⊎◌}
 use Rattle.std.proofs.lemmas.List.{append-nil}
-use Rattle.krieg_text.specs.declared.fault.TextFault.{TextFault}
-use Rattle.krieg_text.specs.declared.fault.TextFault.TheVariants.{At, NoMemory}
-use Rattle.krieg_text.specs.declared.fault.TextKind.{TextKind}
-use Rattle.krieg_text.specs.declared.fault.TextKind.TheVariants.{Syntax}
-use Rattle.krieg_text.specs.Formats.{Always}
-use Rattle.krieg_text.specs.Outcomes.{◌>>=◌}
-use Rattle.krieg_text.specs.Reading.{Place, place, LineReader, on, taken}
-use Rattle.krieg_text.specs.Languages.{Language, One, Any, ◌⨾◌}
-use Rattle.krieg_text.specs.FirstBad.{is_beyond_form, IsGoodTo}
+use Rattle.krieg_text.proofs.Common.{TextFault, At, NoMemory, TextKind, Syntax, Always, ◌>>=◌, Place, place, LineReader, on, taken, Language, One, Any, ◌⨾◌, is_beyond_form, IsGoodTo}
 use Rattle.krieg_text.proofs.Grammars.{IsRead, IsBeyond, Judged, Finished, untold, KeepsTo, Judges, judges, IsJudgedForm, line_judges, bind_judges, same_judges, made_judges, unmade}
 use Rattle.krieg_text.proofs.Locality.{BadLine, FaultAt, ReadFrom, followed}
 

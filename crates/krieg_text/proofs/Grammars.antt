@@ -2,14 +2,7 @@
 use Rattle.std.proofs.Common.{◌≡◌, inl, inr, ℕ, ◌+◌, true, List, [], ◌∷◌, ◌++◌, length, Result, Ok, Err, refl, sym, ap, subst, ◌∙◌, append_assoc, arith, length-append}
 use Rattle.std.specs.Prelude.{◌⊎◌}
 use Rattle.std.proofs.lemmas.List.{append-nil}
-use Rattle.krieg_text.specs.declared.fault.TextFault.{TextFault}
-use Rattle.krieg_text.specs.declared.fault.TextFault.TheVariants.{At}
-use Rattle.krieg_text.specs.declared.fault.TextKind.{TextKind}
-use Rattle.krieg_text.specs.declared.fault.TextKind.TheVariants.{Syntax}
-use Rattle.krieg_text.specs.Outcomes.{◌>>=◌}
-use Rattle.krieg_text.specs.Reading.{Place, place, LineReader, on, taken}
-use Rattle.krieg_text.specs.Languages.{Language, One, Nothing, Any, ◌⨾◌}
-use Rattle.krieg_text.specs.FirstBad.{is_beyond_form}
+use Rattle.krieg_text.proofs.Common.{TextFault, At, TextKind, Syntax, ◌>>=◌, Place, place, LineReader, on, taken, Language, One, Nothing, Any, ◌⨾◌, is_beyond_form}
 use Rattle.krieg_text.proofs.Locality.{IsLocal, ReadFrom, ok_is, local_pure, local_taken, Holds, followed, local_bind_if}
 use Rattle.krieg_text.proofs.Takings.{steps, taken_at}
 

@@ -17,3 +17,4 @@ pub mod Formats
 pub mod CleanTexts
 pub mod FormSpellings
 pub mod FormGrammars
+pub mod Common

@@ -1,7 +1,7 @@
 -- Where a line is cut off.
 use Rattle.std.proofs.Common.{IsTrue, eqb-true, eq-eqb, ◌≡◌, ℕ, zero, suc, ◌+◌, ◌-◌, ◌<◌, ◌≤◌, Bool, true, false, cond, eqb, List, [], ◌∷◌, length, get_or, take, drop, refl, ap, arith, add-one}
 use Rattle.std.proofs.lemmas.List.{take_rest}
-use Rattle.krieg_text.specs.Lines.{lines, onto_line}
+use Rattle.krieg_text.proofs.Common.{lines, onto_line}
 
 -- the front of a text up to its first line feed
 lines_cut_at : (bs : List ℕ) (i : ℕ) → i < length bs → eqb (get_or bs i 0) 10 ≡ true → ((k : ℕ) → k < i → eqb (get_or bs k 0) 10 ≡ false) → lines bs ≡ take i bs ∷ lines (drop (suc i) bs)

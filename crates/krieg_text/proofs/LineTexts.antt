@@ -3,7 +3,7 @@ use Rattle.std.proofs.Common.{◌≡◌, inl, inr, ℕ, ◌<◌, ◌≤◌, Bool
 use Rattle.std.proofs.lemmas.Bool.{ne_eqb, and_parts, and_from, not-true}
 use Rattle.std.specs.List.{list_all}
 use Rattle.std.proofs.lemmas.List.Folds.{list_all-append}
-use Rattle.krieg_text.specs.Lines.{lines, onto_line, with_ends, is_line, AreLines, EndsFull, EndsLines}
+use Rattle.krieg_text.proofs.Common.{lines, onto_line, with_ends, is_line, AreLines, EndsFull, EndsLines}
 use Rattle.krieg_text.proofs.Free.{Above}
 
 -- a text of bytes that are all above the line feed is a line

@@ -3,12 +3,7 @@ use Rattle.std.proofs.Common.{◌≡◌, inl, inr, ℕ, ◌+◌, true, List, [],
 use Rattle.std.specs.Prelude.{◌⊎◌}
 use Rattle.std.specs.List.{All}
 use Rattle.std.proofs.lemmas.List.Elements.{All-nil, All-cons, All-head, All-tail}
-use Rattle.krieg_text.specs.declared.fault.TextFault.TheVariants.{At}
-use Rattle.krieg_text.specs.declared.fault.TextKind.{TextKind}
-use Rattle.krieg_text.specs.declared.fault.TextKind.TheVariants.{Syntax}
-use Rattle.krieg_text.specs.Reading.{Place, place, Step, goes_on, stops}
-use Rattle.krieg_text.specs.Languages.{One, Many, ◌⨾◌}
-use Rattle.krieg_text.specs.FirstBad.{is_beyond_form}
+use Rattle.krieg_text.proofs.Common.{At, TextKind, Syntax, Place, place, Step, goes_on, stops, One, Many, ◌⨾◌, is_beyond_form}
 use Rattle.krieg_text.proofs.Locality.{ok_is}
 use Rattle.krieg_text.proofs.Loops.{loop, next, local_loop}
 use Rattle.krieg_text.proofs.Grammars.{IsRead, IsBeyond, Judged, Finished, untold, KeepsTo}

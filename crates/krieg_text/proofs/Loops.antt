@@ -1,11 +1,6 @@
 -- A reader that takes line after line up to the one that stops it is local.
 use Rattle.std.proofs.Common.{◌≡◌, inl, inr, ℕ, ◌+◌, List, [], ◌∷◌, ◌++◌, Result, Ok, Err, refl, sym, ap, ◌∙◌, arith}
-use Rattle.krieg_text.specs.declared.fault.TextFault.{TextFault}
-use Rattle.krieg_text.specs.declared.fault.TextFault.TheVariants.{At, NoMemory}
-use Rattle.krieg_text.specs.declared.fault.TextKind.{TextKind}
-use Rattle.krieg_text.specs.declared.fault.TextKind.TheVariants.{Syntax}
-use Rattle.krieg_text.specs.Outcomes.{◌>>=◌}
-use Rattle.krieg_text.specs.Reading.{Place, place, LineReader, on, Step, goes_on, stops, up_to_last}
+use Rattle.krieg_text.proofs.Common.{TextFault, At, NoMemory, TextKind, Syntax, ◌>>=◌, Place, place, LineReader, on, Step, goes_on, stops, up_to_last}
 use Rattle.krieg_text.proofs.Locality.{ReadFrom, FaultAt, IsLocal, ok_is}
 
 abbrev pub loop : {S A : Type 0} → (S → List ℕ → Result (Step S A) TextKind) → S → LineReader A

@@ -6,7 +6,7 @@ use Rattle.std.proofs.lemmas.Option.{cond_some}
 use Rattle.std.proofs.lemmas.Bool.{and_parts, not-true}
 use Rattle.std.specs.Str.{bytes_eq}
 use Rattle.std.specs.List.{list_all}
-use Rattle.krieg_text.specs.Names.{behind, cut}
+use Rattle.krieg_text.proofs.Common.{behind, cut}
 
 cut_index : (c : ℕ) (bs : List ℕ) (i : ℕ) → i < length bs → eqb (get_or bs i 0) c ≡ true → ((k : ℕ) → k < i → eqb (get_or bs k 0) c ≡ false) → cut c bs ≡ (take i bs, Some (drop (suc i) bs))
 cut_index c [] i lt at before = absurd (omega arith)

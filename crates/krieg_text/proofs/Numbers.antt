@@ -7,9 +7,7 @@ use Rattle.std.proofs.lemmas.Int.Digits.{digits_value_more}
 use Rattle.std.proofs.lemmas.Str.Parse.{digits_value-take-le, IsNumeralModel, numerals_by_value}
 use Rattle.std.proofs.lemmas.Bool.{lt-ltb, le-ltb, le-leb, leb-true, ltb-true, ltb-false, ne_eqb, and_parts, and_from}
 use Rattle.std.proofs.lemmas.Fmt.{decimal_is_IsNumeral, decimal_digit, first_decimal, decimal_nonempty, digits_decimal, decimal-digits_value}
-use Rattle.krieg_text.specs.Decimals.{number_text, is_plain, plain_value, number_between}
-use Rattle.krieg_text.specs.declared.number.NumberFault.{NumberFault}
-use Rattle.krieg_text.specs.declared.number.NumberFault.TheVariants.{NotPlain, OutOfRange}
+use Rattle.krieg_text.proofs.Common.{number_text, is_plain, plain_value, number_between, NumberFault, NotPlain, OutOfRange}
 use Rattle.std.proofs.lemmas.List.{take_all}
 
 pub too_large : (ds : List ℕ) (i m : ℕ) → i < length ds → m ≡ digits_value 10 (take i ds) → ltb (m * 10 + digit_value (get_or ds i 0)) (2 ^ 64) ≡ false → ltb (digits_value 10 ds) (2 ^ 64) ≡ false

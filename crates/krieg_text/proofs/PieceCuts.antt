@@ -2,7 +2,7 @@
 use Rattle.std.proofs.Common.{◌≡◌, ℕ, zero, suc, ◌+◌, ◌-◌, ◌<◌, Bool, true, false, cond, eqb, List, [], ◌∷◌, length, get_or, take, drop, refl, ap, arith, add-one}
 use Rattle.std.proofs.lemmas.List.{take_rest}
 use Rattle.std.specs.List.{onto_first}
-use Rattle.krieg_text.specs.Pieces.{pieces}
+use Rattle.krieg_text.proofs.Common.{pieces}
 
 pieces_cut_at : (c : ℕ) (bs : List ℕ) (i : ℕ) → i < length bs → eqb (get_or bs i 0) c ≡ true → ((k : ℕ) → k < i → eqb (get_or bs k 0) c ≡ false) → pieces c bs ≡ take i bs ∷ pieces c (drop (suc i) bs)
 pieces_cut_at c [] i lt at before = absurd (omega arith)

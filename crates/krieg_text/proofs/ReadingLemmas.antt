@@ -1,9 +1,6 @@
 -- Where a reader of lines stands, and the end of a text.
 use Rattle.std.proofs.Common.{◌≡◌, ◌≢◌, inl, inr, ℕ, ◌+◌, ◌-◌, List, [], ◌∷◌, ◌++◌, length, Ok, Err, refl, sym, ap, ◌∙◌, append_assoc, arith, length-append}
-use Rattle.krieg_text.specs.declared.fault.TextFault.TheVariants.{At}
-use Rattle.krieg_text.specs.declared.fault.TextKind.{TextKind}
-use Rattle.krieg_text.specs.declared.fault.TextKind.TheVariants.{Syntax}
-use Rattle.krieg_text.specs.Reading.{Place, place, next_line, line_at, ended, Passed, reached, IsRefusedAt}
+use Rattle.krieg_text.proofs.Common.{At, TextKind, Syntax, Place, place, next_line, line_at, ended, Passed, reached, IsRefusedAt}
 use Rattle.krieg_text.proofs.Locality.{ok_is}
 
 pub ended_none : {A : Type 0} (value : A) (n : ℕ) (ls : List (List ℕ)) → ls ≡ [] → Ok value ≡ ended value n ls

@@ -1,9 +1,6 @@
 -- A reader of lines taken apart: what each of its steps gave, and the line that was taken.
 use Rattle.std.proofs.Common.{◌≡◌, ℕ, ◌+◌, List, [], ◌∷◌, Result, Ok, Err, refl, ap, ◌∙◌}
-use Rattle.krieg_text.specs.declared.fault.TextFault.{TextFault}
-use Rattle.krieg_text.specs.declared.fault.TextKind.{TextKind}
-use Rattle.krieg_text.specs.Outcomes.{◌>>=◌}
-use Rattle.krieg_text.specs.Reading.{Place, place, LineReader, on, taken, ended, whole}
+use Rattle.krieg_text.proofs.Common.{TextFault, TextKind, ◌>>=◌, Place, place, LineReader, on, taken, ended, whole}
 use Rattle.krieg_text.proofs.Locality.{ok_is}
 
 -- the first of two steps that gave a value, and the second

@@ -2,8 +2,7 @@
 use Rattle.std.proofs.Common.{◌≡◌, ℕ, ◌≤◌, List, [], ◌∷◌, ◌++◌, length, take, map, refl, sym, ap, ◌∙◌, append_assoc}
 use Rattle.std.proofs.lemmas.List.{append-nil, take_all}
 use Rattle.std.proofs.lemmas.Grind.{take_at_read}
-use Rattle.krieg_text.specs.Lines.{ended_line, with_ends}
-use Rattle.krieg_text.specs.Writing.{Pieces, put, put_lines, joined, alone}
+use Rattle.krieg_text.proofs.Common.{ended_line, with_ends, Pieces, put, put_lines, joined, alone}
 
 pub put_is : (old : List ℕ) (ps : Pieces) → put old ps ≡ old ++ joined ps
 put_is old [] = sym (append-nil old)

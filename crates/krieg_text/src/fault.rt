@@ -1,7 +1,7 @@
 ghost use Rattle.std.specs.Prelude.{◌≡◌};
 ghost use Rattle.krieg_text.specs.declared.fault.TextFault.TheVariants.{NoMemory as OutOfMemory};
 
-use krieg_board::{BadPosition, NoMemory};
+use krieg_faults::{BadPosition, NoMemory};
 use std::alloc::{AllocError, AllocFailed};
 
 /// What is wrong with a line. Where two kinds hold for one line, the order is: syntax, version, count,

@@ -3,8 +3,7 @@
 //! It knows no chess. A text is cut into lines (`lines`), which a `Cursor` takes one by one and counts, and each line has
 //! a form (`forms`): a name and what stands after it. A reader answers a value or a `TextFault`: the first line that is
 //! not accepted, and what is wrong with it. A writer named `put_*` adds to a `Text`, which leaves a byte vector as it was
-//! where memory runs out. It stands on `krieg_board` for two types alone: `NoMemory`, and `BadPosition`, which the kind of
-//! fault of a listed position carries.
+//! where memory runs out.
 //!
 //! The definitions of `specs/` say what the lines of a text are (`Lines`), how readers of lines are made of one another
 //! (`Reading`), which texts a grammar has (`Languages`), which line is the first bad one (`FirstBad`), what a reader of

@@ -8,7 +8,7 @@ ghost use Rattle.krieg_text.specs.Writing.{PutsText, Appends};
 
 use crate::writing::Text;
 use itoa::Buffer;
-use krieg_board::NoMemory;
+use krieg_faults::NoMemory;
 
 /// Why a text is no number within a range.
 #[derive(Clone, Copy, Debug, PartialEq, Eq)]

@@ -1,7 +1,7 @@
 ghost use Rattle.std.specs.Prelude.{◌≡◌, ◌∷◌, []};
 ghost use Rattle.krieg_text.specs.Writing.{PutsText, PutsLines, alone, closed};
 
-use krieg_board::NoMemory;
+use krieg_faults::NoMemory;
 use std::marker::Model;
 use std::mem;
 

@@ -4,7 +4,7 @@ use Rattle.std.proofs.lemmas.Bool.{cases_Bool, cond-true, cond-false, both_ways,
 use Rattle.std.specs.Ordering.{is_lt}
 use Rattle.std.specs.declared.cmp.Ordering.{Ordering}
 use Rattle.std.specs.declared.cmp.Ordering.TheVariants.{Less, Equal, Greater}
-use Rattle.krieg_theory.specs.Sets.{In, Ascending, IsOrder, same, insert_once, as_set}
+use Rattle.krieg_theory.proofs.Common.{In, Ascending, IsOrder, same, insert_once, as_set}
 
 -- what the test of a comparison tells
 pub less_from : (o : Ordering) → is_lt o ≡ true → o ≡ Less

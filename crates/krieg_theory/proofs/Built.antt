@@ -1,16 +1,9 @@
 -- Where the recursion holds, the canonical tree wins all of the set.
 use Rattle.std.proofs.Common.{◌≡◌, ℕ, zero, suc, ◌≤◌, true, false, not, ◌⊎◌, List, [], ◌∷◌, length, refl, sym, ap, subst, inl, inr, ◌∙◌, arith}
 use Rattle.std.proofs.lemmas.Bool.{and_parts, and_from, cases_Bool, not_from_false, cond-true, cond-false, both_ways, false_from_ne_true}
-use Rattle.krieg_theory.specs.Sets.{In, is_nil}
-use Rattle.krieg_theory.specs.Tree.{Tree, Try, Maybe, Nothing, Just, Edges, NoEdges, Edge}
-use Rattle.krieg_theory.specs.Game.{Game, IsGame}
-use Rattle.krieg_theory.specs.Wins.{wins, wins_other, wins_at, WinsAll}
-use Rattle.krieg_theory.specs.Split.{refused, legal_in_some, all_outcomes, class, keys}
-use Rattle.krieg_theory.specs.Can.{begins, can}
-use Rattle.krieg_theory.specs.Computed.{edge_with, edges_of, node_of, other_of, newly, canon}
+use Rattle.krieg_theory.proofs.Common.{In, is_nil, Tree, Try, Maybe, Nothing, Just, Edges, NoEdges, Edge, Game, IsGame, wins, wins_other, wins_at, WinsAll, refused, legal_in_some, all_outcomes, class, keys, begins, can, edge_with, edges_of, node_of, other_of, newly, canon, same}
 use Rattle.krieg_theory.proofs.Lists.{find_at, all_at, all_from, in_filter, nil_none}
 use Rattle.krieg_theory.proofs.Steps.{Begins, in_outs, in_class, begins_at, can_at, refused_lt}
-use Rattle.krieg_theory.specs.Sets.{same}
 use Rattle.krieg_theory.proofs.Ascending.{same_refl, same_eq}
 use Rattle.krieg_theory.proofs.Keys.{key_occurs}
 

@@ -1,14 +1,7 @@
 -- The computed tree is canonical.
 use Rattle.std.proofs.Common.{◌≡◌, ℕ, zero, suc, ◌≤◌, ◌<◌, true, false, ◌⊎◌, List, [], ◌∷◌, length, Some, refl, sym, ap, subst, inl, inr, ◌∙◌, arith}
 use Rattle.std.proofs.lemmas.Bool.{and_parts, cases_lt, cases_Bool, cond-true, cond-false, both_ways, false_from_ne_true}
-use Rattle.krieg_theory.specs.Sets.{In, is_nil}
-use Rattle.krieg_theory.specs.Tree.{Tree, Try, Maybe, Nothing, Just, Edges}
-use Rattle.krieg_theory.specs.Game.{Game, IsGame}
-use Rattle.krieg_theory.specs.Wins.{WinsAll}
-use Rattle.krieg_theory.specs.Split.{refused, legal_in_some, class, keys}
-use Rattle.krieg_theory.specs.Can.{begins, can, first_try}
-use Rattle.krieg_theory.specs.Canonical.{edge_keys, IsCanon, IsCanonOther, AreCanon}
-use Rattle.krieg_theory.specs.Computed.{edge_with, edges_of, node_of, canon}
+use Rattle.krieg_theory.proofs.Common.{In, is_nil, Tree, Try, Maybe, Nothing, Just, Edges, Game, IsGame, WinsAll, refused, legal_in_some, class, keys, begins, can, first_try, edge_keys, IsCanon, IsCanonOther, AreCanon, edge_with, edges_of, node_of, canon}
 use Rattle.krieg_theory.proofs.Lists.{find_at, find_first}
 use Rattle.krieg_theory.proofs.Steps.{begins_at, can_at, refused_lt}
 use Rattle.krieg_theory.proofs.Shown.{node_shows, try_meets}

@@ -2,11 +2,7 @@
 use Rattle.std.proofs.Common.{◌≡◌, ℕ, zero, suc, Bool, true, false, ◌⊎◌, List, [], ◌∷◌, find, Option, Some, None, is_some, refl, sym, ap, inl, inr, ◌∙◌}
 use Rattle.std.specs.List.{list_any}
 use Rattle.std.proofs.lemmas.Bool.{cases_Bool, cond-true, cond-false, both_ways, false_from_ne_true, true_from_ne_false, or_left}
-use Rattle.krieg_theory.specs.Tree.{Tree, Nothing, Just}
-use Rattle.krieg_theory.specs.Game.{Game, IsGame}
-use Rattle.krieg_theory.specs.Split.{refused, keys, class}
-use Rattle.krieg_theory.specs.Can.{can, begins, first_try}
-use Rattle.krieg_theory.specs.Computed.{edges_of, node_of, canon}
+use Rattle.krieg_theory.proofs.Common.{Tree, Nothing, Just, Game, IsGame, refused, keys, class, can, begins, first_try, edges_of, node_of, canon}
 use Rattle.krieg_theory.proofs.Built.{canon_wins}
 use Rattle.krieg_theory.proofs.Unique.{can_more, part, canon_step}
 use Rattle.krieg_theory.proofs.Theorems.{can_begins}

@@ -1,6 +1,6 @@
 -- What stands in a list under a key, and the keys that occur.
 use Rattle.std.proofs.Common.{◌≡◌, Bool, true, false, cond, List, [], ◌∷◌, map, refl, sym, ap, subst, inl, inr, ◌∙◌}
-use Rattle.krieg_theory.specs.Sets.{In, IsOrder, same, at_key, keys_in}
+use Rattle.krieg_theory.proofs.Common.{In, IsOrder, same, at_key, keys_in}
 use Rattle.krieg_theory.proofs.Lists.{in_map, map_in}
 use Rattle.krieg_theory.proofs.Ascending.{in_as_set, as_set_in, same_eq, same_refl}
 

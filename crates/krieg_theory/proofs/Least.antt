@@ -1,12 +1,7 @@
 -- The least number of a set, and its canonical node at that number.
 use Rattle.std.proofs.Common.{◌≡◌, ℕ, zero, suc, ◌≤◌, ◌<◌, true, false, cond, ◌⊎◌, List, refl, sym, subst, inl, inr, ◌∙◌, arith, eq-or-lt_of_le}
 use Rattle.std.proofs.lemmas.Bool.{cases_Bool, cases_lt, cond-true, cond-false, both_ways}
-use Rattle.krieg_theory.specs.Tree.{Tree, Try}
-use Rattle.krieg_theory.specs.Game.{Game, IsGame}
-use Rattle.krieg_theory.specs.Wins.{wins, WinsAll}
-use Rattle.krieg_theory.specs.Can.{can, least}
-use Rattle.krieg_theory.specs.Canonical.{IsLeast, IsCanon}
-use Rattle.krieg_theory.specs.Computed.{canon}
+use Rattle.krieg_theory.proofs.Common.{Tree, Try, Game, IsGame, wins, WinsAll, can, least, IsLeast, IsCanon, canon}
 use Rattle.krieg_theory.proofs.Lists.{any_at}
 use Rattle.krieg_theory.proofs.Shown.{node_shows}
 use Rattle.krieg_theory.proofs.Built.{wins_more, Won, canon_wins}

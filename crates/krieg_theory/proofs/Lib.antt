@@ -10,3 +10,5 @@ pub mod Least
 pub mod Planned
 pub mod Theorems
 pub mod First
+pub mod Seen
+pub mod Common

@@ -2,13 +2,7 @@
 use Rattle.std.proofs.Common.{◌≡◌, ℕ, ◌≤◌, true, false, not, ◌&&◌, max, ◌⊎◌, List, [], ◌∷◌, map, refl, sym, ap, subst, inl, inr, ◌∙◌, arith}
 use Rattle.std.specs.List.{list_all, list_any}
 use Rattle.std.proofs.lemmas.Bool.{and_parts, and_from, cases_Bool, not-true, not_from_false, cond-true, cond-false, both_ways, false_from_ne_true}
-use Rattle.krieg_theory.specs.Sets.{In, same}
-use Rattle.krieg_theory.specs.Tree.{Tree, Maybe, Nothing, Just}
-use Rattle.krieg_theory.specs.Game.{Game, IsGame}
-use Rattle.krieg_theory.specs.Wins.{wins}
-use Rattle.krieg_theory.specs.Can.{can, least}
-use Rattle.krieg_theory.specs.Computed.{canon}
-use Rattle.krieg_theory.specs.Plans.{Outset, IsOutset, is_over, all_starts, openings, opening_set, Plan, wins_root, mates, IsWorst, AreCanonRoots, IsCanonPlan, can_plan, root_with, roots_of, canon_plan, greatest, canon_worst}
+use Rattle.krieg_theory.proofs.Common.{In, same, Tree, Maybe, Nothing, Just, Game, IsGame, wins, can, least, canon, Outset, IsOutset, is_over, all_starts, openings, opening_set, Plan, wins_root, mates, IsWorst, AreCanonRoots, IsCanonPlan, can_plan, root_with, roots_of, canon_plan, greatest, canon_worst}
 use Rattle.krieg_theory.proofs.Lists.{all_at, all_from, any_at, any_none, in_flat, flat_in}
 use Rattle.krieg_theory.proofs.Ascending.{in_as_set, as_set_in, same_eq, same_refl}
 use Rattle.krieg_theory.proofs.Keys.{at_key_in, in_at_key, key_occurs, occurs_at}

@@ -2,15 +2,9 @@
 use Rattle.std.proofs.Common.{◌≡◌, ℕ, zero, suc, true, false, not, ◌&&◌, ◌⊎◌, List, refl, sym, subst, inl, inr, ◌∙◌}
 use Rattle.std.specs.List.{list_all}
 use Rattle.std.proofs.lemmas.Bool.{and_parts, cases_Bool, not-true, cond-true, cond-false, both_ways}
-use Rattle.krieg_theory.specs.Sets.{In, is_nil}
-use Rattle.krieg_theory.specs.Tree.{Tree, Try, Maybe, Nothing, Just, Edges, NoEdges, Edge}
-use Rattle.krieg_theory.specs.Game.{Game, IsGame}
-use Rattle.krieg_theory.specs.Wins.{wins, wins_other, wins_at, WinsAll}
-use Rattle.krieg_theory.specs.Split.{refused, legal_in_some, class}
-use Rattle.krieg_theory.specs.Can.{begins, can}
+use Rattle.krieg_theory.proofs.Common.{In, is_nil, Tree, Try, Maybe, Nothing, Just, Edges, NoEdges, Edge, Game, IsGame, wins, wins_other, wins_at, WinsAll, refused, legal_in_some, class, begins, can, same}
 use Rattle.krieg_theory.proofs.Lists.{all_at, any_at, any_none, filter_in, nil_or_member}
 use Rattle.krieg_theory.proofs.Steps.{Member, in_class, class_in, begins_from, can_from}
-use Rattle.krieg_theory.specs.Sets.{same}
 
 module _ (G : Game) (L : IsGame G) where
   -- what a win says where the try is legal, and where it is not

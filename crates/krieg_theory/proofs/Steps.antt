@@ -2,11 +2,7 @@
 use Rattle.std.proofs.Common.{◌≡◌, ℕ, zero, suc, ◌≤◌, ◌<◌, Bool, true, false, cond, not, ◌&&◌, ◌||◌, ◌⊎◌, List, [], ◌∷◌, length, refl, sym, ap, subst, inl, inr, ◌∙◌, arith}
 use Rattle.std.specs.List.{list_all, list_any}
 use Rattle.std.proofs.lemmas.Bool.{and_parts, and_from, and_left, or_cases, or_left, or_right, cases_Bool, not-true, not_from_false, not_from_true, cond-true, both_ways, false_from_ne_true}
-use Rattle.krieg_theory.specs.Sets.{In, is_nil}
-use Rattle.krieg_theory.specs.Game.{Game, IsGame}
-use Rattle.krieg_theory.specs.Split.{refused, legal_in_some, stale_in_some, given, all_outcomes, keys, class}
-use Rattle.krieg_theory.specs.Can.{begins_with, begins, within, can}
-use Rattle.krieg_theory.specs.Laws.{ComesBy}
+use Rattle.krieg_theory.proofs.Common.{In, is_nil, Game, IsGame, refused, legal_in_some, stale_in_some, given, all_outcomes, keys, class, begins_with, begins, within, can, ComesBy}
 use Rattle.krieg_theory.proofs.Lists.{all_at, all_from, any_from, any_at, filter_lt, in_flat, flat_in}
 use Rattle.krieg_theory.proofs.Ascending.{in_as_set, as_set_in}
 use Rattle.krieg_theory.proofs.Keys.{at_key_in, in_at_key, key_occurs, occurs_at}

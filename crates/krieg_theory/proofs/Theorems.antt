@@ -2,15 +2,7 @@
 use Rattle.std.proofs.Common.{◌≡◌, ℕ, zero, suc, ◌≤◌, ◌<◌, true, false, cond, ◌⊎◌, List, [], ◌∷◌, refl, sym, subst, inl, inr, ◌∙◌, arith}
 use Rattle.std.specs.List.{list_any}
 use Rattle.std.proofs.lemmas.Bool.{cases_lt, cases_Bool, both_ways, false_from_ne_true}
-use Rattle.krieg_theory.specs.Sets.{In, same, at_key, is_nil}
-use Rattle.krieg_theory.specs.Tree.{Just, NoEdges, Edge, first_edge}
-use Rattle.krieg_theory.specs.Game.{Game, IsGame}
-use Rattle.krieg_theory.specs.Wins.{wins, wins_other, wins_at}
-use Rattle.krieg_theory.specs.Split.{refused, keys, class, all_outcomes}
-use Rattle.krieg_theory.specs.Can.{begins}
-use Rattle.krieg_theory.specs.Computed.{canon}
-use Rattle.krieg_theory.specs.Plans.{Outset, IsOutset, mates, IsWorst, can_plan, canon_plan, canon_worst}
-use Rattle.krieg_theory.specs.Laws.{MoreMovesWin, FirstEdgeWins, SetsAreEqual, ComesBy, ClassesAreSplit, CanBegins, CanIsWon, BeginsIsWon, LeastIsLeast, CanonIsOne, CanonIsComputed, MoreMovesMate, WorstIsThere, CanPlanIsMated, CanonPlanIsOne, CanonPlanIsThere, CanonPlanIsLeast, CanonPlanIsComputed}
+use Rattle.krieg_theory.proofs.Common.{In, same, at_key, is_nil, Just, NoEdges, Edge, first_edge, Game, IsGame, wins, wins_other, wins_at, refused, keys, class, all_outcomes, begins, canon, Outset, IsOutset, mates, IsWorst, can_plan, canon_plan, canon_worst, MoreMovesWin, FirstEdgeWins, SetsAreEqual, ComesBy, ClassesAreSplit, CanBegins, CanIsWon, BeginsIsWon, LeastIsLeast, CanonIsOne, CanonIsComputed, MoreMovesMate, WorstIsThere, CanPlanIsMated, CanonPlanIsOne, CanonPlanIsThere, CanonPlanIsLeast, CanonPlanIsComputed}
 use Rattle.krieg_theory.proofs.Lists.{any_at, nil_or_member, nil_none}
 use Rattle.krieg_theory.proofs.Ascending.{same_set, as_set_ascending}
 use Rattle.krieg_theory.proofs.Keys.{key_occurs, occurs_at}

@@ -2,14 +2,7 @@
 use Rattle.std.proofs.Common.{◌≡◌, ℕ, zero, suc, ◌≤◌, ◌<◌, Bool, true, false, cond, ◌⊎◌, List, [], ◌∷◌, length, find, Option, Some, None, refl, sym, ap, subst, inl, inr, ◌∙◌, arith, eq-or-lt_of_le}
 use Rattle.std.specs.List.{list_any}
 use Rattle.std.proofs.lemmas.Bool.{and_parts, or_left, or_parts, cases_Bool, cond-true, cond-false, both_ways, false_from_ne_true}
-use Rattle.krieg_theory.specs.Sets.{In, is_nil}
-use Rattle.krieg_theory.specs.Tree.{Tree, Try, Maybe, Nothing, Just, Edges, NoEdges, Edge}
-use Rattle.krieg_theory.specs.Game.{Game, IsGame}
-use Rattle.krieg_theory.specs.Wins.{WinsAll}
-use Rattle.krieg_theory.specs.Split.{refused, legal_in_some, all_outcomes, class, keys}
-use Rattle.krieg_theory.specs.Can.{begins, can, first_try}
-use Rattle.krieg_theory.specs.Canonical.{edge_keys, IsLeast, IsFirst, IsCanon, IsCanonOther, AreCanon}
-use Rattle.krieg_theory.specs.Computed.{edge_with, edges_of, node_of, newly, canon}
+use Rattle.krieg_theory.proofs.Common.{In, is_nil, Tree, Try, Maybe, Nothing, Just, Edges, NoEdges, Edge, Game, IsGame, WinsAll, refused, legal_in_some, all_outcomes, class, keys, begins, can, first_try, edge_keys, IsLeast, IsFirst, IsCanon, IsCanonOther, AreCanon, edge_with, edges_of, node_of, newly, canon}
 use Rattle.krieg_theory.proofs.Lists.{map_in, find_first, find_is}
 use Rattle.krieg_theory.proofs.Steps.{Member, outs_in, begins_at, can_at, refused_lt, none_begins_nil}
 use Rattle.krieg_theory.proofs.Shown.{node_shows, try_meets}

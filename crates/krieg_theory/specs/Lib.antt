@@ -8,5 +8,7 @@ pub mod Canonical
 pub mod Computed
 pub mod Plans
 pub mod Laws
+pub mod Seen
+pub mod SeenLaws
 pub mod Toy
 pub mod ToyLawful

@@ -6,6 +6,9 @@
 //! any that meets a few laws. `specs/` has the definitions, in the order of its `Lib.antt`, and `laws` what is
 //! proved of them.
 //!
+//! `Seen` asks what a player who sees the position can do, and `seen_laws` has what is proved of it. He mates wherever
+//! one who does not see it can, and in no more moves; so a try begins no win where some reply escapes even from him.
+//!
 //! ```
 //! impl HiddenGame for Toy {
 //!     ghost game = { toy };
@@ -20,6 +23,8 @@
 
 mod game;
 pub mod laws;
+pub mod seen_laws;
+pub mod seen_toy;
 pub mod toy;
 
 pub use game::HiddenGame;

@@ -2,12 +2,10 @@
 use Rattle.std.proofs.Common.{◌≡◌, Bool, true, false, not, cond, List, [], ◌∷◌, ◌++◌, ◌⊎◌, inl, inr, refl, sym, ap, subst, ◌∙◌}
 use Rattle.std.proofs.lemmas.Bool.{cases_Bool, cond-true, cond-false, both_ways}
 use Rattle.std.proofs.lemmas.List.{append-nil, append_assoc}
-use Rattle.krieg_board.specs.Pos.{Pos}
-use Rattle.krieg_pack.specs.Order.{position_eq}
-use Rattle.krieg_why.specs.Tales.{Tale, firsts, elsewhere}
-use Rattle.krieg_pack.specs.SameNumbers.{equal_position}
+use Rattle.krieg_board.proofs.Common.{Pos}
+use Rattle.krieg_pack.proofs.Common.{position_eq, equal_position}
+use Rattle.krieg_why.proofs.Common.{Tale, firsts, elsewhere, stands_in, added, add_all}
 use Rattle.krieg_why.proofs.Facts.{place_same}
-use Rattle.krieg_why.specs.Links.{stands_in, added, add_all}
 
 eq_turned : (p q : Pos) (b : Bool) → position_eq p q ≡ b → position_eq q p ≡ b
 eq_turned p q true h = place_same q p (sym (equal_position p q h))

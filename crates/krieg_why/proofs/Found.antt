@@ -6,25 +6,16 @@ use Rattle.std.specs.Map.{lookup}
 use Rattle.std.proofs.lemmas.Bool.{cond-true, both_ways}
 use Rattle.std.proofs.lemmas.List.{map-append, take_more}
 use Rattle.std.proofs.lemmas.List.Elements.{All-head, All-tail, All-cons, All-nil}
-use Rattle.krieg_board.specs.Pos.{Pos}
-use Rattle.krieg_board.specs.declared.men.Side.{Side}
-use Rattle.krieg_words.specs.declared.dialects.Dialect.{Dialect}
-use Rattle.krieg_words.specs.declared.line.Line.{Line}
-use Rattle.krieg_sheet.specs.Sheets.{SheetState}
-use Rattle.krieg_sheet.specs.Places.{IsSheet}
-use Rattle.krieg_theory.specs.Sets.{In}
+use Rattle.krieg_board.proofs.Common.{Pos, Side}
+use Rattle.krieg_words.proofs.Common.{Dialect, Line}
+use Rattle.krieg_sheet.proofs.Common.{SheetState, IsSheet}
+use Rattle.krieg_theory.proofs.Common.{In}
 use Rattle.krieg_theory.proofs.Lists.{in_map, map_in}
-use Rattle.krieg_pack.specs.Order.{position_eq}
-use Rattle.krieg_belief.specs.Possible.{IsPossible}
+use Rattle.krieg_pack.proofs.Common.{position_eq, equal_position}
+use Rattle.krieg_belief.proofs.Common.{IsPossible}
 use Rattle.krieg_belief.proofs.HiddenGames.{AreEntries}
 use Rattle.krieg_belief.proofs.Prefixes.{in_place}
-use Rattle.krieg_why.specs.Explained.{AreShown}
-use Rattle.krieg_why.specs.Starts.{AreStarts}
-use Rattle.krieg_why.specs.Tales.{Tale, stands_of, begun, tell_all}
-use Rattle.krieg_why.specs.Links.{Entries, kept, tale_of, tales_of, number_of, entry_at, IsFound, Numbered}
-use Rattle.krieg_why.specs.Retold.{shown_of}
-use Rattle.krieg_why.specs.declared.links.Link.{Link}
-use Rattle.krieg_pack.specs.SameNumbers.{equal_position}
+use Rattle.krieg_why.proofs.Common.{AreShown, AreStarts, Tale, stands_of, begun, tell_all, Entries, kept, tale_of, tales_of, number_of, entry_at, IsFound, Numbered, shown_of, Link}
 use Rattle.krieg_why.proofs.Facts.{place_same}
 use Rattle.krieg_why.proofs.Least.{possible_stands, are_shown}
 

@@ -4,21 +4,13 @@ use Rattle.std.specs.Prelude.{slice_get, option_map}
 use Rattle.std.proofs.lemmas.List.{append-nil, length-map, map-append, take_more}
 use Rattle.std.proofs.lemmas.Option.{slice_get-map, slice_get_within, get_or_from_slice_get}
 use Rattle.std.proofs.lemmas.Grind.{flat_map-append}
-use Rattle.krieg_board.specs.Pos.{Pos}
-use Rattle.krieg_board.specs.declared.men.Side.{Side}
-use Rattle.krieg_board.specs.declared.men.Move.{Move}
-use Rattle.krieg_words.specs.declared.line.Line.{Line}
-use Rattle.krieg_referee.specs.declared.verdict.Event.{Event}
-use Rattle.krieg_sheet.specs.Sheets.{SheetState}
-use Rattle.krieg_text.specs.Writing.{Pieces, Written, HasLines, put_lines}
+use Rattle.krieg_board.proofs.Common.{Pos, Side, Move}
+use Rattle.krieg_words.proofs.Common.{Line}
+use Rattle.krieg_referee.proofs.Common.{Event}
+use Rattle.krieg_sheet.proofs.Common.{SheetState}
+use Rattle.krieg_text.proofs.Common.{Pieces, Written, HasLines, put_lines}
 use Rattle.krieg_text.proofs.Writings.{lines_then}
-use Rattle.krieg_why.specs.Explained.{ShownState, state_of}
-use Rattle.krieg_why.specs.GamesText.{game_lines}
-use Rattle.krieg_why.specs.Tales.{begun}
-use Rattle.krieg_why.specs.Links.{Entries, kept, numbered_tale, tale_of, tales_of}
-use Rattle.krieg_why.specs.Retold.{events_by, shown_of}
-use Rattle.krieg_why.specs.declared.links.Link.{Link}
-use Rattle.krieg_why.specs.declared.shown.Shown.{Shown}
+use Rattle.krieg_why.proofs.Common.{ShownState, state_of, game_lines, begun, Entries, kept, numbered_tale, tale_of, tales_of, events_by, shown_of, Link, Shown}
 
 module _ (s : SheetState) (ps : List Pos) (ls : List Link) (lasts : Entries) where
   -- there are as many games as last positions

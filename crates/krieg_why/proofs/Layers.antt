@@ -4,22 +4,13 @@ use Rattle.std.specs.Cmp.Lexicographic.{slice_cmp}
 use Rattle.std.specs.Ordering.{is_lt, ordering_then}
 use Rattle.std.specs.declared.cmp.Ordering.TheVariants.{Equal}
 use Rattle.std.proofs.lemmas.Bool.{both_ways, not-true}
-use Rattle.krieg_board.specs.Men.{is_same_side}
-use Rattle.krieg_board.specs.Order.{move_cmp, move_lt}
-use Rattle.krieg_board.specs.Pos.{Pos}
-use Rattle.krieg_board.specs.declared.men.Side.{Side}
-use Rattle.krieg_board.specs.declared.men.Move.{Move}
-use Rattle.krieg_moves.specs.After.{after}
-use Rattle.krieg_moves.specs.Moves.{moves}
-use Rattle.krieg_words.specs.ToldMoves.{are_told}
-use Rattle.krieg_words.specs.declared.dialects.Dialect.{Dialect}
-use Rattle.krieg_words.specs.declared.line.Line.{Line}
-use Rattle.krieg_words.specs.declared.line.Line.TheVariants.{Opens, Illegal, Done, Heard, Early, Over}
-use Rattle.krieg_theory.specs.Sets.{In, Ascending}
+use Rattle.krieg_board.proofs.Common.{is_same_side, move_cmp, move_lt, Pos, Side, Move}
+use Rattle.krieg_moves.proofs.Common.{after, moves}
+use Rattle.krieg_words.proofs.Common.{are_told, Dialect, Line, Opens, Illegal, Done, Heard, Early, Over}
+use Rattle.krieg_theory.proofs.Common.{In, Ascending}
 use Rattle.krieg_theory.proofs.Lists.{in_filter, filter_in, map_in, flat_in}
-use Rattle.krieg_pack.specs.Order.{position_cmp, position_eq}
-use Rattle.krieg_why.specs.Tales.{Tale, tale_cmp, tale_lt, after_reply, standing, tales_after, firsts, tell}
-use Rattle.krieg_pack.specs.SameNumbers.{equal_position}
+use Rattle.krieg_pack.proofs.Common.{position_cmp, position_eq, equal_position}
+use Rattle.krieg_why.proofs.Common.{Tale, tale_cmp, tale_lt, after_reply, standing, tales_after, firsts, tell}
 use Rattle.krieg_why.proofs.Facts.{kept_up, move_itself, position_itself, legal_up, place_same}
 use Rattle.krieg_why.proofs.Orders.{appended, itself, then_assoc, less}
 

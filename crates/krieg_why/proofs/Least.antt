@@ -6,31 +6,17 @@ use Rattle.std.specs.Ordering.{is_lt, is_le, ordering_then}
 use Rattle.std.specs.Cmp.Lexicographic.{slice_cmp}
 use Rattle.std.specs.declared.cmp.Ordering.{Ordering}
 use Rattle.std.specs.declared.cmp.Ordering.TheVariants.{Less, Equal, Greater}
-use Rattle.krieg_board.specs.Order.{move_cmp}
-use Rattle.krieg_board.specs.Pos.{Pos}
-use Rattle.krieg_board.specs.declared.men.Side.{Side}
-use Rattle.krieg_board.specs.declared.men.Move.{Move}
-use Rattle.krieg_words.specs.WordsOfMoves.{opening}
-use Rattle.krieg_words.specs.ToldWords.{told}
-use Rattle.krieg_words.specs.Line.{told_line}
-use Rattle.krieg_words.specs.declared.dialects.Dialect.{Dialect}
-use Rattle.krieg_words.specs.declared.line.Line.{Line}
-use Rattle.krieg_words.specs.declared.line.Line.TheVariants.{Opens}
-use Rattle.krieg_referee.specs.Games.{judge, last}
-use Rattle.krieg_referee.specs.Hearing.{lines_for}
-use Rattle.krieg_sheet.specs.Sheets.{SheetState}
-use Rattle.krieg_sheet.specs.Games.{Gives, OpensWith, Consistent}
-use Rattle.krieg_belief.specs.Possible.{IsPossible}
-use Rattle.krieg_theory.specs.Sets.{In, Ascending}
+use Rattle.krieg_board.proofs.Common.{move_cmp, Pos, Side, Move}
+use Rattle.krieg_words.proofs.Common.{opening, told, told_line, Dialect, Line, Opens}
+use Rattle.krieg_referee.proofs.Common.{judge, last, lines_for}
+use Rattle.krieg_sheet.proofs.Common.{SheetState, Gives, OpensWith, Consistent}
+use Rattle.krieg_belief.proofs.Common.{IsPossible}
+use Rattle.krieg_theory.proofs.Common.{In, Ascending}
 use Rattle.krieg_theory.proofs.Lists.{in_map, map_in}
-use Rattle.krieg_pack.specs.Order.{position_cmp}
-use Rattle.krieg_pack.specs.Members.{IsAscending}
+use Rattle.krieg_pack.proofs.Common.{position_cmp, IsAscending}
 use Rattle.krieg_belief.proofs.HiddenGames.{AreEntries}
-use Rattle.krieg_why.specs.Explained.{ShownState, last_of, Explains, IsLeast, AreShown, their_moves, shown_cmp}
-use Rattle.krieg_why.specs.Tales.{Tale, stands_of, begun, tale_cmp, tale_lt, tell, tell_all}
+use Rattle.krieg_why.proofs.Common.{ShownState, last_of, Explains, IsLeast, AreShown, their_moves, shown_cmp, Tale, stands_of, begun, tale_cmp, tale_lt, tell, tell_all, AreStarts, events_by, shown_of}
 use Rattle.krieg_why.proofs.Orders.{Le, and_moves, then_equal}
-use Rattle.krieg_why.specs.Starts.{AreStarts}
-use Rattle.krieg_why.specs.Retold.{events_by, shown_of}
 use Rattle.krieg_why.proofs.Layers.{IsLayer, firsts_once}
 use Rattle.krieg_why.proofs.Told.{Comes, tell_has, has_tell}
 use Rattle.krieg_moves.proofs.Turns.{legal_goes}

@@ -13,3 +13,4 @@ pub mod ListedStarts
 pub mod Found
 pub mod GivenGames
 pub mod OneAnswer
+pub mod Common

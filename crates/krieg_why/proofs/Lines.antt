@@ -3,13 +3,9 @@ use Rattle.std.proofs.Common.{◌≡◌, ℕ, zero, suc, ◌+◌, ◌<◌, ◌�
 use Rattle.std.specs.Prelude.{slice_get}
 use Rattle.std.proofs.lemmas.List.{append-nil, length-map, take_more, take_all}
 use Rattle.std.proofs.lemmas.Grind.{flat_map-append}
-use Rattle.krieg_board.specs.Pos.{Pos}
-use Rattle.krieg_board.specs.declared.men.Side.{Side}
-use Rattle.krieg_words.specs.declared.dialects.Dialect.{Dialect}
-use Rattle.krieg_words.specs.declared.line.Line.{Line}
-use Rattle.krieg_why.specs.Tales.{Tale, begun, tales_after, firsts, tell, tell_all}
-use Rattle.krieg_why.specs.Links.{Entries, kept, tale_of, tales_of, AreKept, add_all, Adds}
-use Rattle.krieg_why.specs.declared.links.Link.{Link}
+use Rattle.krieg_board.proofs.Common.{Pos, Side}
+use Rattle.krieg_words.proofs.Common.{Dialect, Line}
+use Rattle.krieg_why.proofs.Common.{Tale, begun, tales_after, firsts, tell, tell_all, Entries, kept, tale_of, tales_of, AreKept, add_all, Adds, Link}
 use Rattle.krieg_why.proofs.Kept.{tale_stays, numbered_at}
 use Rattle.krieg_why.proofs.Adding.{adds_then}
 use Rattle.krieg_why.proofs.Firsts.{firsts_all}

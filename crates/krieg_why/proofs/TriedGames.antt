@@ -3,31 +3,15 @@ use Rattle.std.proofs.Common.{◌≡◌, Bool, true, false, not, cond, List, [],
 use Rattle.std.specs.List.{All, cons_option}
 use Rattle.std.proofs.lemmas.Bool.{both_ways}
 use Rattle.std.proofs.lemmas.List.Elements.{All-head, All-tail, All-cons, All-nil}
-use Rattle.krieg_board.specs.Men.{other, is_same_side}
-use Rattle.krieg_board.specs.Pos.{Pos}
-use Rattle.krieg_board.specs.declared.men.Side.{Side}
-use Rattle.krieg_board.specs.declared.men.Side.TheVariants.{White, Black}
-use Rattle.krieg_board.specs.declared.men.Move.{Move}
+use Rattle.krieg_board.proofs.Common.{other, is_same_side, Pos, Side, White, Black, Move}
 use Rattle.krieg_board.proofs.MenLemmas.{same_side_eq, same_side_self, same_side_other}
-use Rattle.krieg_moves.specs.Legal.{is_legal}
-use Rattle.krieg_moves.specs.After.{after}
-use Rattle.krieg_moves.specs.Moves.{is_ended}
-use Rattle.krieg_words.specs.Words.{Said}
-use Rattle.krieg_words.specs.WordsOfMoves.{words}
-use Rattle.krieg_words.specs.Line.{told_line}
-use Rattle.krieg_words.specs.declared.dialects.Dialect.{Dialect}
-use Rattle.krieg_words.specs.declared.line.Line.{Line}
+use Rattle.krieg_moves.proofs.Common.{is_legal, after, is_ended}
+use Rattle.krieg_words.proofs.Common.{Said, words, told_line, Dialect, Line}
 use Rattle.krieg_words.specs.declared.line.Line.TheVariants as line
-use Rattle.krieg_referee.specs.declared.verdict.Event.{Event}
-use Rattle.krieg_referee.specs.declared.verdict.Verdict.{Verdict}
-use Rattle.krieg_referee.specs.declared.verdict.Verdict.TheVariants.{Over, Early, Illegal, Done}
-use Rattle.krieg_referee.specs.Verdicts.{verdict, next, is_done, position_after}
-use Rattle.krieg_referee.specs.Games.{judge, judged, last}
-use Rattle.krieg_referee.specs.Hearing.{line_for, lines_for, own_line, others_line}
-use Rattle.krieg_play.specs.Games.{tries_of, try_of}
-use Rattle.krieg_sheet.specs.Games.{Gives}
-use Rattle.krieg_why.specs.Explained.{is_shown}
-use Rattle.krieg_why.specs.Retold.{events_by}
+use Rattle.krieg_referee.proofs.Common.{Event, Verdict, Over, Early, Illegal, Done, verdict, next, is_done, position_after, judge, judged, last, line_for, lines_for, own_line, others_line}
+use Rattle.krieg_play.proofs.Common.{tries_of, try_of}
+use Rattle.krieg_sheet.proofs.Common.{Gives}
+use Rattle.krieg_why.proofs.Common.{is_shown, events_by}
 
 turned_round : (a b : Side) (own : Bool) → is_same_side a b ≡ own → is_same_side b a ≡ own
 turned_round White White own h = h

@@ -3,32 +3,14 @@ use Rattle.std.proofs.Common.{◌≡◌, ℕ, ◌<◌, ◌≤◌, ◌^◌, Bool,
 use Rattle.std.specs.Prelude.{codes}
 use Rattle.std.specs.List.{list_all}
 use Rattle.std.proofs.lemmas.Bool.{and_parts, and_from, leb-true, le-leb, ne_eqb}
-use Rattle.krieg_board.specs.declared.men.Move.{Move}
-use Rattle.krieg_checks.specs.declared.kinds.Kinds.{Kinds}
-use Rattle.krieg_text.specs.Decimals.{number_text}
-use Rattle.krieg_fen.specs.MoveText.{square_text, move_text}
+use Rattle.krieg_board.proofs.Common.{Move}
+use Rattle.krieg_checks.proofs.Common.{Kinds}
+use Rattle.krieg_text.proofs.Common.{number_text}
+use Rattle.krieg_fen.proofs.Common.{square_text, move_text}
 use Rattle.krieg_text.proofs.Free.{Above, above_less}
 use Rattle.krieg_fen.proofs.CleanTexts.{square_above, move_above}
 use Rattle.krieg_text.proofs.CleanTexts.{number_above}
-use Rattle.krieg_words.specs.declared.words.End.{End}
-use Rattle.krieg_words.specs.declared.words.End.TheVariants.{Goes, Mate, Stalemate}
-use Rattle.krieg_words.specs.declared.words.Took.{Took}
-use Rattle.krieg_words.specs.declared.words.Took.TheVariants.{Nothing, Pawn, Piece}
-use Rattle.krieg_words.specs.declared.dialects.Dialect.{Dialect}
-use Rattle.krieg_words.specs.declared.dialects.MenTold.{MenTold}
-use Rattle.krieg_words.specs.declared.dialects.MenTold.TheVariants.{Apart, Alike}
-use Rattle.krieg_words.specs.declared.dialects.ChecksTold.{ChecksTold}
-use Rattle.krieg_words.specs.declared.dialects.ChecksTold.TheVariants.{ByKind, Bare}
-use Rattle.krieg_words.specs.declared.dialects.TriesTold.{TriesTold}
-use Rattle.krieg_words.specs.declared.dialects.TriesTold.TheVariants.{Number, Any, Untold}
-use Rattle.krieg_words.specs.declared.line.Line.{Line}
-use Rattle.krieg_words.specs.declared.line.Line.TheVariants.{Opens, Illegal, Done, Heard, Early, Over}
-use Rattle.krieg_words.specs.Words.{Said, IsSaid}
-use Rattle.krieg_words.specs.declared.words.TheConstants.{MOST_TRIES}
-use Rattle.krieg_words.specs.Dialects.{dialect_rules}
-use Rattle.krieg_words.specs.Parts.{Part, text_if, texts, joined_by}
-use Rattle.krieg_words.specs.WordsText.{took_text, kind_names, checks_text, tries_text, end_text, words_parts, spelled, words_text}
-use Rattle.krieg_words.specs.Line.{line_text, IsLine}
+use Rattle.krieg_words.proofs.Common.{End, Goes, Mate, Stalemate, Took, Nothing, Pawn, Piece, Dialect, MenTold, Apart, Alike, ChecksTold, ByKind, Bare, TriesTold, Number, Any, Untold, Line, Opens, Illegal, Done, Heard, Early, Over, Said, IsSaid, MOST_TRIES, dialect_rules, Part, text_if, texts, joined_by, took_text, kind_names, checks_text, tries_text, end_text, words_parts, spelled, words_text, line_text, IsLine}
 use Rattle.krieg_words.proofs.PartLaws.{Free}
 
 -- every byte passes

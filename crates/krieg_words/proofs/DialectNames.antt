@@ -2,10 +2,8 @@
 use Rattle.std.proofs.Common.{◌≡◌, ℕ, cond, List, Some, None, refl, ap, ◌∙◌}
 use Rattle.std.specs.Prelude.{codes}
 use Rattle.std.specs.Str.{bytes_eq}
-use Rattle.krieg_words.specs.declared.dialects.Dialect.{Dialect}
-use Rattle.krieg_words.specs.declared.dialects.Dialect.TheVariants.{Wild16, Anytry, Plain}
+use Rattle.krieg_words.proofs.Common.{Dialect, Wild16, Anytry, Plain, dialect_text, dialect_of}
 use Rattle.krieg_words.proofs.Cases.{by_name}
-use Rattle.krieg_words.specs.Dialects.{dialect_text, dialect_of}
 
 dialect_is : (text : List ℕ) (a d : Dialect) → text ≡ dialect_text a → Some a ≡ Some d → text ≡ dialect_text d
 dialect_is text a d h e = h ∙ ap dialect_text (let same : a ≡ d = cc in same)

@@ -2,31 +2,13 @@
 use Rattle.std.proofs.Common.{◌≡◌, ◌≢◌, ℕ, ◌<◌, ◌≤◌, true, false, not, ◌==◌, cond, List, [], ◌∷◌, ◌++◌, Option, Some, None, Result, Ok, Err, refl, sym, ap, ◌∙◌, arith, zero, suc, eqb-true, lit<, lit≤}
 use Rattle.std.specs.Prelude.{codes}
 use Rattle.std.specs.Str.{bytes_eq}
-use Rattle.krieg_text.specs.Names.{behind}
-use Rattle.krieg_text.specs.Decimals.{number_text, number_between}
-use Rattle.krieg_fen.specs.MoveText.{square_text}
-use Rattle.krieg_text.specs.declared.number.NumberFault.{NumberFault}
+use Rattle.krieg_text.proofs.Common.{behind, number_text, number_between, NumberFault}
+use Rattle.krieg_fen.proofs.Common.{square_text}
 use Rattle.krieg_text.proofs.NameLemmas.{behind_again}
 use Rattle.krieg_fen.proofs.MoveTexts.{named_spells, named_again}
 use Rattle.krieg_text.proofs.Numbers.{between_spells, between_again}
-use Rattle.krieg_checks.specs.Kinds.{bits_of}
-use Rattle.krieg_checks.specs.declared.kinds.Kinds.{Kinds}
-use Rattle.krieg_words.specs.declared.words.End.{End}
-use Rattle.krieg_words.specs.declared.words.End.TheVariants.{Goes, Mate, Stalemate}
-use Rattle.krieg_words.specs.declared.words.Took.{Took}
-use Rattle.krieg_words.specs.declared.words.Took.TheVariants.{Nothing, Pawn, Piece}
-use Rattle.krieg_words.specs.declared.dialects.MenTold.{MenTold}
-use Rattle.krieg_words.specs.declared.dialects.MenTold.TheVariants.{Apart, Alike}
-use Rattle.krieg_words.specs.declared.dialects.ChecksTold.{ChecksTold}
-use Rattle.krieg_words.specs.declared.dialects.ChecksTold.TheVariants.{ByKind, Bare}
-use Rattle.krieg_words.specs.declared.dialects.TriesTold.{TriesTold}
-use Rattle.krieg_words.specs.declared.dialects.TriesTold.TheVariants.{Number, Any, Untold}
-use Rattle.krieg_words.specs.Words.{IsTaken}
-use Rattle.krieg_words.specs.declared.words.TheConstants.{MOST_TRIES}
-use Rattle.krieg_words.specs.ToldWords.{took_told, checks_told, tries_told, no_kinds, some_kind}
-use Rattle.krieg_words.specs.Parts.{joined_by}
-use Rattle.krieg_words.specs.WordsText.{kind_names, took_text, is_capture, checks_text, is_check, tries_text, are_tries, end_text, has_ended}
-use Rattle.krieg_words.specs.WordsReading.{square_in, pawn_or_piece, took_in, checks_named, checks_in, number_in, count_in, tries_in, end_in, read_parts}
+use Rattle.krieg_checks.proofs.Common.{bits_of, Kinds}
+use Rattle.krieg_words.proofs.Common.{End, Goes, Mate, Stalemate, Took, Nothing, Pawn, Piece, MenTold, Apart, Alike, ChecksTold, ByKind, Bare, TriesTold, Number, Any, Untold, IsTaken, MOST_TRIES, took_told, checks_told, tries_told, no_kinds, some_kind, joined_by, kind_names, took_text, is_capture, checks_text, is_check, tries_text, are_tries, end_text, has_ended, square_in, pawn_or_piece, took_in, checks_named, checks_in, number_in, count_in, tries_in, end_in, read_parts}
 use Rattle.krieg_words.proofs.OrderLaws.{bits_of_same}
 use Rattle.krieg_words.proofs.Cases.{by_test, by_name, by_front}
 use Rattle.krieg_words.proofs.PartLaws.{IsPart, AreParts, no_parts, parts_then}

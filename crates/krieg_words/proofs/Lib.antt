@@ -20,3 +20,4 @@ pub mod VersionTexts
 pub mod VersionSpellings
 pub mod VersionFormats
 pub mod WordNumbers
+pub mod Common

@@ -3,23 +3,14 @@ use Rattle.std.proofs.Common.{◌≡◌, ℕ, cond, List, ◌∷◌, ◌++◌, O
 use Rattle.std.specs.Prelude.{codes}
 use Rattle.std.specs.Str.{bytes_eq}
 use Rattle.std.specs.Option.{option_map}
-use Rattle.krieg_board.specs.declared.men.Move.{Move}
-use Rattle.krieg_text.specs.Names.{behind, cut}
-use Rattle.krieg_fen.specs.MoveText.{move_text, move_of, IsOnBoard}
+use Rattle.krieg_board.proofs.Common.{Move}
+use Rattle.krieg_text.proofs.Common.{behind, cut}
+use Rattle.krieg_fen.proofs.Common.{move_text, move_of, IsOnBoard}
 use Rattle.krieg_text.proofs.Free.{above_less}
 use Rattle.krieg_fen.proofs.CleanTexts.{move_above}
 use Rattle.krieg_text.proofs.NameLemmas.{behind_again, cut_again, cut_spells}
 use Rattle.krieg_fen.proofs.MoveTexts.{move_spells, move_again}
-use Rattle.krieg_words.specs.declared.dialects.Dialect.{Dialect}
-use Rattle.krieg_words.specs.declared.dialects.Dialect.TheVariants.{Wild16}
-use Rattle.krieg_words.specs.declared.line.Line.{Line}
-use Rattle.krieg_words.specs.declared.line.Line.TheVariants.{Opens, Illegal, Done, Heard, Early, Over}
-use Rattle.krieg_words.specs.Words.{Said, IsSaid}
-use Rattle.krieg_words.specs.ToldWords.{Fits}
-use Rattle.krieg_words.specs.Line.{LineFits, line_text, IsLine}
-use Rattle.krieg_words.specs.WordsText.{words_text}
-use Rattle.krieg_words.specs.WordsReading.{words_in}
-use Rattle.krieg_words.specs.LineReading.{done_in, judged_in, tried_in, try_in, heard_in, opens_in, line_in}
+use Rattle.krieg_words.proofs.Common.{Dialect, Wild16, Line, Opens, Illegal, Done, Heard, Early, Over, Said, IsSaid, Fits, LineFits, line_text, IsLine, words_text, words_in, done_in, judged_in, tried_in, try_in, heard_in, opens_in, line_in}
 use Rattle.krieg_words.proofs.PartLaws.{Free}
 use Rattle.krieg_words.proofs.Cases.{by_name, by_front}
 use Rattle.krieg_words.proofs.CleanWords.{above_free}

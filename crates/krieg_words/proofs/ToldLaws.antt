@@ -1,24 +1,8 @@
 -- What a dialect tells of words, it can tell again unchanged.
 use Rattle.std.proofs.Common.{◌≡◌, ℕ, cond, ◌==◌, refl, ap, ◌≤◌, lit≤}
-use Rattle.krieg_checks.specs.declared.kinds.Kinds.{Kinds}
-use Rattle.krieg_checks.specs.Kinds.{bits_of}
-use Rattle.krieg_words.specs.declared.words.Took.{Took}
-use Rattle.krieg_words.specs.declared.words.Took.TheVariants.{Nothing, Pawn, Piece}
-use Rattle.krieg_words.specs.declared.dialects.Dialect.{Dialect}
-use Rattle.krieg_words.specs.declared.dialects.MenTold.{MenTold}
-use Rattle.krieg_words.specs.declared.dialects.MenTold.TheVariants.{Apart, Alike}
-use Rattle.krieg_words.specs.declared.dialects.ChecksTold.{ChecksTold}
-use Rattle.krieg_words.specs.declared.dialects.ChecksTold.TheVariants.{ByKind, Bare}
-use Rattle.krieg_words.specs.declared.dialects.TriesTold.{TriesTold}
-use Rattle.krieg_words.specs.declared.dialects.TriesTold.TheVariants.{Number, Any, Untold}
-use Rattle.krieg_words.specs.declared.line.Line.{Line}
-use Rattle.krieg_words.specs.declared.line.Line.TheVariants.{Opens, Done, Heard}
+use Rattle.krieg_checks.proofs.Common.{Kinds, bits_of}
+use Rattle.krieg_words.proofs.Common.{Took, Nothing, Pawn, Piece, Dialect, MenTold, Apart, Alike, ChecksTold, ByKind, Bare, TriesTold, Number, Any, Untold, Line, Opens, Done, Heard, Said, IsSaid, IsTaken, MOST_TRIES, dialect_rules, told, took_told, checks_told, tries_told, no_kinds, some_kind, Fits, told_line, LineFits}
 use Rattle.krieg_words.proofs.Cases.{by_test}
-use Rattle.krieg_words.specs.Words.{Said, IsSaid, IsTaken}
-use Rattle.krieg_words.specs.declared.words.TheConstants.{MOST_TRIES}
-use Rattle.krieg_words.specs.Dialects.{dialect_rules}
-use Rattle.krieg_words.specs.ToldWords.{told, took_told, checks_told, tries_told, no_kinds, some_kind, Fits}
-use Rattle.krieg_words.specs.Line.{told_line, LineFits}
 
 took_twice : (men : MenTold) (t : Took) → took_told men (took_told men t) ≡ took_told men t
 took_twice Apart t = refl

@@ -1,14 +1,9 @@
 -- No line of the first lines of a text has a line feed.
 use Rattle.std.proofs.Common.{◌≡◌, true, ℕ, List, refl}
 use Rattle.std.specs.Prelude.{codes}
-use Rattle.krieg_text.specs.Lines.{is_line, AreLines}
+use Rattle.krieg_text.proofs.Common.{is_line, AreLines}
 use Rattle.krieg_text.proofs.LineTexts.{line_append}
-use Rattle.krieg_words.specs.declared.dialects.Dialect.{Dialect}
-use Rattle.krieg_words.specs.declared.dialects.Dialect.TheVariants.{Wild16, Anytry, Plain}
-use Rattle.krieg_words.specs.declared.dialects.TextVersion.{TextVersion}
-use Rattle.krieg_words.specs.declared.dialects.TextVersion.TheVariants.{First, Second}
-use Rattle.krieg_words.specs.Dialects.{dialect_rules}
-use Rattle.krieg_words.specs.Versions.{dialect_line, lines_of_version, version_lines}
+use Rattle.krieg_words.proofs.Common.{Dialect, Wild16, Anytry, Plain, TextVersion, First, Second, dialect_rules, dialect_line, lines_of_version, version_lines}
 
 dialect_is_line : (d : Dialect) → is_line (dialect_line d) ≡ true
 dialect_is_line Wild16 = refl

@@ -2,15 +2,8 @@
 use Rattle.std.proofs.Common.{◌≡◌, cond, ℕ, List, [], ◌∷◌, Option, Some, None, refl, sym, ap, ◌∙◌, subst, lit≤}
 use Rattle.std.specs.Prelude.{codes}
 use Rattle.std.specs.Option.{option_map}
-use Rattle.krieg_words.specs.declared.dialects.Dialect.{Dialect}
-use Rattle.krieg_words.specs.declared.dialects.Dialect.TheVariants.{Wild16, Anytry, Plain}
-use Rattle.krieg_words.specs.Words.{Said, IsSaid}
-use Rattle.krieg_words.specs.Dialects.{dialect_rules}
-use Rattle.krieg_words.specs.ToldWords.{Fits}
-use Rattle.krieg_words.specs.Parts.{texts}
-use Rattle.krieg_words.specs.WordsText.{words_parts, spelled, words_text}
-use Rattle.krieg_text.specs.Names.{behind}
-use Rattle.krieg_words.specs.WordsReading.{said_of, read_parts, parts_in, silent, words_in}
+use Rattle.krieg_words.proofs.Common.{Dialect, Wild16, Anytry, Plain, Said, IsSaid, dialect_rules, Fits, texts, words_parts, spelled, words_text, said_of, read_parts, parts_in, silent, words_in}
+use Rattle.krieg_text.proofs.Common.{behind}
 use Rattle.krieg_words.proofs.Cases.{by_name}
 use Rattle.krieg_words.proofs.PartLaws.{left}
 use Rattle.krieg_words.proofs.FormLaws.{Told, four_parts}

@@ -1,8 +1,6 @@
 use Rattle.std.proofs.Common.{[], ◌∷◌, length, inl, refl}
-use Rattle.krieg_theory.specs.Toy.{toy, toy_start}
-use Rattle.krieg_theory.specs.Plans.{openings, opening_set}
-use Rattle.krieg_accounts.specs.Sound.{StoredWon}
-use Rattle.krieg_accounts.specs.Toy.{of_two}
+use Rattle.krieg_theory.proofs.Common.{toy, toy_start, openings, opening_set}
+use Rattle.krieg_accounts.proofs.Common.{StoredWon, of_two}
 use Rattle.krieg_accounts.proofs.ToyTables.{all_of, not_won}
 use Rattle.krieg_accounts.proofs.toy.answering.Goals as goal
 

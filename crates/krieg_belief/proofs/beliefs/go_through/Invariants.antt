@@ -1,5 +1,5 @@
 use Rattle.std.proofs.Common.{◌≡◌, ◌≤◌, ℕ, length, take}
-use Rattle.krieg_belief.specs.Steps.{run}
+use Rattle.krieg_belief.proofs.Common.{run}
 use Rattle.krieg_belief.proofs.beliefs.go_through.Given as goal
 
 abbrev pub invariant-loop-i : goal.invariant-loop-i

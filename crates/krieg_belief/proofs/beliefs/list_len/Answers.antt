@@ -1,6 +1,6 @@
 use Rattle.std.proofs.Common.{◌≤◌, List, sym, subst, length}
-use Rattle.krieg_board.specs.Pos.{Pos}
-use Rattle.krieg_fen.specs.declared.forms.TheConstants.{MOST_LISTED}
+use Rattle.krieg_board.proofs.Common.{Pos}
+use Rattle.krieg_fen.proofs.Common.{MOST_LISTED}
 use Rattle.krieg_belief.proofs.Prefixes.{sheet_le}
 use Rattle.krieg_belief.proofs.beliefs.list_len.Goals as goal
 

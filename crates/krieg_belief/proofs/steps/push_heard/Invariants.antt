@@ -1,7 +1,7 @@
 use Rattle.std.proofs.Common.{◌≡◌, ◌++◌, take, map}
 use Rattle.std.specs.List.{filter}
-use Rattle.krieg_moves.specs.After.{after}
-use Rattle.krieg_words.specs.ToldMoves.{are_told}
+use Rattle.krieg_moves.proofs.Common.{after}
+use Rattle.krieg_words.proofs.Common.{are_told}
 use Rattle.krieg_belief.proofs.steps.push_heard.Given as goal
 
 abbrev pub invariant-loop-mv : goal.invariant-loop-mv

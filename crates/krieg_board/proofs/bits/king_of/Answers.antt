@@ -1,12 +1,6 @@
 use Rattle.std.proofs.Common.{◌≡◌, ℕ, ◌<◌, ◌∙◌, ap, sym, length, true, bit_and, w64}
 use Rattle.std.specs.Int.{trailing_zeros}
-use Rattle.krieg_board.specs.declared.bits.Sets.{Sets}
-use Rattle.krieg_board.specs.declared.men.Side.{Side}
-use Rattle.krieg_board.specs.declared.men.Kind.TheVariants.{King}
-use Rattle.krieg_board.specs.Sets.{has}
-use Rattle.krieg_board.specs.Board.{Board, man_at, is_of, is_man}
-use Rattle.krieg_board.specs.Boards.{AreExact, board_of}
-use Rattle.krieg_board.specs.Validity.{count_kind}
+use Rattle.krieg_board.proofs.Common.{Sets, Side, King, has, Board, man_at, is_of, is_man, AreExact, board_of, count_kind}
 use Rattle.krieg_board.proofs.BoardSets.{shows, kings_small}
 use Rattle.krieg_board.proofs.Writing.{length_board_of}
 use Rattle.krieg_board.proofs.OneKing.{king_there}

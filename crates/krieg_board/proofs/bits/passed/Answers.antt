@@ -1,6 +1,6 @@
 use Rattle.std.proofs.Common.{◌≡◌, Bool, true, false, not, ◌&&◌, ◌||◌, ◌==◌, ◌-◌, ◌∙◌, refl, ap, cond, bit_and, bit_or}
 use Rattle.std.proofs.lemmas.Nat.{or_lt}
-use Rattle.krieg_board.specs.Sets.{has}
+use Rattle.krieg_board.proofs.Common.{has}
 use Rattle.krieg_board.proofs.SetLemmas.{has_and, has_or, has_not}
 use Rattle.krieg_board.proofs.bits.passed.Goals as goal
 

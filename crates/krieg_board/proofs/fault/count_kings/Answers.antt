@@ -1,4 +1,4 @@
-use Rattle.krieg_board.specs.declared.men.Kind.TheVariants.{King}
+use Rattle.krieg_board.proofs.Common.{King}
 use Rattle.krieg_board.proofs.Faults.{counted_kind}
 use Rattle.krieg_board.proofs.fault.count_kings.Goals as goal
 

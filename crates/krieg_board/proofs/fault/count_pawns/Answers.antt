@@ -1,4 +1,4 @@
-use Rattle.krieg_board.specs.declared.men.Kind.TheVariants.{Pawn}
+use Rattle.krieg_board.proofs.Common.{Pawn}
 use Rattle.krieg_board.proofs.Faults.{counted_kind}
 use Rattle.krieg_board.proofs.fault.count_pawns.Goals as goal
 

@@ -1,4 +1,4 @@
-use Rattle.krieg_board.specs.Board.{is_of}
+use Rattle.krieg_board.proofs.Common.{is_of}
 use Rattle.krieg_board.proofs.Ones.{counted_set}
 use Rattle.krieg_board.proofs.fault.count_side.Goals as goal
 

@@ -1,5 +1,5 @@
 use Rattle.std.proofs.Common.{◌∙◌, ap, sym}
-use Rattle.krieg_board.specs.Attacks.{is_attacked}
+use Rattle.krieg_board.proofs.Common.{is_attacked}
 use Rattle.krieg_board.proofs.Faults.{one_king_each}
 use Rattle.krieg_board.proofs.OneKing.{one_king_attacked}
 use Rattle.krieg_board.proofs.fault.is_king_attacked.Goals as goal

@@ -1,6 +1,6 @@
 use Rattle.std.proofs.Common.{◌≡◌, sym, subst, rules, w64, ℕ}
 use Rattle.std.specs.Int.{trailing_zeros}
-use Rattle.krieg_board.specs.Sets.{IsLowest}
+use Rattle.krieg_board.proofs.Common.{IsLowest}
 use Rattle.krieg_board.proofs.SetLemmas.{lowest}
 use Rattle.krieg_board.proofs.set.lowest.Goals as goal
 

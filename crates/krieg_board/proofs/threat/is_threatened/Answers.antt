@@ -1,6 +1,5 @@
 use Rattle.std.proofs.Common.{ℕ, ◌∙◌, sym, subst, arith}
-use Rattle.krieg_board.specs.Attacks.{attacks}
-use Rattle.krieg_board.specs.Sets.{IsLowest}
+use Rattle.krieg_board.proofs.Common.{attacks, IsLowest}
 use Rattle.krieg_board.proofs.Searching.{some_of_zero, some_of_found, some_of_rest, attacked_way}
 use Rattle.krieg_board.proofs.threat.is_threatened.Goals as goal
 

@@ -1,5 +1,5 @@
 use Rattle.std.proofs.Common.{◌≡◌}
-use Rattle.krieg_board.specs.Attacks.{attacks, is_attacked}
+use Rattle.krieg_board.proofs.Common.{attacks, is_attacked}
 use Rattle.krieg_board.proofs.Searching.{some_of}
 use Rattle.krieg_board.proofs.threat.is_threatened.Given as goal
 

@@ -1,6 +1,5 @@
 use Rattle.std.proofs.Common.{ℕ, ◌∙◌, sym, ap, subst, arith, not}
-use Rattle.krieg_board.specs.Attacks.{is_between}
-use Rattle.krieg_board.specs.Sets.{IsLowest}
+use Rattle.krieg_board.proofs.Common.{is_between, IsLowest}
 use Rattle.krieg_board.proofs.Searching.{some_of_zero, some_of_found, some_of_rest, clear_way}
 use Rattle.krieg_board.proofs.threat.is_way_clear.Goals as goal
 

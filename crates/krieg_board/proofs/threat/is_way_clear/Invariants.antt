@@ -1,5 +1,5 @@
 use Rattle.std.proofs.Common.{◌≡◌, not}
-use Rattle.krieg_board.specs.Attacks.{is_between, is_clear}
+use Rattle.krieg_board.proofs.Common.{is_between, is_clear}
 use Rattle.krieg_board.proofs.Searching.{some_of}
 use Rattle.krieg_board.proofs.threat.is_way_clear.Given as goal
 

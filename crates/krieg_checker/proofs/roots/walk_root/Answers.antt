@@ -1,6 +1,5 @@
 use Rattle.std.proofs.Common.{sym, ap, ◌∙◌}
-use Rattle.krieg_plan.specs.Trees.{first_root_in}
-use Rattle.krieg_plan.specs.Plans.{plan_of}
+use Rattle.krieg_plan.proofs.Common.{first_root_in, plan_of}
 use Rattle.krieg_checker.specs.Starting as spec
 use Rattle.krieg_checker.proofs.Checking.{no_root}
 use Rattle.krieg_checker.proofs.roots.walk_root.Goals as goal

@@ -1,15 +1,11 @@
 use Rattle.std.proofs.Common.{◌≡◌, ◌+◌, ◌*◌, ◌≤◌, ◌&&◌, ℕ, true, map, length}
 use Rattle.std.specs.Vec.Iter.{into_iter_items, into_iter_len}
-use Rattle.krieg_theory.specs.Tree.{size, size_edges}
-use Rattle.krieg_game.specs.Classes.{class_pair}
-use Rattle.krieg_plan.specs.Trees.{edges_in}
-use Rattle.krieg_plan.specs.Ordered.{is_ordered}
-use Rattle.krieg_plan.specs.Nodes.{tree_of}
-use Rattle.krieg_checker.specs.Found.{within}
-use Rattle.krieg_checker.specs.Walked.{classes_won, classes_cost}
+use Rattle.krieg_theory.proofs.Common.{size, size_edges}
+use Rattle.krieg_game.proofs.Common.{class_pair}
+use Rattle.krieg_plan.proofs.Common.{edges_in, is_ordered, tree_of}
+use Rattle.krieg_checker.proofs.Common.{within, classes_won, classes_cost, MOST_COUNTED}
 use Rattle.krieg_checker.proofs.Walking.{IsWalked}
 use Rattle.krieg_checker.proofs.walk.+walking.Given as goal
-use Rattle.krieg_checker.specs.declared.walk.TheConstants.{MOST_COUNTED}
 
 abbrev pub invariant-walk-nodes : goal.invariant-walk-nodes
 invariant-walk-nodes l = record {

@@ -1,14 +1,8 @@
 use Rattle.std.proofs.Common.{◌≡◌, ◌∙◌, ◌&&◌, ℕ, ◌<◌, ◌^◌, refl, true, false}
-use Rattle.krieg_board.specs.Men.{other}
-use Rattle.krieg_board.specs.Pos.{Pos}
-use Rattle.krieg_board.specs.Attacks.{attacks}
-use Rattle.krieg_board.specs.Board.{man_at, is_of, is_man}
-use Rattle.krieg_board.specs.Boards.{is_kind}
-use Rattle.krieg_board.specs.Sets.{has}
-use Rattle.krieg_board.specs.Validity.{IsValid}
-use Rattle.krieg_board.specs.declared.men.Kind.TheVariants.{Knight, King}
+use Rattle.krieg_board.proofs.Common.{other, Pos, attacks, man_at, is_of, is_man, is_kind, has, IsValid, King}
+use Rattle.krieg_board.specs.declared.men.Kind.TheVariants.{Knight}
 use Rattle.krieg_rays.proofs.Kings.{one_king_on}
-use Rattle.krieg_checks.specs.Kinds.{CheckKind, File, Rank, Long, Short, Leap, kinds, is_checked}
+use Rattle.krieg_checks.proofs.Common.{CheckKind, File, Rank, Long, Short, Leap, kinds, is_checked}
 use Rattle.krieg_checks.proofs.Givers.{Attack, not_checked, leap_checked, file_checked, rank_checked, long_checked, short_checked}
 use Rattle.krieg_checks.proofs.kinds.kinds_by.Goals as goal
 

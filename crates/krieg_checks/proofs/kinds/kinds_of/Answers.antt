@@ -1,8 +1,5 @@
 use Rattle.std.proofs.Common.{◌∙◌, sym, ap, ◌&&◌}
-use Rattle.krieg_board.specs.Men.{other}
-use Rattle.krieg_board.specs.Board.{man_at, is_of, is_man}
-use Rattle.krieg_board.specs.Attacks.{attacks}
-use Rattle.krieg_board.specs.declared.men.Kind.TheVariants.{King}
+use Rattle.krieg_board.proofs.Common.{other, man_at, is_of, is_man, attacks, King}
 use Rattle.krieg_rays.proofs.Kings.{one_king_on}
 use Rattle.krieg_checks.proofs.kinds.kinds_of.Goals as goal
 

@@ -1,5 +1,5 @@
 use Rattle.krieg_cli.proofs.Reports.{reports}
-use Rattle.krieg_cli.specs.World.{stream}
+use Rattle.krieg_cli.proofs.Common.{stream}
 use Rattle.krieg_cli.proofs.report.report.Goals as goal
 
 pub returns-in_default : goal.returns-in_default

@@ -6,7 +6,7 @@ use Rattle.krieg_cli.proofs.WholeRefutations.{refutes_sheets, denies_refutations
 use Rattle.krieg_cli.proofs.Headline.{answers_sheets}
 use Rattle.krieg_cli.proofs.Complete.{completes}
 use Rattle.krieg_cli.proofs.Tables.{runs_of}
-use Rattle.krieg_cli.specs.Live.{LivesBy}
+use Rattle.krieg_cli.proofs.Common.{LivesBy}
 use Rattle.krieg_cli.proofs.LedGames.{leads_to_mate}
 use Rattle.krieg_cli.proofs.top.run.Goals as goal
 

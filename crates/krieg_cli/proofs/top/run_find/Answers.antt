@@ -1,7 +1,6 @@
 use Rattle.std.proofs.Common.{true, map}
 use Rattle.std.specs.Prelude.{string_bytes}
-use Rattle.krieg_cli.specs.Live.{LivesBy}
-use Rattle.krieg_cli.specs.Top.{nobody}
+use Rattle.krieg_cli.proofs.Common.{LivesBy, nobody}
 use Rattle.krieg_cli.proofs.Tables.{runs_of}
 use Rattle.krieg_cli.proofs.Finding.{runs_alone}
 use Rattle.krieg_cli.proofs.Headline.{answers_sheets}

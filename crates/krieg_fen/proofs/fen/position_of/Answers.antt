@@ -1,5 +1,5 @@
 use Rattle.std.proofs.Common.{rules}
-use Rattle.krieg_fen.specs.Fen.{position_of}
+use Rattle.krieg_fen.proofs.Common.{position_of}
 use Rattle.krieg_fen.proofs.FieldCounts.{five_fields}
 use Rattle.krieg_fen.proofs.fen.position_of.Goals as goal
 

@@ -1,7 +1,6 @@
 use Rattle.std.proofs.Common.{◌≡◌, None, sym, ap, subst, ◌∙◌}
-use Rattle.krieg_fen.specs.Forms.{positions_at}
-use Rattle.krieg_text.specs.Reading.{place, reached, Passed, GivesOn}
-use Rattle.krieg_fen.specs.declared.forms.Turn.TheVariants.{Either}
+use Rattle.krieg_fen.proofs.Common.{positions_at, Either}
+use Rattle.krieg_text.proofs.Common.{place, reached, Passed, GivesOn}
 use Rattle.krieg_fen.proofs.ListSpellings.{code_only}
 use Rattle.krieg_fen.proofs.ListGrammars.{code_list_bad}
 use Rattle.krieg_text.proofs.ReadingLemmas.{reached_is}

@@ -1,5 +1,5 @@
 use Rattle.std.proofs.Common.{◌≡◌, ◌++◌, drop}
-use Rattle.krieg_fen.specs.FenText.{row_text, rank_at}
+use Rattle.krieg_fen.proofs.Common.{row_text, rank_at}
 use Rattle.krieg_fen.proofs.RankWriting.{Men}
 use Rattle.krieg_fen.proofs.rank_text.rank_text.Given as goal
 

@@ -1,6 +1,6 @@
 use Rattle.std.proofs.Common.{drop}
-use Rattle.krieg_fen.specs.Ranks.{ranks_of}
-use Rattle.krieg_text.specs.Pieces.{pieces}
+use Rattle.krieg_fen.proofs.Common.{ranks_of}
+use Rattle.krieg_text.proofs.Common.{pieces}
 use Rattle.krieg_fen.proofs.RankReading.{Reads}
 use Rattle.krieg_fen.proofs.ranks.board_of.Given as goal
 

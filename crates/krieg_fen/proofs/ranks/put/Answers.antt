@@ -1,5 +1,5 @@
 use Rattle.std.proofs.Common.{◌≡◌, arith, rules, false, ◌&&◌, leb, Some}
-use Rattle.krieg_fen.specs.Letters.{man_of}
+use Rattle.krieg_fen.proofs.Common.{man_of}
 use Rattle.krieg_fen.proofs.RankReading.{rank_put}
 use Rattle.krieg_fen.proofs.ranks.put.Goals as goal
 

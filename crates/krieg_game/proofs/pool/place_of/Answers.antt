@@ -3,8 +3,7 @@ use Rattle.std.specs.Prelude.{slice_index_or}
 use Rattle.std.proofs.lemmas.Fn.{always_returns_same}
 use Rattle.std.proofs.lemmas.List.{get_or_default}
 use Rattle.krieg_theory.proofs.Ascending.{same_eq}
-use Rattle.krieg_game.specs.Keys.{key_cmp, key_lt}
-use Rattle.krieg_game.specs.declared.bucket.Bucket.{Bucket}
+use Rattle.krieg_game.proofs.Common.{key_cmp, key_lt, Bucket}
 use Rattle.krieg_game.proofs.KeyLaws.{key_order}
 use Rattle.krieg_game.proofs.Buckets.{heard_in, place_found}
 use Rattle.krieg_game.proofs.pool.place_of.Goals as goal

@@ -1,5 +1,5 @@
 use Rattle.std.proofs.Common.{◌++◌, ◌∷◌, [], subst, sym}
-use Rattle.krieg_game.specs.Buckets.{AreBuckets, IsPlace, Holds, outcomes_in}
+use Rattle.krieg_game.proofs.Common.{AreBuckets, IsPlace, Holds, outcomes_in}
 use Rattle.krieg_game.proofs.Buckets.{put_more, put_none, put_new}
 use Rattle.krieg_game.proofs.pool.put_at.Goals as goal
 

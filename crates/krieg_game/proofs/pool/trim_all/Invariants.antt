@@ -1,4 +1,4 @@
-use Rattle.krieg_game.specs.Buckets.{AreBuckets, Holds, outcomes_in}
+use Rattle.krieg_game.proofs.Common.{AreBuckets, Holds, outcomes_in}
 use Rattle.krieg_game.proofs.pool.trim_all.Given as goal
 
 abbrev pub invariant-loop-i : goal.invariant-loop-i

@@ -1,4 +1,4 @@
-use Rattle.krieg_make.specs.MadePositions.{made_board}
+use Rattle.krieg_make.proofs.Common.{made_board}
 use Rattle.krieg_make.proofs.position.made_board.Goals as goal
 
 pub returns : goal.returns

@@ -1,11 +1,8 @@
 use Rattle.std.proofs.Common.{◌≡◌, ℕ, ◌<◌, ◌/◌, ◌%◌, false, length, None, ◌∙◌, ap}
-use Rattle.krieg_board.specs.Board.{Board}
-use Rattle.krieg_board.specs.Validity.{first_fault}
-use Rattle.krieg_board.specs.declared.men.Side.TheVariants.{White}
-use Rattle.krieg_make.specs.MadePositions.{made_position, made_board, pair_at}
+use Rattle.krieg_board.proofs.Common.{Board, first_fault, White}
+use Rattle.krieg_make.proofs.Common.{made_position, made_board, pair_at, POSITION_COUNT}
 use Rattle.krieg_make.proofs.ValidPositions.{made_valid}
 use Rattle.krieg_make.proofs.position.made_position.Goals as goal
-use Rattle.krieg_make.specs.declared.position.TheConstants.{POSITION_COUNT}
 
 has_squares : (i : ℕ) (b : Board) → i < POSITION_COUNT → b ≡ made_board (i % 5) (pair_at (i / 5)) → length b ≡ 64
 unfolding made_position

@@ -1,6 +1,6 @@
 use Rattle.std.proofs.Common.{◌≡◌, ◌<◌, ◌+◌, length}
-use Rattle.krieg_board.specs.Squares.{gathered}
-use Rattle.krieg_make.specs.MadePositions.{pairs_above}
+use Rattle.krieg_board.proofs.Common.{gathered}
+use Rattle.krieg_make.proofs.Common.{pairs_above}
 use Rattle.krieg_make.proofs.position.pair_at.Given as goal
 
 abbrev pub invariant-lower : goal.invariant-lower

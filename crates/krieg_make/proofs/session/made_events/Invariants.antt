@@ -1,5 +1,5 @@
 use Rattle.std.proofs.Common.{◌≡◌}
-use Rattle.krieg_make.specs.MadeSessions.{made_tries}
+use Rattle.krieg_make.proofs.Common.{made_tries}
 use Rattle.krieg_make.proofs.session.made_events.Given as goal
 
 abbrev pub invariant-loop-m : goal.invariant-loop-m

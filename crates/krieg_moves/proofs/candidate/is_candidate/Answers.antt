@@ -1,7 +1,7 @@
 use Rattle.std.proofs.Common.{◌∙◌, ◌&&◌, sym, ap, not}
 use Rattle.std.specs.Prelude.{Some}
-use Rattle.krieg_board.specs.Board.{is_of}
-use Rattle.krieg_moves.specs.Legal.{is_move_of}
+use Rattle.krieg_board.proofs.Common.{is_of}
+use Rattle.krieg_moves.proofs.Common.{is_move_of}
 use Rattle.krieg_moves.proofs.Safety.{candidate_of}
 use Rattle.krieg_moves.proofs.candidate.is_candidate.Goals as goal
 

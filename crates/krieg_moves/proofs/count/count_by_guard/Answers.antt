@@ -1,7 +1,6 @@
 use Rattle.std.proofs.Common.{◌-◌, ◌+◌, ◌<◌, ◌≡◌, ◌∙◌, ℕ, arith, bit_and, bit_or, length}
-use Rattle.krieg_board.specs.Board.{man_at, is_of}
-use Rattle.krieg_board.specs.Sets.{has}
-use Rattle.krieg_moves.specs.Moves.{moves}
+use Rattle.krieg_board.proofs.Common.{man_at, is_of, has}
+use Rattle.krieg_moves.proofs.Common.{moves}
 use Rattle.krieg_moves.proofs.Counting.{few_moves_of, all_counted}
 use Rattle.krieg_moves.proofs.Officers.{counted_in_three}
 use Rattle.krieg_moves.proofs.count.count_by_guard.Goals as goal

@@ -1,6 +1,5 @@
 use Rattle.std.proofs.Common.{◌∙◌, ap, sym, arith}
-use Rattle.krieg_board.specs.Board.{man_at, is_man}
-use Rattle.krieg_board.specs.declared.men.Kind.TheVariants.{King}
+use Rattle.krieg_board.proofs.Common.{man_at, is_man, King}
 use Rattle.krieg_moves.proofs.Counting.{counted_from}
 use Rattle.krieg_moves.proofs.count.count_from.Goals as goal
 

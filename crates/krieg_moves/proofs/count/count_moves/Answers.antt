@@ -1,5 +1,5 @@
 use Rattle.std.proofs.Common.{◌≡◌, length, sym, arith}
-use Rattle.krieg_moves.specs.Moves.{moves}
+use Rattle.krieg_moves.proofs.Common.{moves}
 use Rattle.krieg_moves.proofs.Counting.{few_moves}
 use Rattle.krieg_moves.proofs.Kings.{one_king, one_king_found}
 use Rattle.krieg_moves.proofs.count.count_moves.Goals as goal

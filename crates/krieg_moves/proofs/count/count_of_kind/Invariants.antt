@@ -1,9 +1,8 @@
 use Rattle.std.proofs.Common.{◌≡◌, ◌<◌, ◌+◌, ℕ, true, length, bit_and}
 use Rattle.std.specs.List.{filter}
-use Rattle.krieg_board.specs.Sets.{has}
+use Rattle.krieg_board.proofs.Common.{has}
 use Rattle.krieg_board.proofs.Picked.{picked}
-use Rattle.krieg_moves.specs.Legal.{is_legal}
-use Rattle.krieg_moves.specs.Moves.{moves_from}
+use Rattle.krieg_moves.proofs.Common.{is_legal, moves_from}
 use Rattle.krieg_moves.proofs.count.count_of_kind.Given as goal
 
 abbrev pub decreases-loop-rest : goal.decreases-loop-rest

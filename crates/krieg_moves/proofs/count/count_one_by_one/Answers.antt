@@ -1,7 +1,6 @@
 use Rattle.std.proofs.Common.{arith}
 use Rattle.std.specs.List.{filter}
-use Rattle.krieg_moves.specs.Legal.{is_legal}
-use Rattle.krieg_moves.specs.Moves.{moves_from, moves_of}
+use Rattle.krieg_moves.proofs.Common.{is_legal, moves_from, moves_of}
 use Rattle.krieg_board.proofs.Picked.{picked}
 use Rattle.krieg_moves.proofs.Counting.{few_picked, counted_taken, counted_ended}
 use Rattle.krieg_moves.proofs.count.count_one_by_one.Goals as goal

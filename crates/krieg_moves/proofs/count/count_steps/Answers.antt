@@ -1,5 +1,5 @@
 use Rattle.std.proofs.Common.{◌∙◌, sym, subst, arith}
-use Rattle.krieg_moves.specs.Targets.{IsAlone, is_step_of_king}
+use Rattle.krieg_moves.proofs.Common.{IsAlone, is_step_of_king}
 use Rattle.krieg_moves.proofs.LoneKings.{steps_counted}
 use Rattle.krieg_moves.proofs.count.count_steps.Goals as goal
 

@@ -1,8 +1,7 @@
 use Rattle.std.proofs.Common.{◌≡◌}
 use Rattle.std.specs.List.{filter}
 use Rattle.krieg_board.proofs.Picked.{picked}
-use Rattle.krieg_moves.specs.Legal.{is_legal}
-use Rattle.krieg_moves.specs.Moves.{moves_from}
+use Rattle.krieg_moves.proofs.Common.{is_legal, moves_from}
 use Rattle.krieg_moves.proofs.ends.has_any.Given as goal
 
 abbrev pub decreases-loop-rest : goal.decreases-loop-rest

@@ -1,6 +1,6 @@
 use Rattle.std.proofs.Common.{◌∙◌}
 use Rattle.krieg_board.proofs.Facts.{facts}
-use Rattle.krieg_moves.specs.Moves.{in_check}
+use Rattle.krieg_moves.proofs.Common.{in_check}
 use Rattle.krieg_moves.proofs.Kings.{one_king, king_decides, one_king_found}
 use Rattle.krieg_moves.proofs.ends.in_check.Goals as goal
 

@@ -1,6 +1,6 @@
 use Rattle.std.proofs.Common.{ℕ, ◌<◌, ◌≡◌, ◌&&◌}
-use Rattle.krieg_board.specs.Sets.{has}
-use Rattle.krieg_moves.specs.Guarding.{answers_all}
+use Rattle.krieg_board.proofs.Common.{has}
+use Rattle.krieg_moves.proofs.Common.{answers_all}
 use Rattle.krieg_moves.proofs.guard.answers_to.Given as goal
 
 abbrev pub decreases-loop-rest : goal.decreases-loop-rest

@@ -1,5 +1,5 @@
 use Rattle.std.proofs.Common.{◌∙◌, ap, not}
-use Rattle.krieg_moves.specs.After.{board_after}
+use Rattle.krieg_moves.proofs.Common.{board_after}
 use Rattle.krieg_moves.proofs.Kings.{stands, king_decides, one_king_found}
 use Rattle.krieg_moves.proofs.Safety.{legal_by_king}
 use Rattle.krieg_moves.proofs.legality.is_king_safe.Goals as goal

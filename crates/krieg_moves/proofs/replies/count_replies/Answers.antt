@@ -1,7 +1,7 @@
 use Rattle.std.proofs.Common.{◌∙◌, sym, arith}
 use Rattle.krieg_moves.proofs.Counting.{few_moves}
 use Rattle.krieg_moves.proofs.Safety.{illegal_from_nobody}
-use Rattle.krieg_moves.specs.After.{after}
+use Rattle.krieg_moves.proofs.Common.{after}
 use Rattle.krieg_moves.proofs.replies.count_replies.Goals as goal
 
 pub unreachable-requires : goal.unreachable-requires

@@ -1,8 +1,6 @@
 use Rattle.std.proofs.Common.{◌≡◌, ◌≤◌, ℕ, length, ◌∙◌, sym, arith}
 use Rattle.std.specs.Prelude.{Option, Some, None, IfSome}
-use Rattle.krieg_moves.specs.After.{after}
-use Rattle.krieg_moves.specs.Moves.{moves}
-use Rattle.krieg_moves.specs.declared.count.TheConstants.{MOST_LEGAL_MOVES}
+use Rattle.krieg_moves.proofs.Common.{after, moves, MOST_LEGAL_MOVES}
 use Rattle.krieg_moves.proofs.Counting.{few_moves}
 use Rattle.krieg_moves.proofs.Safety.{illegal_from_nobody}
 use Rattle.krieg_moves.proofs.replies.replies_if_legal.Goals as goal

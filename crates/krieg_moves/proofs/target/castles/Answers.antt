@@ -1,5 +1,5 @@
 use Rattle.std.proofs.Common.{◌∙◌, ◌≡◌, ◌&&◌, sym, ap, true}
-use Rattle.krieg_moves.specs.Legal.{is_legal, can_castle}
+use Rattle.krieg_moves.proofs.Common.{is_legal, can_castle}
 use Rattle.krieg_moves.proofs.Going.{castle_candidate}
 use Rattle.krieg_moves.proofs.target.castles.Goals as goal
 

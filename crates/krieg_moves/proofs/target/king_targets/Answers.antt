@@ -1,6 +1,6 @@
 use Rattle.std.proofs.Common.{◌∙◌, ◌||◌, sym, ap, bit_or, arith}
 use Rattle.krieg_board.proofs.SetLemmas.{has_or}
-use Rattle.krieg_moves.specs.Wings.{king_square}
+use Rattle.krieg_moves.proofs.Common.{king_square}
 use Rattle.krieg_moves.proofs.Going.{king_goes, king_steps_only}
 use Rattle.krieg_moves.proofs.LoneKings.{step_found}
 use Rattle.krieg_moves.proofs.target.king_targets.Goals as goal

@@ -1,7 +1,6 @@
 use Rattle.std.proofs.Common.{◌∙◌, ◌≡◌, ◌&&◌, sym, ap, true}
-use Rattle.krieg_board.specs.Attacks.{attacks}
-use Rattle.krieg_board.specs.Sets.{has}
-use Rattle.krieg_moves.specs.Legal.{is_legal}
+use Rattle.krieg_board.proofs.Common.{attacks, has}
+use Rattle.krieg_moves.proofs.Common.{is_legal}
 use Rattle.krieg_moves.proofs.PawnGoing.{passing_candidate}
 use Rattle.krieg_moves.proofs.target.passes.Goals as goal
 

@@ -1,10 +1,9 @@
 use Rattle.std.proofs.Common.{◌∙◌, ◌&&◌, ◌==◌, ◌-◌, not, sym, ap, arith}
 use Rattle.std.specs.Prelude.{is_some}
-use Rattle.krieg_board.specs.Squares.{rank_of, pawn_rank}
-use Rattle.krieg_board.specs.Board.{man_at}
+use Rattle.krieg_board.proofs.Common.{rank_of, pawn_rank, man_at}
 use Rattle.krieg_board.proofs.SetLemmas.{has_and, has_not, has_zero}
-use Rattle.krieg_rays.specs.Rays.{is_ahead}
-use Rattle.krieg_moves.specs.After.{crossed}
+use Rattle.krieg_rays.proofs.Common.{is_ahead}
+use Rattle.krieg_moves.proofs.Common.{crossed}
 use Rattle.krieg_moves.proofs.Steps.{steps_ahead, steps_blocked}
 use Rattle.krieg_moves.proofs.target.pawn_moves.Goals as goal
 

@@ -1,6 +1,6 @@
 use Rattle.std.proofs.Common.{◌∙◌}
 use Rattle.std.proofs.lemmas.List.Filters.{dedup_is}
-use Rattle.krieg_pack.specs.Order.{position_eq}
+use Rattle.krieg_pack.proofs.Common.{position_eq}
 use Rattle.krieg_pack.proofs.PositionSets.{sorted_positions}
 use Rattle.krieg_pack.proofs.buffer.make_ascending.Goals as goal
 

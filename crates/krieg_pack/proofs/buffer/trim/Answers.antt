@@ -1,5 +1,5 @@
 use Rattle.std.proofs.Common.{ap, ◌∙◌}
-use Rattle.krieg_pack.specs.Members.{set_of}
+use Rattle.krieg_pack.proofs.Common.{set_of}
 use Rattle.krieg_pack.proofs.PositionSets.{set_of_set}
 use Rattle.krieg_pack.proofs.buffer.trim.Goals as goal
 

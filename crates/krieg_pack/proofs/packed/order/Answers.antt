@@ -1,8 +1,6 @@
 use Rattle.std.proofs.Common.{◌≡◌, sym, ap, ◌∙◌}
 use Rattle.std.proofs.lemmas.Cmp.{tied_itself}
-use Rattle.krieg_pack.specs.Order.{position_cmp}
-use Rattle.krieg_pack.specs.OrderLaws.{position_total}
-use Rattle.krieg_pack.specs.SameNumbers.{same_position}
+use Rattle.krieg_pack.proofs.Common.{position_cmp, position_total, same_position}
 use Rattle.krieg_pack.proofs.ByteLemmas.{bytes_cmp}
 use Rattle.krieg_pack.proofs.packed.order.Goals as goal
 

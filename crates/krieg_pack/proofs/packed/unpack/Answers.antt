@@ -1,8 +1,6 @@
 use Rattle.std.proofs.Common.{◌≡◌, sym, ap, ◌∙◌, length}
-use Rattle.krieg_board.specs.Board.{Board}
-use Rattle.krieg_board.specs.Pos.{Pos}
-use Rattle.krieg_board.specs.Validity.{first_fault}
-use Rattle.krieg_pack.specs.Packing.{unpacked}
+use Rattle.krieg_board.proofs.Common.{Board, Pos, first_fault}
+use Rattle.krieg_pack.proofs.Common.{unpacked}
 use Rattle.krieg_pack.proofs.Unpacking.{unpacked_is}
 use Rattle.krieg_pack.proofs.packed.unpack.Goals as goal
 

@@ -1,7 +1,7 @@
 use Rattle.std.proofs.Common.{rules, ◌+◌, length, drop, ap, subst, arith, List}
-use Rattle.krieg_board.specs.Pos.{Pos}
-use Rattle.krieg_moves.specs.Moves.{moves}
-use Rattle.krieg_costs.specs.Sums.{total}
+use Rattle.krieg_board.proofs.Common.{Pos}
+use Rattle.krieg_moves.proofs.Common.{moves}
+use Rattle.krieg_costs.proofs.Common.{total}
 use Rattle.krieg_parting.proofs.Charges.{stopped}
 use Rattle.krieg_parting.proofs.Items.{drop_item, drop_end}
 use Rattle.krieg_parting.proofs.Advancing.{IsLeft, left_all, left_more, left_none}

@@ -1,5 +1,5 @@
 use Rattle.std.proofs.Common.{◌≡◌, ◌+◌, ◌≤◌, drop}
-use Rattle.krieg_parting.specs.Mating.{looked_at}
+use Rattle.krieg_parting.proofs.Common.{looked_at}
 use Rattle.krieg_parting.proofs.Trying.{IsLeft}
 use Rattle.krieg_parting.proofs.last_move.try_in_all.Given as goal
 

@@ -1,6 +1,6 @@
 use Rattle.std.proofs.Common.{[], ap}
-use Rattle.krieg_words.specs.WordsReading.{silent}
-use Rattle.krieg_game.specs.ClassLaws.{opened}
+use Rattle.krieg_words.proofs.Common.{silent}
+use Rattle.krieg_game.proofs.Common.{opened}
 use Rattle.krieg_game.proofs.Pools.{holds_one}
 use Rattle.krieg_parting.proofs.opened.with_openings.Goals as goal
 

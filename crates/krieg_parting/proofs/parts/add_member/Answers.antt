@@ -1,5 +1,5 @@
 use Rattle.std.proofs.Common.{ap, ◌∙◌}
-use Rattle.krieg_parting.specs.Mating.{replies}
+use Rattle.krieg_parting.proofs.Common.{replies}
 use Rattle.krieg_parting.proofs.Gathering.{counted}
 use Rattle.krieg_parting.proofs.parts.add_member.Goals as goal
 

@@ -1,6 +1,5 @@
 use Rattle.std.proofs.Common.{◌≡◌, max, map, drop}
-use Rattle.krieg_plan.specs.Roots.{root_of}
-use Rattle.krieg_plan.specs.Trees.{plan_depth}
+use Rattle.krieg_plan.proofs.Common.{root_of, plan_depth}
 use Rattle.krieg_plan.proofs.depth.are_within.Given as goal
 
 abbrev pub invariant-loop-r : goal.invariant-loop-r

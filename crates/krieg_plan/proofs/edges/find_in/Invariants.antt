@@ -1,7 +1,7 @@
 use Rattle.std.proofs.Common.{◌≡◌, map, drop}
-use Rattle.krieg_theory.specs.Tree.{first_edge}
-use Rattle.krieg_game.specs.Keys.{key_lt}
-use Rattle.krieg_plan.specs.Nodes.{edge_of, as_edges}
+use Rattle.krieg_theory.proofs.Common.{first_edge}
+use Rattle.krieg_game.proofs.Common.{key_lt}
+use Rattle.krieg_plan.proofs.Common.{edge_of, as_edges}
 use Rattle.krieg_plan.proofs.edges.find_in.Given as goal
 
 abbrev pub invariant-loop-e : goal.invariant-loop-e

@@ -1,6 +1,6 @@
 use Rattle.std.proofs.Common.{ap, ◌∙◌}
 use Rattle.std.specs.Ordering.{is_eq}
-use Rattle.krieg_plan.specs.Nodes.{edge_of}
+use Rattle.krieg_plan.proofs.Common.{edge_of}
 use Rattle.krieg_game.proofs.KeyLaws.{key_is}
 use Rattle.krieg_plan.proofs.edges.has_key.Goals as goal
 

@@ -1,6 +1,5 @@
 use Rattle.std.proofs.Common.{◌≡◌, map, drop}
-use Rattle.krieg_plan.specs.Roots.{root_of}
-use Rattle.krieg_plan.specs.Ordered.{are_ordered_roots}
+use Rattle.krieg_plan.proofs.Common.{root_of, are_ordered_roots}
 use Rattle.krieg_plan.proofs.ordered.are_ordered_roots.Given as goal
 
 abbrev pub invariant-loop-r : goal.invariant-loop-r

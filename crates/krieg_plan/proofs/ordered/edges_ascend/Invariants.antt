@@ -1,8 +1,7 @@
 use Rattle.std.proofs.Common.{◌≡◌, ◌-◌, map, drop}
-use Rattle.krieg_theory.specs.Canonical.{edge_keys}
-use Rattle.krieg_game.specs.Keys.{key_lt}
-use Rattle.krieg_plan.specs.Nodes.{edge_of, as_edges}
-use Rattle.krieg_plan.specs.Ordered.{is_ascending}
+use Rattle.krieg_theory.proofs.Common.{edge_keys}
+use Rattle.krieg_game.proofs.Common.{key_lt}
+use Rattle.krieg_plan.proofs.Common.{edge_of, as_edges, is_ascending}
 use Rattle.krieg_plan.proofs.ordered.edges_ascend.Given as goal
 
 abbrev pub invariant-loop-i : goal.invariant-loop-i

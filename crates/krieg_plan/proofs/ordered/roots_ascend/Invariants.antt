@@ -1,7 +1,6 @@
 use Rattle.std.proofs.Common.{◌≡◌, ◌-◌, map, drop}
-use Rattle.krieg_game.specs.Keys.{root_lt}
-use Rattle.krieg_plan.specs.Roots.{root_of}
-use Rattle.krieg_plan.specs.Ordered.{is_ascending}
+use Rattle.krieg_game.proofs.Common.{root_lt}
+use Rattle.krieg_plan.proofs.Common.{root_of, is_ascending}
 use Rattle.krieg_plan.proofs.ordered.roots_ascend.Given as goal
 
 abbrev pub invariant-loop-i : goal.invariant-loop-i

@@ -1,11 +1,9 @@
 use Rattle.std.proofs.Common.{sym, ap, ◌∙◌, rules}
 use Rattle.std.specs.Prelude.{Ok, Err, slice_index_or}
 use Rattle.std.proofs.lemmas.Fn.{always_returns_same}
-use Rattle.krieg_theory.specs.Tree.{Just}
-use Rattle.krieg_game.specs.Keys.{root_cmp}
-use Rattle.krieg_plan.specs.Nodes.{tree_of}
-use Rattle.krieg_plan.specs.Roots.{root_of}
-use Rattle.krieg_plan.specs.Plans.{plan_of}
+use Rattle.krieg_theory.proofs.Common.{Just}
+use Rattle.krieg_game.proofs.Common.{root_cmp}
+use Rattle.krieg_plan.proofs.Common.{tree_of, root_of, plan_of}
 use Rattle.krieg_plan.proofs.OrderedTrees.{found_root_ordered}
 use Rattle.krieg_plan.proofs.Lookups.{root_found}
 use Rattle.krieg_plan.proofs.roots.find_root.Goals as goal

@@ -1,6 +1,5 @@
 use Rattle.std.proofs.Common.{◌≡◌, ◌+◌, map, drop}
-use Rattle.krieg_plan.specs.Roots.{root_of}
-use Rattle.krieg_plan.specs.Trees.{plan_size}
+use Rattle.krieg_plan.proofs.Common.{root_of, plan_size}
 use Rattle.krieg_plan.proofs.size.left_of.Given as goal
 
 abbrev pub invariant-loop-r : goal.invariant-loop-r

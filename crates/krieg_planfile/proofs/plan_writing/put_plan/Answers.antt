@@ -1,11 +1,10 @@
 use Rattle.std.proofs.Common.{rules, ℕ, ◌∷◌, [], ◌++◌, map, length, sym, subst}
 use Rattle.std.proofs.lemmas.List.{length-map}
 use Rattle.std.specs.Prelude.{codes}
-use Rattle.krieg_fen.specs.ListText.{listing_lines}
-use Rattle.krieg_text.specs.Writing.{HasLines, alone}
-use Rattle.krieg_plan.specs.Roots.{root_of}
-use Rattle.krieg_planfile.specs.PlanFiles.{state_of, waits}
-use Rattle.krieg_planfile.specs.PlanText.{heading, roots_lines, worst_line, count_line, claim_lines}
+use Rattle.krieg_fen.proofs.Common.{listing_lines}
+use Rattle.krieg_text.proofs.Common.{HasLines, alone}
+use Rattle.krieg_plan.proofs.Common.{root_of}
+use Rattle.krieg_planfile.proofs.Common.{state_of, waits, heading, roots_lines, worst_line, count_line, claim_lines}
 use Rattle.krieg_planfile.proofs.NodeWriting.{puts_then}
 use Rattle.krieg_planfile.proofs.plan_writing.put_plan.Goals as goal
 

@@ -1,4 +1,4 @@
-use Rattle.krieg_planfile.specs.PlanFiles.{state_of}
+use Rattle.krieg_planfile.proofs.Common.{state_of}
 use Rattle.krieg_planfile.proofs.PlansAgain.{text_spells, plan_again}
 use Rattle.krieg_planfile.proofs.PlanSizes.{text_short}
 use Rattle.krieg_planfile.proofs.plan_writing.write_plan.Goals as goal

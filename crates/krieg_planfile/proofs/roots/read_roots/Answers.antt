@@ -1,13 +1,9 @@
 use Rattle.std.proofs.Common.{rules, ◌≡◌, ◌+◌, ◌-◌, ◌∷◌, [], ◌++◌, List, Vec, Global, Some, Ok, Err, map, ap, ◌∙◌, arith}
 use Rattle.std.proofs.lemmas.List.{map-append}
-use Rattle.krieg_text.specs.Reading.{GivesOn}
-use Rattle.krieg_game.specs.Keys.{RootKey}
-use Rattle.krieg_plan.specs.Trees.{NodeTree}
-use Rattle.krieg_plan.specs.Roots.{root_of}
-use Rattle.krieg_plan.specs.declared.plan.Root.{Root}
-use Rattle.krieg_plan.specs.declared.limits.TheConstants.{MOST_ON_PATH}
-use Rattle.krieg_planfile.specs.NodeReading.{branch_by, branches_by, node_at}
-use Rattle.krieg_planfile.specs.PlanReading.{root_form}
+use Rattle.krieg_text.proofs.Common.{GivesOn}
+use Rattle.krieg_game.proofs.Common.{RootKey}
+use Rattle.krieg_plan.proofs.Common.{NodeTree, root_of, Root, MOST_ON_PATH}
+use Rattle.krieg_planfile.proofs.Common.{branch_by, branches_by, node_at, root_form}
 use Rattle.krieg_planfile.proofs.Branches.{with_front, branch_ok, branch_refused}
 use Rattle.krieg_planfile.proofs.roots.read_roots.Goals as goal
 

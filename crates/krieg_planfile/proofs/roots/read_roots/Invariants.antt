@@ -1,8 +1,6 @@
 use Rattle.std.proofs.Common.{◌≡◌, ◌-◌, None, map}
-use Rattle.krieg_plan.specs.Roots.{root_of}
-use Rattle.krieg_plan.specs.declared.limits.TheConstants.{MOST_ON_PATH}
-use Rattle.krieg_planfile.specs.NodeReading.{branches_by, node_at}
-use Rattle.krieg_planfile.specs.PlanReading.{root_form}
+use Rattle.krieg_plan.proofs.Common.{root_of, MOST_ON_PATH}
+use Rattle.krieg_planfile.proofs.Common.{branches_by, node_at, root_form}
 use Rattle.krieg_planfile.proofs.Branches.{with_front}
 use Rattle.krieg_planfile.proofs.roots.read_roots.Given as goal
 

@@ -1,10 +1,8 @@
 use Rattle.std.proofs.Common.{◌+◌, ◌*◌, map, take}
-use Rattle.krieg_text.specs.Writing.{HasLines}
-use Rattle.krieg_theory.specs.Tree.{size, size_other, size_edges}
-use Rattle.krieg_plan.specs.Nodes.{tree_of, edge_of}
-use Rattle.krieg_plan.specs.Trees.{edges_in}
-use Rattle.krieg_plan.specs.declared.node.Edge.TheViews.{out-Node}
-use Rattle.krieg_planfile.specs.NodeText.{other_in, on_line, branches_lines}
+use Rattle.krieg_text.proofs.Common.{HasLines}
+use Rattle.krieg_theory.proofs.Common.{size, size_other, size_edges}
+use Rattle.krieg_plan.proofs.Common.{tree_of, edge_of, edges_in, out-Node}
+use Rattle.krieg_planfile.proofs.Common.{other_in, on_line, branches_lines}
 use Rattle.krieg_planfile.proofs.writing.+writing.Given as goal
 
 -- the lines of the edges before this one

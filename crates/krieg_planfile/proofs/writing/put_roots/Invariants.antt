@@ -1,8 +1,7 @@
 use Rattle.std.proofs.Common.{map, take}
-use Rattle.krieg_text.specs.Writing.{HasLines}
-use Rattle.krieg_plan.specs.Roots.{root_of}
-use Rattle.krieg_planfile.specs.NodeText.{branches_lines}
-use Rattle.krieg_planfile.specs.PlanText.{root_line}
+use Rattle.krieg_text.proofs.Common.{HasLines}
+use Rattle.krieg_plan.proofs.Common.{root_of}
+use Rattle.krieg_planfile.proofs.Common.{branches_lines, root_line}
 use Rattle.krieg_planfile.proofs.writing.put_roots.Given as goal
 
 -- the lines of the roots before this one

@@ -1,8 +1,7 @@
 use Rattle.std.proofs.Common.{◌≡◌, ◌<◌, ℕ, ◌&&◌, ◌||◌}
 use Rattle.std.specs.Prelude.{Some}
-use Rattle.krieg_board.specs.Squares.{some_square}
-use Rattle.krieg_board.specs.Sets.{has}
-use Rattle.krieg_rays.specs.Rays.{reaches}
+use Rattle.krieg_board.proofs.Common.{some_square, has}
+use Rattle.krieg_rays.proofs.Common.{reaches}
 use Rattle.krieg_rays.proofs.attack.attacked_by_each.Given as goal
 
 abbrev pub invariant-loop-rest : goal.invariant-loop-rest

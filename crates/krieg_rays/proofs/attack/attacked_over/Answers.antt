@@ -1,5 +1,5 @@
 use Rattle.std.proofs.Common.{◌∙◌}
-use Rattle.krieg_rays.specs.Rays.{is_open}
+use Rattle.krieg_rays.proofs.Common.{is_open}
 use Rattle.krieg_rays.proofs.Attacking.{pawn_over, knight_over, king_over, rook_over, bishop_over, queen_over}
 use Rattle.krieg_rays.proofs.attack.attacked_over.Goals as goal
 

@@ -1,6 +1,5 @@
 use Rattle.std.proofs.Common.{◌∙◌, ◌&&◌, sym, arith}
-use Rattle.krieg_record.specs.Disambiguation.{fits, is_rival}
-use Rattle.krieg_record.specs.MoveTraits.{is_own}
+use Rattle.krieg_record.proofs.Common.{fits, is_rival, is_own}
 use Rattle.krieg_record.proofs.OwnMen.{some_passed, some_found, some_ended, shared_own}
 use Rattle.krieg_record.proofs.disambiguation.is_shared.Goals as goal
 

@@ -1,7 +1,6 @@
 use Rattle.std.proofs.Common.{◌≡◌, ◌&&◌}
-use Rattle.krieg_board.specs.Squares.{some_square}
-use Rattle.krieg_board.specs.Sets.{has}
-use Rattle.krieg_record.specs.Disambiguation.{fits, is_rival}
+use Rattle.krieg_board.proofs.Common.{some_square, has}
+use Rattle.krieg_record.proofs.Common.{fits, is_rival}
 use Rattle.krieg_record.proofs.disambiguation.is_shared.Given as goal
 
 -- the rivals of whom it is true are among those that are left

@@ -1,7 +1,7 @@
 use Rattle.std.proofs.Common.{arith}
 use Rattle.std.proofs.lemmas.Grind.{common_steps}
 use Rattle.std.proofs.lemmas.Bool.Decides.{nat_tests}
-use Rattle.krieg_record.specs.NotationReading.{notation_of}
+use Rattle.krieg_record.proofs.Common.{notation_of}
 use Rattle.krieg_record.proofs.LastBytes.{ending_at, front_at, no_ending}
 use Rattle.krieg_record.proofs.notation_reading.notation_of.Goals as goal
 

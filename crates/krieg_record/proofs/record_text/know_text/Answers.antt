@@ -1,4 +1,4 @@
-use Rattle.krieg_record.specs.Records.{state_of}
+use Rattle.krieg_record.proofs.Common.{state_of}
 use Rattle.krieg_record.proofs.RecordTexts.{spells_by, again_by}
 use Rattle.krieg_record.proofs.record_text.know_text.Goals as goal
 

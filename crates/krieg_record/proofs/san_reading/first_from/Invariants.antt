@@ -1,5 +1,5 @@
 use Rattle.std.proofs.Common.{◌≡◌}
-use Rattle.krieg_record.specs.SanReading.{leaving}
+use Rattle.krieg_record.proofs.Common.{leaving}
 use Rattle.krieg_record.proofs.san_reading.first_from.Given as goal
 
 abbrev pub invariant-loop-rest : goal.invariant-loop-rest

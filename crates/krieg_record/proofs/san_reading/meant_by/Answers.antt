@@ -1,6 +1,5 @@
 use Rattle.std.proofs.Common.{◌∙◌, ap}
-use Rattle.krieg_record.specs.MoveTraits.{is_own}
-use Rattle.krieg_record.specs.SanReading.{the_only}
+use Rattle.krieg_record.proofs.Common.{is_own, the_only}
 use Rattle.krieg_record.proofs.OwnMen.{leaving_own}
 use Rattle.krieg_record.proofs.san_reading.meant_by.Goals as goal
 

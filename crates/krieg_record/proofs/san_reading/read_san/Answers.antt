@@ -1,5 +1,5 @@
 use Rattle.std.proofs.Common.{sym, subst}
-use Rattle.krieg_record.specs.Matching.{Means}
+use Rattle.krieg_record.proofs.Common.{Means}
 use Rattle.krieg_record.proofs.Meanings.{meant_means}
 use Rattle.krieg_record.proofs.san_reading.read_san.Goals as goal
 

@@ -1,38 +1,28 @@
 use Rattle.std.proofs.Common.{false, ◌≡◌, ◌+◌, ◌-◌, ◌≤◌, List, length, map, take, None, Err, is_some, sym, ap, subst, ◌∙◌, arith, refl}
 use Rattle.std.proofs.lemmas.List.{length-map, take_all}
 use Rattle.std.specs.Prelude.{IfSome}
-use Rattle.krieg_board.specs.Pos.{Pos}
-use Rattle.krieg_board.specs.declared.men.Move.{Move}
+use Rattle.krieg_board.proofs.Common.{Pos, Move}
 use Rattle.krieg_costs.specs.Refutation as theory
-use Rattle.krieg_game.specs.Keys.{Key}
-use Rattle.krieg_search.specs.declared.stop.SearchStop.TheVariants.{Large}
-use Rattle.krieg_pack.specs.Order.{position_lt}
-use Rattle.krieg_theory.specs.Sets.{In}
-use Rattle.krieg_theory.specs.Split.{tries}
+use Rattle.krieg_game.proofs.Common.{Key, chess}
+use Rattle.krieg_search.proofs.Common.{Large, Asked}
+use Rattle.krieg_pack.proofs.Common.{position_lt}
+use Rattle.krieg_theory.proofs.Common.{In, tries}
 use Rattle.krieg_theory.proofs.Steps.{refused_lt}
-use Rattle.krieg_costs.specs.Block.{block_pair}
-use Rattle.krieg_accounts.specs.Stored.{stored}
-use Rattle.krieg_claims.specs.InOrder.{add_all}
+use Rattle.krieg_costs.proofs.Common.{block_pair, ByClass, ByRefused}
+use Rattle.krieg_accounts.proofs.Common.{stored}
+use Rattle.krieg_claims.proofs.Common.{add_all, behind_try, WalksTries}
 use Rattle.krieg_claims.specs.Written as written
-use Rattle.krieg_claims.specs.Walks.{behind_try, WalksTries}
-use Rattle.krieg_game.specs.Chess.{chess}
 use Rattle.krieg_game.proofs.ChessLaws.{chess_is_game}
-use Rattle.krieg_table.specs.Interned.{set_at}
+use Rattle.krieg_table.proofs.Common.{set_at, entries}
 use Rattle.krieg_search.proofs.Building.{adds_nothing, adds_then, still_paid}
-use Rattle.krieg_refute.specs.Refutations.{why_of, reason_of}
-use Rattle.krieg_refute.specs.declared.refutation.Reason.{Reason}
-use Rattle.krieg_refute.specs.declared.refutation.Why.TheVariants.{Class, Refused}
-use Rattle.krieg_refute.specs.Claiming.{pairs_in, Claims, Reasons, Blocks}
+use Rattle.krieg_refute.proofs.Common.{why_of, reason_of, Reason, Class, Refused, pairs_in, Claims, Reasons, Blocks}
 use Rattle.krieg_refute.proofs.Reasoning.{walked_more, reasons_more}
 use Rattle.krieg_claims.proofs.Walking.{walks_there}
-use Rattle.krieg_search.specs.declared.notes.Asked.{Asked}
 use Rattle.krieg_search.specs.contracts.notes.AskedPartialEq.TheImpl as derived_eq
 use Rattle.krieg_refute.proofs.Places.{absent, place_at, same_asked}
 use Rattle.krieg_refute.proofs.Carrying.{carried, set_large, tries_large, pushed, next_is}
 use Rattle.krieg_accounts.proofs.Tables.{result_can}
-use Rattle.krieg_table.specs.Entries.{entries}
 use Rattle.std.proofs.lemmas.Bool.{and_from, eq-eqb}
-use Rattle.krieg_costs.specs.Refutation.{ByClass, ByRefused}
 use Rattle.krieg_refute.proofs.Blocking.{fails_blocks, still_claimed, blocked, by_class_at, by_refused_at}
 use Rattle.krieg_search.proofs.Noted.{more_notes}
 use Rattle.krieg_refute.proofs.Rows.{moves_of, note_at, noted_legal, noted_block, reasons_behind}

@@ -1,15 +1,11 @@
 use Rattle.std.proofs.Common.{◌≡◌, length, map, take, ◌+◌, ◌-◌, ◌*◌, ◌^◌}
-use Rattle.krieg_board.specs.declared.men.Move.{Move}
-use Rattle.krieg_costs.specs.Refutation.{Reason}
-use Rattle.krieg_claims.specs.Written.{reason_at}
-use Rattle.krieg_claims.specs.Walks.{WalksTries}
-use Rattle.krieg_game.specs.Keys.{Key}
-use Rattle.krieg_game.specs.Chess.{chess}
-use Rattle.krieg_search.specs.Opened.{AddsSets}
-use Rattle.krieg_search.specs.declared.notes.Note.{Note}
-use Rattle.krieg_refute.specs.Refutations.{reason_of}
-use Rattle.krieg_refute.specs.Claiming.{pairs_in, IsClaimed}
-use Rattle.krieg_table.specs.Interned.{set_at}
+use Rattle.krieg_board.proofs.Common.{Move}
+use Rattle.krieg_costs.proofs.Common.{Reason}
+use Rattle.krieg_claims.proofs.Common.{reason_at, WalksTries}
+use Rattle.krieg_game.proofs.Common.{Key, chess}
+use Rattle.krieg_search.proofs.Common.{AddsSets, Note}
+use Rattle.krieg_refute.proofs.Common.{reason_of, pairs_in, IsClaimed}
+use Rattle.krieg_table.proofs.Common.{set_at}
 use Rattle.krieg_refute.proofs.claiming.+claim.Given as goal
 
 -- first the number of moves counts, then the members; no set has 2 ^ 64

@@ -1,10 +1,10 @@
 use Rattle.std.proofs.Common.{ℕ, false, List, ap, subst, sym, ◌∙◌}
 use Rattle.std.specs.List.{list_any}
-use Rattle.krieg_board.specs.Pos.{Pos}
-use Rattle.krieg_parting.specs.Mating.{lives}
+use Rattle.krieg_board.proofs.Common.{Pos}
+use Rattle.krieg_parting.proofs.Common.{lives}
 use Rattle.krieg_parting.proofs.LastMoves.{some_lives}
 use Rattle.krieg_split.proofs.LastMoves.{life_fails}
-use Rattle.krieg_search.specs.Leaving.{FailsAtOnce}
+use Rattle.krieg_search.proofs.Common.{FailsAtOnce}
 use Rattle.krieg_search.proofs.Leaving.{fails_by_life}
 use Rattle.krieg_refute.proofs.claiming.left_again.Goals as goal
 

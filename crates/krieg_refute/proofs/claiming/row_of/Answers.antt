@@ -1,14 +1,12 @@
 use Rattle.std.proofs.Common.{◌≡◌, true, false, List, None, Some, sym, ap, subst, ◌∙◌}
-use Rattle.krieg_board.specs.Pos.{Pos}
-use Rattle.krieg_theory.specs.Split.{legal_in_some, tries}
+use Rattle.krieg_board.proofs.Common.{Pos}
+use Rattle.krieg_theory.proofs.Common.{legal_in_some, tries}
 use Rattle.krieg_accounts.proofs.Tables.{result_can}
 use Rattle.krieg_accounts.proofs.TryWalk.{legal_at}
-use Rattle.krieg_game.specs.Chess.{chess}
+use Rattle.krieg_game.proofs.Common.{chess}
 use Rattle.krieg_game.proofs.ChessLaws.{chess_is_game}
-use Rattle.krieg_table.specs.Entries.{entries}
-use Rattle.krieg_table.specs.Interned.{set_at}
-use Rattle.krieg_search.specs.Notes.{IsBlock}
-use Rattle.krieg_search.specs.declared.notes.Note.{Note}
+use Rattle.krieg_table.proofs.Common.{entries, set_at}
+use Rattle.krieg_search.proofs.Common.{IsBlock, Note}
 use Rattle.krieg_search.proofs.Building.{adds_nothing, adds_then}
 use Rattle.krieg_search.proofs.Searching.{more_itself}
 use Rattle.krieg_search.proofs.Noted.{no_notes, one_noted, all_noted}

@@ -1,6 +1,6 @@
 use Rattle.std.proofs.Common.{◌≡◌, ◌++◌, length}
 use Rattle.std.specs.Vec.Iter.{into_iter_items, into_iter_len}
-use Rattle.krieg_refute.specs.Drafts.{claims_over, AreWithin, HaveSets}
+use Rattle.krieg_refute.proofs.Common.{claims_over, AreWithin, HaveSets}
 use Rattle.krieg_refute.proofs.claims.claims_of.Given as goal
 
 -- the claims of the drafts before this one, and where the sets are

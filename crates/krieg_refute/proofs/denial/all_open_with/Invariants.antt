@@ -1,6 +1,6 @@
 use Rattle.std.proofs.Common.{◌≡◌, drop}
 use Rattle.std.specs.List.{list_all}
-use Rattle.krieg_refute.specs.Reasons.{opens_with}
+use Rattle.krieg_refute.proofs.Common.{opens_with}
 use Rattle.krieg_refute.proofs.denial.all_open_with.Given as goal
 
 abbrev pub invariant-loop-member : goal.invariant-loop-member

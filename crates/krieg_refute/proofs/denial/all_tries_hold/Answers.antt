@@ -3,22 +3,15 @@ use Rattle.std.specs.declared.alloc.Global.{Global}
 use Rattle.std.specs.Prelude.{All, IfSome}
 use Rattle.std.specs.List.{list_all}
 use Rattle.std.proofs.lemmas.List.Folds.{list_all-map}
-use Rattle.krieg_board.specs.Pos.{Pos}
-use Rattle.krieg_board.specs.declared.men.Move.{Move}
-use Rattle.krieg_words.specs.declared.dialects.Dialect.{Dialect}
-use Rattle.krieg_theory.specs.Split.{tries}
-use Rattle.krieg_costs.specs.Refutation.{Claim, Reason}
-use Rattle.krieg_game.specs.Keys.{Key}
-use Rattle.krieg_parting.specs.declared.stop.PartStop.{PartStop}
-use Rattle.krieg_split.specs.Units.{Charged}
-use Rattle.krieg_costs.specs.Sums.{total}
-use Rattle.krieg_costs.specs.Cost.{made}
-use Rattle.krieg_game.specs.Chess.{chess}
+use Rattle.krieg_board.proofs.Common.{Pos, Move}
+use Rattle.krieg_words.proofs.Common.{Dialect}
+use Rattle.krieg_theory.proofs.Common.{tries}
+use Rattle.krieg_costs.proofs.Common.{Claim, Reason, total, made}
+use Rattle.krieg_game.proofs.Common.{Key, chess}
+use Rattle.krieg_parting.proofs.Common.{PartStop}
+use Rattle.krieg_split.proofs.Common.{Charged, tally_of, AreTallies, Tally}
 use Rattle.krieg_parting.proofs.Charges.{said}
-use Rattle.krieg_split.specs.Tallies.{tally_of, AreTallies}
-use Rattle.krieg_split.specs.declared.tallies.Tally.{Tally}
-use Rattle.krieg_refute.specs.Refutations.{claims_of, reason_of}
-use Rattle.krieg_refute.specs.Reasons.{try_holds}
+use Rattle.krieg_refute.proofs.Common.{claims_of, reason_of, try_holds}
 use Rattle.krieg_refute.proofs.LastTries.{members_paid, are_tallies, total_tallied}
 use Rattle.krieg_refute.proofs.denial.all_tries_hold.Goals as goal
 

@@ -1,16 +1,11 @@
 use Rattle.std.proofs.Common.{◌≡◌, ◌+◌, ◌-◌, ◌&&◌, not, ap, ◌∙◌, List, map, subst}
 use Rattle.std.specs.List.{list_all, list_any}
-use Rattle.krieg_board.specs.declared.men.Move.{Move}
-use Rattle.krieg_theory.specs.Sets.{same}
-use Rattle.krieg_costs.specs.Sums.{total}
-use Rattle.krieg_costs.specs.Cost.{made}
+use Rattle.krieg_board.proofs.Common.{Move, move_lt}
+use Rattle.krieg_theory.proofs.Common.{same}
+use Rattle.krieg_costs.proofs.Common.{total, made}
 use Rattle.krieg_costs.specs.Refutation.{Reason as Why}
-use Rattle.krieg_game.specs.Keys.{Key}
-use Rattle.krieg_game.specs.Chess.{chess}
-use Rattle.krieg_board.specs.Order.{move_lt}
-use Rattle.krieg_refute.specs.declared.refutation.Reason.{Reason}
-use Rattle.krieg_refute.specs.Refutations.{claim_of, claims_of, reason_of}
-use Rattle.krieg_refute.specs.Reasons.{try_holds}
+use Rattle.krieg_game.proofs.Common.{Key, chess}
+use Rattle.krieg_refute.proofs.Common.{Reason, claim_of, claims_of, reason_of, try_holds}
 use Rattle.krieg_refute.proofs.ClaimTests.{claim_found, nil_by}
 use Rattle.krieg_refute.proofs.denial.claim_holds.Goals as goal
 

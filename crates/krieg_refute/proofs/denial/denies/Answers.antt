@@ -1,5 +1,5 @@
 use Rattle.std.proofs.Common.{◌≡◌, ◌&&◌, ◌∙◌}
-use Rattle.krieg_refute.specs.Reasons.{within_opening}
+use Rattle.krieg_refute.proofs.Common.{within_opening}
 use Rattle.krieg_refute.proofs.ClaimTests.{at_least}
 use Rattle.krieg_refute.proofs.denial.denies.Goals as goal
 

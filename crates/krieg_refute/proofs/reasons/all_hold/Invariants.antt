@@ -1,10 +1,8 @@
 use Rattle.std.proofs.Common.{◌≡◌, List, map, drop}
 use Rattle.std.specs.List.{list_all}
-use Rattle.krieg_board.specs.Pos.{Pos}
-use Rattle.krieg_words.specs.declared.dialects.Dialect.{Dialect}
-use Rattle.krieg_refute.specs.Tried.{IsTried}
-use Rattle.krieg_refute.specs.Refutations.{claims_of, reason_of}
-use Rattle.krieg_refute.specs.Reasons.{holds_if_own}
+use Rattle.krieg_board.proofs.Common.{Pos}
+use Rattle.krieg_words.proofs.Common.{Dialect}
+use Rattle.krieg_refute.proofs.Common.{IsTried, claims_of, reason_of, holds_if_own}
 use Rattle.krieg_refute.proofs.reasons.all_hold.Given as goal
 
 abbrev pub invariant-loop-r : goal.invariant-loop-r

@@ -1,4 +1,4 @@
-use Rattle.krieg_refute.specs.Refutations.{claim_of}
+use Rattle.krieg_refute.proofs.Common.{claim_of}
 use Rattle.krieg_refute.proofs.Membership.{cited_past, cited_here}
 use Rattle.krieg_refute.proofs.reasons.cited.Goals as goal
 

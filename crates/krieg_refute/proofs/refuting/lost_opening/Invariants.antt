@@ -1,5 +1,5 @@
 use Rattle.std.proofs.Common.{◌≡◌, drop, find}
-use Rattle.krieg_refute.specs.Claiming.{is_lost_opening}
+use Rattle.krieg_refute.proofs.Common.{is_lost_opening}
 use Rattle.krieg_refute.proofs.refuting.lost_opening.Given as goal
 
 abbrev pub invariant-loop-o : goal.invariant-loop-o

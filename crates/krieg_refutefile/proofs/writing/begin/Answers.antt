@@ -1,6 +1,6 @@
 use Rattle.std.proofs.Common.{subst}
-use Rattle.krieg_text.specs.Writing.{Wrote}
-use Rattle.krieg_refutefile.specs.RefutationText.{head_lines}
+use Rattle.krieg_text.proofs.Common.{Wrote}
+use Rattle.krieg_refutefile.proofs.Common.{head_lines}
 use Rattle.krieg_refutefile.proofs.InPieces.{added}
 use Rattle.krieg_refutefile.proofs.writing.begin.Goals as goal
 

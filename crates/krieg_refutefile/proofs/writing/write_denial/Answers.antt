@@ -1,4 +1,4 @@
-use Rattle.krieg_refutefile.specs.Refutations.{state_from}
+use Rattle.krieg_refutefile.proofs.Common.{state_from}
 use Rattle.krieg_refutefile.proofs.Sizes.{text_short}
 use Rattle.krieg_refutefile.proofs.RefutationTexts.{again}
 use Rattle.krieg_refutefile.proofs.WrittenClaims.{are_told}

@@ -1,4 +1,4 @@
-use Rattle.krieg_refutefile.specs.Refutations.{state_of}
+use Rattle.krieg_refutefile.proofs.Common.{state_of}
 use Rattle.krieg_refutefile.proofs.Sizes.{text_short}
 use Rattle.krieg_refutefile.proofs.RefutationTexts.{spelled, again}
 use Rattle.krieg_refutefile.proofs.WrittenClaims.{are_told}

@@ -1,6 +1,5 @@
 use Rattle.std.proofs.Common.{◌∙◌, ap}
-use Rattle.krieg_words.specs.Line.{told_line}
-use Rattle.krieg_words.specs.declared.line.Line.TheVariants.{Opens}
+use Rattle.krieg_words.proofs.Common.{told_line, Opens}
 use Rattle.krieg_robot.proofs.Beginning.{breaks}
 use Rattle.krieg_robot.proofs.leading.lead_game.Goals as goal
 

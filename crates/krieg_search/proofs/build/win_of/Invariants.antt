@@ -1,9 +1,8 @@
 use Rattle.std.proofs.Common.{◌≡◌, ◌≤◌, ◌<◌, ℕ, None}
-use Rattle.krieg_pack.specs.Order.{position_lt}
-use Rattle.krieg_accounts.specs.Stored.{stored}
-use Rattle.krieg_table.specs.Interned.{set_at}
-use Rattle.krieg_table.specs.Entries.{entries}
-use Rattle.krieg_search.specs.Built.{winning_try}
+use Rattle.krieg_pack.proofs.Common.{position_lt}
+use Rattle.krieg_accounts.proofs.Common.{stored}
+use Rattle.krieg_table.proofs.Common.{set_at, entries}
+use Rattle.krieg_search.proofs.Common.{winning_try}
 use Rattle.krieg_search.proofs.build.win_of.Given as goal
 
 abbrev pub invariant-loop-fewer : goal.invariant-loop-fewer

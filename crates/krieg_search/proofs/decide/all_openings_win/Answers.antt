@@ -1,6 +1,5 @@
 use Rattle.std.proofs.Common.{List, refl, subst, ◌∙◌, arith}
-use Rattle.krieg_search.specs.declared.openings.Opening.{Opening}
-use Rattle.krieg_search.specs.Decided.{sets_in}
+use Rattle.krieg_search.proofs.Common.{Opening, sets_in}
 use Rattle.krieg_search.proofs.Searching.{stopped}
 use Rattle.krieg_search.proofs.Checking.{IsChecking, none_checked, all_checked, no_rest}
 use Rattle.krieg_search.proofs.Asking.{opening_within, opening_covers, opening_lost, opening_won}

@@ -1,6 +1,5 @@
 use Rattle.std.proofs.Common.{◌≡◌, drop}
-use Rattle.krieg_search.specs.Decided.{sets_in}
-use Rattle.krieg_search.specs.Searched.{IsAtWork}
+use Rattle.krieg_search.proofs.Common.{sets_in, IsAtWork}
 use Rattle.krieg_search.proofs.Checking.{IsChecking}
 use Rattle.krieg_search.proofs.decide.all_openings_win.Given as goal
 

@@ -1,6 +1,5 @@
 use Rattle.std.proofs.Common.{sym, subst, List}
-use Rattle.krieg_search.specs.declared.openings.Opening.{Opening}
-use Rattle.krieg_search.specs.Opened.{IsAdded}
+use Rattle.krieg_search.proofs.Common.{Opening, IsAdded}
 use Rattle.krieg_search.proofs.OpenedSets.{added}
 use Rattle.krieg_search.proofs.openings.add.Goals as goal
 

@@ -1,13 +1,9 @@
 use Rattle.std.proofs.Common.{◌≡◌, ◌+◌, sym, ap, subst, ◌∙◌, arith, List}
-use Rattle.krieg_board.specs.Pos.{Pos}
-use Rattle.krieg_costs.specs.Cost.{first_made}
-use Rattle.krieg_game.specs.Keys.{RootKey}
-use Rattle.krieg_game.specs.Chess.{chess}
-use Rattle.krieg_game.specs.Outset.{outset}
-use Rattle.krieg_split.specs.Turns.{IsOwnTurn, IsOthersTurn}
-use Rattle.krieg_split.specs.Firsts.{first_cost}
-use Rattle.krieg_split.specs.declared.firsts.Firsts.{Firsts}
-use Rattle.krieg_search.specs.Opened.{AreAdded, IsOpened}
+use Rattle.krieg_board.proofs.Common.{Pos}
+use Rattle.krieg_costs.proofs.Common.{first_made}
+use Rattle.krieg_game.proofs.Common.{RootKey, chess, outset}
+use Rattle.krieg_split.proofs.Common.{IsOwnTurn, IsOthersTurn, first_cost, Firsts}
+use Rattle.krieg_search.proofs.Common.{AreAdded, IsOpened}
 use Rattle.krieg_search.proofs.OpenedSets.{none_over, none_made, stopped_first}
 use Rattle.krieg_search.proofs.openings.find_openings.Goals as goal
 

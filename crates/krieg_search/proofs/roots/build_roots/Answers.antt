@@ -1,17 +1,11 @@
 use Rattle.std.proofs.Common.{◌≡◌, ◌<◌, ◌≤◌, ◌+◌, inr, ◌⊎◌, max, sym, ap, subst, ◌∙◌, arith, [], ◌∷◌, ◌++◌, map, length}
 use Rattle.std.specs.Vec.Iter.{into_iter_items}
 use Rattle.std.proofs.lemmas.List.{map-append}
-use Rattle.krieg_theory.specs.Sets.{In}
-use Rattle.krieg_theory.specs.Tree.{size, depth, size_other, depth_other}
-use Rattle.krieg_theory.specs.Can.{least}
-use Rattle.krieg_theory.specs.Computed.{canon}
-use Rattle.krieg_game.specs.Chess.{chess}
-use Rattle.krieg_plan.specs.Nodes.{tree_of}
-use Rattle.krieg_plan.specs.Roots.{root_of}
-use Rattle.krieg_plan.specs.declared.plan.Root.{Root}
-use Rattle.krieg_plan.specs.declared.limits.TheConstants.{MOST_ON_PATH}
-use Rattle.krieg_table.specs.Interned.{set_at}
-use Rattle.krieg_search.specs.Opened.{opening_in}
+use Rattle.krieg_theory.proofs.Common.{In, size, depth, size_other, depth_other, least, canon}
+use Rattle.krieg_game.proofs.Common.{chess}
+use Rattle.krieg_plan.proofs.Common.{tree_of, root_of, Root, MOST_ON_PATH}
+use Rattle.krieg_table.proofs.Common.{set_at}
+use Rattle.krieg_search.proofs.Common.{opening_in}
 use Rattle.krieg_search.proofs.Checking.{no_items}
 use Rattle.krieg_search.proofs.Building.{adds_nothing, too_large, still_paid}
 use Rattle.krieg_search.proofs.Rooting.{greater_is, IsRooting, no_root, all_roots, root_large, one_root, root_within, root_same, root_won, root_node, root_least}

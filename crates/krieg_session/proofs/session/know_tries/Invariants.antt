@@ -1,5 +1,5 @@
 use Rattle.std.proofs.Common.{take}
-use Rattle.krieg_session.specs.Laws.{AreTries}
+use Rattle.krieg_session.proofs.Common.{AreTries}
 use Rattle.krieg_session.proofs.session.know_tries.Given as goal
 
 abbrev pub invariant-loop-event : goal.invariant-loop-event

@@ -1,5 +1,5 @@
 use Rattle.std.proofs.Common.{◌≡◌, length}
-use Rattle.krieg_sheet.specs.SheetReading.{entries_at}
+use Rattle.krieg_sheet.proofs.Common.{entries_at}
 use Rattle.krieg_sheet.proofs.reading.read_entries.Given as goal
 
 -- the rest, read into the sheet as it is, gives the whole

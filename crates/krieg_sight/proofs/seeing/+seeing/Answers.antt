@@ -1,5 +1,5 @@
 use Rattle.std.proofs.Common.{◌≡◌, ◌-◌, suc, refl, sym, ◌∙◌, arith}
-use Rattle.krieg_sight.specs.Seen.{mates_within}
+use Rattle.krieg_sight.proofs.Common.{mates_within}
 use Rattle.krieg_sight.proofs.Looking.{item_legal, not_met_at_last, not_met_at_end, no_moves, none_mates}
 use Rattle.krieg_sight.proofs.seeing.+seeing.Goals as goal
 

@@ -1,7 +1,7 @@
 use Rattle.std.proofs.Common.{◌≡◌, ◌+◌, ◌*◌, ◌≤◌, drop}
 use Rattle.std.specs.List.{list_any}
 use Rattle.krieg_moves.specs.After as change
-use Rattle.krieg_sight.specs.Seen.{is_met, mates_within}
+use Rattle.krieg_sight.proofs.Common.{is_met, mates_within}
 use Rattle.krieg_sight.proofs.seeing.+seeing.Given as goal
 
 abbrev pub decreases-all_may_mate : goal.decreases-all_may_mate

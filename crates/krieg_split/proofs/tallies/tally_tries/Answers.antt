@@ -1,13 +1,11 @@
 use Rattle.std.proofs.Common.{◌≡◌, ◌≤◌, List, filter, [], map, length, take, drop, ap, ◌∙◌, arith}
 use Rattle.std.proofs.lemmas.List.{take_all, take-append-le, length-map, length-take}
-use Rattle.krieg_board.specs.Pos.{Pos}
-use Rattle.krieg_moves.specs.Legal.{is_legal}
+use Rattle.krieg_board.proofs.Common.{Pos}
+use Rattle.krieg_moves.proofs.Common.{is_legal}
 use Rattle.krieg_theory.specs.Split as theory
-use Rattle.krieg_words.specs.declared.dialects.Dialect.TheVariants.{Wild16}
-use Rattle.krieg_game.specs.Chess.{chess}
-use Rattle.krieg_split.specs.Tallies.{tally_of}
-use Rattle.krieg_split.specs.declared.listed.Listed.{Listed}
-use Rattle.krieg_split.specs.declared.tallies.Tally.{Tally}
+use Rattle.krieg_words.proofs.Common.{Wild16}
+use Rattle.krieg_game.proofs.Common.{chess}
+use Rattle.krieg_split.proofs.Common.{tally_of, Listed, Tally}
 use Rattle.krieg_split.proofs.Tallying.{listed_at, tallied_more, tallied_moves, moves_of_tries, room_for_more}
 use Rattle.krieg_split.proofs.tallies.tally_tries.Goals as goal
 

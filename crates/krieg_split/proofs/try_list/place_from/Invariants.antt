@@ -1,5 +1,5 @@
 use Rattle.std.proofs.Common.{◌≤◌, ◌-◌, length, take}
-use Rattle.krieg_split.specs.MoveSets.{AllBefore}
+use Rattle.krieg_split.proofs.Common.{AllBefore}
 use Rattle.krieg_split.proofs.try_list.place_from.Given as goal
 
 abbrev pub invariant-loop-place : goal.invariant-loop-place

@@ -1,9 +1,8 @@
 use Rattle.std.proofs.Common.{◌≡◌, List, false, Some, take, ap, subst, ◌∙◌, arith}
 use Rattle.std.specs.List.{slice_get}
 use Rattle.std.proofs.lemmas.Bool.{both_ways}
-use Rattle.krieg_board.specs.Order.{move_lt}
-use Rattle.krieg_board.specs.declared.men.Move.{Move}
-use Rattle.krieg_split.specs.MoveSets.{AllBefore}
+use Rattle.krieg_board.proofs.Common.{move_lt, Move}
+use Rattle.krieg_split.proofs.Common.{AllBefore}
 use Rattle.krieg_split.proofs.TryLists.{there, inserted}
 use Rattle.krieg_split.proofs.try_list.put_from.Goals as goal
 

@@ -1,6 +1,6 @@
 use Rattle.std.proofs.Common.{◌≡◌, map, take, flat_map}
 use Rattle.krieg_moves.specs.Moves as list
-use Rattle.krieg_split.specs.MoveSets.{move_set}
+use Rattle.krieg_split.proofs.Common.{move_set}
 use Rattle.krieg_split.proofs.try_list.tries_of.Given as goal
 
 abbrev pub invariant-loop-member : goal.invariant-loop-member

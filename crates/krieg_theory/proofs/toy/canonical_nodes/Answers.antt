@@ -1,10 +1,5 @@
 use Rattle.std.proofs.Common.{◌≡◌, ℕ, List, [], ◌∷◌, true, refl, sym, subst, ◌∙◌}
-use Rattle.krieg_theory.specs.Tree.{Just, Nothing, Try, NoEdges, Edge}
-use Rattle.krieg_theory.specs.Can.{can}
-use Rattle.krieg_theory.specs.Canonical.{IsCanon}
-use Rattle.krieg_theory.specs.Computed.{canon}
-use Rattle.krieg_theory.specs.Toy.{toy, Node, only, or_else, by_ear}
-use Rattle.krieg_theory.specs.ToyLawful.{lawful}
+use Rattle.krieg_theory.proofs.Common.{Just, Nothing, Try, NoEdges, Edge, can, IsCanon, canon, toy, Node, only, or_else, by_ear, lawful}
 use Rattle.krieg_theory.proofs.Theorems.{canon_is_one, canon_is_computed}
 use Rattle.krieg_theory.proofs.toy.canonical_nodes.Goals as goal
 

@@ -1,5 +1,5 @@
 use Rattle.std.proofs.Common.{◌≡◌, ◌++◌, drop, reverse}
-use Rattle.krieg_why.specs.Retold.{events_by}
+use Rattle.krieg_why.proofs.Common.{events_by}
 use Rattle.krieg_why.proofs.games.events_by.Given as goal
 
 abbrev pub invariant-loop-line : goal.invariant-loop-line

@@ -1,5 +1,5 @@
 use Rattle.std.proofs.Common.{◌≡◌, map, take}
-use Rattle.krieg_why.specs.Links.{entry_at}
+use Rattle.krieg_why.proofs.Common.{entry_at}
 use Rattle.krieg_why.proofs.games.numbered.Given as goal
 
 abbrev pub invariant-loop-k : goal.invariant-loop-k

@@ -1,6 +1,5 @@
 use Rattle.std.proofs.Common.{[], take, flat_map}
-use Rattle.krieg_why.specs.Links.{Adds, tales_of}
-use Rattle.krieg_why.specs.Tales.{tales_after}
+use Rattle.krieg_why.proofs.Common.{Adds, tales_of, tales_after}
 use Rattle.krieg_why.proofs.links.tell.Given as goal
 
 abbrev pub invariant-loop-i : goal.invariant-loop-i

@@ -1,5 +1,5 @@
 use Rattle.std.proofs.Common.{◌≡◌, filter, take}
-use Rattle.krieg_why.specs.Starts.{may_begin}
+use Rattle.krieg_why.proofs.Common.{may_begin}
 use Rattle.krieg_why.proofs.starts.starts_of.Given as goal
 
 abbrev pub invariant-loop-p : goal.invariant-loop-p

@@ -1,9 +1,6 @@
 use Rattle.std.proofs.Common.{◌+◌, List, length, map, sym, subst}
-use Rattle.krieg_sheet.specs.Sheets.{SheetState}
-use Rattle.krieg_why.specs.Explained.{AreShown}
-use Rattle.krieg_why.specs.Tales.{begun}
-use Rattle.krieg_why.specs.Links.{tales_of}
-use Rattle.krieg_why.specs.declared.links.Link.{Link}
+use Rattle.krieg_sheet.proofs.Common.{SheetState}
+use Rattle.krieg_why.proofs.Common.{AreShown, begun, tales_of, Link}
 use Rattle.krieg_why.proofs.Found.{all_found, numbers_below, answer, as_told}
 use Rattle.krieg_why.proofs.why_possible.games_of.Goals as goal
 

@@ -1,6 +1,5 @@
 use Rattle.std.proofs.Common.{rules, map}
-use Rattle.krieg_why.specs.Links.{tales_of}
-use Rattle.krieg_why.specs.Tales.{begun}
+use Rattle.krieg_why.proofs.Common.{tales_of, begun}
 use Rattle.krieg_why.proofs.Lines.{lines_more}
 use Rattle.krieg_why.proofs.why_possible.tell_lines.Goals as goal
 

@@ -1,6 +1,5 @@
 use Rattle.std.proofs.Common.{◌≡◌, map, take}
-use Rattle.krieg_why.specs.Links.{AreKept, tales_of}
-use Rattle.krieg_why.specs.Tales.{begun, tell_all}
+use Rattle.krieg_why.proofs.Common.{AreKept, tales_of, begun, tell_all}
 use Rattle.krieg_why.proofs.why_possible.tell_lines.Given as goal
 
 abbrev pub invariant-loop-line : goal.invariant-loop-line

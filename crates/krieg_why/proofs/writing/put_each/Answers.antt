@@ -1,7 +1,7 @@
 use Rattle.std.proofs.Common.{rules, ◌∙◌, ap, map, refl}
 use Rattle.std.proofs.lemmas.Option.{slice_get-map, slice_get_read}
 use Rattle.std.specs.Prelude.{option_map}
-use Rattle.krieg_why.specs.Explained.{state_of}
+use Rattle.krieg_why.proofs.Common.{state_of}
 use Rattle.krieg_why.proofs.GivenGames.{written_more}
 use Rattle.krieg_why.proofs.writing.put_each.Goals as goal
 

@@ -1,4 +1,4 @@
-use Rattle.krieg_why.specs.Explained.{state_of}
+use Rattle.krieg_why.proofs.Common.{state_of}
 use Rattle.krieg_why.proofs.GivenGames.{written_more}
 use Rattle.krieg_why.proofs.writing.put_each_of.Goals as goal
 

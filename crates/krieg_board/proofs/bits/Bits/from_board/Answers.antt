@@ -1,6 +1,6 @@
 use Rattle.std.proofs.Common.{◌∙◌, sym, ap, subst, arith, rules, ◌+◌, set}
 use Rattle.std.specs.Prelude.{is_some}
-use Rattle.krieg_board.specs.Board.{Board}
+use Rattle.krieg_board.proofs.Common.{Board}
 use Rattle.krieg_board.proofs.Copying.{Copied, copied_start, copied_write, copied_skip, copied_all}
 use Rattle.krieg_board.proofs.bits.Bits.from_board.Goals as goal
 use Rattle.krieg_board.proofs.bits.Bits.from_board.Goals.{in-Some, in_default}

@@ -1,5 +1,5 @@
 use Rattle.std.proofs.Common.{◌∙◌, sym, ap}
-use Rattle.krieg_board.specs.Board.{man_at, is_of}
+use Rattle.krieg_board.proofs.Common.{man_at, is_of}
 use Rattle.krieg_board.proofs.BoardSets.{shows}
 use Rattle.krieg_board.proofs.bits.Bits.men_of.Goals as goal
 

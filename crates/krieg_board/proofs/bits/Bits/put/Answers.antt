@@ -1,7 +1,7 @@
 use Rattle.std.proofs.Common.{◌≡◌, ◌∙◌, ap, sym, subst, length, set}
 use Rattle.std.specs.Prelude.{Some}
 use Rattle.std.proofs.Math.ListN.{length-set}
-use Rattle.krieg_board.specs.Boards.{Show, AreExact, board_of}
+use Rattle.krieg_board.proofs.Common.{Show, AreExact, board_of}
 use Rattle.krieg_board.proofs.BoardSets.{shows}
 use Rattle.krieg_board.proofs.Writing.{shown, shown_board, length_board_of}
 use Rattle.krieg_board.proofs.Joining.{sided, kinded, joined, Puts, joined_shown, joined_small}

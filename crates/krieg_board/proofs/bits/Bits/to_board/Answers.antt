@@ -1,5 +1,5 @@
 use Rattle.std.proofs.Common.{ap, sym, subst, arith, length, set, ◌+◌, ◌∙◌}
-use Rattle.krieg_board.specs.Boards.{empty_board}
+use Rattle.krieg_board.proofs.Common.{empty_board}
 use Rattle.krieg_board.proofs.BoardSets.{shows}
 use Rattle.krieg_board.proofs.Writing.{man_on_shown, length_board_of}
 use Rattle.krieg_board.proofs.Copying.{Copied, copied_start, copied_write, copied_all}

@@ -1,10 +1,7 @@
 use Rattle.std.proofs.Common.{◌∙◌, ◌≡◌, ap, sym, length, set, cond, ◌==◌}
 use Rattle.std.proofs.Math.ListN.{length-set}
-use Rattle.krieg_board.specs.declared.men.Side.TheVariants.{White, Black}
-use Rattle.krieg_board.specs.declared.men.Kind.TheVariants.{Pawn, Knight, Bishop, Rook, Queen, King}
-use Rattle.krieg_board.specs.Board.{is_of}
-use Rattle.krieg_board.specs.Sets.{has}
-use Rattle.krieg_board.specs.Boards.{is_kind, Show}
+use Rattle.krieg_board.proofs.Common.{White, Black, Pawn, King, is_of, has, is_kind, Show}
+use Rattle.krieg_board.specs.declared.men.Kind.TheVariants.{Knight, Bishop, Rook, Queen}
 use Rattle.krieg_board.proofs.BoardSets.{shows}
 use Rattle.krieg_board.proofs.Writing.{Small, shown, shown_board, write_one, length_board_of}
 use Rattle.krieg_board.proofs.bits.Bits.with.Goals as goal

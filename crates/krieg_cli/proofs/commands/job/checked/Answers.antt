@@ -1,13 +1,9 @@
 use Rattle.std.proofs.Common.{List, Err, sym, ap, subst, ◌∙◌}
 use Rattle.std.proofs.lemmas.Result.{err_from_is_err_and}
-use Rattle.krieg_board.specs.Pos.{Pos}
-use Rattle.krieg_board.specs.declared.men.Side.TheVariants.{White}
-use Rattle.krieg_words.specs.declared.dialects.Dialect.TheVariants.{Wild16}
-use Rattle.krieg_plan.specs.Plans.{plan_of}
-use Rattle.krieg_plan.specs.Listed.{IsOneTurn}
-use Rattle.krieg_cli.specs.Parts.{Decides}
-use Rattle.krieg_cli.specs.Solve.{file_of}
-use Rattle.krieg_cli.specs.Job.{Plans, found_lines}
+use Rattle.krieg_board.proofs.Common.{Pos, White}
+use Rattle.krieg_words.proofs.Common.{Wild16}
+use Rattle.krieg_plan.proofs.Common.{plan_of, IsOneTurn}
+use Rattle.krieg_cli.proofs.Common.{Decides, file_of, Plans, found_lines}
 use Rattle.krieg_cli.proofs.Jobs.{one_turn_among, plan_found, check_stopped}
 use Rattle.krieg_cli.proofs.commands.job.checked.Goals as goal
 

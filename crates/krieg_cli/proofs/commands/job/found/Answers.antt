@@ -1,15 +1,12 @@
 use Rattle.std.proofs.Common.{ℕ, List, Err, sym, ap, subst, ◌∙◌}
 use Rattle.std.proofs.lemmas.Result.{err_from_is_err_and}
-use Rattle.krieg_board.specs.declared.men.Side.TheVariants.{White}
-use Rattle.krieg_board.specs.declared.limits.TheConstants.{MOST_UNITS}
-use Rattle.krieg_words.specs.declared.dialects.Dialect.TheVariants.{Wild16}
-use Rattle.krieg_cli.specs.Parts.{Decides}
-use Rattle.krieg_cli.specs.Job.{Plans, found_lines}
+use Rattle.krieg_board.proofs.Common.{White, MOST_UNITS}
+use Rattle.krieg_words.proofs.Common.{Wild16}
+use Rattle.krieg_cli.proofs.Common.{Decides, Plans, found_lines, JOB_MOVES}
 use Rattle.krieg_cli.proofs.BestFiles.{one_turn_of}
 use Rattle.krieg_cli.proofs.Jobs.{search_stopped}
 use Rattle.krieg_cli.proofs.Searching.{stop_told}
 use Rattle.krieg_cli.proofs.commands.job.found.Goals as goal
-use Rattle.krieg_cli.specs.declared.commands.job.TheConstants.{JOB_MOVES}
 
 pub solve-requires-clause-turn : goal.solve-requires-clause-turn
 solve-requires-clause-turn c = one_turn_of White White c.args.set.now c.requires

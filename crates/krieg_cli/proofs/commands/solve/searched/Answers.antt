@@ -1,6 +1,6 @@
 use Rattle.std.proofs.Common.{Vec, Global, ℕ, Err, sym, ap, subst, ◌∙◌}
 use Rattle.std.proofs.lemmas.Result.{err_from_is_err_and}
-use Rattle.krieg_cli.specs.Parts.{Decides, SearchedBy}
+use Rattle.krieg_cli.proofs.Common.{Decides, SearchedBy}
 use Rattle.krieg_cli.proofs.BestFiles.{one_turn_of}
 use Rattle.krieg_cli.proofs.Searching.{stop_told_by, answer_told_by}
 use Rattle.krieg_cli.proofs.commands.solve.searched.Goals as goal

@@ -1,6 +1,6 @@
 use Rattle.std.proofs.Common.{sym, ◌∙◌, arith}
-use Rattle.krieg_sheet.specs.Turns.{is_over}
-use Rattle.krieg_cli.specs.Parts.{SearchedBy}
+use Rattle.krieg_sheet.proofs.Common.{is_over}
+use Rattle.krieg_cli.proofs.Common.{SearchedBy}
 use Rattle.krieg_cli.proofs.Asking.{given, asked}
 use Rattle.krieg_cli.proofs.Searching.{few_possible, later}
 use Rattle.krieg_cli.proofs.commands.solve.solved.Goals as goal

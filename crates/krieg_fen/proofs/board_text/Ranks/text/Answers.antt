@@ -1,6 +1,6 @@
 use Rattle.std.proofs.Common.{◌≡◌, ◌≤◌, ◌-◌, ◌∷◌, ◌++◌, [], length, ap, ◌∙◌, arith, rules}
 use Rattle.std.proofs.lemmas.List.{get_or_read, length-append}
-use Rattle.krieg_fen.specs.FenText.{rank_text, rank_at}
+use Rattle.krieg_fen.proofs.Common.{rank_text, rank_at}
 use Rattle.krieg_fen.proofs.BoardWriting.{upper_step}
 use Rattle.krieg_fen.proofs.board_text.Ranks.text.Goals as goal
 

@@ -1,5 +1,5 @@
 use Rattle.std.proofs.Common.{◌≡◌, ◌≤◌, ◌-◌, ◌*◌, ◌++◌, length}
-use Rattle.krieg_fen.specs.FenText.{ranks_text, board_text}
+use Rattle.krieg_fen.proofs.Common.{ranks_text, board_text}
 use Rattle.krieg_fen.proofs.board_text.Ranks.text.Given as goal
 
 abbrev pub invariant-loop-rank : goal.invariant-loop-rank

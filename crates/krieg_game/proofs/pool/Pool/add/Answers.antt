@@ -1,7 +1,6 @@
 use Rattle.std.proofs.Common.{◌∙◌, ap}
-use Rattle.krieg_words.specs.ToldWords.{told}
-use Rattle.krieg_game.specs.Outcomes.{KeyedPosition}
-use Rattle.krieg_game.specs.Chess.{outcome}
+use Rattle.krieg_words.proofs.Common.{told}
+use Rattle.krieg_game.proofs.Common.{KeyedPosition, outcome}
 use Rattle.krieg_game.proofs.Pools.{holds_one}
 use Rattle.krieg_game.proofs.pool.Pool.add.Goals as goal
 

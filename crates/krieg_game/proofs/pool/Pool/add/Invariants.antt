@@ -1,6 +1,5 @@
 use Rattle.std.proofs.Common.{◌++◌, map, take}
-use Rattle.krieg_game.specs.Chess.{outcome}
-use Rattle.krieg_game.specs.Buckets.{Holds}
+use Rattle.krieg_game.proofs.Common.{outcome, Holds}
 use Rattle.krieg_game.proofs.pool.Pool.add.Given as goal
 
 abbrev pub invariant-loop-r : goal.invariant-loop-r

@@ -1,7 +1,6 @@
 use Rattle.std.proofs.Common.{ap, ◌∙◌, rules, ◌≡◌}
 use Rattle.std.proofs.lemmas.Result.{IfOk-weaker}
-use Rattle.krieg_game.specs.Classes.{classes_in}
-use Rattle.krieg_game.specs.Buckets.{outcomes_in}
+use Rattle.krieg_game.proofs.Common.{classes_in, outcomes_in}
 use Rattle.krieg_game.proofs.Pools.{held_classes}
 use Rattle.krieg_game.proofs.Buckets.{bucket_classes}
 use Rattle.krieg_game.proofs.pool.Pool.into_classes.Goals as goal

@@ -1,5 +1,5 @@
 use Rattle.std.proofs.Common.{◌≡◌, sym, subst, ◌∙◌}
-use Rattle.krieg_pack.specs.Members.{IsAscending, IsSetOf, set_of}
+use Rattle.krieg_pack.proofs.Common.{IsAscending, IsSetOf, set_of}
 use Rattle.krieg_pack.proofs.PositionSets.{set_ascending, set_is}
 use Rattle.krieg_pack.proofs.belief.Belief.from_packed.Goals as goal
 

@@ -1,8 +1,7 @@
 use Rattle.std.proofs.Common.{◌≡◌, ◌+◌, ◌*◌, ◌++◌, ◌∙◌, arith, length, map, take, drop}
 use Rattle.std.specs.Prelude.{slice_set}
 use Rattle.std.proofs.lemmas.List.{length-set, drop-set-lt}
-use Rattle.krieg_pack.specs.Codes.{man_code}
-use Rattle.krieg_pack.specs.Bytes.{paired}
+use Rattle.krieg_pack.proofs.Common.{man_code, paired}
 use Rattle.krieg_pack.proofs.Unpacking.{stand}
 use Rattle.krieg_pack.proofs.ByteLemmas.{pair_step, bytes_end}
 use Rattle.krieg_pack.proofs.packed.Packed.bytes.Goals as goal

@@ -1,6 +1,5 @@
 use Rattle.std.proofs.Common.{◌≡◌, ◌*◌, ◌++◌, map, take, drop, length}
-use Rattle.krieg_pack.specs.Codes.{man_code}
-use Rattle.krieg_pack.specs.Bytes.{paired}
+use Rattle.krieg_pack.proofs.Common.{man_code, paired}
 use Rattle.krieg_pack.proofs.packed.Packed.bytes.Given as goal
 
 abbrev pub invariant-loop-i : goal.invariant-loop-i

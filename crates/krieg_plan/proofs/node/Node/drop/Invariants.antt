@@ -1,4 +1,4 @@
-use Rattle.krieg_plan.specs.Nodes.{tree_of}
+use Rattle.krieg_plan.proofs.Common.{tree_of}
 use Rattle.krieg_plan.proofs.Dropping.{weight}
 use Rattle.krieg_plan.proofs.node.Node.drop.Given as goal
 

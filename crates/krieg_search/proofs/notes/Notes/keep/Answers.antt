@@ -1,9 +1,7 @@
 use Rattle.std.proofs.Common.{◌+◌, ◌≤◌, length, Option, sym, ap, subst, arith, Vec}
 use Rattle.std.specs.Prelude.{IfSome}
 use Rattle.std.specs.declared.alloc.Global.{Global}
-use Rattle.krieg_search.specs.declared.notes.Asked.{Asked}
-use Rattle.krieg_search.specs.declared.notes.Note.{Note}
-use Rattle.krieg_search.specs.Notes.{Rows, Noted, AreNotes, IsRow, items_of, notes_in}
+use Rattle.krieg_search.proofs.Common.{Asked, Note, Rows, Noted, AreNotes, IsRow, items_of, notes_in}
 use Rattle.krieg_search.proofs.Noted.{AreRows, kept_row, kept_few}
 use Rattle.krieg_search.proofs.notes.Notes.keep.Goals as goal
 

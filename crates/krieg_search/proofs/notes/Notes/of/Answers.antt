@@ -1,6 +1,5 @@
 use Rattle.std.proofs.Common.{List, sym, subst}
-use Rattle.krieg_search.specs.declared.notes.Note.{Note}
-use Rattle.krieg_search.specs.Notes.{IsRow, AreNotes}
+use Rattle.krieg_search.proofs.Common.{Note, IsRow, AreNotes}
 use Rattle.krieg_search.proofs.Noted.{found_row}
 use Rattle.krieg_search.proofs.notes.Notes.of.Goals as goal
 

@@ -1,16 +1,12 @@
 use Rattle.std.proofs.Common.{◌≡◌, ◌≤◌, length, map, find, List, Some, None, refl, sym, subst, ap, ◌∙◌, arith}
 use Rattle.std.proofs.lemmas.List.{length-map}
 use Rattle.std.specs.Vec.Iter.{into_iter_items}
-use Rattle.krieg_board.specs.Pos.{Pos}
+use Rattle.krieg_board.proofs.Common.{Pos}
 use Rattle.krieg_theory.specs.Split.{tries as tries_of}
-use Rattle.krieg_theory.specs.Can.{can}
-use Rattle.krieg_game.specs.Chess.{chess}
-use Rattle.krieg_game.specs.Classes.{class_pair}
-use Rattle.krieg_table.specs.Interned.{set_at}
-use Rattle.krieg_table.specs.declared.known.Known.TheVariants.{Wins, Loses}
-use Rattle.krieg_search.specs.Tried.{move_of}
-use Rattle.krieg_search.specs.Searched.{sets_of}
-use Rattle.krieg_search.specs.Notes.{items_of}
+use Rattle.krieg_theory.proofs.Common.{can}
+use Rattle.krieg_game.proofs.Common.{chess, class_pair}
+use Rattle.krieg_table.proofs.Common.{set_at, Wins, Loses}
+use Rattle.krieg_search.proofs.Common.{move_of, sets_of, items_of}
 use Rattle.krieg_search.proofs.Searching.{ready_from, searched_number, stopped}
 use Rattle.krieg_search.proofs.Noted.{more_notes, no_notes, one_noted, all_noted}
 use Rattle.krieg_search.proofs.Blocked.{is_lost, first_here, first_later}

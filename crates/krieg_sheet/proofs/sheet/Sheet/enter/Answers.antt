@@ -1,8 +1,6 @@
 use Rattle.std.proofs.Common.{◌≡◌, true, sym, subst}
-use Rattle.krieg_words.specs.Line.{LineFits}
-use Rattle.krieg_sheet.specs.Sheets.{SheetState}
-use Rattle.krieg_sheet.specs.Turns.{is_in_place}
-use Rattle.krieg_sheet.specs.Places.{IsTold}
+use Rattle.krieg_words.proofs.Common.{LineFits}
+use Rattle.krieg_sheet.proofs.Common.{SheetState, is_in_place, IsTold}
 use Rattle.krieg_sheet.proofs.Entering.{kept_more}
 use Rattle.krieg_sheet.proofs.sheet.Sheet.enter.Goals as goal
 

@@ -1,5 +1,5 @@
 use Rattle.std.proofs.Common.{◌<◌, length, sym, subst}
-use Rattle.krieg_table.specs.Interned.{Interned}
+use Rattle.krieg_table.proofs.Common.{Interned}
 use Rattle.krieg_table.proofs.Calls.{results_at, rows_put, table_put, noted_put}
 use Rattle.krieg_table.proofs.table.Table.note.Goals as goal
 

@@ -1,9 +1,7 @@
 use Rattle.std.proofs.Common.{◌≡◌, ◌<◌, length, ap, sym, subst, ◌∙◌, option_map}
-use Rattle.krieg_pack.specs.Order.{position_lt}
-use Rattle.krieg_accounts.specs.Stored.{stored}
-use Rattle.krieg_table.specs.Results.{Results, known_for}
-use Rattle.krieg_table.specs.Interned.{Interned, set_at}
-use Rattle.krieg_table.specs.Entries.{try_of, entries}
+use Rattle.krieg_pack.proofs.Common.{position_lt}
+use Rattle.krieg_accounts.proofs.Common.{stored}
+use Rattle.krieg_table.proofs.Common.{Results, known_for, Interned, set_at, try_of, entries}
 use Rattle.krieg_table.proofs.Calls.{results_at}
 use Rattle.krieg_table.proofs.Noting.{known_is}
 use Rattle.krieg_table.proofs.table.Table.result.Goals as goal

@@ -1,5 +1,5 @@
 use Rattle.std.proofs.Common.{rules, ◌≡◌, ◌+◌, Ok}
-use Rattle.krieg_text.specs.Reading.{place, line_at}
+use Rattle.krieg_text.proofs.Common.{place, line_at}
 use Rattle.krieg_text.proofs.ReadingLemmas.{passed_line}
 use Rattle.krieg_text.proofs.cursor.Cursor.line.Goals as goal
 

@@ -1,5 +1,5 @@
 use Rattle.std.proofs.Common.{◌≡◌, map, take}
-use Rattle.krieg_why.specs.Explained.{state_of}
+use Rattle.krieg_why.proofs.Common.{state_of}
 use Rattle.krieg_why.proofs.games.Games.all.Given as goal
 
 abbrev pub invariant-loop-i : goal.invariant-loop-i

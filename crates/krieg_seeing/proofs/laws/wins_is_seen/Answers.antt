@@ -1,5 +1,0 @@
-use Rattle.krieg_seeing.proofs.Seen.{wins_is_seen}
-use Rattle.krieg_seeing.proofs.laws.wins_is_seen.Goals as goal
-
-pub returns : goal.returns
-returns g c = wins_is_seen g.G.HiddenGame.game g.G.HiddenGame.lawful

@@ -1,0 +1,5 @@
+use Rattle.krieg_theory.proofs.Seen.{wins_is_seen}
+use Rattle.krieg_theory.proofs.seen_laws.wins_is_seen.Goals as goal
+
+pub returns : goal.returns
+returns g c = wins_is_seen g.G.HiddenGame.game g.G.HiddenGame.lawful
