@@ -1,10 +1,8 @@
 -- A table with one entry more at its end.
 use Rattle.std.proofs.Common.{◌≡◌, ℕ, ◌+◌, Bool, true, false, cond, ◌⊎◌, [], ◌∷◌, ◌++◌, Option, Some, None, refl, sym, inl, inr, ◌∙◌, arith}
 use Rattle.std.proofs.lemmas.Bool.{cases_Bool, cond-true, cond-false, and_parts, and_from, eqb-true, eq-eqb}
-use Rattle.krieg_theory.proofs.Common.{IsOrder}
-use Rattle.krieg_costs.proofs.Common.{total}
+use Rattle.krieg_accounts.proofs.Common.{IsOrder, total, PairOf, Entries, same_entry, stored, pairs, AddsResult}
 use Rattle.krieg_costs.proofs.Pairs.{same_list_eq, same_list_refl}
-use Rattle.krieg_accounts.proofs.Common.{PairOf, Entries, same_entry, stored, pairs, AddsResult}
 
 module _ {P : Type 0} (lt : P → P → Bool) (O : IsOrder lt) where
   pub entry_is : (a b : PairOf P) → same_entry lt a b ≡ true → a ≡ b

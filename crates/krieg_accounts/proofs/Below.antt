@@ -2,12 +2,10 @@
 use Rattle.std.proofs.Common.{◌≡◌, ℕ, ◌+◌, ◌≤◌, ◌<◌, Bool, true, false, ◌&&◌, ◌||◌, nat_lt, ◌⊎◌, inl, inr, List, [], ◌∷◌, length, filter, refl, subst, sym, ◌∙◌, arith}
 use Rattle.std.specs.Prelude.{◌==◌}
 use Rattle.std.proofs.lemmas.Bool.{or_cases, or_left, or_right, and_from, and_parts, lt-ltb, ltb-true, eq-eqb, eqb-true, both_ways, false_from_ne_true}
-use Rattle.krieg_theory.proofs.Common.{In, Game, IsGame, refused, legal_in_some}
+use Rattle.krieg_accounts.proofs.Common.{In, Game, IsGame, refused, legal_in_some, Pair, HasParts, LeadsOn, reach, CoversPair, CoversTries}
 use Rattle.krieg_theory.proofs.Lists.{in_filter, filter_in}
 use Rattle.krieg_theory.proofs.Steps.{refused_lt}
-use Rattle.krieg_costs.proofs.Common.{Pair, HasParts, LeadsOn, reach}
 use Rattle.krieg_costs.proofs.Reached.{reach_leads, reach_all}
-use Rattle.krieg_accounts.proofs.Common.{CoversPair, CoversTries}
 
 module _ (G : Game) (L : IsGame G) where
   -- q has a smaller number than j, or the same and fewer members than n

@@ -1,12 +1,10 @@
 -- The canonical node of a set that is stored as won, by what is stored of its parts.
 use Rattle.std.proofs.Common.{◌≡◌, ℕ, zero, suc, ◌≤◌, ◌<◌, Bool, true, false, cond, ◌⊎◌, List, [], ◌∷◌, find, Some, None, refl, sym, ap, subst, inl, inr, ◌∙◌, arith}
 use Rattle.std.proofs.lemmas.Bool.{cases_Bool, cond-true, cond-false}
-use Rattle.krieg_theory.proofs.Common.{In, is_nil, Game, IsGame, Try, Just, refused, tries, keys, class, can, begins, first_try, edges_of, node_of, canon}
+use Rattle.krieg_accounts.proofs.Common.{In, is_nil, Game, IsGame, Try, Just, refused, tries, keys, class, can, begins, first_try, edges_of, node_of, canon, total, up_to, made, floor_price, StoredIsCanon, pairs, Table, known, StoredWon, IsSound, charged}
 use Rattle.krieg_theory.proofs.Least.{least_le}
 use Rattle.krieg_theory.proofs.Unique.{canon_upto, canon_step, part}
-use Rattle.krieg_costs.proofs.Common.{total, up_to, made, floor_price}
 use Rattle.krieg_costs.proofs.WonSets.{first_is}
-use Rattle.krieg_accounts.proofs.Common.{StoredIsCanon, pairs, Table, known, StoredWon, IsSound, charged}
 use Rattle.krieg_accounts.proofs.Tables.{known_in, result_can, wins_least}
 use Rattle.krieg_accounts.proofs.TryOrder as tried
 

@@ -1,9 +1,7 @@
 -- What a list covers that covers more.
 use Rattle.std.proofs.Common.{◌≡◌, ℕ, suc, ◌≤◌, ◌<◌, true, false, List, subst, arith}
-use Rattle.krieg_theory.proofs.Common.{In, is_nil, Game, refused, legal_in_some, keys, class}
+use Rattle.krieg_accounts.proofs.Common.{In, is_nil, Game, refused, legal_in_some, keys, class, Pair, CoversSet, CoversPair, CoversTry, CoversTries, CoversSets, classes}
 use Rattle.krieg_theory.proofs.Lists.{map_in}
-use Rattle.krieg_costs.proofs.Common.{Pair}
-use Rattle.krieg_accounts.proofs.Common.{CoversSet, CoversPair, CoversTry, CoversTries, CoversSets, classes}
 
 module _ (G : Game) where
   -- of all tries one

@@ -1,13 +1,11 @@
 -- A table that backs its results keeps the rules of backing, so it was paid for with at least the floor.
 use Rattle.std.proofs.Common.{refl, ◌≡◌, ℕ, suc, true, false, List, Option, Some, None, sym, subst, ◌∙◌, arith}
 use Rattle.std.specs.Prelude.{IfSome}
-use Rattle.krieg_theory.proofs.Common.{In, Game, IsGame, refused, legal_in_some, class, can, first_try, least, Outset, IsOutset, opening_set}
+use Rattle.krieg_accounts.proofs.Common.{In, Game, IsGame, refused, legal_in_some, class, can, first_try, least, Outset, IsOutset, opening_set, Pair, block_pair, first_lost, HasWon, IsBacking, pairs, Table, StoredLost, StoredWon, IsEarlier, IsSound, AnswersPlan, StoredIsBacking, FloorIsCharged}
 use Rattle.krieg_theory.proofs.First.{first_none}
 use Rattle.krieg_theory.proofs.Planned.{can_plan_at}
-use Rattle.krieg_costs.proofs.Common.{Pair, block_pair, first_lost, HasWon, IsBacking}
 use Rattle.krieg_costs.proofs.WonSets.{first_is}
 use Rattle.krieg_costs.proofs.Backed.{floor_within}
-use Rattle.krieg_accounts.proofs.Common.{pairs, Table, StoredLost, StoredWon, IsEarlier, IsSound, AnswersPlan, StoredIsBacking, FloorIsCharged}
 use Rattle.krieg_accounts.proofs.Tables.{known_in, in_known, wins_least}
 
 module _ (G : Game) (L : IsGame G) where

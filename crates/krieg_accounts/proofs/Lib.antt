@@ -1,3 +1,4 @@
+mod Common
 pub mod Tables
 pub mod Appended
 pub mod Below
@@ -13,4 +14,3 @@ pub mod Canonical
 pub mod Searches
 pub mod ToyTables
 pub mod ToySearch
-pub mod Common

@@ -1,9 +1,7 @@
 -- What is owed over a stretch: of a whole list, and of the pairs below one of its pairs.
 use Rattle.std.proofs.Common.{◌≡◌, ℕ, ◌+◌, ◌≤◌, Bool, true, false, cond, ◌⊎◌, inl, inr, List, [], ◌∷◌, length, Option, Some, None, is_some, refl, ap, ◌∙◌, arith}
 use Rattle.std.proofs.lemmas.Bool.{cases_Bool, both_ways, cond-true, cond-false}
-use Rattle.krieg_theory.proofs.Common.{In, Game, IsGame}
-use Rattle.krieg_costs.proofs.Common.{Pair, price}
-use Rattle.krieg_accounts.proofs.Common.{Table, known, owed, all_owed}
+use Rattle.krieg_accounts.proofs.Common.{In, Game, IsGame, Pair, price, Table, known, owed, all_owed}
 use Rattle.krieg_accounts.proofs.Below.{before, below, not_before_itself}
 
 module _ (G : Game) (L : IsGame G) where

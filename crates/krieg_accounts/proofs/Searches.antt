@@ -3,11 +3,9 @@ use Rattle.std.proofs.Common.{◌≡◌, ℕ, ◌+◌, ◌≤◌, ◌<◌, Bool,
 use Rattle.std.specs.Prelude.{IfSome, option_map}
 use Rattle.std.specs.List.{list_any}
 use Rattle.std.proofs.lemmas.Bool.{and_parts, cases_Bool}
-use Rattle.krieg_theory.proofs.Common.{In, Game, IsGame, can, Outset, IsOutset, openings, opening_set, is_over, can_plan}
+use Rattle.krieg_accounts.proofs.Common.{In, Game, IsGame, can, Outset, IsOutset, openings, opening_set, is_over, can_plan, Pair, total, once, price, reach_of, first_lost, StoredLost, IsSound, all_owed, CoversSets, opening_sets, SetsAnswerPlan, FloorIsTaken, FreshIsEnough, ShortIsBelowFresh}
 use Rattle.krieg_theory.proofs.Lists.{in_map, map_in}
-use Rattle.krieg_costs.proofs.Common.{Pair, total, once, price, reach_of, first_lost}
 use Rattle.krieg_costs.proofs.Reached.{fresh_is_reach}
-use Rattle.krieg_accounts.proofs.Common.{StoredLost, IsSound, all_owed, CoversSets, opening_sets, SetsAnswerPlan, FloorIsTaken, FreshIsEnough, ShortIsBelowFresh}
 use Rattle.krieg_accounts.proofs.Floors.{floor_is_charged}
 use Rattle.krieg_accounts.proofs.TryEnds.{find_map, none_fails}
 

@@ -3,9 +3,8 @@ use Rattle.std.proofs.Common.{◌≡◌, ℕ, suc, ◌+◌, ◌≤◌, ◌<◌, 
 use Rattle.std.specs.Prelude.{IfSome}
 use Rattle.std.specs.List.{list_all}
 use Rattle.std.proofs.lemmas.Bool.{both_ways, false_from_ne_true, not_from_true, not_from_false}
-use Rattle.krieg_theory.proofs.Common.{In, Game, can}
+use Rattle.krieg_accounts.proofs.Common.{In, Game, can, Table, StoredLost, StoredWon, AnswersSet, AnswersSets}
 use Rattle.krieg_theory.proofs.Lists.{all_at, all_from}
-use Rattle.krieg_accounts.proofs.Common.{Table, StoredLost, StoredWon, AnswersSet, AnswersSets}
 use Rattle.krieg_accounts.proofs.Stretches.{Kept, wins_kept}
 use Rattle.krieg_accounts.proofs.TryOrder.{find_here, take_more, in_all}
 

@@ -2,11 +2,9 @@
 use Rattle.std.proofs.Common.{Bool, ◌≡◌, ℕ, ◌+◌, ◌≤◌, ◌<◌, List, ◌++◌, length, Option, Some, None, is_some, ◌⊎◌, inl, inr, refl, sym, ap, subst, ◌∙◌, arith}
 use Rattle.std.specs.Prelude.{IfSome, true}
 use Rattle.std.proofs.lemmas.Bool.{both_ways}
-use Rattle.krieg_theory.proofs.Common.{In, Game, IsGame, refused, tries, class, begins, first_try}
+use Rattle.krieg_accounts.proofs.Common.{In, Game, IsGame, refused, tries, class, begins, first_try, Pair, made, price, block_pair, floor_price, AddsResult, Table, known, StoredLost, StoredWon, IsBacked, IsSound, StretchesJoin, NotedIsStretch, ShortOfPair, IsStretch, FallsShort, CoversPair, CoversTries, CoversSets}
 use Rattle.krieg_theory.proofs.Lists.{in_append_left, in_append_right}
-use Rattle.krieg_costs.proofs.Common.{Pair, made, price, block_pair, floor_price}
 use Rattle.krieg_costs.proofs.Totals.{total_up_to}
-use Rattle.krieg_accounts.proofs.Common.{AddsResult, Table, known, StoredLost, StoredWon, IsBacked, IsSound, StretchesJoin, NotedIsStretch, ShortOfPair, IsStretch, FallsShort, CoversPair, CoversTries, CoversSets}
 use Rattle.krieg_accounts.proofs.Below.{below, below_has, below_in, not_below_itself, some_list}
 use Rattle.krieg_accounts.proofs.Owed.{grows_kept, owed_over_at, owed_below_at}
 

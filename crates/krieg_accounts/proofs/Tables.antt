@@ -1,12 +1,10 @@
 -- Stored pairs, and what right results say.
 use Rattle.std.proofs.Common.{Bool, ◌≡◌, ℕ, zero, suc, ◌≤◌, ◌<◌, true, false, ◌⊎◌, List, [], ◌∷◌, Option, Some, None, is_some, refl, sym, ap, subst, inl, inr, ◌∙◌, arith, eq-or-lt_of_le}
 use Rattle.std.proofs.lemmas.Bool.{cases_Bool, cond-true, cond-false, both_ways}
-use Rattle.krieg_theory.proofs.Common.{In, Game, IsGame, can, least}
+use Rattle.krieg_accounts.proofs.Common.{In, Game, IsGame, can, least, Pair, same_pair, pairs, ResultIsCan, WonIsLeast, Table, known, StoredWon, IsSound}
 use Rattle.krieg_theory.proofs.First.{first_can}
 use Rattle.krieg_theory.proofs.Least.{can_least, least_least}
-use Rattle.krieg_costs.proofs.Common.{Pair, same_pair}
 use Rattle.krieg_costs.proofs.Pairs.{same_pair_eq, same_pair_refl}
-use Rattle.krieg_accounts.proofs.Common.{pairs, ResultIsCan, WonIsLeast, Table, known, StoredWon, IsSound}
 
 module _ (G : Game) (L : IsGame G) where
   -- what is stored is one of the pairs

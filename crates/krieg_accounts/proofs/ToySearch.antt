@@ -1,11 +1,9 @@
 -- The search of the set of 2 in the small game, as one stretch, and where units fall short.
 use Rattle.std.proofs.Common.{◌≡◌, ℕ, false, ◌⊎◌, inl, inr, List, [], ◌∷◌, Option, Some, None, refl, arith}
-use Rattle.krieg_theory.proofs.Common.{In, toy, lawful}
-use Rattle.krieg_costs.proofs.Common.{Pair, total, once, price, reach}
+use Rattle.krieg_accounts.proofs.Common.{In, toy, lawful, Pair, total, once, price, reach, known, all_owed, IsStretch, FallsShort, CoversPair, CoversTries, CoversSet, won_within, of_two}
 use Rattle.krieg_costs.proofs.Pairs.{once_is, once_in}
 use Rattle.krieg_costs.proofs.Reached.{reach_all, reach_leads, reach_inside}
 use Rattle.krieg_costs.proofs.Totals.{total_within}
-use Rattle.krieg_accounts.proofs.Common.{known, all_owed, IsStretch, FallsShort, CoversPair, CoversTries, CoversSet, won_within, of_two}
 use Rattle.krieg_accounts.proofs.Stretches.{stretch_of_split, stretch_then, stretch_for}
 use Rattle.krieg_accounts.proofs.Searches.{owed_empty}
 use Rattle.krieg_accounts.proofs.ToyTables.{apart, noted, two_1, two_2, two_3, two_first, two_second, two_third, two_backed}

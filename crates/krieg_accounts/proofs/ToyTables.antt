@@ -3,11 +3,9 @@ use Rattle.std.proofs.Common.{◌≡◌, ℕ, zero, suc, ◌+◌, ◌<◌, true,
 use Rattle.std.specs.Prelude.{◌==◌, IfSome, ⊤}
 use Rattle.std.specs.List.{list_all}
 use Rattle.std.proofs.lemmas.Bool.{both_ways, and_parts, eq-eqb, not_from_true}
-use Rattle.krieg_theory.proofs.Common.{In, is_nil, refused, tries, keys, class, first_try, toy, lawful, nat_order}
+use Rattle.krieg_accounts.proofs.Common.{In, is_nil, refused, tries, keys, class, first_try, toy, lawful, nat_order, Pair, block_pair, floor_price, pairs, Table, known, StoredLost, StoredWon, IsEarlier, IsBacked, IsSound, IsStretch, CoversPair, CoversTries, LostBelow, lost_within, won_within, of_two, of_nought_and_five}
 use Rattle.std.specs.Prelude.{nat_lt}
-use Rattle.krieg_costs.proofs.Common.{Pair, block_pair, floor_price}
 use Rattle.krieg_costs.proofs.Costs.{legal_try}
-use Rattle.krieg_accounts.proofs.Common.{pairs, Table, known, StoredLost, StoredWon, IsEarlier, IsBacked, IsSound, IsStretch, CoversPair, CoversTries, LostBelow, lost_within, won_within, of_two, of_nought_and_five}
 use Rattle.krieg_accounts.proofs.Tables.{known_in}
 use Rattle.krieg_accounts.proofs.Appended.{appended}
 use Rattle.krieg_accounts.proofs.Stretches.{stretch_of_split, stretch_noted, noted_sound}

@@ -3,11 +3,9 @@ use Rattle.std.proofs.Common.{◌≡◌, ℕ, zero, suc, ◌<◌, Bool, true, fa
 use Rattle.std.specs.Prelude.{◌==◌, IfSome, option_map}
 use Rattle.std.specs.List.{list_all}
 use Rattle.std.proofs.lemmas.Bool.{cases_Bool, cond-true, cond-false, both_ways, and_parts, and_left, and_right, not_from_false, not_from_true}
-use Rattle.krieg_theory.proofs.Common.{In, is_nil, Game, IsGame, refused, legal_in_some, stale_in_some, keys, class, can, begins}
+use Rattle.krieg_accounts.proofs.Common.{In, is_nil, Game, IsGame, refused, legal_in_some, stale_in_some, keys, class, can, begins, Pair, Block, Lives, Stale, LostClass, LostRefused, NoBlock, lives_in_some, by_class, block, pair_of, block_pair, Table, StoredLost, StoredWon, classes, AnswersSet, AnswersTry, AnswersSets}
 use Rattle.krieg_theory.proofs.Lists.{in_map}
-use Rattle.krieg_costs.proofs.Common.{Pair, Block, Lives, Stale, LostClass, LostRefused, NoBlock, lives_in_some, by_class, block, pair_of, block_pair}
 use Rattle.krieg_costs.proofs.Blocks.{lives_by_key, found}
-use Rattle.krieg_accounts.proofs.Common.{Table, StoredLost, StoredWon, classes, AnswersSet, AnswersTry, AnswersSets}
 
 pub all_map : {X Y : Type 0} (f : X → Y) (p : Y → Bool) (xs : List X) → list_all p (map f xs) ≡ list_all (λ x. p (f x)) xs
 all_map f p [] = refl

@@ -1,10 +1,9 @@
 -- The tries of a set, one after another.
 use Rattle.std.proofs.Common.{◌≡◌, ℕ, zero, suc, ◌+◌, ◌≤◌, ◌<◌, Bool, true, false, cond, ◌⊎◌, List, [], ◌∷◌, length, filter, find, take, get_or, Some, None, refl, sym, ap, subst, inl, inr, ◌∙◌, arith}
 use Rattle.std.proofs.lemmas.Bool.{cases_Bool, cond-true, cond-false, both_ways, and_parts, false_from_ne_true}
-use Rattle.krieg_theory.proofs.Common.{In, Ascending, Game, IsGame, legal_in_some, tries, begins, first_try}
+use Rattle.krieg_accounts.proofs.Common.{In, Ascending, Game, IsGame, legal_in_some, tries, begins, first_try, total, up_to}
 use Rattle.krieg_theory.proofs.Lists.{filter_in}
 use Rattle.krieg_theory.proofs.Ascending.{asym}
-use Rattle.krieg_costs.proofs.Common.{total, up_to}
 use Rattle.krieg_costs.proofs.Costs.{legal_try}
 
 module _ {X : Type 0} (f : X → Bool) where

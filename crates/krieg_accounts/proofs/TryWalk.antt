@@ -1,10 +1,8 @@
 -- The tries of a set, one after another: what holds once some of them have failed, and what it is worth at the end.
 use Rattle.std.proofs.Common.{Bool, ◌≡◌, ℕ, suc, ◌+◌, ◌≤◌, ◌<◌, true, false, ◌⊎◌, inl, inr, List, length, take, get_or, find, Option, Some, None, refl, sym, ap, subst, ◌∙◌, arith}
 use Rattle.std.specs.Prelude.{IfSome}
-use Rattle.krieg_theory.proofs.Common.{In, is_nil, Game, IsGame, refused, legal_in_some, tries, keys, class, begins, first_try}
-use Rattle.krieg_costs.proofs.Common.{total, up_to, made, price, block_pair, floor_price}
+use Rattle.krieg_accounts.proofs.Common.{In, is_nil, Game, IsGame, refused, legal_in_some, tries, keys, class, begins, first_try, total, up_to, made, price, block_pair, floor_price, Table, StoredLost, StoredWon, IsBacked, LostBelow, AnswersTry}
 use Rattle.krieg_costs.proofs.Costs.{legal_try, try_legal}
-use Rattle.krieg_accounts.proofs.Common.{Table, StoredLost, StoredWon, IsBacked, LostBelow, AnswersTry}
 use Rattle.krieg_accounts.proofs.Stretches.{Kept, lost_kept}
 use Rattle.krieg_accounts.proofs.TryOrder.{find_here, find_none, up_to_here, up_to_none, get_in, take_more, total_more, total_take, in_all, first_is, earlier_tried}
 

@@ -1,2 +1,1 @@
 mod OtherWords
-pub mod Common

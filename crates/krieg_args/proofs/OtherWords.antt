@@ -1,7 +1,8 @@
 -- Words whose number is that of no command's form, and words that are not as many as those of `lead`.
 use Rattle.std.proofs.Common.{◌≡◌, ℕ, ◌<◌, ◌≤◌, List, [], ◌∷◌, length, refl, arith}
 use Rattle.std.specs.Prelude.{None, map}
-use Rattle.krieg_args.proofs.Common.{command_of, lead_files}
+use Rattle.krieg_args.specs.Command.{command_of}
+use Rattle.krieg_args.specs.Files.{lead_files}
 
 pub no_words : {X : Type 0} (f : X → List ℕ) (xs : List X) → length xs < 1 → None ≡ command_of (map f xs)
 no_words f [] below = refl

@@ -4,17 +4,12 @@ use Rattle.std.specs.Prelude.{⊤}
 use Rattle.std.specs.Ordering.{is_eq}
 use Rattle.std.specs.Cmp.{Equal-is}
 use Rattle.std.proofs.lemmas.Bool.{and_parts, and_from, not-true, cond-false, both_ways}
-use Rattle.krieg_board.proofs.Common.{is_same_side, Pos, Side, Move}
-use Rattle.krieg_moves.proofs.Common.{after, moves}
+use Rattle.krieg_belief.proofs.Common.{is_same_side, Pos, Side, Move, after, moves, Said, words_cmp, are_told, Dialect, Line, Opens, Illegal, Done, Heard, Early, Over, Gives, In, nexts, step, run}
 use Rattle.krieg_moves.proofs.Listed.{legal_listed, listed_legal}
-use Rattle.krieg_words.proofs.Common.{Said, words_cmp, are_told, Dialect, Line, Opens, Illegal, Done, Heard, Early, Over}
 use Rattle.krieg_words.proofs.OrderLaws.{words_cmp_equal, words_cmp_self}
-use Rattle.krieg_sheet.proofs.Common.{Gives}
-use Rattle.krieg_theory.proofs.Common.{In}
 use Rattle.krieg_theory.proofs.Lists.{in_filter, filter_in, in_map, map_in, in_flat, flat_in}
 use Rattle.krieg_pack.proofs.Membership.{contains_in, in_contains}
 use Rattle.krieg_pack.proofs.PositionSets.{in_set, set_in}
-use Rattle.krieg_belief.proofs.Common.{nexts, step, run}
 
 pub same_words : (v w : Said) → is_eq (words_cmp v w) ≡ true → v ≡ w
 same_words v w h = words_cmp_equal v w ((Equal-is (words_cmp v w)).0 h)

@@ -1,4 +1,4 @@
+mod Common
 pub mod HiddenGames
 pub mod Runs
 pub mod Prefixes
-pub mod Common

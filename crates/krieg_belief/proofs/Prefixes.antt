@@ -4,17 +4,11 @@ use Rattle.std.specs.Prelude.{IfOk, IfErr, OnOk, nat_le, if◌then◌else◌}
 use Rattle.std.proofs.lemmas.Bool.{and_parts}
 use Rattle.std.proofs.lemmas.Bool.Decides.{nat_tests}
 use Rattle.std.proofs.lemmas.List.{take_all}
-use Rattle.krieg_board.proofs.Common.{is_same_side, Pos, Side}
-use Rattle.krieg_words.proofs.Common.{Said, opening, told, Dialect, Line, Opens, Illegal, Done, Heard, Early, Over}
-use Rattle.krieg_fen.proofs.Common.{MOST_LISTED}
-use Rattle.krieg_sheet.proofs.Common.{SheetState, may_stand, turn_after, over_after, are_in_place, list_fault, differs, other_hand, Count, IsSheet, OpensWith}
+use Rattle.krieg_belief.proofs.Common.{is_same_side, Pos, Side, Said, opening, told, Dialect, Line, Opens, Illegal, Done, Heard, Early, Over, MOST_LISTED, SheetState, may_stand, turn_after, over_after, are_in_place, list_fault, differs, other_hand, Count, IsSheet, OpensWith, In, IsAscending, set_of, has_opening, nexts, run, after_opening, IsPossible, HaveOneHand, Within, prefix, list_line, line_of, IsFirstExcess, IsStop, AllWithin, stopped, IsLateStop, StepStop, BeliefStop}
 use Rattle.krieg_sheet.proofs.OneHand.{one_hand}
-use Rattle.krieg_theory.proofs.Common.{In}
 use Rattle.krieg_theory.proofs.Lists.{in_flat, flat_in}
-use Rattle.krieg_pack.proofs.Common.{IsAscending, set_of}
 use Rattle.krieg_pack.proofs.Membership.{contains_in, in_contains}
 use Rattle.krieg_pack.proofs.PositionSets.{set_ascending, in_set, set_in, same_members}
-use Rattle.krieg_belief.proofs.Common.{has_opening, nexts, run, after_opening, IsPossible, HaveOneHand, Within, prefix, list_line, line_of, IsFirstExcess, IsStop, AllWithin, stopped, IsLateStop, StepStop, BeliefStop}
 use Rattle.krieg_belief.specs.declared.steps.StepStop.TheVariants as steps
 use Rattle.krieg_belief.specs.declared.beliefs.BeliefStop.TheVariants as stops
 use Rattle.krieg_belief.proofs.HiddenGames.{same_words, words_same, in_cond, cond_in, IsEntry, AreEntries, run_has, has_run}

@@ -3,13 +3,10 @@ use Rattle.std.proofs.Common.{◌≡◌, ℕ, ◌+◌, ◌<◌, ◌≤◌, ◌�
 use Rattle.std.proofs.lemmas.List.{take_more, append-nil}
 use Rattle.std.proofs.lemmas.Grind.{flat_map-append}
 use Rattle.std.proofs.Math.Nat.{eq-or-lt_of_le}
-use Rattle.krieg_board.proofs.Common.{Pos, Side}
-use Rattle.krieg_words.proofs.Common.{Dialect, Line}
+use Rattle.krieg_belief.proofs.Common.{Pos, Side, Dialect, Line, IsAscending, set_of, nexts, step, run, stopped, IsLateStop, StepStop, BeliefStop}
 use Rattle.krieg_theory.proofs.Lists.{take_in, in_flat, flat_in}
-use Rattle.krieg_pack.proofs.Common.{IsAscending, set_of}
 use Rattle.krieg_pack.proofs.PositionSets.{set_ascending, set_part_le}
 use Rattle.krieg_moves.proofs.MoveLists.{moves_legal}
-use Rattle.krieg_belief.proofs.Common.{nexts, step, run, stopped, IsLateStop, StepStop, BeliefStop}
 use Rattle.krieg_belief.specs.declared.steps.StepStop.TheVariants as steps
 
 run_more : (d : Dialect) (who : Side) (ls : List Line) (l : Line) (ps : List Pos) → run d who (ls ++ l ∷ []) ps ≡ step d who l (run d who ls ps)

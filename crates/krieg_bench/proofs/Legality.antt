@@ -2,8 +2,9 @@
 use Rattle.std.proofs.Common.{◌≡◌, true}
 use Rattle.std.specs.List.{All}
 use Rattle.std.proofs.lemmas.List.Elements.{filter_passes}
-use Rattle.krieg_board.proofs.Common.{Pos}
-use Rattle.krieg_moves.proofs.Common.{is_legal, moves, all_moves}
+use Rattle.krieg_board.specs.Pos.{Pos}
+use Rattle.krieg_moves.specs.Legal.{is_legal}
+use Rattle.krieg_moves.specs.Moves.{moves, all_moves}
 
 pub listed : (p : Pos) → All (λ m. is_legal p m ≡ true) (moves p)
 unfolding moves

@@ -1,8 +1,7 @@
 -- The facts of a valid position one by one, and a position with these facts has no fault.
 use Rattle.std.proofs.Common.{◌≡◌, Bool, true, false, not, ◌&&◌, refl, cond, length}
 use Rattle.std.specs.Prelude.{Option, Some, None}
-use Rattle.krieg_board.proofs.Common.{White, Black, other, is_king_attacked, Pos, IsValid, first_fault, has_kings, has_pawns_inside, is_small, has_castles, has_mark}
-use Rattle.krieg_faults.specs.declared.position.BadPosition.{BadPosition}
+use Rattle.krieg_board.proofs.Common.{White, Black, BadPosition, other, is_king_attacked, Pos, IsValid, first_fault, has_kings, has_pawns_inside, is_small, has_castles, has_mark}
 use Rattle.krieg_faults.specs.declared.position.BadPosition.TheVariants as bad
 
 pub record Facts (p : Pos) : Type 0 where

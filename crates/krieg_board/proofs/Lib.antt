@@ -1,3 +1,4 @@
+mod Common
 pub mod SquareTests
 pub mod MenLemmas
 pub mod Facts
@@ -15,4 +16,3 @@ pub mod Ones
 pub mod Faults
 pub mod Searching
 pub mod Joining
-pub mod Common

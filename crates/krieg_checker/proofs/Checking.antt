@@ -2,18 +2,11 @@
 use Rattle.std.proofs.Common.{◌≡◌, ℕ, ◌+◌, ◌≤◌, Bool, true, false, not, ◌&&◌, cond, List, ◌∷◌, map, Option, None, refl, sym, ap, ◌∙◌, arith}
 use Rattle.std.specs.List.{list_all, list_any}
 use Rattle.std.proofs.Math.Bool.{and_assoc}
-use Rattle.krieg_board.proofs.Common.{Pos, Side}
-use Rattle.krieg_words.proofs.Common.{Dialect}
-use Rattle.krieg_pack.proofs.Common.{set_of, position_lt}
+use Rattle.krieg_checker.proofs.Common.{Pos, Side, Dialect, set_of, position_lt, as_set, Nothing, is_over, openings, opening_set, wins_root, mates, total, RootKey, chess, outset, class_pair, PlanTrees, first_root_in, first_cost, check_cost, other_cost, within, Tells, worse, all_won_other, heard_of, roots_won, roots_cost, IsStarted, Started, MOST_COUNTED}
 use Rattle.krieg_pack.proofs.PositionSets.{position_order, set_of_set}
-use Rattle.krieg_theory.proofs.Common.{as_set, Nothing, is_over, openings, opening_set, wins_root, mates}
-use Rattle.krieg_costs.proofs.Common.{total}
 use Rattle.krieg_costs.proofs.Totals.{total_agree}
-use Rattle.krieg_game.proofs.Common.{RootKey, chess, outset, class_pair}
 use Rattle.krieg_game.proofs.KeyLaws.{root_order}
-use Rattle.krieg_plan.proofs.Common.{PlanTrees, first_root_in}
 use Rattle.krieg_plan.proofs.WonRoots.{root_wins}
-use Rattle.krieg_checker.proofs.Common.{first_cost, check_cost, other_cost, within, Tells, worse, all_won_other, heard_of, roots_won, roots_cost, IsStarted, Started, MOST_COUNTED}
 use Rattle.krieg_checker.proofs.NodeTells.{worse_within}
 use Rattle.krieg_checker.proofs.Sets.{all_map, total_map, all_agree}
 use Rattle.krieg_checker.proofs.PlanTells.{mates_parted}

@@ -2,18 +2,12 @@
 use Rattle.std.proofs.Common.{◌≡◌, ℕ, ◌≤◌, Bool, true, false, cond, ◌&&◌, ◌==◌, List, [], ◌∷◌, ◌⊎◌, inl, inr, length, map, Option, Some, None, refl, sym, ap, subst, ◌∙◌, arith}
 use Rattle.std.specs.List.{list_all}
 use Rattle.std.proofs.lemmas.Bool.{both_ways, false_from_ne_true, le-leb, leb-true, eqb-true}
-use Rattle.krieg_board.proofs.Common.{Pos, Move}
-use Rattle.krieg_words.proofs.Common.{Dialect}
+use Rattle.krieg_checker.proofs.Common.{Pos, Move, Dialect, In, is_nil, Try, Maybe, NoEdges, stale_in_some, keys, class, made, lives_in_some, Key, class_pair, chess, NodeTree, within, Tells, own_need, all_won_other, IsTriedAt, IsEnd, other_cost, try_in, classes_won, classes_cost, Tried, MOST_COUNTED}
 use Rattle.krieg_pack.proofs.PositionSets.{position_order}
-use Rattle.krieg_theory.proofs.Common.{In, is_nil, Try, Maybe, NoEdges, stale_in_some, keys, class}
-use Rattle.krieg_costs.proofs.Common.{made, lives_in_some}
 use Rattle.krieg_costs.proofs.Reached.{class_some}
 use Rattle.krieg_costs.proofs.Blocks.{lives_how, lives_by_key}
-use Rattle.krieg_game.proofs.Common.{Key, class_pair, chess}
 use Rattle.krieg_game.proofs.ChessLaws.{chess_is_game}
 use Rattle.krieg_game.proofs.KeyLaws.{key_order}
-use Rattle.krieg_plan.proofs.Common.{NodeTree}
-use Rattle.krieg_checker.proofs.Common.{within, Tells, own_need, all_won_other, IsTriedAt, IsEnd, other_cost, try_in, classes_won, classes_cost, Tried, MOST_COUNTED}
 use Rattle.krieg_parting.proofs.LastMoves.{stale_lives}
 use Rattle.krieg_checker.proofs.Sets.{total_none}
 use Rattle.krieg_checker.proofs.NodeTells.{node_tells}

@@ -1,11 +1,10 @@
 -- What is reached is closed, and is in every list that is.
 use Rattle.std.proofs.Common.{◌≡◌, Bool, true, false, not, cond, List, [], ◌∷◌, ◌++◌, inl, inr, flat_map, refl, sym, ap, subst}
-use Rattle.krieg_theory.proofs.Common.{In, same, Tree, Try, Maybe, Nothing, Just, Edges, NoEdges, Edge, first_edge, first_root, Game, IsGame, refused, class, given, all_outcomes, Outset, IsOutset, Plan, openings, opening_set, all_starts}
+use Rattle.krieg_checker.proofs.Common.{In, same, Tree, Try, Maybe, Nothing, Just, Edges, NoEdges, Edge, first_edge, first_root, Game, IsGame, refused, class, given, all_outcomes, Outset, IsOutset, Plan, openings, opening_set, all_starts, From, No, On, Path, Pair, pair_at, first_pairs, next_at, next_pairs, IsClosed, reached, reached_other, reached_at, reached_from, ReachedIsLeast}
 use Rattle.krieg_theory.proofs.Ascending.{in_as_set, as_set_in}
 use Rattle.krieg_theory.proofs.Keys.{at_key_in, in_at_key, key_occurs}
 use Rattle.krieg_theory.proofs.Lists.{in_append_left, in_flat, flat_in, in_map, in_filter, filter_in}
 use Rattle.krieg_theory.proofs.Steps.{in_outs}
-use Rattle.krieg_checker.proofs.Common.{From, No, On, Path, Pair, pair_at, first_pairs, next_at, next_pairs, IsClosed, reached, reached_other, reached_at, reached_from, ReachedIsLeast}
 use Rattle.krieg_checker.proofs.ReachedParts.{others, edges, by_part, in_others, in_after, in_rest}
 
 module _ (G : Game) (O : Outset G) where

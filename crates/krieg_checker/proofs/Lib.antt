@@ -1,3 +1,4 @@
+mod Common
 mod BoolLaws
 mod Ending
 mod Sets
@@ -12,4 +13,3 @@ mod Verdicts
 mod ReachedParts
 mod Once
 mod Least
-pub mod Common

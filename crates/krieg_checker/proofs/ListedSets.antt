@@ -2,7 +2,7 @@
 use Rattle.std.proofs.Common.{◌≡◌, ℕ, Bool, List, map, subst}
 use Rattle.std.specs.List.{list_all}
 use Rattle.krieg_board.proofs.SameTests.{same_tests}
-use Rattle.krieg_theory.proofs.Common.{In, IsOrder, as_set, at_key, Game, Outset, Plan, all_starts, openings, opening_set, mates}
+use Rattle.krieg_checker.proofs.Common.{In, IsOrder, as_set, at_key, Game, Outset, Plan, all_starts, openings, opening_set, mates}
 use Rattle.krieg_theory.proofs.Ascending.{same_set, as_set_ascending, in_as_set, as_set_in}
 use Rattle.krieg_theory.proofs.Keys.{at_key_in, in_at_key}
 use Rattle.krieg_theory.proofs.Lists.{all_at, all_from, in_flat, flat_in, in_map, map_in}

@@ -6,8 +6,7 @@ use Rattle.std.proofs.lemmas.Bool.{and_parts, and_from, leb-true, le-leb, ltb-fa
 use Rattle.std.proofs.lemmas.Bool.Decides.{nat_tests}
 use Rattle.std.proofs.Math.Bool.{and-false}
 use Rattle.krieg_board.proofs.SameTests.{same_tests}
-use Rattle.krieg_theory.proofs.Common.{is_nil, IsOrder, Try, Maybe, Edges, Game, wins_at, refused, stale_in_some, keys, class}
-use Rattle.krieg_checker.proofs.Common.{within, Tells, worse, one_more, own_need, all_won, all_won_other, MOST_COUNTED}
+use Rattle.krieg_checker.proofs.Common.{is_nil, IsOrder, Try, Maybe, Edges, Game, wins_at, refused, stale_in_some, keys, class, within, Tells, worse, one_more, own_need, all_won, all_won_other, MOST_COUNTED}
 use Rattle.krieg_checker.proofs.Sets.{all_parted}
 
 max_within : (a b k : ℕ) → nat_le (max a b) k ≡ (nat_le a k && nat_le b k)

@@ -1,10 +1,8 @@
 -- No pair is reached twice.
 use Rattle.std.proofs.Common.{◌≡◌, Bool, true, false, cond, List, [], ◌∷◌, ◌++◌, ◌⊎◌, inl, inr, map, length, sym, ap, ◌∙◌, arith, append_assoc, length-append}
-use Rattle.krieg_theory.proofs.Common.{In, at_key, same, Tree, Try, Maybe, Nothing, Just, Edges, NoEdges, Edge, first_root, Game, IsGame, refused, keys, class, all_outcomes, Outset, IsOutset, openings, opening_set, all_starts}
+use Rattle.krieg_checker.proofs.Common.{In, at_key, same, Tree, Try, Maybe, Nothing, Just, Edges, NoEdges, Edge, first_root, Game, IsGame, refused, keys, class, all_outcomes, Outset, IsOutset, openings, opening_set, all_starts, IsOnce, Step, From, No, On, Path, Pair, reached, reached_other, reached_at, ReachedIsOnce}
 use Rattle.krieg_theory.proofs.Lists.{append_in, flat_in, map_in}
-use Rattle.krieg_costs.proofs.Common.{IsOnce}
 use Rattle.krieg_costs.proofs.Onces.{once_append, once_map, once_flat, once_filter, once_set}
-use Rattle.krieg_checker.proofs.Common.{Step, From, No, On, Path, Pair, reached, reached_other, reached_at, ReachedIsOnce}
 use Rattle.krieg_checker.proofs.ReachedParts.{here, others, after, edges, by_part}
 
 module _ {S : Type 0} where

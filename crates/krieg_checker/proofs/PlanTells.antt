@@ -4,8 +4,7 @@ use Rattle.std.specs.Prelude.{nat_le}
 use Rattle.std.specs.List.{list_all, list_any}
 use Rattle.std.proofs.lemmas.Bool.{leb-true, leb-false, le-leb, both_ways}
 use Rattle.std.proofs.lemmas.List.Folds.{list_all-append}
-use Rattle.krieg_theory.proofs.Common.{IsOrder, Game, Outset, Plan, is_over, all_starts, openings, opening_set, wins_root, mates, IsWorst}
-use Rattle.krieg_checker.proofs.Common.{Tells, MOST_COUNTED}
+use Rattle.krieg_checker.proofs.Common.{IsOrder, Game, Outset, Plan, is_over, all_starts, openings, opening_set, wins_root, mates, IsWorst, Tells, MOST_COUNTED}
 use Rattle.krieg_checker.proofs.Sets.{by_keys}
 
 module _ (G : Game) (O : Outset G) where

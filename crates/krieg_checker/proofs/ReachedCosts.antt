@@ -1,9 +1,7 @@
 -- The cost of a walk is that of the pairs that are reached.
 use Rattle.std.proofs.Common.{◌≡◌, Bool, true, false, cond, List, [], ◌∷◌, ◌++◌, map, flat_map, refl, ◌∙◌, arith}
-use Rattle.krieg_theory.proofs.Common.{same, Tree, Try, Maybe, Nothing, Just, Edges, NoEdges, Edge, first_root, Game, refused, keys, class, Outset, Plan, openings, opening_set}
-use Rattle.krieg_costs.proofs.Common.{total, made}
+use Rattle.krieg_checker.proofs.Common.{same, Tree, Try, Maybe, Nothing, Just, Edges, NoEdges, Edge, first_root, Game, refused, keys, class, Outset, Plan, openings, opening_set, total, made, From, No, On, Path, reached, reached_other, reached_at, reached_from, pair_cost, node_cost, other_cost, edge_cost}
 use Rattle.krieg_costs.proofs.Totals.{total_agree, total_append, total_flat}
-use Rattle.krieg_checker.proofs.Common.{From, No, On, Path, reached, reached_other, reached_at, reached_from, pair_cost, node_cost, other_cost, edge_cost}
 
 module _ (G : Game) (O : Outset G) where
   own : (path : Path G O) (t : G.Move) (other : Maybe G.Move G.Key) (es : Edges G.Move G.Key) (B : List G.Position) → total (pair_cost G O) (map (λ p. (path, Try t other es, p)) B) ≡ made G B t

@@ -1,8 +1,7 @@
 -- What is reached from a node, part by part.
 use Rattle.std.proofs.Common.{◌≡◌, List, ◌∷◌, ◌++◌, ◌⊎◌, inl, inr, map, flat_map}
-use Rattle.krieg_theory.proofs.Common.{In, Tree, Try, Maybe, Edges, Game, refused, keys, class, Outset}
+use Rattle.krieg_checker.proofs.Common.{In, Tree, Try, Maybe, Edges, Game, refused, keys, class, Outset, No, On, Path, Pair, reached, reached_other, reached_at}
 use Rattle.krieg_theory.proofs.Lists.{append_in, in_append_left, in_append_right, flat_in, in_flat, map_in}
-use Rattle.krieg_checker.proofs.Common.{No, On, Path, Pair, reached, reached_other, reached_at}
 
 module _ (G : Game) (O : Outset G) where
   -- those that stand at the node

@@ -4,13 +4,11 @@ use Rattle.std.specs.List.{list_all}
 use Rattle.std.proofs.lemmas.List.Folds.{list_all-append}
 use Rattle.std.proofs.Math.Bool.{and_assoc}
 use Rattle.krieg_board.proofs.SameTests.{same_tests}
-use Rattle.krieg_theory.proofs.Common.{IsOrder, as_set, at_key, keys_in, same, Try, Maybe, Just, Edges, NoEdges, Edge, first_edge, Game, wins, wins_other, wins_at, refused, stale_in_some, all_outcomes, keys, class}
+use Rattle.krieg_checker.proofs.Common.{IsOrder, as_set, at_key, keys_in, same, Try, Maybe, Just, Edges, NoEdges, Edge, first_edge, Game, wins, wins_other, wins_at, refused, stale_in_some, all_outcomes, keys, class, total, node_cost, other_cost, edge_cost}
 use Rattle.krieg_theory.proofs.Lists.{all_at, all_from}
 use Rattle.krieg_theory.proofs.Keys.{at_key_in, in_at_key, key_occurs}
 use Rattle.krieg_theory.proofs.Ascending.{in_as_set, as_set_in}
 use Rattle.krieg_theory.proofs.Theorems.{first_edge_wins}
-use Rattle.krieg_costs.proofs.Common.{total}
-use Rattle.krieg_checker.proofs.Common.{node_cost, other_cost, edge_cost}
 use Rattle.krieg_checker.proofs.BoolLaws.{and_swap, not_or}
 
 pub all_map : {X Y : Type 0} (f : Y → Bool) (g : X → Y) (xs : List X) → list_all f (map g xs) ≡ list_all (λ x. f (g x)) xs

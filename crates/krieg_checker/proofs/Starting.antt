@@ -2,24 +2,15 @@
 use Rattle.std.proofs.Common.{◌≡◌, ℕ, Bool, true, false, not, cond, ◌||◌, List, [], ◌∷◌, map, length, inl, inr, refl, sym, ap, subst, ◌∙◌}
 use Rattle.std.specs.Prelude.{◌↔◌, IsTrue, slice_get, Some, None}
 use Rattle.std.specs.List.{list_any, list_all}
-use Rattle.krieg_board.proofs.Common.{Pos, is_same_side, Side, White, Black}
-use Rattle.krieg_moves.proofs.Common.{moves, is_ended}
-use Rattle.krieg_words.proofs.Common.{Dialect, silent}
+use Rattle.krieg_checker.proofs.Common.{Pos, moves, is_ended, Dialect, silent, is_same_side, Side, White, Black, position_lt, IsAscending, set_of, In, as_set, is_nil, is_over, total, class_pair, classes_in, outset, waits, starts, IsOwnTurn, IsOthersTurn, first_cost, chess, first_outcomes, opened, IsOneTurn, IsStarted, heard_of, Started}
 use Rattle.krieg_theory.proofs.Lists.{all_at, all_from}
-use Rattle.krieg_pack.proofs.Common.{position_lt, IsAscending, set_of}
 use Rattle.krieg_pack.proofs.PositionSets.{position_order, set_of_ascending}
-use Rattle.krieg_theory.proofs.Common.{In, as_set, is_nil, is_over}
 use Rattle.krieg_theory.proofs.Ascending.{as_set_in}
-use Rattle.krieg_costs.proofs.Common.{total}
 use Rattle.krieg_costs.proofs.Totals.{total_agree}
-use Rattle.krieg_game.proofs.Common.{class_pair, classes_in, outset, waits, starts, chess, first_outcomes, opened}
 use Rattle.krieg_game.proofs.Starting.{own_start}
-use Rattle.krieg_parting.proofs.Common.{IsOwnTurn, IsOthersTurn}
 use Rattle.krieg_parting.proofs.Advancing.{some_over, as_many}
 use Rattle.krieg_game.proofs.Classed.{openings_are_classed, first_moves_are_classed}
-use Rattle.krieg_checker.proofs.Common.{first_cost, IsStarted, heard_of, Started}
 use Rattle.krieg_checker.proofs.Sets.{total_none}
-use Rattle.krieg_plan.proofs.Common.{IsOneTurn}
 use Rattle.krieg_plan.proofs.Listed.{get_in}
 
 any_same : (f g : Pos → Bool) (ps : List Pos) → ((p : Pos) → In p ps → f p ≡ g p) → list_any f ps ≡ list_any g ps

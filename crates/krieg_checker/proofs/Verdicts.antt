@@ -2,10 +2,7 @@
 use Rattle.std.proofs.Common.{◌≡◌, ℕ, ◌≤◌, Bool, true, false, cond, Option, Some, None, refl, sym, ap, subst, ◌∙◌, arith}
 use Rattle.std.specs.Prelude.{nat_le}
 use Rattle.std.proofs.lemmas.Bool.{leb-true, leb-false, both_ways}
-use Rattle.krieg_theory.proofs.Common.{mates, IsWorst}
-use Rattle.krieg_game.proofs.Common.{chess, outset}
-use Rattle.krieg_plan.proofs.Common.{plan_of, PlanFile}
-use Rattle.krieg_checker.proofs.Common.{Tells, IsVerdict, verdict, Mates, Fails, MOST_COUNTED}
+use Rattle.krieg_checker.proofs.Common.{mates, IsWorst, chess, outset, plan_of, PlanFile, Tells, IsVerdict, verdict, Mates, Fails, MOST_COUNTED}
 use Rattle.krieg_checker.proofs.PlanTells.{worst_is}
 
 module _ (f : PlanFile) (small : f.worst ≤ MOST_COUNTED) where

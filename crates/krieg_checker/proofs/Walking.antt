@@ -3,19 +3,12 @@ use Rattle.std.proofs.Common.{◌≡◌, ℕ, suc, ◌+◌, ◌≤◌, Bool, tru
 use Rattle.std.specs.List.{list_all}
 use Rattle.std.proofs.lemmas.Bool.{le-leb}
 use Rattle.std.proofs.Math.Bool.{and_assoc}
-use Rattle.krieg_board.proofs.Common.{Pos, Move}
-use Rattle.krieg_theory.proofs.Common.{is_nil, same, Tree, Try, Maybe, Nothing, Just, Edges, NoEdges, Edge, first_edge, size, size_other, size_edges, wins_at, refused, keys, class, Game}
-use Rattle.krieg_words.proofs.Common.{Dialect}
-use Rattle.krieg_costs.proofs.Common.{total, made}
+use Rattle.krieg_checker.proofs.Common.{Pos, Move, is_nil, same, Tree, Try, Maybe, Nothing, Just, Edges, NoEdges, Edge, first_edge, size, size_other, size_edges, wins_at, refused, keys, class, Game, Dialect, total, made, Key, key_lt, chess, NodeTree, edges_in, Node, out-Node, tree_of, PartStop, Parted, Charged, IsParted, is_ordered, is_ordered_other, within, Tells, worse, own_need, all_won, all_won_other, class_pair, IsTriedAt, node_cost, other_cost, edge_cost, try_in, other_in, classes_won, classes_cost, Tried, MOST_COUNTED}
 use Rattle.krieg_pack.proofs.PositionSets.{position_order}
-use Rattle.krieg_game.proofs.Common.{Key, key_lt, chess, class_pair}
-use Rattle.krieg_plan.proofs.Common.{NodeTree, edges_in, Node, out-Node, tree_of, is_ordered, is_ordered_other}
 use Rattle.krieg_plan.proofs.NodeTrees.{other_of, tree_out}
 use Rattle.krieg_game.proofs.KeyLaws.{key_order}
-use Rattle.krieg_parting.proofs.Common.{PartStop, Parted, Charged, IsParted}
 use Rattle.krieg_parting.proofs.Charges.{said}
 use Rattle.krieg_plan.proofs.OrderedTrees.{other_ordered}
-use Rattle.krieg_checker.proofs.Common.{within, Tells, worse, own_need, all_won, all_won_other, IsTriedAt, node_cost, other_cost, edge_cost, try_in, other_in, classes_won, classes_cost, Tried, MOST_COUNTED}
 use Rattle.krieg_checker.proofs.Sets.{all_map, total_map, first_all, first_costs}
 use Rattle.krieg_checker.proofs.NodeTells.{node_tells, worse_within}
 

@@ -4,15 +4,12 @@ use Rattle.std.specs.Prelude.{Option, Some, None}
 use Rattle.std.specs.Int.RustNames.{bit_xor}
 use Rattle.std.proofs.lemmas.Bool.{and_from, and_parts}
 use Rattle.std.proofs.lemmas.Nat.{and_le_l, xor_lt}
-use Rattle.krieg_board.proofs.Common.{Side, White, Black, Kind, Pawn, King, Man, other, is_same_bool, is_same_side, is_same_kind, squares, file_of, rank_of, every_square, some_square, Board, man_at, is_of, is_man, is_kind, attacks, man_attacks, can_reach, slides, is_clear, has, count_kind}
-use Rattle.krieg_board.specs.declared.men.Kind.TheVariants.{Knight, Bishop, Rook, Queen}
+use Rattle.krieg_checks.proofs.Common.{Side, White, Black, Kind, Pawn, Knight, Bishop, Rook, Queen, King, Man, other, is_same_bool, is_same_side, is_same_kind, squares, file_of, rank_of, every_square, some_square, Board, man_at, is_of, is_man, is_kind, attacks, man_attacks, can_reach, slides, is_clear, has, count_kind, goes, is_on_file, is_on_rank, is_on_rising, is_on_falling, is_long_diagonal, is_on_long, is_on_short, CheckKind, File, Rank, Long, Short, Leap, is_knight, kind_from, is_same_check, checks_from, is_checked_at, is_checked}
 use Rattle.krieg_board.proofs.SquareTests.{every_square_at}
 use Rattle.krieg_board.proofs.SetLemmas.{differ, has_and, has_xor, has_zero}
 use Rattle.krieg_board.proofs.OneKing.{set_empty}
-use Rattle.krieg_rays.proofs.Common.{goes, is_on_file, is_on_rank, is_on_rising, is_on_falling}
 use Rattle.krieg_board.proofs.SameTests.{same_bool_eq}
 use Rattle.krieg_rays.proofs.Kings.{king_search}
-use Rattle.krieg_checks.proofs.Common.{is_long_diagonal, is_on_long, is_on_short, CheckKind, File, Rank, Long, Short, Leap, is_knight, kind_from, is_same_check, checks_from, is_checked_at, is_checked}
 
 -- s is another square on one of the four lines through k
 abbrev is_on_line : ℕ → ℕ → Bool

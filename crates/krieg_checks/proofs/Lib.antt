@@ -1,3 +1,3 @@
+mod Common
 pub mod Lengths
 pub mod Givers
-pub mod Common

@@ -2,11 +2,9 @@
 use Rattle.std.proofs.Common.{◌≡◌, ℕ, suc, true, false, ◌⊎◌, List, [], ◌∷◌, ◌++◌, map, Some, refl, sym, ap, subst, inl, inr, ◌∙◌, append_assoc, append-nil}
 use Rattle.std.specs.List.{list_any}
 use Rattle.std.proofs.lemmas.Bool.{cases_Bool, cond-true, cond-false, both_ways, false_from_ne_true}
-use Rattle.krieg_theory.proofs.Common.{In, Game, IsGame}
+use Rattle.krieg_claims.proofs.Common.{In, Game, IsGame, Pair, same_pair, IsOnce, cited, claimed, add_once, add_all, ClaimedOnce, index_of, place_of}
 use Rattle.krieg_theory.proofs.Lists.{any_at, any_from, in_append_left, in_append_right, append_in}
-use Rattle.krieg_costs.proofs.Common.{Pair, same_pair, IsOnce, cited}
 use Rattle.krieg_costs.proofs.Pairs.{same_pair_eq, same_pair_refl}
-use Rattle.krieg_claims.proofs.Common.{claimed, add_once, add_all, ClaimedOnce, index_of, place_of}
 
 module _ (G : Game) (L : IsGame G) where
   -- one pair

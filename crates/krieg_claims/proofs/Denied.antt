@@ -4,17 +4,15 @@ use Rattle.std.specs.Prelude.{◌==◌, IfSome}
 use Rattle.std.specs.List.{list_any}
 use Rattle.std.proofs.lemmas.List.{map-append}
 use Rattle.std.proofs.lemmas.Bool.{both_ways, and_from, not_from_false, not-true, eq-eqb, le-ltb, false_from_ne_true, true_from_ne_false}
-use Rattle.krieg_theory.proofs.Common.{In, same, is_nil, Game, IsGame, refused, legal_in_some, tries, class, can, Outset, IsOutset, openings, opening_set, is_over}
+use Rattle.krieg_claims.proofs.Common.{In, same, is_nil, Game, IsGame, refused, legal_in_some, tries, class, can, Outset, IsOutset, openings, opening_set, is_over, Pair, Block, Lives, Stale, LostClass, LostRefused, NoBlock, block, pair_of, block_pair, behind, first_lost, Reason, Claim, cited, last_of, is_within, is_shown, holds, are_reasons, claim_holds, claims_hold, denies, refutes, claimed, add_once, add_all, in_order, place_of, reason_of, reason_at, reasons_at, claim_of, claims_of, claims, claims_from, IsLostPair, HasBlocks, HasTries, Stands, behind_try, ClaimedLast, DenialRefutes}
 use Rattle.krieg_theory.proofs.Lists.{all_from, any_from, any_none, in_map, map_in, flat_in}
 use Rattle.krieg_theory.proofs.Ascending.{same_refl}
 use Rattle.krieg_theory.proofs.Steps.{refused_lt, can_from}
 use Rattle.krieg_theory.proofs.Planned.{can_plan_from}
-use Rattle.krieg_costs.proofs.Common.{Pair, Block, Lives, Stale, LostClass, LostRefused, NoBlock, block, pair_of, block_pair, behind, first_lost, Reason, Claim, cited, last_of, is_within, is_shown, holds, are_reasons, claim_holds, claims_hold, denies, refutes}
 use Rattle.krieg_costs.proofs.Costs.{try_legal, legal_try}
 use Rattle.krieg_costs.proofs.Reached.{class_some, opening_some}
 use Rattle.krieg_costs.proofs.Blocks.{BlockSays, block_says, found, none_found, unblocked_begins}
 use Rattle.krieg_costs.proofs.LostSets.{some_inside}
-use Rattle.krieg_claims.proofs.Common.{claimed, add_once, add_all, in_order, place_of, reason_of, reason_at, reasons_at, claim_of, claims_of, claims, claims_from, IsLostPair, HasBlocks, HasTries, Stands, behind_try, ClaimedLast, DenialRefutes}
 use Rattle.krieg_claims.proofs.Adding.{added_there, added_new, is_there, all_append, all_keeps, in_all, all_in, index_left, cited_at}
 use Rattle.krieg_claims.proofs.Standing.{claimed_step, claimed_root, stands_more, not_itself}
 

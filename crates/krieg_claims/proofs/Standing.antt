@@ -2,15 +2,13 @@
 use Rattle.std.proofs.Common.{◌≡◌, ℕ, zero, suc, ◌≤◌, ◌<◌, false, ◌⊎◌, List, [], ◌∷◌, ◌++◌, length, flat_map, refl, sym, ap, subst, inl, inr, append_assoc, append-nil, arith}
 use Rattle.std.specs.Prelude.{IfSome}
 use Rattle.std.proofs.lemmas.Bool.{both_ways}
-use Rattle.krieg_theory.proofs.Common.{In, is_nil, Game, IsGame, refused, tries, class}
+use Rattle.krieg_claims.proofs.Common.{In, is_nil, Game, IsGame, refused, tries, class, Pair, Block, Lives, Stale, LostClass, LostRefused, NoBlock, block, pair_of, block_pair, behind, claimed_within, claimed, add_all, IsLostPair, HasBlocks, Stands, behind_try}
 use Rattle.krieg_theory.proofs.Lists.{in_append_left, in_append_right, append_in, flat_in}
 use Rattle.krieg_theory.proofs.Steps.{refused_lt}
-use Rattle.krieg_costs.proofs.Common.{Pair, Block, Lives, Stale, LostClass, LostRefused, NoBlock, block, pair_of, block_pair, behind}
 use Rattle.krieg_costs.proofs.Costs.{try_legal}
 use Rattle.krieg_costs.proofs.Reached.{class_some}
 use Rattle.krieg_costs.proofs.Blocks.{BlockSays, block_says}
 use Rattle.krieg_costs.proofs.LostSets.{some_inside}
-use Rattle.krieg_claims.proofs.Common.{claimed_within, claimed, add_all, IsLostPair, HasBlocks, Stands, behind_try}
 use Rattle.krieg_claims.proofs.Adding.{all_there}
 
 -- images that agree at each member

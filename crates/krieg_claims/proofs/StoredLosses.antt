@@ -2,16 +2,13 @@
 use Rattle.std.proofs.Common.{◌≡◌, ℕ, suc, ◌≤◌, Bool, true, false, not, ◌&&◌, ◌⊎◌, List, [], ◌∷◌, find, Option, Some, None, refl, sym, ap, subst, inl, inr, ◌∙◌, arith}
 use Rattle.std.specs.Prelude.{◌==◌, IfSome}
 use Rattle.std.proofs.lemmas.Bool.{cases_Bool, cond-true, cond-false, both_ways, and_from, and_parts, not-true, not_from_false, false_from_ne_true, eq-eqb}
-use Rattle.krieg_theory.proofs.Common.{In, is_nil, Game, IsGame, refused, legal_in_some, stale_in_some, keys, class, mates_at, can, begins, tries}
+use Rattle.krieg_claims.proofs.Common.{In, is_nil, Game, IsGame, refused, legal_in_some, stale_in_some, keys, class, mates_at, can, begins, tries, Pair, up_to, made, floor_price, Block, Lives, Stale, LostClass, LostRefused, NoBlock, lives_in_some, by_class, block, pair_of, block_pair, ByLife, ByStalemate, Table, known, StoredLost, IsSound, pairs, charged, reason_of, is_loss}
 use Rattle.krieg_theory.proofs.Lists.{any_at, any_from}
 use Rattle.krieg_theory.proofs.Steps.{can_from}
-use Rattle.krieg_costs.proofs.Common.{Pair, up_to, made, floor_price, Block, Lives, Stale, LostClass, LostRefused, NoBlock, lives_in_some, by_class, block, pair_of, block_pair, ByLife, ByStalemate}
 use Rattle.krieg_costs.proofs.Costs.{legal_try}
 use Rattle.krieg_costs.proofs.Blocks.{BlockSays, block_says}
-use Rattle.krieg_accounts.proofs.Common.{Table, known, StoredLost, IsSound, pairs, charged}
 use Rattle.krieg_accounts.proofs.Tables.{result_can, known_in}
 use Rattle.krieg_accounts.proofs.Canonical.{in_total}
-use Rattle.krieg_claims.proofs.Common.{reason_of, is_loss}
 use Rattle.krieg_claims.proofs.Denied.{lost_blocked}
 
 -- a test that passes only where another does, and where that one passes first, finds the same

@@ -3,12 +3,10 @@ use Rattle.std.proofs.Common.{◌≡◌, ℕ, zero, suc, ◌+◌, false, ◌⊎�
 use Rattle.std.specs.Prelude.{IfSome}
 use Rattle.std.proofs.lemmas.List.{map-append}
 use Rattle.std.proofs.lemmas.Grind.{flat_map-append}
-use Rattle.krieg_theory.proofs.Common.{In, is_nil, Game, IsGame, refused, tries, class, can}
+use Rattle.krieg_claims.proofs.Common.{In, is_nil, Game, IsGame, refused, tries, class, can, Pair, total, Block, Lives, Stale, LostClass, LostRefused, NoBlock, block, pair_of, block_pair, Reason, Claim, add_all, place_of, reason_of, reason_at, claim_of, claims_of, IsLostPair, HasBlocks, HasTries, Stands, behind_try, Walks, WalksTries, positions_in, reasons_in, AreMany}
 use Rattle.krieg_theory.proofs.Lists.{append_in}
-use Rattle.krieg_costs.proofs.Common.{Pair, total, Block, Lives, Stale, LostClass, LostRefused, NoBlock, block, pair_of, block_pair, Reason, Claim}
 use Rattle.krieg_costs.proofs.Costs.{try_legal, legal_try}
 use Rattle.krieg_costs.proofs.Totals.{total_append}
-use Rattle.krieg_claims.proofs.Common.{add_all, place_of, reason_of, reason_at, claim_of, claims_of, IsLostPair, HasBlocks, HasTries, Stands, behind_try, Walks, WalksTries, positions_in, reasons_in, AreMany}
 use Rattle.krieg_claims.proofs.Adding.{all_append, all_more, all_keeps, index_left}
 use Rattle.krieg_claims.proofs.Standing.{claimed_there, stands_at, stands_more}
 use Rattle.krieg_claims.proofs.Denied.{set_last, root_new}

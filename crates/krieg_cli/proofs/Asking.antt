@@ -1,9 +1,6 @@
 -- What comes of a sheet by what comes of its possible positions.
 use Rattle.std.proofs.Common.{◌≡◌, ℕ, Bool, false, List, Result, Ok, Err, subst}
-use Rattle.krieg_board.proofs.Common.{Pos, Side}
-use Rattle.krieg_words.proofs.Common.{Dialect}
-use Rattle.krieg_sheet.proofs.Common.{SheetState}
-use Rattle.krieg_cli.proofs.Common.{Decides, Leaves, OfPossible, IsGiven, Refusal, TooMany, NonePossible, NotThePlayersTurn, Ending}
+use Rattle.krieg_cli.proofs.Common.{Pos, Side, Dialect, SheetState, Decides, Leaves, OfPossible, IsGiven, Refusal, TooMany, NonePossible, NotThePlayersTurn, Ending}
 use Rattle.krieg_cli.specs.declared.ending.Ending.TheVariants as ending
 
 -- what a search makes of positions, in a dialect and for a side

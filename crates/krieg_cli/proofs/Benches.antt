@@ -1,14 +1,8 @@
 -- What becomes of the bench, from one call to the next.
 use Rattle.std.proofs.Common.{◌≡◌, inl, inr, ℕ, List, Option, Some, Result, Ok, Err, refl, subst, sym}
-use Rattle.krieg_board.proofs.Common.{Pos, White, Black}
-use Rattle.krieg_text.proofs.Common.{lines, whole}
-use Rattle.krieg_session.proofs.Common.{start_at}
-use Rattle.krieg_seats.proofs.Common.{Account}
-use Rattle.krieg_play.proofs.Common.{Sides, Refuses, PlayFault}
+use Rattle.krieg_cli.proofs.Common.{Pos, White, Black, lines, whole, start_at, Account, Sides, Refuses, PlayFault, Command, Play, Lead, Stream, WasTaken, PlanState, plan_at, LeadsFrom, HasLed, Decides, ending_of, of_play, LeavesSeats, LeavesBench, Ending, Answered, WriteFault, Refused}
 use Rattle.krieg_play.specs.declared.outcome.PlayFault.TheVariants as played
-use Rattle.krieg_args.proofs.Common.{Command, Play, Lead}
-use Rattle.krieg_cli.proofs.Common.{Stream, WasTaken, LeadsFrom, HasLed, Decides, ending_of, of_play, LeavesSeats, LeavesBench, Ending, Answered, WriteFault, NoMemory, Refused}
-use Rattle.krieg_planfile.proofs.Common.{PlanState, plan_at}
+use Rattle.krieg_cli.specs.declared.ending.Ending.TheVariants.{NoMemory}
 use Rattle.krieg_cli.specs.declared.refusal.Refusal.TheVariants as refusal
 
 module _ {X : Type 0} (account : X → Account) (entry now : Sides X) where

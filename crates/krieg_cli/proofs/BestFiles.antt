@@ -4,22 +4,14 @@ use Rattle.std.specs.Prelude.{◌⊎◌, slice_get, if◌then◌else◌}
 use Rattle.std.specs.List.{All, list_any}
 use Rattle.std.proofs.lemmas.Bool.{both_ways, and_parts, cases_Bool}
 use Rattle.std.proofs.lemmas.List.Elements.{All-head, All-tail, All-nil, All-cons}
-use Rattle.krieg_board.proofs.Common.{same_hand, is_same_side, Pos, IsValid, Side, MOST_MOVES}
-use Rattle.krieg_fen.proofs.Common.{MOST_LISTED}
+use Rattle.krieg_cli.proofs.Common.{same_hand, is_same_side, Pos, IsValid, Side, MOST_MOVES, MOST_LISTED, Dialect, HaveOneHand, In, is_nil, same, wins, mates, all_starts, wins_root, IsCanonPlan, RootKey, root_lt, chess, outset, starts, PlanTrees, MOST_NODES, AreAlike, waits, IsFit, IsBest, IsOwnTurn, IsOthersTurn, file_of}
 use Rattle.krieg_moves.proofs.Hands.{same_hand_alike}
-use Rattle.krieg_words.proofs.Common.{Dialect}
-use Rattle.krieg_belief.proofs.Common.{HaveOneHand}
-use Rattle.krieg_theory.proofs.Common.{In, is_nil, same, wins, mates, is_over, all_starts, wins_root, IsCanonPlan}
+use Rattle.krieg_theory.specs.Plans.{is_over}
 use Rattle.krieg_theory.proofs.Keys.{key_occurs}
 use Rattle.krieg_theory.proofs.Lists.{all_at, any_none, in_flat}
-use Rattle.krieg_game.proofs.Common.{RootKey, root_lt, chess, outset, starts}
 use Rattle.krieg_game.proofs.KeyLaws.{root_order}
 use Rattle.krieg_game.proofs.Winning.{nothing_wins_in_none}
-use Rattle.krieg_plan.proofs.Common.{PlanTrees, MOST_NODES}
-use Rattle.krieg_planfile.proofs.Common.{AreAlike, waits, CanBeWritten}
-use Rattle.krieg_search.proofs.Common.{IsFit, IsBest}
-use Rattle.krieg_split.proofs.Common.{IsOwnTurn, IsOthersTurn}
-use Rattle.krieg_cli.proofs.Common.{file_of}
+use Rattle.krieg_planfile.specs.PlanFiles.{CanBeWritten}
 use Rattle.krieg_cli.proofs.ToldPlans.{AreValid, some_member, plan_told}
 
 -- one place more

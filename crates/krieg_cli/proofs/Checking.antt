@@ -2,15 +2,13 @@
 use Rattle.std.proofs.Common.{◌≡◌, ℕ, ◌+◌, List, [], ◌∷◌, Ok, inl, inr, true, sym, ap, ◌∙◌, arith}
 use Rattle.std.specs.List.{All}
 use Rattle.std.proofs.lemmas.List.Elements.{All-head, All-tail}
-use Rattle.krieg_board.proofs.Common.{same_hand, Pos, Side}
+use Rattle.krieg_cli.proofs.Common.{same_hand, Pos, Side, In, PlanFile, AreAlike, IsOneTurn, IsVerdict, worst_text}
 use Rattle.krieg_moves.proofs.Hands.{same_hand_alike}
-use Rattle.krieg_theory.proofs.Common.{In}
-use Rattle.krieg_plan.proofs.Common.{PlanFile, IsOneTurn}
-use Rattle.krieg_planfile.proofs.Common.{AreAlike, state_of}
+use Rattle.krieg_planfile.specs.PlanFiles.{state_of}
 use Rattle.krieg_checker.specs.Verdict.{check_cost as cost_of}
-use Rattle.krieg_checker.proofs.Common.{IsVerdict, Mates}
 use Rattle.krieg_checker.specs.declared.plan_check.Checked.{Checked as Found}
-use Rattle.krieg_cli.proofs.Common.{worst_text, Checked}
+use Rattle.krieg_checker.specs.declared.plan_check.Checked.TheVariants.{Mates}
+use Rattle.krieg_cli.specs.Check.{Checked}
 
 -- the same side is to move in each position of one hand
 

@@ -1,21 +1,15 @@
 -- What each claim has that no plan mates: its set is one of valid positions, its moves ascend, and it speaks of few own moves.
 use Rattle.std.proofs.Common.{◌≡◌, ℕ, zero, suc, ◌≤◌, List, [], ◌∷◌, length, map, flat_map, Option, Some, None, refl, sym, ap, subst, inl, inr, arith}
 use Rattle.std.specs.Prelude.{◌⊎◌}
-use Rattle.krieg_board.proofs.Common.{move_lt, Pos, MOST_MOVES, Move, Side}
-use Rattle.krieg_words.proofs.Common.{Dialect}
-use Rattle.krieg_pack.proofs.Common.{IsAscending}
-use Rattle.krieg_theory.proofs.Common.{In, Ascending, Game, refused, tries, class, openings, opening_set}
+use Rattle.krieg_cli.proofs.Common.{move_lt, Pos, MOST_MOVES, Move, Side, Dialect, IsAscending, In, Ascending, Game, refused, tries, class, openings, opening_set, Pair, Block, Lives, Stale, LostClass, LostRefused, NoBlock, block, behind, first_lost, Reason, claimed_within, claimed, in_order, reason_at, claim_of, claims_from, denial, Key, RootKey, chess, outset, IsOwnTurn}
 use Rattle.krieg_theory.proofs.Lists.{append_in, flat_in, map_in}
-use Rattle.krieg_costs.proofs.Common.{Pair, Block, Lives, Stale, LostClass, LostRefused, NoBlock, block, behind, first_lost, Reason, Claim}
+use Rattle.krieg_costs.specs.Refutation.{Claim}
 use Rattle.krieg_costs.proofs.Blocks.{found}
 use Rattle.krieg_accounts.proofs.TryOrder.{tries_up}
-use Rattle.krieg_claims.proofs.Common.{claimed_within, claimed, in_order, reason_at, claim_of, claims_from, denial}
 use Rattle.krieg_claims.proofs.Adding.{all_in}
-use Rattle.krieg_game.proofs.Common.{Key, RootKey, chess, outset}
 use Rattle.krieg_game.proofs.ChessLaws.{chess_is_game}
 use Rattle.krieg_game.proofs.Splitting.{classes_come_about, refused_ascends}
 use Rattle.krieg_game.proofs.Starting.{openings_occur}
-use Rattle.krieg_split.proofs.Common.{IsOwnTurn}
 use Rattle.krieg_cli.proofs.ToldPlans.{AreValid, class_valid, refused_valid, opening_valid}
 
 -- What holds of a set, and goes on to hold of what a try makes of a set, holds of all that is claimed below it.

@@ -1,8 +1,131 @@
--- The words of this crate that proofs cite, passed on from one place.
+-- The words of specs/, of this crate and of those below it, that its proofs cite: passed on from one place.
+pub use Rattle.krieg_ports.specs.Bytes.{AppendsPrefix}
+unfoldable pub use Rattle.krieg_board.specs.Hand.{same_hand}
+pub use Rattle.krieg_board.specs.Men.{is_same_side, other}
+pub use Rattle.krieg_board.specs.Order.{move_lt}
+pub use Rattle.krieg_board.specs.Pos.{Pos}
+pub use Rattle.krieg_board.specs.Validity.{IsValid}
+pub use Rattle.krieg_board.specs.declared.limits.TheConstants.{MOST_MOVES, MOST_UNITS}
+pub use Rattle.krieg_board.specs.declared.men.Move.{Move}
+pub use Rattle.krieg_board.specs.declared.men.Side.{Side}
+pub use Rattle.krieg_board.specs.declared.men.Side.TheVariants.{Black, White}
+unfoldable pub use Rattle.krieg_moves.specs.After.{after}
+unfoldable pub use Rattle.krieg_moves.specs.Legal.{is_legal}
+unfoldable pub use Rattle.krieg_moves.specs.Moves.{all_moves, moves}
+pub use Rattle.krieg_text.specs.Decimals.{number_between}
+pub use Rattle.krieg_text.specs.Lines.{lines}
+pub use Rattle.krieg_text.specs.Reading.{whole}
+pub use Rattle.krieg_text.specs.Writing.{HasLines, put_lines}
+pub use Rattle.krieg_text.specs.declared.fault.TextFault.{TextFault}
+pub use Rattle.krieg_text.specs.declared.fault.TextKind.{TextKind}
+pub use Rattle.krieg_text.specs.declared.number.NumberFault.{NumberFault}
+pub use Rattle.krieg_fen.specs.ListText.{position_line}
+pub use Rattle.krieg_fen.specs.MoveText.{IsOnBoard}
+pub use Rattle.krieg_fen.specs.declared.forms.TheConstants.{MOST_LISTED}
+pub use Rattle.krieg_words.specs.Line.{told_line}
+pub use Rattle.krieg_words.specs.ToldWords.{told}
+unfoldable pub use Rattle.krieg_words.specs.WordsOfMoves.{opening, words}
+pub use Rattle.krieg_words.specs.declared.dialects.Dialect.{Dialect}
+pub use Rattle.krieg_words.specs.declared.dialects.Dialect.TheVariants.{Wild16}
+pub use Rattle.krieg_words.specs.declared.line.Line.{Line}
+pub use Rattle.krieg_words.specs.declared.line.Line.TheVariants.{Done, Early, Heard, Illegal, Opens, Over}
+unfoldable pub use Rattle.krieg_record.specs.RecordReading.{record_at}
+pub use Rattle.krieg_referee.specs.Games.{GameState, judge}
+pub use Rattle.krieg_referee.specs.Hearing.{lines_for}
+pub use Rattle.krieg_referee.specs.declared.verdict.Event.{Event}
+pub use Rattle.krieg_referee.specs.declared.verdict.Stop.TheVariants.{AsksUsed, Ended, Left}
+pub use Rattle.krieg_referee.specs.declared.verdict.Verdict.{Verdict}
+pub use Rattle.krieg_sheet.specs.Games.{Consistent, Gives}
+pub use Rattle.krieg_sheet.specs.Places.{IsSheet}
+unfoldable pub use Rattle.krieg_sheet.specs.SheetReading.{sheet_at}
+unfoldable pub use Rattle.krieg_sheet.specs.SheetText.{sheet_text}
+pub use Rattle.krieg_sheet.specs.Sheets.{SheetState, new_sheet}
+pub use Rattle.krieg_sheet.specs.Turns.{first_turn, is_my_turn, turn_behind, turn_of}
+pub use Rattle.krieg_session.specs.Laws.{IsGame}
+unfoldable pub use Rattle.krieg_session.specs.SessionReading.{session_at}
+pub use Rattle.krieg_session.specs.SessionReading.{start_at}
+unfoldable pub use Rattle.krieg_session.specs.SessionText.{session_text}
+pub use Rattle.krieg_session.specs.Sessions.{SessionState}
+pub use Rattle.krieg_score.specs.Scores.{record_of, san_of, unsan_of}
+pub use Rattle.krieg_theory.specs.Canonical.{AreCanon, IsCanon, IsCanonOther, edge_keys}
+pub use Rattle.krieg_theory.specs.Game.{Game}
+pub use Rattle.krieg_theory.specs.Plans.{AreCanonRoots, IsCanonPlan, IsWorst, all_starts, can_plan, mates, opening_set, openings, wins_root}
+pub use Rattle.krieg_theory.specs.Sets.{Ascending, In, is_nil, same}
+pub use Rattle.krieg_theory.specs.Split.{class, keys, legal_in_some, refused, tries}
+pub use Rattle.krieg_theory.specs.Tree.{Edge, Edges, Just, Maybe, NoEdges, Nothing, Try}
+pub use Rattle.krieg_theory.specs.Wins.{wins}
+pub use Rattle.krieg_costs.specs.Backing.{behind, first_lost}
+pub use Rattle.krieg_costs.specs.Block.{Block, Lives, LostClass, LostRefused, NoBlock, Stale, block}
+pub use Rattle.krieg_costs.specs.Refutation.{ByClass, ByLife, ByRefused, ByStalemate, Reason, are_reasons, cited, claim_holds, claims_hold, holds, is_shown}
+pub use Rattle.krieg_costs.specs.Sums.{Pair}
+pub use Rattle.krieg_claims.specs.InOrder.{claimed, claimed_within, in_order}
+pub use Rattle.krieg_claims.specs.Sizes.{AreFew}
+pub use Rattle.krieg_claims.specs.Written.{claim_of, claims_from, denial, reason_at}
+unfoldable pub use Rattle.krieg_pack.specs.Members.{set_of}
+pub use Rattle.krieg_pack.specs.Members.{IsAscending}
+pub use Rattle.krieg_pack.specs.Order.{position_lt}
+pub use Rattle.krieg_belief.specs.Limits.{AllWithin, IsFirstExcess, IsStop}
+pub use Rattle.krieg_belief.specs.Possible.{HaveOneHand, IsPossible}
+pub use Rattle.krieg_seats.specs.Accounts.{Account}
+pub use Rattle.krieg_play.specs.Broken.{Refuses}
+pub use Rattle.krieg_play.specs.Calls.{FirstChanges, IsReady, Relieves, lines_to}
+pub use Rattle.krieg_play.specs.Games.{events_of}
+pub use Rattle.krieg_play.specs.Passes.{Passes}
+pub use Rattle.krieg_play.specs.Played.{Sides, by_side, seen, seen_team}
+pub use Rattle.krieg_play.specs.Teams.{BrokenCourse, HasFailed, IsGone, Service, Team, Turns, entry_of, now_of, team_of}
+pub use Rattle.krieg_play.specs.declared.outcome.PlayFault.{PlayFault}
+pub use Rattle.krieg_play.specs.declared.outcome.PlayFault.TheVariants.{Vacant}
+pub use Rattle.krieg_why.specs.Explained.{AreShown, ShownState}
+unfoldable pub use Rattle.krieg_why.specs.GamesText.{games_text}
+pub use Rattle.krieg_game.specs.Chess.{chess}
+pub use Rattle.krieg_game.specs.Keys.{Key, RootKey, root_lt}
+pub use Rattle.krieg_game.specs.Laws.{ComesAbout}
+unfoldable pub use Rattle.krieg_game.specs.Outset.{starts}
+pub use Rattle.krieg_game.specs.Outset.{outset}
+pub use Rattle.krieg_game.specs.OutsetLaws.{ComesFirst}
+pub use Rattle.krieg_plan.specs.Listed.{IsOneTurn}
+pub use Rattle.krieg_plan.specs.Plans.{plan_of}
+pub use Rattle.krieg_plan.specs.Trees.{NodeTree, PlanTrees, plan_size}
+pub use Rattle.krieg_plan.specs.declared.limits.TheConstants.{MOST_NODES}
+pub use Rattle.krieg_plan.specs.declared.plan.PlanFile.{PlanFile}
+pub use Rattle.krieg_planfile.specs.HeardReading.{HeardState}
+pub use Rattle.krieg_planfile.specs.NodeText.{AreTold, IsToldIn, IsToldKey, IsToldOther}
+pub use Rattle.krieg_planfile.specs.PlanFiles.{AreAlike, AreRootsOf, AreToldRoots, IsToldRoot, PlanState, waits}
+unfoldable pub use Rattle.krieg_planfile.specs.PlanReading.{plan_at}
+pub use Rattle.krieg_parting.specs.declared.stop.PartStop.{PartStop}
+pub use Rattle.krieg_checker.specs.Charged.{Charged}
+pub use Rattle.krieg_checker.specs.Verdict.{IsVerdict}
+pub use Rattle.krieg_checker.specs.declared.plan_check.Checked.TheVariants.{Fails}
+pub use Rattle.krieg_split.specs.Turns.{IsOthersTurn, IsOwnTurn}
+pub use Rattle.krieg_split.specs.Units.{IsPaid}
+pub use Rattle.krieg_search.specs.Decided.{IsBetween}
+pub use Rattle.krieg_search.specs.Planned.{IsFit}
+pub use Rattle.krieg_search.specs.Solved.{IsAnswer, IsBest, IsCharged, IsChargedAtMost}
+pub use Rattle.krieg_search.specs.declared.best_plan.Answer.{Answer}
+pub use Rattle.krieg_search.specs.declared.stop.SearchStop.{SearchStop}
+pub use Rattle.krieg_refute.specs.Refutations.{claims_price, most_claimed, most_claims, refutes}
+pub use Rattle.krieg_refute.specs.Refuted.{IsDenial, IsDenied, IsMated, IsOneSide, IsTaken, side_of}
+pub use Rattle.krieg_refute.specs.declared.refutation.Refutation.{Refutation}
+pub use Rattle.krieg_refute.specs.declared.refuting.Denied.TheVariants.{Denial, Exists}
+unfoldable pub use Rattle.krieg_refutefile.specs.RefutationFormat.{refutation_at}
+unfoldable pub use Rattle.krieg_refutefile.specs.RefutationText.{refutation_text}
+pub use Rattle.krieg_refutefile.specs.RefutationText.{text_bound}
+pub use Rattle.krieg_refutefile.specs.Refutations.{RefutationState, claim_from, is_refutation, reason_from, state_from, why_from}
+pub use Rattle.krieg_refutefile.specs.Writable.{AreToldClaims, CitesBelow, IsToldClaim, IsToldReason, IsToldWhy, IsTurnOf}
+pub use Rattle.krieg_robot.specs.Leading.{BrokenFrom, IsWon, LedFrom}
+pub use Rattle.krieg_robot.specs.declared.led.LeadFault.{LeadFault}
+pub use Rattle.krieg_robot.specs.declared.led.Led.{Led}
+pub use Rattle.krieg_make.specs.MadeSessions.{made_session}
+pub use Rattle.krieg_make.specs.MadeSheets.{made_list, made_sheet}
+pub use Rattle.krieg_args.specs.Command.{asks_of, budget_of, command_of, command_of_name, command_of_one, command_of_three, find, find_of, lead, lead_from, limit_of, made_input, make, moves_of, number, place_of, play, refute, search_numbers, seed_of, solve, takes_input, ◌>>=◌}
+pub use Rattle.krieg_args.specs.declared.command.Command.{Command}
+pub use Rattle.krieg_args.specs.declared.command.Command.TheVariants.{Believe, Check, Deny, Find, Job, Lead, Make, Next, Play, Refute, San, Solve, Umpire, Unsan, Why}
+pub use Rattle.krieg_args.specs.declared.command.Made.{Made}
+pub use Rattle.krieg_args.specs.declared.command.TheConstants.{MOST_SEED}
 pub use Rattle.krieg_cli.specs.Asked.{IsGiven, Leaves, OfPossible, has_no_turn}
 pub use Rattle.krieg_cli.specs.Believe.{Believed}
 unfoldable pub use Rattle.krieg_cli.specs.Check.{worst_text}
-pub use Rattle.krieg_cli.specs.Check.{Checked, check_cost}
+pub use Rattle.krieg_cli.specs.Check.{check_cost}
 pub use Rattle.krieg_cli.specs.Complete.{BenchHolds, CanBeChecked, CanBeDenied, CanBeRefuted, CanBeShown, CanBeSolved, CanBeSummed, CanPlay, Completes, HoldsText, MustAnswer, NoneFailed, seats_since}
 unfoldable pub use Rattle.krieg_cli.specs.Deny.{refuted_text}
 pub use Rattle.krieg_cli.specs.Deny.{Judged}
@@ -20,11 +143,10 @@ pub use Rattle.krieg_cli.specs.Next.{Says}
 pub use Rattle.krieg_cli.specs.Outcome.{HasOutcome, IsInRange, LiveOutcome}
 pub use Rattle.krieg_cli.specs.Parts.{Decides, LeavesSeats, SearchedBy, SolvedBy, ending_of, of_lead, of_part, of_play, of_search}
 pub use Rattle.krieg_cli.specs.Play.{HasBegun, PlaysFrom, PlaysWhole}
-pub use Rattle.krieg_cli.specs.Recorded.{session_of}
 pub use Rattle.krieg_cli.specs.Refusal.{OfText, refusal_status, text_status}
 pub use Rattle.krieg_cli.specs.Refute.{CanBeListed, Claimed, IsDenialText, Refuted, denial_file}
 pub use Rattle.krieg_cli.specs.Seated.{bench_sides}
-pub use Rattle.krieg_cli.specs.Solve.{IsBestFile, IsTooLarge, NoneMates, Searched, Tells, file_of, least_units, mates_all}
+pub use Rattle.krieg_cli.specs.Solve.{IsBestFile, IsTooLarge, Searched, Tells, file_of, least_units, mates_all}
 pub use Rattle.krieg_cli.specs.Tally.{tally_of}
 pub use Rattle.krieg_cli.specs.Top.{Answers, ComesTo, Ends, Gets, IsRun, LeavesBench, Reports, Runs, RunsAlone, nobody}
 pub use Rattle.krieg_cli.specs.Umpire.{told_text}
@@ -39,7 +161,7 @@ pub use Rattle.krieg_cli.specs.declared.commands.job.Finding.TheVariants.{Plan}
 pub use Rattle.krieg_cli.specs.declared.commands.job.TheConstants.{JOB_MOVES}
 pub use Rattle.krieg_cli.specs.declared.commands.job.tally.Tally.{Tally}
 pub use Rattle.krieg_cli.specs.declared.ending.Ending.{Ending}
-pub use Rattle.krieg_cli.specs.declared.ending.Ending.TheVariants.{Answered, NoMemory, Refused, WriteFault}
+pub use Rattle.krieg_cli.specs.declared.ending.Ending.TheVariants.{Answered, Refused, WriteFault}
 pub use Rattle.krieg_cli.specs.declared.input.TheConstants.{MOST_INPUT}
 pub use Rattle.krieg_cli.specs.declared.refusal.Refusal.{Refusal}
 pub use Rattle.krieg_cli.specs.declared.refusal.Refusal.TheVariants.{AnswerTooLong, BadText, BudgetSpent, NoSeat, NoSuchPosition, NonePossible, NotThePlayersTurn, PlanExists, PlanFails, RefutationFails, SeatFault, TooMany}

@@ -3,20 +3,11 @@ use Rattle.std.proofs.Common.{◌≡◌, Bool, ◌⊎◌, inl, inr, ℕ, ◌<◌
 use Rattle.std.specs.Prelude.{MatchBool}
 use Rattle.std.proofs.lemmas.Bool.{both_ways}
 use Rattle.std.proofs.lemmas.List.{append-nil}
-use Rattle.krieg_board.proofs.Common.{Pos, White, Black}
+use Rattle.krieg_cli.proofs.Common.{Pos, White, Black, SheetState, san_of, unsan_of, IsPossible, is_nil, PlanState, made_sheet, Line, Account, Team, Turns, Service, BrokenCourse, HasFailed, entry_of, now_of, Sides, takes_input, Command, Solve, Check, Refute, Deny, Believe, Why, Umpire, San, Unsan, Play, Lead, Next, Find, Make, Job, Made, World, FaultsRose, WasRead, OfText, status, Leaves, has_no_turn, OfPossible, SearchedBy, SolvedBy, Claimed, Refuted, Judged, told_text, Believed, Shows, HeardState, PlaysFrom, PlaysWhole, LeadsFrom, LeadsWhole, Says, LivesBy, Makes, Plans, Summarizes, LiveOutcome, HasOutcome, ComesTo, Ends, Runs, CanBeSolved, CanBeRefuted, CanBeDenied, CanBeChecked, CanBeShown, CanBeSummed, HoldsText, MustAnswer, NoneFailed, seats_since, CanPlay, BenchHolds, Completes, Refusal, Ending, MOST_INPUT}
 use Rattle.krieg_pack.proofs.PositionSets.{same_members}
-use Rattle.krieg_sheet.proofs.Common.{SheetState, is_over}
-use Rattle.krieg_score.proofs.Common.{san_of, unsan_of}
-use Rattle.krieg_belief.proofs.Common.{IsPossible}
+use Rattle.krieg_sheet.specs.Turns.{is_over}
 use Rattle.krieg_belief.proofs.Prefixes.{excess_not_within}
-use Rattle.krieg_theory.proofs.Common.{is_nil}
-use Rattle.krieg_planfile.proofs.Common.{PlanState, HeardState}
-use Rattle.krieg_make.proofs.Common.{made_sheet}
-use Rattle.krieg_words.proofs.Common.{Line}
-use Rattle.krieg_seats.proofs.Common.{Account}
-use Rattle.krieg_play.proofs.Common.{Team, Turns, Service, BrokenCourse, HasFailed, entry_of, now_of, Sides}
-use Rattle.krieg_args.proofs.Common.{takes_input, Command, Solve, Check, Refute, Deny, Believe, Why, Umpire, San, Unsan, Play, Lead, Next, Find, Make, Job, Made}
-use Rattle.krieg_cli.proofs.Common.{World, FaultsRose, WasRead, OfText, status, Leaves, has_no_turn, OfPossible, SearchedBy, SolvedBy, Claimed, Refuted, Judged, Checked, told_text, Believed, Shows, PlaysFrom, PlaysWhole, LeadsFrom, LeadsWhole, Says, LivesBy, Makes, Plans, Summarizes, LiveOutcome, HasOutcome, ComesTo, Ends, Runs, CanBeSolved, CanBeRefuted, CanBeDenied, CanBeChecked, CanBeShown, CanBeSummed, HoldsText, MustAnswer, NoneFailed, seats_since, CanPlay, BenchHolds, Completes, Refusal, Ending, MOST_INPUT}
+use Rattle.krieg_cli.specs.Check.{Checked}
 use Rattle.krieg_cli.specs.declared.refusal.Refusal.TheVariants as refusal
 use Rattle.krieg_cli.specs.declared.ending.Ending.TheVariants as ending
 use Rattle.krieg_cli.proofs.WholeGames.{text_read, given_le}

@@ -1,12 +1,10 @@
 -- What the look at a refutation finds, as the answer to its text.
 use Rattle.std.proofs.Common.{◌≡◌, ℕ, ◌+◌, Bool, true, false, List, Ok, Err, sym, ◌∙◌, arith}
-use Rattle.krieg_refute.proofs.Common.{Refutation, refutes, claims_price, NoneMates}
-use Rattle.krieg_parting.proofs.Common.{PartStop}
+use Rattle.krieg_cli.proofs.Common.{Refutation, PartStop, IsPaid, refutes, claims_price, of_part, Decides, refuted_text, Judged, RefutationFails}
 use Rattle.krieg_parting.specs.declared.stop.PartStop.TheVariants as stop
-use Rattle.krieg_split.proofs.Common.{IsPaid}
-use Rattle.krieg_refutefile.proofs.Common.{state_of}
+use Rattle.krieg_refute.specs.Excluded.{NoneMates}
+use Rattle.krieg_refutefile.specs.Refutations.{state_of}
 use Rattle.krieg_refutefile.proofs.Agreeing.{refutes_same, price_same}
-use Rattle.krieg_cli.proofs.Common.{of_part, Decides, refuted_text, Judged, RefutationFails}
 
 module _ (f : Refutation) where
   module _ (budget start left : ℕ) (same : start ≡ budget) where

@@ -1,7 +1,6 @@
 -- A run of `krieg_find` calls nobody.
 use Rattle.std.proofs.Common.{◌≡◌, ℕ, List, [], ◌∷◌, Option, Some, None, option_map, refl}
-use Rattle.krieg_args.proofs.Common.{search_numbers, find, find_of, Find}
-use Rattle.krieg_cli.proofs.Common.{Stream, World, status, LiveOutcome, LivesBy, Ends, Runs, Reports, RunsAlone, nobody, Ending, Answered, WriteFault, Refused}
+use Rattle.krieg_cli.proofs.Common.{search_numbers, find, find_of, Find, Stream, World, status, LiveOutcome, LivesBy, Ends, Runs, Reports, RunsAlone, nobody, Ending, Answered, WriteFault, Refused}
 
 -- what seats would make of a text is all the same
 ends_alone : (t u : LiveOutcome) (e : Ending) (n budget limit : ℕ) (before after : World) → Ends t e (Find n budget limit) before after → Ends u e (Find n budget limit) before after

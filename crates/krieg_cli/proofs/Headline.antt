@@ -1,13 +1,8 @@
 -- A run of `solve` or of `find` that answers keeps the promise of the headline.
 use Rattle.std.proofs.Common.{◌≡◌, ◌⊎◌, inl, inr, ℕ, Bool, true, false, List, length, ◌≤◌, Option, Some, Result, Ok, Err, refl, sym, subst, ◌∙◌}
 use Rattle.std.specs.Io.KnownBytes.{Appends}
-use Rattle.krieg_board.proofs.Common.{Pos}
-use Rattle.krieg_text.proofs.Common.{lines, whole, TextFault}
+use Rattle.krieg_cli.proofs.Common.{Pos, lines, whole, TextFault, SheetState, sheet_at, plan_at, Command, Solve, Find, Stream, World, WasRead, OfText, status, Tells, SearchedBy, SolvedBy, LiveOutcome, Answers, Ends, Runs, Reports, WritesPlan, WritesNone, AnswersSheet, MOST_INPUT, Ending}
 use Rattle.krieg_text.specs.declared.fault.TextFault.TheVariants as fault
-use Rattle.krieg_sheet.proofs.Common.{SheetState, sheet_at}
-use Rattle.krieg_planfile.proofs.Common.{plan_at}
-use Rattle.krieg_args.proofs.Common.{Command, Solve, Find}
-use Rattle.krieg_cli.proofs.Common.{Stream, World, WasRead, OfText, status, Tells, SearchedBy, SolvedBy, LiveOutcome, Answers, Ends, Runs, Reports, WritesPlan, WritesNone, AnswersSheet, MOST_INPUT, Ending}
 use Rattle.krieg_cli.proofs.WholeGames.{answered}
 
 -- what is told is what is written

@@ -2,28 +2,16 @@
 use Rattle.std.proofs.Common.{◌≡◌, inl, inr, ℕ, zero, suc, ◌+◌, ◌≤◌, List, [], ◌∷◌, length, None, Ok, Err, ap, subst, ◌∙◌, arith}
 use Rattle.std.specs.Prelude.{false, ◌<◌}
 use Rattle.std.proofs.lemmas.Bool.{both_ways}
-use Rattle.krieg_board.proofs.Common.{Pos, Side, White, MOST_UNITS}
-use Rattle.krieg_words.proofs.Common.{Dialect, Wild16}
-use Rattle.krieg_text.proofs.Common.{put_lines}
-use Rattle.krieg_fen.proofs.Common.{MOST_LISTED}
-use Rattle.krieg_referee.proofs.Common.{judge}
-use Rattle.krieg_make.proofs.Common.{made_list, made_sheet, made_session}
-use Rattle.krieg_pack.proofs.Common.{set_of, position_lt}
+use Rattle.krieg_cli.proofs.Common.{Pos, Side, White, MOST_UNITS, Dialect, Wild16, put_lines, MOST_LISTED, judge, made_list, made_sheet, made_session, set_of, position_lt, SheetState, new_sheet, IsSheet, IsPossible, HaveOneHand, IsFirstExcess, mates, IsWorst, chess, outset, PlanTrees, plan_size, PlanFile, MOST_NODES, PlanState, Charged, IsOneTurn, IsVerdict, Fails, IsBest, IsFit, SearchStop, of_search, of_part, Decides, file_of, least_units, IsTooLarge, Searched, check_cost, tally_of, IsFound, mates_line, checked_line, found_lines, summary_lines, summary_text, Plans, Summarizes, Finding, Plan, Tally, JOB_MOVES}
 use Rattle.krieg_pack.proofs.Counts.{as_set_le}
-use Rattle.krieg_sheet.proofs.Common.{SheetState, new_sheet, IsSheet}
-use Rattle.krieg_belief.proofs.Common.{IsPossible, HaveOneHand, IsFirstExcess}
 use Rattle.krieg_belief.proofs.Prefixes.{behind_entries, all_within, excess_not_within, sheet_le}
-use Rattle.krieg_theory.proofs.Common.{mates, IsWorst}
-use Rattle.krieg_game.proofs.Common.{chess, outset}
-use Rattle.krieg_plan.proofs.Common.{PlanTrees, plan_size, PlanFile, MOST_NODES, IsOneTurn}
-use Rattle.krieg_planfile.proofs.Common.{PlanState, state_of}
-use Rattle.krieg_checker.proofs.Common.{Charged, IsVerdict, Checked, Mates, Fails}
+use Rattle.krieg_planfile.specs.PlanFiles.{state_of}
 use Rattle.krieg_checker.specs.Verdict.{check_cost as cost_of}
+use Rattle.krieg_checker.specs.declared.plan_check.Checked.{Checked}
+use Rattle.krieg_checker.specs.declared.plan_check.Checked.TheVariants.{Mates}
 use Rattle.krieg_parting.specs.declared.stop.PartStop.{PartStop as CheckStop}
 use Rattle.krieg_parting.specs.declared.stop.PartStop.TheVariants as check
-use Rattle.krieg_search.proofs.Common.{IsBest, IsFit, SearchStop}
 use Rattle.krieg_search.specs.declared.stop.SearchStop.TheVariants as search
-use Rattle.krieg_cli.proofs.Common.{of_search, of_part, Decides, file_of, least_units, IsTooLarge, Searched, check_cost, tally_of, IsFound, mates_line, checked_line, found_lines, summary_lines, summary_text, Plans, Summarizes, Finding, Plan, Tally, JOB_MOVES}
 use Rattle.krieg_cli.proofs.BestFiles.{same_turn}
 use Rattle.krieg_cli.proofs.Searching.{best_file}
 

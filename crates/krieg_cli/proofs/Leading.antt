@@ -1,15 +1,12 @@
 -- A game that a plan led against the first of White's seats, as the answer to a plan file.
 use Rattle.std.proofs.Common.{◌≡◌, ℕ, ◌<◌, ◌≤◌, ◌-◌, List, length, inl, Some, Result, Ok, Err, refl, sym, ap, subst, ◌∙◌}
 use Rattle.std.specs.Prelude.{slice_get, slice_set, slice_index_or, IfOk, IfErr}
-use Rattle.krieg_board.proofs.Common.{other, Pos, Side}
-use Rattle.krieg_session.proofs.Common.{session_text}
-use Rattle.krieg_seats.proofs.Common.{Account}
-use Rattle.krieg_play.proofs.Common.{FirstChanges, Sides}
+use Rattle.krieg_cli.proofs.Common.{other, Pos, Side, session_text, Account, FirstChanges, Sides, PlanFile, LedFrom, BrokenFrom, IsWon, Led, LeadFault, IsLedTo, IsGivenUp, Leads, LeadsFrom, HasLed, Decides, of_lead, Ending}
 use Rattle.krieg_play.proofs.FirstSeats.{first_written}
-use Rattle.krieg_plan.proofs.Common.{PlanFile}
-use Rattle.krieg_planfile.proofs.Common.{state_of}
-use Rattle.krieg_robot.proofs.Common.{Mates, LedFrom, BrokenFrom, IsWon, Led, LeadFault, Seat, NoMemory}
-use Rattle.krieg_cli.proofs.Common.{session_of, IsLedTo, IsGivenUp, Leads, LeadsFrom, HasLed, Decides, of_lead, Ending}
+use Rattle.krieg_planfile.specs.PlanFiles.{state_of}
+use Rattle.krieg_robot.specs.Laws.{Mates}
+use Rattle.krieg_robot.specs.declared.led.LeadFault.TheVariants.{Seat, NoMemory}
+use Rattle.krieg_cli.specs.Recorded.{session_of}
 use Rattle.krieg_cli.specs.declared.ending.Ending.TheVariants as ending
 
 -- ---- the first seat

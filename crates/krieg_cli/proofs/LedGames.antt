@@ -1,13 +1,9 @@
 -- The game that `lead` writes of a plan that mates is won.
 use Rattle.std.proofs.Common.{◌≡◌, ℕ, true, List, Option, Some, Ok, sym, ap, subst, ◌∙◌}
 use Rattle.std.specs.Io.KnownBytes.{Appends}
-use Rattle.krieg_text.proofs.Common.{lines, whole}
-use Rattle.krieg_session.proofs.Common.{session_text}
-use Rattle.krieg_seats.proofs.Common.{Account}
-use Rattle.krieg_play.proofs.Common.{Sides}
-use Rattle.krieg_planfile.proofs.Common.{PlanState, state_of, plan_at}
-use Rattle.krieg_args.proofs.Common.{Command, Lead}
-use Rattle.krieg_cli.proofs.Common.{session_of, mates_all, Leads, LeadsWhole, LivesBy, IsWonGame, LeadsToMate, World, status, Answers, Ends, Runs, Ending}
+use Rattle.krieg_cli.proofs.Common.{lines, whole, session_text, Account, Sides, PlanState, plan_at, Command, Lead, mates_all, Leads, LeadsWhole, LivesBy, IsWonGame, LeadsToMate, World, status, Answers, Ends, Runs, Ending}
+use Rattle.krieg_planfile.specs.PlanFiles.{state_of}
+use Rattle.krieg_cli.specs.Recorded.{session_of}
 use Rattle.krieg_cli.proofs.WholeGames.{answered, text_read}
 
 module _ {X : Type 0} (account : X → Account) (entry now : Sides X) where

@@ -1,3 +1,4 @@
+mod Common
 mod Asking
 mod Benches
 mod BestFiles
@@ -26,4 +27,3 @@ mod WholePlans
 mod WholeRecords
 mod WholeRefutations
 pub mod Tables
-pub mod Common

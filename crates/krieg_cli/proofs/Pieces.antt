@@ -4,7 +4,7 @@ use Rattle.std.proofs.Math.ListN.{get_or}
 use Rattle.std.specs.Prelude.{Option, Result, Ok, Err, OnErr}
 use Rattle.std.specs.List.{flat_map}
 use Rattle.std.specs.Io.KnownBytes.{Appends}
-use Rattle.krieg_ports.proofs.Common.{AppendsPrefix}
+use Rattle.krieg_cli.proofs.Common.{AppendsPrefix}
 use Rattle.krieg_ports.proofs.ToldBytes.{AppendsPrefix_more, AppendsPrefix_then}
 
 pub on_err : {A E P : Type 0} (r : Result A E) → P → OnErr r P

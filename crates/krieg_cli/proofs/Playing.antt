@@ -1,10 +1,7 @@
 -- A game that was not played to its stop is a refusal, or has found no memory.
 use Rattle.std.proofs.Common.{◌≡◌, ℕ, List, Result, Ok, Err, sym, subst}
-use Rattle.krieg_board.proofs.Common.{Pos}
-use Rattle.krieg_text.proofs.Common.{TextFault}
-use Rattle.krieg_seats.proofs.Common.{Account}
-use Rattle.krieg_play.proofs.Common.{Sides, Refuses, PlayFault, Vacant, Seat, NoMemory}
-use Rattle.krieg_cli.proofs.Common.{Decides, of_play, PlaysFrom, PlaysWhole, Ending}
+use Rattle.krieg_cli.proofs.Common.{Pos, TextFault, Account, Sides, Refuses, PlayFault, Vacant, Decides, of_play, PlaysFrom, PlaysWhole, Ending}
+use Rattle.krieg_play.specs.declared.outcome.PlayFault.TheVariants.{Seat, NoMemory}
 
 refused_from : {X V : Type 0} (view : V → List ℕ) (account : X → Account) (asks : ℕ) (before after : Sides X) (start : Pos) (fault : PlayFault) →
     Refuses account start asks before after fault → Decides view (Err (of_play fault)) (PlaysFrom account asks before after start)

@@ -3,13 +3,9 @@ use Rattle.std.proofs.Common.{◌≡◌, ℕ, ◌≤◌, Bool, true, false, List
 use Rattle.std.specs.Prelude.{codes, if◌then◌else◌}
 use Rattle.std.specs.Result.{result_ok}
 use Rattle.std.specs.Str.{bytes_eq}
-use Rattle.krieg_text.proofs.Common.{number_between, NumberFault}
-use Rattle.krieg_fen.proofs.Common.{MOST_LISTED}
+use Rattle.krieg_cli.proofs.Common.{number_between, MOST_LISTED, NumberFault, ◌>>=◌, command_of, command_of_name, command_of_one, command_of_three, find_of, search_numbers, solve, find, refute, make, play, lead, lead_from, number, moves_of, budget_of, limit_of, asks_of, place_of, made_input, seed_of, Command, Check, Deny, Believe, Why, Umpire, San, Unsan, Play, Lead, Next, Make, Job, Made, MOST_SEED, IsInRange, MOST_MOVES}
 use Rattle.krieg_text.proofs.Numbers.{between_spells}
 use Rattle.krieg_args.specs.Command as words
-use Rattle.krieg_args.proofs.Common.{◌>>=◌, command_of, command_of_name, command_of_one, command_of_three, find_of, search_numbers, solve, find, refute, make, play, lead, lead_from, number, moves_of, budget_of, limit_of, asks_of, place_of, made_input, seed_of, Command, Check, Deny, Believe, Why, Umpire, San, Unsan, Play, Lead, Next, Make, Job, Made, MOST_SEED}
-use Rattle.krieg_cli.proofs.Common.{IsInRange}
-use Rattle.krieg_board.proofs.Common.{MOST_MOVES}
 
 -- a search among the words has its numbers in their ranges
 abbrev Ranged : Option Command → Type 0

@@ -3,26 +3,18 @@ use Rattle.std.proofs.Common.{◌≡◌, ℕ, ◌<◌, ◌≤◌, Bool, true, fa
 use Rattle.std.specs.Prelude.{◌||◌}
 use Rattle.std.proofs.lemmas.List.{length-map}
 use Rattle.std.proofs.lemmas.Bool.{both_ways, and_parts, and_from, false_from_ne_true}
-use Rattle.krieg_board.proofs.Common.{is_same_side, Pos, Side, MOST_MOVES}
+use Rattle.krieg_cli.proofs.Common.{is_same_side, Pos, Side, MOST_MOVES, lines, whole, SheetState, is_my_turn, has_no_turn, Dialect, is_nil, can_plan, chess, outset, HaveOneHand, IsOwnTurn, side_of, IsOneSide, IsDenial, IsMated, IsDenied, IsTaken, SearchStop, Denial, Exists, most_claims, most_claimed, RefutationState, state_from, is_refutation, claim_from, IsTurnOf, refutation_at, refutation_text, text_bound, AreFew, denial, IsBetween, PlanExists, of_search, Decides, CanBeListed, denial_file, IsDenialText, Claimed}
 use Rattle.krieg_board.proofs.MenLemmas.{same_side_eq}
-use Rattle.krieg_text.proofs.Common.{lines, whole}
-use Rattle.krieg_sheet.proofs.Common.{SheetState, is_my_turn, is_over}
-use Rattle.krieg_cli.proofs.Common.{has_no_turn, NoneMates, PlanExists, of_search, Decides, CanBeListed, denial_file, IsDenialText, Claimed}
-use Rattle.krieg_words.proofs.Common.{Dialect}
-use Rattle.krieg_theory.proofs.Common.{is_nil, can_plan}
+use Rattle.krieg_sheet.specs.Turns.{is_over}
 use Rattle.krieg_theory.proofs.Lists.{all_from}
 use Rattle.krieg_theory.proofs.Planned.{mates_shows}
 use Rattle.krieg_game.proofs.ChessLaws.{chess_is_game, outset_is_lawful}
 use Rattle.krieg_costs.specs.Refutation as theory
-use Rattle.krieg_game.proofs.Common.{chess, outset}
-use Rattle.krieg_belief.proofs.Common.{HaveOneHand}
-use Rattle.krieg_split.proofs.Common.{IsOwnTurn}
-use Rattle.krieg_refute.proofs.Common.{side_of, IsOneSide, IsDenial, IsMated, IsDenied, IsTaken, Claim, Denial, Exists, most_claims, most_claimed}
-use Rattle.krieg_search.proofs.Common.{SearchStop, IsBetween}
+use Rattle.krieg_refute.specs.declared.refutation.Claim.{Claim}
 use Rattle.krieg_search.specs.declared.stop.SearchStop.TheVariants as stop
-use Rattle.krieg_refutefile.proofs.Common.{RefutationState, state_from, is_refutation, claim_from, CanBeWritten, IsTurnOf, refutation_at, refutation_text, text_bound}
+use Rattle.krieg_refutefile.specs.Writable.{CanBeWritten}
 use Rattle.krieg_refutefile.proofs.Agreeing.{states_from, claims_again, positions_same, reasons_same}
-use Rattle.krieg_claims.proofs.Common.{AreFew, denial}
+use Rattle.krieg_cli.specs.Solve.{NoneMates}
 use Rattle.krieg_cli.proofs.BestFiles.{valid_of, some_length, alike, one_turn_of}
 use Rattle.krieg_cli.proofs.ClaimedSets.{denial_written}
 use Rattle.krieg_cli.proofs.ToldClaims.{told_claims}

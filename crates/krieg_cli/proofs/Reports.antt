@@ -2,8 +2,7 @@
 use Rattle.std.proofs.Common.{◌≡◌, ℕ, List, Result, Ok, Err, refl, inl, inr}
 use Rattle.std.specs.Prelude.{OnOk, OnErr}
 use Rattle.std.specs.Io.KnownBytes.{Appends}
-use Rattle.krieg_ports.proofs.Common.{AppendsPrefix}
-use Rattle.krieg_cli.proofs.Common.{Stream, FaultsRose, NoFault, line_of, Gets, Reports, Ending, Answered}
+use Rattle.krieg_cli.proofs.Common.{AppendsPrefix, Stream, FaultsRose, NoFault, line_of, Gets, Reports, Ending, Answered}
 
 gets : {A E : Type 0} (r : Result A E) (line : List ℕ) (before after : Stream) →
     OnOk r (Appends before.bytes after.bytes line) → OnOk r (NoFault before after) → OnErr r (AppendsPrefix before.bytes after.bytes line) → OnErr r (FaultsRose before after) →

@@ -2,15 +2,9 @@
 use Rattle.std.proofs.Common.{◌≡◌, ℕ, suc, ◌≤◌, Bool, true, false, List, length, Result, Ok, Err, refl, ap, subst, arith}
 use Rattle.std.specs.Prelude.{MatchBool}
 use Rattle.std.proofs.lemmas.List.{take_all}
-use Rattle.krieg_board.proofs.Common.{Pos, Side}
-use Rattle.krieg_words.proofs.Common.{Dialect, Line}
+use Rattle.krieg_cli.proofs.Common.{Pos, Side, Dialect, Line, SheetState, IsPossible, AllWithin, PlanTrees, MOST_NODES, IsBest, IsAnswer, IsCharged, IsChargedAtMost, Answer, SearchStop, of_search, Decides, SearchedBy, file_of, IsBestFile, Searched, Tells}
 use Rattle.krieg_pack.proofs.PositionSets.{same_members}
-use Rattle.krieg_sheet.proofs.Common.{SheetState}
-use Rattle.krieg_belief.proofs.Common.{IsPossible, AllWithin}
-use Rattle.krieg_plan.proofs.Common.{PlanTrees, MOST_NODES}
-use Rattle.krieg_search.proofs.Common.{IsBest, IsAnswer, IsCharged, IsChargedAtMost, Answer, SearchStop}
 use Rattle.krieg_search.specs.declared.stop.SearchStop.TheVariants as search
-use Rattle.krieg_cli.proofs.Common.{of_search, Decides, SearchedBy, file_of, IsBestFile, Searched, Tells}
 use Rattle.krieg_cli.proofs.Asking.{IsLater}
 
 -- where a search may stop at all, no more is possible than the limit

@@ -2,16 +2,12 @@
 use Rattle.std.proofs.Common.{◌≡◌, true, List, [], ◌∷◌, None, refl, sym, ap, subst, ◌∙◌, arith}
 use Rattle.std.specs.List.{All, Contains}
 use Rattle.std.proofs.lemmas.List.Elements.{All-nil, All-contains}
-use Rattle.krieg_board.proofs.Common.{is_same_side, Pos, IsValid, Side, Move}
+use Rattle.krieg_cli.proofs.Common.{is_same_side, Pos, IsValid, Side, Move, Dialect, Line, Opens, Illegal, Done, Heard, Early, Over, In, SheetState, new_sheet, Gives, Consistent, IsSheet, first_turn, turn_behind, turn_of, is_my_turn, IsPossible, IsOwnTurn}
 use Rattle.krieg_moves.proofs.Hands.{same_hand_alike}
 use Rattle.krieg_moves.proofs.KeepsValid.{valid_after}
 use Rattle.krieg_moves.proofs.Turns.{side_after}
-use Rattle.krieg_words.proofs.Common.{Dialect, Line, Opens, Illegal, Done, Heard, Early, Over}
-use Rattle.krieg_theory.proofs.Common.{In}
-use Rattle.krieg_sheet.proofs.Common.{SheetState, new_sheet, Gives, Consistent, IsSheet, IsTold, first_turn, turn_behind, turn_of, is_my_turn}
+use Rattle.krieg_sheet.specs.Places.{IsTold}
 use Rattle.krieg_sheet.proofs.OneHand.{one_hand}
-use Rattle.krieg_belief.proofs.Common.{IsPossible}
-use Rattle.krieg_split.proofs.Common.{IsOwnTurn}
 use Rattle.krieg_cli.proofs.BestFiles.{all_of}
 
 -- each done move passes the turn

@@ -1,11 +1,6 @@
 -- The games that `why` shows, as the answer to a sheet.
 use Rattle.std.proofs.Common.{◌≡◌, ℕ, ◌<◌, ◌≤◌, true, false, List, [], ◌∷◌, length, Ok, Err, ap, subst, ◌∙◌}
-use Rattle.krieg_sheet.proofs.Common.{SheetState}
-use Rattle.krieg_theory.proofs.Common.{is_nil}
-use Rattle.krieg_words.proofs.Common.{Dialect}
-use Rattle.krieg_belief.proofs.Common.{IsPossible, AllWithin}
-use Rattle.krieg_why.proofs.Common.{ShownState, AreShown, games_text}
-use Rattle.krieg_cli.proofs.Common.{HasGames, Shows, MOST_INPUT, AnswerTooLong}
+use Rattle.krieg_cli.proofs.Common.{SheetState, is_nil, Dialect, IsPossible, AllWithin, ShownState, AreShown, games_text, HasGames, Shows, MOST_INPUT, AnswerTooLong}
 
 -- no position is possible where there is no game
 pub none_shown : (s : SheetState) (games : List ShownState) → AreShown s games → is_nil games ≡ true → IsPossible s []

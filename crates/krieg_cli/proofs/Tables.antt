@@ -1,16 +1,9 @@
 -- What a run shows, where more is known of what seats make of a text.
 use Rattle.std.proofs.Common.{◌≡◌, ℕ, List, map, Option, Some, None, Result, Ok, Err, ap, subst, inl, inr}
-use Rattle.krieg_board.proofs.Common.{Pos}
-use Rattle.krieg_text.proofs.Common.{lines, whole, TextFault}
+use Rattle.krieg_cli.proofs.Common.{Pos, lines, whole, TextFault, start_at, Account, Sides, seen, seen_team, Vacant, Command, Play, Lead, Stream, World, LiveOutcome, HasOutcome, PlanState, plan_at, Led, LeadFault, PlaysFrom, PlaysWhole, HasBegun, OpponentChanges, IsLedTo, IsGivenUp, LeadsFrom, LeadsWhole, HasLedText, LivesBy, ComesTo, Ends, Runs, LeavesBench, IsRun, Refusal, NoSuchPosition, NoSeat, SeatFault, Ending, Answered, WriteFault, Refused}
 use Rattle.krieg_text.specs.declared.fault.TextFault.TheVariants as fault
-use Rattle.krieg_session.proofs.Common.{start_at}
-use Rattle.krieg_seats.proofs.Common.{Account}
-use Rattle.krieg_play.proofs.Common.{Sides, seen, seen_team, Vacant, Seat, NoMemory}
+use Rattle.krieg_play.specs.declared.outcome.PlayFault.TheVariants.{Seat, NoMemory}
 use Rattle.krieg_play.proofs.Seen.{played_seen, refuses_seen}
-use Rattle.krieg_args.proofs.Common.{Command, Play, Lead}
-use Rattle.krieg_cli.proofs.Common.{Stream, World, LiveOutcome, HasOutcome, PlaysFrom, PlaysWhole, HasBegun, OpponentChanges, IsLedTo, IsGivenUp, LeadsFrom, LeadsWhole, HasLedText, LivesBy, ComesTo, Ends, Runs, LeavesBench, IsRun, Refusal, NoSuchPosition, NoSeat, SeatFault, Ending, Answered, WriteFault, Refused}
-use Rattle.krieg_planfile.proofs.Common.{PlanState, plan_at}
-use Rattle.krieg_robot.proofs.Common.{Led, LeadFault}
 use Rattle.krieg_robot.specs.declared.led.LeadFault.TheVariants as lead
 use Rattle.krieg_cli.specs.declared.ending.Ending.TheVariants as ending
 

@@ -4,14 +4,9 @@ use Rattle.std.specs.Prelude.{◌==◌, ◌⊎◌, nat_lt}
 use Rattle.std.specs.List.{All, list_all, list_any}
 use Rattle.std.proofs.lemmas.Bool.{both_ways, and_parts, not-true}
 use Rattle.std.proofs.lemmas.List.Elements.{All-nil, All-cons}
-use Rattle.krieg_board.proofs.Common.{Pos, move_lt, IsValid, Move}
-use Rattle.krieg_words.proofs.Common.{Dialect}
-use Rattle.krieg_pack.proofs.Common.{position_lt}
-use Rattle.krieg_theory.proofs.Common.{In, Ascending, same, is_nil, refused, legal_in_some, class}
+use Rattle.krieg_cli.proofs.Common.{Pos, move_lt, IsValid, Move, Dialect, position_lt, In, Ascending, same, is_nil, refused, legal_in_some, class, Reason, ByLife, ByStalemate, ByClass, ByRefused, cited, is_shown, holds, are_reasons, claim_holds, claims_hold, Key, chess, why_from, reason_from, claim_from, CitesBelow, IsToldWhy, IsToldReason, IsToldClaim, AreToldClaims}
 use Rattle.krieg_theory.proofs.Lists.{all_at, any_at, append_in}
-use Rattle.krieg_costs.proofs.Common.{Reason, ByLife, ByStalemate, ByClass, ByRefused, Claim, cited, is_shown, holds, are_reasons, claim_holds, claims_hold}
-use Rattle.krieg_game.proofs.Common.{Key, chess}
-use Rattle.krieg_refutefile.proofs.Common.{why_from, reason_from, claim_from, CitesBelow, IsToldWhy, IsToldReason, IsToldClaim, AreToldClaims}
+use Rattle.krieg_costs.specs.Refutation.{Claim}
 use Rattle.krieg_refute.specs.declared.refutation.Reason.{Reason as Told}
 use Rattle.krieg_cli.proofs.BestFiles.{all_of}
 use Rattle.krieg_cli.proofs.ClaimedSets.{IsWritten}

@@ -1,18 +1,12 @@
 -- The canonical plan of valid positions can be told: every move is one of the board, and all words are those of a game.
 use Rattle.std.proofs.Common.{◌≡◌, Bool, true, false, not, List, [], ◌∷◌, map, is_some, refl, sym, ap, subst, inl, inr}
 use Rattle.std.proofs.lemmas.Bool.{both_ways, not-true, not-false}
-use Rattle.krieg_board.proofs.Common.{is_same_side, Pos, IsValid, Side, Move}
-use Rattle.krieg_fen.proofs.Common.{IsOnBoard}
-use Rattle.krieg_moves.proofs.Common.{after, is_legal, moves, all_moves}
+use Rattle.krieg_cli.proofs.Common.{is_same_side, Pos, IsValid, Side, Move, IsOnBoard, after, is_legal, moves, all_moves, words, opening, told, Dialect, In, is_nil, Try, Maybe, Nothing, Just, Edges, NoEdges, Edge, refused, legal_in_some, keys, class, IsCanon, IsCanonOther, AreCanon, edge_keys, openings, opening_set, AreCanonRoots, IsCanonPlan, Key, RootKey, chess, outset, ComesAbout, ComesFirst, NodeTree, PlanTrees, IsToldIn, IsToldKey, IsToldOther, AreTold, IsToldRoot, AreToldRoots, AreRootsOf}
 use Rattle.krieg_moves.proofs.KeepsValid.{valid_after}
 use Rattle.krieg_moves.proofs.LegalMoves.{legal_squares}
-use Rattle.krieg_words.proofs.Common.{words, opening, told, Dialect}
 use Rattle.krieg_words.proofs.SaidLaws.{opening_said, words_said}
 use Rattle.krieg_words.proofs.ToldLaws.{told_fits, told_said}
-use Rattle.krieg_theory.proofs.Common.{In, is_nil, Try, Maybe, Nothing, Just, Edges, NoEdges, Edge, refused, legal_in_some, keys, class, IsCanon, IsCanonOther, AreCanon, edge_keys, openings, opening_set, AreCanonRoots, IsCanonPlan}
-use Rattle.krieg_game.proofs.Common.{Key, RootKey, chess, outset, ComesAbout, ComesFirst}
-use Rattle.krieg_plan.proofs.Common.{NodeTree, PlanTrees}
-use Rattle.krieg_planfile.proofs.Common.{IsToldIn, IsToldKey, IsTold, IsToldOther, AreTold, IsToldRoot, AreToldRoots, AreRootsOf}
+use Rattle.krieg_planfile.specs.NodeText.{IsTold}
 use Rattle.krieg_theory.proofs.Lists.{any_at, filter_in}
 use Rattle.krieg_game.proofs.Splitting.{classes_come_about}
 use Rattle.krieg_game.proofs.Starting.{openings_are_members, openings_come_first, openings_occur}

@@ -2,11 +2,9 @@
 use Rattle.std.proofs.Common.{◌≡◌, ℕ, List, Option, Some, Result, Ok, Err, ap, subst, ◌∙◌, arith}
 use Rattle.std.proofs.lemmas.Bool.{both_ways}
 use Rattle.std.specs.Io.KnownBytes.{Appends}
-use Rattle.krieg_text.proofs.Common.{lines, whole}
-use Rattle.krieg_planfile.proofs.Common.{PlanState, plan_at}
+use Rattle.krieg_cli.proofs.Common.{lines, whole, PlanState, plan_at, Command, Check, World, OfText, status, worst_text, LiveOutcome, ComesTo, Ends, Runs, IsSolution, EndsOnSolution, ChecksSolutions, Refusal, BudgetSpent, PlanFails, Ending}
 use Rattle.krieg_planfile.proofs.ReadSizes.{read_within}
-use Rattle.krieg_args.proofs.Common.{Command, Check}
-use Rattle.krieg_cli.proofs.Common.{World, OfText, status, worst_text, Checked, LiveOutcome, ComesTo, Ends, Runs, IsSolution, EndsOnSolution, ChecksSolutions, Refusal, BudgetSpent, PlanFails, Ending}
+use Rattle.krieg_cli.specs.Check.{Checked}
 use Rattle.krieg_cli.specs.declared.ending.Ending.TheVariants as ending
 use Rattle.krieg_cli.proofs.WholeGames.{text_read, given_le}
 

@@ -1,16 +1,10 @@
 -- What `san` writes of a session is a record of which `unsan` makes the session of the tries that were done.
 use Rattle.std.proofs.Common.{◌≡◌, ℕ, List, Option, Some, None, Result, Ok, Err, ap, subst, ◌∙◌, arith}
 use Rattle.std.specs.Io.KnownBytes.{Appends}
-use Rattle.krieg_text.proofs.Common.{lines, whole}
-use Rattle.krieg_words.proofs.Common.{Wild16}
-use Rattle.krieg_referee.proofs.Common.{Event}
-use Rattle.krieg_session.proofs.Common.{SessionState, session_at, session_text, IsGame}
+use Rattle.krieg_cli.proofs.Common.{lines, whole, Wild16, Event, SessionState, session_at, session_text, IsGame, record_at, record_of, unsan_of, Command, Unsan, World, OfText, status, LiveOutcome, ComesTo, Ends, Runs, done_session, IsScored, EndsOnRecord, ReturnsGames, Refusal, Ending}
 use Rattle.krieg_session.proofs.SessionFormat.{code_game}
-use Rattle.krieg_record.proofs.Common.{record_at}
-use Rattle.krieg_score.proofs.Common.{record_of, session_of, unsan_of}
+use Rattle.krieg_score.specs.Scores.{session_of}
 use Rattle.krieg_score.proofs.DoneMoves.{done_tries, sans_again, unsans_again, record_is}
-use Rattle.krieg_args.proofs.Common.{Command, Unsan}
-use Rattle.krieg_cli.proofs.Common.{World, OfText, status, LiveOutcome, ComesTo, Ends, Runs, done_session, IsScored, EndsOnRecord, ReturnsGames, Refusal, Ending}
 use Rattle.krieg_cli.specs.declared.ending.Ending.TheVariants as ending
 use Rattle.krieg_cli.proofs.WholeGames.{text_read, given_le}
 

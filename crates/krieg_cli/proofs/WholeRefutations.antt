@@ -2,14 +2,9 @@
 use Rattle.std.proofs.Common.{◌≡◌, ℕ, ◌<◌, ◌≤◌, List, length, Option, Some, Result, Ok, Err, refl, sym, ap, subst, ◌∙◌, arith}
 use Rattle.std.proofs.lemmas.Bool.{both_ways}
 use Rattle.std.specs.Io.KnownBytes.{Appends}
-use Rattle.krieg_board.proofs.Common.{Pos}
-use Rattle.krieg_text.proofs.Common.{lines, whole, TextFault}
+use Rattle.krieg_cli.proofs.Common.{Pos, lines, whole, TextFault, SheetState, sheet_at, RefutationState, refutation_at, Command, Refute, Deny, World, WasRead, OfText, status, IsDenialText, Refuted, Judged, HasSheet, LiveOutcome, ComesTo, Answers, Ends, Runs, IsRefutation, sheet_file, WritesRefutation, RefutesSheets, EndsOnRefutation, DeniesRefutations, MOST_INPUT, Refusal, BudgetSpent, RefutationFails, Ending}
 use Rattle.krieg_text.specs.declared.fault.TextFault.TheVariants as fault
-use Rattle.krieg_sheet.proofs.Common.{SheetState, sheet_at}
-use Rattle.krieg_refutefile.proofs.Common.{RefutationState, refutation_at}
 use Rattle.krieg_refutefile.proofs.Sizes.{read_short}
-use Rattle.krieg_args.proofs.Common.{Command, Refute, Deny}
-use Rattle.krieg_cli.proofs.Common.{World, WasRead, OfText, status, IsDenialText, Refuted, Judged, HasSheet, LiveOutcome, ComesTo, Answers, Ends, Runs, IsRefutation, sheet_file, WritesRefutation, RefutesSheets, EndsOnRefutation, DeniesRefutations, MOST_INPUT, Refusal, BudgetSpent, RefutationFails, Ending}
 use Rattle.krieg_cli.specs.declared.ending.Ending.TheVariants as ending
 use Rattle.krieg_cli.proofs.WholeGames.{answered, text_read, given_le}
 

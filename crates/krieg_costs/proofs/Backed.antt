@@ -3,11 +3,10 @@ use Rattle.std.proofs.Common.{◌≡◌, ℕ, zero, suc, ◌+◌, ◌≤◌, ◌
 use Rattle.std.specs.Prelude.{IfSome}
 use Rattle.std.specs.List.{list_any}
 use Rattle.std.proofs.lemmas.Bool.{cases_Bool, cond-true, cond-false, both_ways, not-true, false_from_ne_true}
-use Rattle.krieg_theory.proofs.Common.{In, Game, IsGame, refused, tries, class, can, begins, least, Outset, IsOutset, openings, opening_set, is_over, can_plan}
+use Rattle.krieg_costs.proofs.Common.{In, Game, IsGame, refused, tries, class, can, begins, least, Outset, IsOutset, openings, opening_set, is_over, can_plan, Pair, total, once, made, price, first_made, reach_of, Block, Lives, Stale, LostClass, LostRefused, NoBlock, block, pair_of, lost, won, floor_price, first_lost, lost_opening, backing, floor, HasWon, IsBacking, BackingIsLeast, BackingIsReached, FloorIsAtMostFresh}
 use Rattle.krieg_theory.proofs.Lists.{in_flat, flat_in}
 use Rattle.krieg_theory.proofs.Least.{least_le, can_least}
 use Rattle.krieg_theory.proofs.Planned.{can_plan_at}
-use Rattle.krieg_costs.proofs.Common.{Pair, total, once, made, price, first_made, reach_of, Block, Lives, Stale, LostClass, LostRefused, NoBlock, block, pair_of, lost, won, floor_price, first_lost, lost_opening, backing, floor, HasWon, IsBacking, BackingIsLeast, BackingIsReached, FloorIsAtMostFresh}
 use Rattle.krieg_costs.proofs.Totals.{total_up_to, total_within}
 use Rattle.krieg_costs.proofs.Pairs.{once_in, in_once, once_is}
 use Rattle.krieg_costs.proofs.Reached.{Inside, opening_some, reach_of_sinks, reach_is_least}

@@ -3,11 +3,10 @@ use Rattle.std.proofs.Common.{◌≡◌, ℕ, zero, suc, ◌<◌, Bool, true, fa
 use Rattle.std.specs.Prelude.{◌==◌, IfSome}
 use Rattle.std.specs.List.{list_all}
 use Rattle.std.proofs.lemmas.Bool.{cases_Bool, cond-true, cond-false, both_ways, and_parts, and_from, and_cases, or_cases, or_parts, not-true, not_from_false, eqb-true, eqb-false, false_from_ne_true, true_from_ne_false}
-use Rattle.krieg_theory.proofs.Common.{In, is_nil, Game, IsGame, refused, legal_in_some, stale_in_some, all_outcomes, keys, class, mates_at, can, begins}
+use Rattle.krieg_costs.proofs.Common.{In, is_nil, Game, IsGame, refused, legal_in_some, stale_in_some, all_outcomes, keys, class, mates_at, can, begins, Block, Lives, Stale, LostClass, LostRefused, NoBlock, lives_in_some, by_class, block, pair_of, BlockIsThere, BlockIsLost}
 use Rattle.krieg_theory.proofs.Lists.{all_at, all_from, any_at, any_from, nil_or_member}
 use Rattle.krieg_theory.proofs.Keys.{key_occurs, occurs_at}
 use Rattle.krieg_theory.proofs.Steps.{in_outs, outs_in}
-use Rattle.krieg_costs.proofs.Common.{Block, Lives, Stale, LostClass, LostRefused, NoBlock, lives_in_some, by_class, block, pair_of, BlockIsThere, BlockIsLost}
 use Rattle.krieg_costs.proofs.Reached.{class_some}
 
 module _ {X : Type 0} where

@@ -1,9 +1,8 @@
 -- The cost of a set, without the bound on its members, and what is reached costs just that.
 use Rattle.std.proofs.Common.{◌≡◌, ℕ, zero, suc, ◌+◌, ◌≤◌, true, List, [], ◌∷◌, ◌++◌, length, filter, flat_map, refl, sym, ap, ◌∙◌, arith}
-use Rattle.krieg_theory.proofs.Common.{In, Game, IsGame, refused, legal_in_some, tries, all_outcomes, given, keys, class, Outset, openings, opening_set}
+use Rattle.krieg_costs.proofs.Common.{In, Game, IsGame, refused, legal_in_some, tries, all_outcomes, given, keys, class, Outset, openings, opening_set, Pair, total, made, price, round, cost_within, cost, reach_within, reach, reach_of, CostIsSum, FreshIsAtMostCost}
 use Rattle.krieg_theory.proofs.Lists.{filter_in, in_filter, any_at}
 use Rattle.krieg_theory.proofs.Steps.{refused_lt}
-use Rattle.krieg_costs.proofs.Common.{Pair, total, made, price, round, cost_within, cost, reach_within, reach, reach_of, CostIsSum, FreshIsAtMostCost}
 use Rattle.krieg_costs.proofs.Totals.{total_agree, total_append, total_add, total_flat, length_flat}
 use Rattle.krieg_costs.proofs.Pairs.{total_once}
 

@@ -1,3 +1,4 @@
+mod Common
 pub mod Totals
 pub mod Pairs
 pub mod Onces
@@ -8,4 +9,3 @@ pub mod Refuted
 pub mod LostSets
 pub mod WonSets
 pub mod Backed
-pub mod Common

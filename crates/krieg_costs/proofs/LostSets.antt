@@ -2,10 +2,9 @@
 use Rattle.std.proofs.Common.{◌≡◌, ℕ, zero, suc, ◌≤◌, ◌<◌, true, false, List, [], ◌∷◌, length, Option, Some, None, refl, subst, inl, inr, arith}
 use Rattle.std.specs.Prelude.{IfSome}
 use Rattle.std.proofs.lemmas.Bool.{both_ways}
-use Rattle.krieg_theory.proofs.Common.{In, is_nil, Game, IsGame, refused, legal_in_some, tries, class, can}
+use Rattle.krieg_costs.proofs.Common.{In, is_nil, Game, IsGame, refused, legal_in_some, tries, class, can, Pair, Block, Lives, Stale, LostClass, LostRefused, NoBlock, block, pair_of, block_pair, behind, lost_within, lost, KeepsLost}
 use Rattle.krieg_theory.proofs.Lists.{in_flat, flat_in}
 use Rattle.krieg_theory.proofs.Steps.{refused_lt}
-use Rattle.krieg_costs.proofs.Common.{Pair, Block, Lives, Stale, LostClass, LostRefused, NoBlock, block, pair_of, block_pair, behind, lost_within, lost, KeepsLost}
 use Rattle.krieg_costs.proofs.Costs.{try_legal, legal_try}
 use Rattle.krieg_costs.proofs.Reached.{Inside, class_some}
 use Rattle.krieg_costs.proofs.Blocks.{BlockSays, block_says}

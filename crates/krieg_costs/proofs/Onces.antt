@@ -2,10 +2,9 @@
 use Rattle.std.proofs.Common.{◌≡◌, Bool, true, false, cond, List, [], ◌∷◌, ◌++◌, ◌⊎◌, inl, inr, map, flat_map, subst, refl}
 use Rattle.std.specs.List.{filter}
 use Rattle.std.proofs.lemmas.Bool.{both_ways}
-use Rattle.krieg_theory.proofs.Common.{In, IsOrder, Ascending, as_set}
+use Rattle.krieg_costs.proofs.Common.{In, IsOrder, Ascending, as_set, IsOnce}
 use Rattle.krieg_theory.proofs.Ascending.{as_set_ascending}
 use Rattle.krieg_theory.proofs.Lists.{append_in, flat_in, map_in, filter_in}
-use Rattle.krieg_costs.proofs.Common.{IsOnce}
 
 pub once_append : {X : Type 0} (xs ys : List X) → IsOnce xs → IsOnce ys → ((x : X) → In x xs → In x ys → ⊥) → IsOnce (xs ++ ys)
 once_append [] ys a b apart = b

@@ -3,10 +3,9 @@ use Rattle.std.proofs.Common.{◌≡◌, ℕ, ◌+◌, ◌≤◌, Bool, true, fa
 use Rattle.std.specs.Prelude.{◌==◌}
 use Rattle.std.specs.List.{list_any}
 use Rattle.std.proofs.lemmas.Bool.{cases_Bool, cond-true, cond-false, both_ways, and_parts, and_from, eqb-true, eq-eqb}
-use Rattle.krieg_theory.proofs.Common.{In, IsOrder, same, Game, IsGame}
+use Rattle.krieg_costs.proofs.Common.{In, IsOrder, same, Game, IsGame, Pair, total, IsOnce, same_list, same_pair, once, OnceIsOnce}
 use Rattle.krieg_theory.proofs.Lists.{any_at, any_from}
 use Rattle.krieg_theory.proofs.Ascending.{same_eq, same_refl}
-use Rattle.krieg_costs.proofs.Common.{Pair, total, IsOnce, same_list, same_pair, once, OnceIsOnce}
 
 module _ {X : Type 0} (lt : X → X → Bool) (O : IsOrder lt) where
   pub same_list_eq : (xs ys : List X) → same_list lt xs ys ≡ true → xs ≡ ys

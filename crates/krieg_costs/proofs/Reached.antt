@@ -1,12 +1,11 @@
 -- What is reached: it keeps the rules, and it is in each list that keeps them.
 use Rattle.std.proofs.Common.{◌≡◌, ℕ, zero, suc, ◌≤◌, ◌<◌, true, false, ◌⊎◌, List, [], ◌∷◌, ◌++◌, length, flat_map, refl, sym, ap, subst, inl, inr, arith, eq-or-lt_of_le}
 use Rattle.std.proofs.lemmas.Bool.{both_ways}
-use Rattle.krieg_theory.proofs.Common.{In, is_nil, Game, IsGame, refused, legal_in_some, tries, keys, class, Outset, IsOutset, openings, opening_set}
+use Rattle.krieg_costs.proofs.Common.{In, is_nil, Game, IsGame, refused, legal_in_some, tries, keys, class, Outset, IsOutset, openings, opening_set, Pair, once, reach_within, reach, reach_of, HasParts, IsReach, ReachIsLeast, ReachIsOfSets}
 use Rattle.krieg_theory.proofs.Lists.{in_append_left, in_append_right, append_in, in_flat, flat_in}
 use Rattle.krieg_theory.proofs.Steps.{refused_lt}
 use Rattle.krieg_theory.proofs.Theorems.{classes_are_split}
 use Rattle.krieg_theory.proofs.Planned.{opening_member}
-use Rattle.krieg_costs.proofs.Common.{Pair, once, reach_within, reach, reach_of, HasParts, IsReach, ReachIsLeast, ReachIsOfSets}
 use Rattle.krieg_costs.proofs.Pairs.{in_once, once_in}
 use Rattle.krieg_costs.proofs.Costs.{try_legal, legal_try}
 

@@ -3,7 +3,7 @@ use Rattle.std.proofs.Common.{◌≡◌, ℕ, zero, suc, ◌≤◌, true, false,
 use Rattle.std.specs.Prelude.{◌==◌}
 use Rattle.std.specs.List.{list_all, list_any}
 use Rattle.std.proofs.lemmas.Bool.{both_ways, and_parts, not-true, ltb-false, eqb-true, false_from_ne_true}
-use Rattle.krieg_theory.proofs.Common.{In, same, is_nil, Game, IsGame, refused, legal_in_some, stale_in_some, tries, keys, class, can, begins, Outset, IsOutset, openings, opening_set, mates}
+use Rattle.krieg_costs.proofs.Common.{In, same, is_nil, Game, IsGame, refused, legal_in_some, stale_in_some, tries, keys, class, can, begins, Outset, IsOutset, openings, opening_set, mates, Reason, ByLife, ByStalemate, ByClass, ByRefused, Claim, cited, last_of, is_within, is_shown, holds, are_reasons, claim_holds, claims_hold, denies, RefutationExcludes}
 use Rattle.krieg_theory.proofs.Lists.{all_at, any_at, append_in, nil_or_member}
 use Rattle.krieg_theory.proofs.Ascending.{same_eq}
 use Rattle.krieg_theory.proofs.Steps.{Member, can_at}
@@ -12,7 +12,6 @@ use Rattle.krieg_theory.proofs.Built.{canon_wins}
 use Rattle.krieg_theory.proofs.Unique.{can_upto}
 use Rattle.krieg_theory.proofs.Theorems.{classes_are_split}
 use Rattle.krieg_theory.proofs.Planned.{mates_shows, can_plan_at}
-use Rattle.krieg_costs.proofs.Common.{Reason, ByLife, ByStalemate, ByClass, ByRefused, Claim, cited, last_of, is_within, is_shown, holds, are_reasons, claim_holds, claims_hold, denies, RefutationExcludes}
 use Rattle.krieg_costs.proofs.Costs.{legal_try}
 use Rattle.krieg_costs.proofs.Reached.{not_nil}
 use Rattle.krieg_costs.proofs.Blocks.{lives_how, no_life}

@@ -1,7 +1,6 @@
 -- Sums over lists.
 use Rattle.std.proofs.Common.{◌≡◌, ℕ, ◌+◌, ◌≤◌, Bool, true, false, cond, ◌⊎◌, List, [], ◌∷◌, ◌++◌, length, flat_map, refl, sym, ap, subst, inl, inr, ◌∙◌, arith, length-append}
-use Rattle.krieg_theory.proofs.Common.{In}
-use Rattle.krieg_costs.proofs.Common.{total, up_to, IsOnce}
+use Rattle.krieg_costs.proofs.Common.{In, total, up_to, IsOnce}
 
 module _ {X : Type 0} where
   pub total_agree : (f g : X → ℕ) (xs : List X) → ((x : X) → In x xs → f x ≡ g x) → total f xs ≡ total g xs

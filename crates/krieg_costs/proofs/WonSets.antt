@@ -1,12 +1,11 @@
 -- What backs a set that can be won, at its least number.
 use Rattle.std.proofs.Common.{◌≡◌, ℕ, zero, suc, ◌≤◌, ◌<◌, true, false, ◌⊎◌, List, [], ◌∷◌, ◌++◌, length, filter, flat_map, Some, refl, sym, ap, subst, inl, inr, ◌∙◌, arith}
 use Rattle.std.proofs.lemmas.Bool.{cases_Bool, cond-true, cond-false, both_ways, and_parts}
-use Rattle.krieg_theory.proofs.Common.{In, is_nil, Game, IsGame, refused, legal_in_some, tries, keys, class, can, begins, first_try, least}
+use Rattle.krieg_costs.proofs.Common.{In, is_nil, Game, IsGame, refused, legal_in_some, tries, keys, class, can, begins, first_try, least, Pair, Block, Lives, Stale, LostClass, LostRefused, NoBlock, block, block_pair, behind, lost, refused_won, won_by, won_within, won, KeepsLost, HasWon, KeepsWon}
 use Rattle.krieg_theory.proofs.Lists.{in_append_left, in_append_right, append_in, in_flat, flat_in, filter_in, in_filter, find_at}
 use Rattle.krieg_theory.proofs.Steps.{begins_at, can_at, can_from, refused_lt}
 use Rattle.krieg_theory.proofs.Unique.{member_of, class_can}
 use Rattle.krieg_theory.proofs.Least.{least_here, least_before}
-use Rattle.krieg_costs.proofs.Common.{Pair, Block, Lives, Stale, LostClass, LostRefused, NoBlock, block, block_pair, behind, lost, refused_won, won_by, won_within, won, KeepsLost, HasWon, KeepsWon}
 use Rattle.krieg_costs.proofs.Costs.{try_legal, legal_try}
 use Rattle.krieg_costs.proofs.Reached.{Inside, not_nil}
 use Rattle.krieg_costs.proofs.Blocks.{block_says, found}

@@ -5,10 +5,8 @@ use Rattle.std.proofs.lemmas.Bool.{ne_eqb, lt-leb, cases_lt}
 use Rattle.std.proofs.lemmas.Option.{cond_some}
 use Rattle.std.proofs.lemmas.List.{append-nil, take_at, drop_at, take_all}
 use Rattle.std.proofs.lemmas.List.Splits.{join_with_byte-slice_split}
-use Rattle.krieg_board.proofs.Common.{Kind, Pawn, King, Board}
+use Rattle.krieg_fen.proofs.Common.{Kind, Pawn, King, Board, pieces, capital, small_letter, kind_by, man_of, Row, squares_at, row_of, onto_row, eight, ranks_of, board_of, rank_at, SpellRanks, SpellsBoard}
 use Rattle.krieg_board.specs.declared.men.Kind.TheVariants.{Knight, Bishop, Rook, Queen}
-use Rattle.krieg_text.proofs.Common.{pieces}
-use Rattle.krieg_fen.proofs.Common.{capital, small_letter, kind_by, man_of, Row, squares_at, row_of, onto_row, eight, ranks_of, board_of, rank_at, SpellRanks, SpellsBoard}
 use Rattle.krieg_text.proofs.Free.{Above, above_append, above_less, pieces_first, pieces_last}
 use Rattle.krieg_fen.proofs.RankTexts.{rank_long}
 

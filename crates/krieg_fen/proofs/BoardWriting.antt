@@ -4,8 +4,7 @@ use Rattle.std.proofs.Math.Seq.{take-append-add}
 use Rattle.std.proofs.lemmas.List.{length-take-le}
 use Rattle.std.proofs.lemmas.Slice.{take-put_mid}
 use borrow.Rule.Slice.PartMut.{put_mid}
-use Rattle.krieg_board.proofs.Common.{Board}
-use Rattle.krieg_fen.proofs.Common.{rank_text, rank_at, ranks_text, board_text}
+use Rattle.krieg_fen.proofs.Common.{Board, rank_text, rank_at, ranks_text, board_text}
 use Rattle.krieg_fen.proofs.RankWriting.{ranks_step}
 
 -- the text so far, with the bytes that count of a part that was written behind it

@@ -1,10 +1,8 @@
 -- Which bytes stand in written squares, moves and positions: none is a line feed, and only a position has spaces. Nor has a written line of a side or of a list a line feed.
 use Rattle.std.proofs.Common.{◌≡◌, ℕ, ◌^◌, ◌<◌, true, List, [], ◌∷◌, ◌++◌, map, refl, arith}
 use Rattle.std.specs.Prelude.{codes}
-use Rattle.krieg_board.proofs.Common.{Side, White, Black, Move, Promo, Plain, Pos}
+use Rattle.krieg_fen.proofs.Common.{Side, White, Black, Move, Promo, Plain, Pos, is_line, AreLines, side_line, side_mark, list_head, number_text, square_text, promo_text, move_text, board_text, side_text, rights_text, state_text, position_text}
 use Rattle.krieg_board.specs.declared.men.Promo.TheVariants.{Queen, Rook, Bishop, Knight}
-use Rattle.krieg_text.proofs.Common.{is_line, AreLines, number_text}
-use Rattle.krieg_fen.proofs.Common.{side_line, side_mark, list_head, square_text, promo_text, move_text, board_text, side_text, rights_text, state_text, position_text}
 use Rattle.krieg_text.proofs.Free.{Above, above_append, above_less}
 use Rattle.krieg_fen.proofs.RankTexts.{board_above}
 use Rattle.krieg_fen.proofs.FenTexts.{side_above, rights_above, mark_above}

@@ -1,10 +1,8 @@
 -- A position that was written is read again.
 use Rattle.std.proofs.Common.{◌≡◌, ℕ, ◌+◌, ◌/◌, ◌%◌, ◌<◌, Bool, true, false, cond, ◌||◌, eqb, eqb-true, List, [], ◌∷◌, Option, Some, None, Result, Ok, refl, ap, ◌∙◌, arith}
 use Rattle.std.proofs.lemmas.Bool.{and_parts}
-use Rattle.krieg_board.proofs.Common.{Side, White, Black, Rights, other, rank_of, crossed_rank, Board, Pos, IsValid, has_mark}
+use Rattle.krieg_fen.proofs.Common.{Side, White, Black, Rights, other, rank_of, crossed_rank, Board, Pos, IsValid, has_mark, ◌>>=◌, square_of, pieces, side_of, rights_of, mark_of, mark_at, FenFault, field, unless, checked, position_at, position_of, board_text, side_text, rights_text, mark_text, state_text, position_text}
 use Rattle.krieg_board.proofs.Facts.{facts}
-use Rattle.krieg_text.proofs.Common.{◌>>=◌, pieces}
-use Rattle.krieg_fen.proofs.Common.{square_of, side_of, rights_of, mark_of, mark_at, FenFault, field, unless, checked, position_at, position_of, board_text, side_text, rights_text, mark_text, state_text, position_text}
 use Rattle.krieg_fen.proofs.MoveTexts.{square_again}
 use Rattle.krieg_text.proofs.Free.{Above, pieces_first, pieces_last}
 use Rattle.krieg_fen.proofs.RankTexts.{board_above, board_again}

@@ -5,9 +5,7 @@ use Rattle.std.specs.Char.{is_ascii_digit}
 use Rattle.std.proofs.lemmas.Bool.{and_parts}
 use Rattle.std.proofs.lemmas.Option.{cond_some}
 use Rattle.std.proofs.lemmas.List.{append-nil, nil_from_length}
-use Rattle.krieg_board.proofs.Common.{Side, White, Black, Rights}
-use Rattle.krieg_fen.proofs.Common.{FenFault, Field, square_of, side_of, letter_at, letters_of, no_rights, rights_of, mark_at, mark_of, is_clock, clocks_at, side_text, held_text, or_dash, rights_text, mark_text}
-use Rattle.krieg_text.proofs.Common.{◌>>=◌}
+use Rattle.krieg_fen.proofs.Common.{Side, White, Black, Rights, FenFault, Field, ◌>>=◌, square_of, side_of, letter_at, letters_of, no_rights, rights_of, mark_at, mark_of, is_clock, clocks_at, side_text, held_text, or_dash, rights_text, mark_text}
 use Rattle.krieg_fen.proofs.MoveTexts.{square_spells}
 use Rattle.krieg_text.proofs.Free.{Above}
 use Rattle.krieg_text.proofs.CleanTexts.{digits_above}

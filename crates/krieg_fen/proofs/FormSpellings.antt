@@ -3,9 +3,7 @@ use Rattle.std.proofs.Common.{◌≡◌, ℕ, ◌≤◌, Bool, true, false, cond
 use Rattle.std.specs.Prelude.{codes}
 use Rattle.std.specs.Str.{bytes_eq}
 use Rattle.std.proofs.lemmas.Slice.Eq.{bytes_eq-Decides}
-use Rattle.krieg_board.proofs.Common.{Pos, Side, White, Black}
-use Rattle.krieg_text.proofs.Common.{Syntax, Count, Behind}
-use Rattle.krieg_fen.proofs.Common.{FenFault, Fields, Field, Bad, position_of, Spells, side_line, side_form, list_line, list_form, position_kind, position_form, start_form, MOST_LISTED}
+use Rattle.krieg_fen.proofs.Common.{Pos, Side, White, Black, Syntax, Count, FenFault, Fields, Field, Bad, position_of, Spells, side_line, side_form, list_line, list_form, position_kind, position_form, start_form, MOST_LISTED, Behind}
 use Rattle.krieg_fen.proofs.PositionSpellings.{position_spells, position_reads}
 use Rattle.krieg_text.proofs.FormSpellings.{number_is, number_read}
 use Rattle.krieg_text.proofs.Formats.{IsForm, named_form}

@@ -1,6 +1,6 @@
 -- A position has the hand of itself.
 use Rattle.std.proofs.Common.{◌≡◌, Bool, true, false, not, cond, Option, Some, None, refl}
-use Rattle.krieg_board.proofs.Common.{is_same_side, is_same_kind, is_same_bool, man_at, Pos, is_same_of, has_same_men, has_same_rights, same_hand, Side, White, Black, Kind, Pawn, King, Man, Rights}
+use Rattle.krieg_fen.proofs.Common.{is_same_side, is_same_kind, is_same_bool, man_at, Pos, is_same_of, has_same_men, has_same_rights, same_hand, Side, White, Black, Kind, Pawn, King, Man, Rights}
 use Rattle.krieg_board.specs.declared.men.Kind.TheVariants.{Knight, Bishop, Rook, Queen}
 use Rattle.krieg_board.proofs.SquareTests.{every_square_all}
 

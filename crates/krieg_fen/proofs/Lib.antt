@@ -1,3 +1,4 @@
+mod Common
 pub mod MoveTexts
 pub mod RankReading
 pub mod FieldCounts
@@ -16,4 +17,3 @@ pub mod FormSpellings
 pub mod Listings
 pub mod HandOfItself
 pub mod ListGrammars
-pub mod Common

@@ -2,9 +2,7 @@
 use Rattle.std.proofs.Common.{◌≡◌, ◌≢◌, inl, inr, ℕ, zero, suc, Bool, true, false, cond, List, [], ◌∷◌, ◌++◌, length, Option, Some, None, Result, Ok, Err, refl, sym, ap, subst, ◌∙◌, arith}
 use Rattle.std.specs.Prelude.{◌⊎◌, unwrap_or, replicate, IfErr, codes}
 use Rattle.std.proofs.lemmas.List.Elements.{All-nil, All-cons, All-head, All-tail}
-use Rattle.krieg_board.proofs.Common.{Pos, same_hand, attacks, is_attacked, is_king_attacked, squares, some_square, every_square, IsValid, first_fault, has_pawns_inside, Board, Side, White, Black, King}
-use Rattle.krieg_text.proofs.Common.{TextFault, NoMemory, TextKind, Differs, OutOfPlace, ◌>>=◌, Place, place, taken, GivesOn, One, Nothing, Times, Any, ◌⨾◌, is_beyond_form, IsFormed, Has, FirstBad, behind_or}
-use Rattle.krieg_fen.proofs.Common.{Turn, Either, Own, no_rights, position_text, side_line, side_form, list_line, list_form, position_form, has_turn, matching, listed_form, positions_at, listing_at, start_form, ListGrammar, ListingGrammar}
+use Rattle.krieg_fen.proofs.Common.{Pos, same_hand, attacks, is_attacked, is_king_attacked, squares, some_square, every_square, IsValid, first_fault, has_pawns_inside, Board, Side, White, Black, King, TextFault, NoMemory, TextKind, Differs, OutOfPlace, Turn, Either, Own, ◌>>=◌, no_rights, position_text, Place, place, taken, GivesOn, side_line, side_form, list_line, list_form, position_form, has_turn, matching, listed_form, positions_at, listing_at, start_form, One, Nothing, Times, Any, ◌⨾◌, is_beyond_form, IsFormed, Has, FirstBad, ListGrammar, ListingGrammar, behind_or}
 use Rattle.krieg_text.proofs.FirstBadLine.{code_bad_from}
 use Rattle.krieg_fen.proofs.FormSpellings.{side_again, count_again, position_read}
 use Rattle.krieg_text.proofs.Goings.{goes_by}

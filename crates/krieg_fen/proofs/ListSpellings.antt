@@ -3,9 +3,7 @@ use Rattle.std.proofs.Common.{◌≡◌, ℕ, zero, suc, ◌+◌, Bool, true, fa
 use Rattle.std.specs.Prelude.{unwrap_or, IfOk}
 use Rattle.std.specs.List.{All}
 use Rattle.std.proofs.lemmas.List.Elements.{All-nil, All-cons}
-use Rattle.krieg_board.proofs.Common.{Pos, same_hand, IsValid, Side}
-use Rattle.krieg_text.proofs.Common.{TextFault, TextKind, Differs, OutOfPlace, ◌>>=◌, Place, place, on, GivesOn}
-use Rattle.krieg_fen.proofs.Common.{FenFault, Fields, Field, Bad, Turn, Either, position_of, position_text, Spells, position_kind, position_form, has_turn, matching, listed_form, positions_at, Suits, SpellList, IsListed}
+use Rattle.krieg_fen.proofs.Common.{Pos, same_hand, IsValid, Side, TextFault, TextKind, Differs, OutOfPlace, FenFault, Fields, Field, Bad, Turn, Either, ◌>>=◌, position_of, position_text, Spells, Place, place, on, GivesOn, position_kind, position_form, has_turn, matching, listed_form, positions_at, Suits, SpellList, IsListed}
 use Rattle.krieg_text.proofs.Locality.{ok_is}
 use Rattle.krieg_fen.proofs.FenTexts.{position_again}
 use Rattle.krieg_fen.proofs.PositionSpellings.{position_spells, position_reads}

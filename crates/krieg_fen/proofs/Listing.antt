@@ -2,9 +2,7 @@
 use Rattle.std.proofs.Common.{◌≡◌, ℕ, zero, suc, ◌+◌, ◌-◌, ◌<◌, ◌≤◌, List, [], ◌∷◌, ◌++◌, Option, Some, Result, Ok, Err, refl, sym, ap, ◌∙◌, append_assoc, arith}
 use Rattle.std.proofs.lemmas.List.{append-nil}
 use Rattle.std.specs.Prelude.{slice_get, unwrap_or}
-use Rattle.krieg_board.proofs.Common.{Pos, Side}
-use Rattle.krieg_text.proofs.Common.{TextFault, At, NoMemory, ◌>>=◌, Place, taken, GivesOn}
-use Rattle.krieg_fen.proofs.Common.{Turn, listed_form, positions_at}
+use Rattle.krieg_fen.proofs.Common.{Pos, Side, TextFault, At, NoMemory, ◌>>=◌, Place, taken, GivesOn, Turn, listed_form, positions_at}
 use Rattle.krieg_text.proofs.Locality.{IsLocal, local_pure, local_taken, local_bind}
 
 -- what is read, after the positions of the front

@@ -1,8 +1,6 @@
 -- A side and its listed positions: they are read exactly where the lines spell them, a fault rests on the lines up to it alone, and how the first two lines are written.
 use Rattle.std.proofs.Common.{◌≡◌, ℕ, ◌+◌, List, ◌∷◌, ◌++◌, length, None, Result, Ok, sym, subst, ap, ◌∙◌, refl, arith}
-use Rattle.krieg_board.proofs.Common.{Pos, Side}
-use Rattle.krieg_text.proofs.Common.{TextFault, ◌>>=◌, Place, place, taken}
-use Rattle.krieg_fen.proofs.Common.{Turn, side_line, side_form, list_line, list_form, positions_at, listing_at, SpellsListing}
+use Rattle.krieg_fen.proofs.Common.{Pos, Side, TextFault, ◌>>=◌, Turn, Place, place, taken, side_line, side_form, list_line, list_form, positions_at, listing_at, SpellsListing}
 use Rattle.krieg_text.proofs.Locality.{ok_is}
 use Rattle.krieg_fen.proofs.FormSpellings.{side_spells, side_again, count_spells, count_again}
 use Rattle.krieg_fen.proofs.ListSpellings.{list_spells, list_reads}

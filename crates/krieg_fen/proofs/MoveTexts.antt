@@ -2,9 +2,8 @@
 use Rattle.std.proofs.Common.{◌≡◌, ℕ, ◌+◌, ◌-◌, ◌*◌, ◌/◌, ◌%◌, ◌<◌, ◌≤◌, Bool, true, false, cond, ◌&&◌, eqb, leb, List, [], ◌∷◌, ◌++◌, Option, Some, None, refl, sym, ap, ◌∙◌, arith, eqb-true}
 use Rattle.std.proofs.lemmas.Bool.{and_parts, leb-true}
 use Rattle.std.proofs.lemmas.Bool.Decides.{nat_tests}
-use Rattle.krieg_board.proofs.Common.{Move, Promo, Plain}
+use Rattle.krieg_fen.proofs.Common.{Move, Promo, Plain, square_text, promo_text, move_text, IsOnBoard, square_of, promo_of, move_with, move_of, square_named}
 use Rattle.krieg_board.specs.declared.men.Promo.TheVariants.{Queen, Rook, Bishop, Knight}
-use Rattle.krieg_fen.proofs.Common.{square_text, promo_text, move_text, IsOnBoard, square_of, promo_of, move_with, move_of, square_named}
 
 pub square_again : (s : ℕ) → s < 64 → square_of (97 + s % 8) (49 + s / 8) ≡ Some s
 square_again s lt = grind (arith, nat_tests)

@@ -2,11 +2,8 @@
 use Rattle.std.proofs.Common.{◌≡◌, ℕ, List, [], ◌∷◌, length, Option, Some, None, Result, Ok, Err, refl, sym, ap, ◌∙◌, arith}
 use Rattle.std.specs.List.{join_with_byte}
 use Rattle.std.proofs.lemmas.List.Splits.{join_with_byte-slice_split}
-use Rattle.krieg_board.proofs.Common.{Side, Rights, Board, Pos, IsValid, first_fault}
-use Rattle.krieg_faults.specs.declared.position.BadPosition.{BadPosition}
+use Rattle.krieg_fen.proofs.Common.{Side, Rights, BadPosition, Board, Pos, IsValid, first_fault, ◌>>=◌, pieces, board_of, side_of, rights_of, mark_of, FenFault, clocks_at, unless, checked, position_at, position_of, side_text, rights_text, mark_text, AreClocks, Spells}
 use Rattle.krieg_board.proofs.Facts.{facts}
-use Rattle.krieg_text.proofs.Common.{◌>>=◌, pieces}
-use Rattle.krieg_fen.proofs.Common.{board_of, side_of, rights_of, mark_of, FenFault, clocks_at, unless, checked, position_at, position_of, side_text, rights_text, mark_text, AreClocks, Spells}
 use Rattle.krieg_text.proofs.Free.{above_less}
 use Rattle.krieg_fen.proofs.FenTexts.{side_again, side_above, rights_again, rights_above, mark_again, mark_above, parts, parts_again}
 use Rattle.krieg_fen.proofs.BoardSpellings.{board_spells, board_long, board_high, board_reads, AllAbove, pieces_join}

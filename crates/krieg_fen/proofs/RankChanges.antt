@@ -5,10 +5,9 @@ use Rattle.std.proofs.Math.Bool.{and-true}
 use Rattle.std.proofs.lemmas.Bool.{cases_lt}
 use Rattle.std.proofs.lemmas.List.{ext_get_or, get_or-set_same, get_or-set_other, length-set}
 use Rattle.std.proofs.lemmas.Nat.Bits.{bit_at_ones}
-use Rattle.krieg_board.proofs.Common.{Sets, Side, White, Black, Kind, Pawn, King, Man, Board, man_at, is_of, Show, is_kind, has}
+use Rattle.krieg_fen.proofs.Common.{Sets, Side, White, Black, Kind, Pawn, King, Man, Board, man_at, is_of, Show, is_kind, has, rank_text, rank_at, AreRanks}
 use Rattle.krieg_board.specs.declared.men.Kind.TheVariants.{Knight, Bishop, Rook, Queen}
 use Rattle.krieg_board.proofs.SetLemmas.{differ, has_and, has_or, has_xor, has_bit, has_zero}
-use Rattle.krieg_fen.proofs.Common.{rank_text, rank_at, AreRanks}
 use Rattle.krieg_fen.proofs.RankTexts.{rank_long, rank_man}
 use Rattle.krieg_fen.proofs.RankWriting.{down}
 

@@ -4,11 +4,9 @@ use Rattle.std.proofs.Math.ListN.{length-set}
 use Rattle.std.proofs.Math.Seq.{take-set-lt}
 use Rattle.std.proofs.lemmas.Bool.{ne_eqb, leb-true, and_parts}
 use Rattle.std.proofs.lemmas.List.{drop_more, take_all, drop-replicate, take-replicate, drop-drop, drop-take, take-take, take-append-drop, drop-set-lt, drop-set-add, take-set-le, take_more_set, get_or-drop, get_or-replicate, length-drop, length-replicate, length-append, append-nil, length-take-le}
-use Rattle.krieg_board.proofs.Common.{Man, Board, man_at, empty_board}
+use Rattle.krieg_fen.proofs.Common.{Man, Board, man_at, empty_board, pieces, man_of, Row, squares_at, row_of, onto_row, eight, ranks_of, AddsSquares, FailsAbove, KeepsOthers, rank_at}
 use Rattle.std.specs.List.{onto_first}
-use Rattle.krieg_text.proofs.Common.{pieces}
 use Rattle.krieg_text.proofs.PieceCuts.{pieces_some}
-use Rattle.krieg_fen.proofs.Common.{man_of, Row, squares_at, row_of, onto_row, eight, ranks_of, AddsSquares, FailsAbove, KeepsOthers, rank_at}
 use Rattle.krieg_fen.proofs.RankTexts.{rank_man, rank_long}
 
 pub digit_put : (b file : ℕ) (row : Row) → drop file row ≡ replicate (8 - file) None → (leb 49 b && leb b 56) ≡ true → file + (b - 48) ≤ 8 →

@@ -2,10 +2,8 @@
 use Rattle.std.proofs.Common.{◌≡◌, ℕ, zero, suc, ◌+◌, ◌-◌, ◌*◌, ◌<◌, ◌≤◌, Bool, true, cond, ◌&&◌, leb, eq-eqb, List, [], ◌∷◌, ◌++◌, length, take, drop, replicate, Option, Some, None, refl, sym, ap, ◌∙◌, arith, append_assoc, take-add}
 use Rattle.std.proofs.lemmas.Bool.{le-leb, and_from}
 use Rattle.std.proofs.lemmas.List.{append-nil, length-take-le, length-drop, take_all, get_or-take, get_or-drop}
-use Rattle.krieg_board.proofs.Common.{Man, Side, White, Black, Kind, Pawn, King, Board, man_at}
+use Rattle.krieg_fen.proofs.Common.{Man, Side, White, Black, Kind, Pawn, King, Board, man_at, pieces, letter, Row, squares_at, row_of, onto_row, eight, ranks_of, board_of, run, row_text, rank_text, rank_at, ranks_text, board_text}
 use Rattle.krieg_board.specs.declared.men.Kind.TheVariants.{Knight, Bishop, Rook, Queen}
-use Rattle.krieg_text.proofs.Common.{pieces}
-use Rattle.krieg_fen.proofs.Common.{letter, Row, squares_at, row_of, onto_row, eight, ranks_of, board_of, run, row_text, rank_text, rank_at, ranks_text, board_text}
 use Rattle.krieg_text.proofs.Free.{Above, above_append, above_less, pieces_first, pieces_last}
 
 abbrev man : Side → Kind → Option Man

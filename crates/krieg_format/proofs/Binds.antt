@@ -1,6 +1,6 @@
 -- Two readers, one after the other, and a value made of what both gave.
 use Rattle.std.proofs.Common.{◌≡◌, ℕ, ◌+◌, List, [], ◌++◌, length, Result, Ok, refl, sym, ap, subst, ◌∙◌, append_assoc, arith, length-append}
-use Rattle.krieg_text.proofs.Common.{TextFault, Always, ◌>>=◌, Place, place, LineReader, Language, Nothing, Any, ◌⨾◌}
+use Rattle.krieg_format.proofs.Common.{TextFault, Always, ◌>>=◌, Place, place, LineReader, Language, Nothing, Any, ◌⨾◌}
 use Rattle.krieg_text.proofs.Formats.{IsFormat}
 use Rattle.krieg_text.proofs.Goings.{GoesBy, goes_by, bind_goes, then_goes, made_goes}
 use Rattle.krieg_text.proofs.Grammars.{untold, pure_keeps, same_keeps}

@@ -1,7 +1,6 @@
 -- What the lines of a format say is a value that may be written.
 use Rattle.std.proofs.Common.{ℕ, zero, suc, List, [], ◌∷◌}
-use Rattle.krieg_text.proofs.Common.{Language}
-use Rattle.krieg_format.proofs.Common.{Line, Format, line, told, counted, also, made, times, Each, table, EachFits, Fits}
+use Rattle.krieg_format.proofs.Common.{Language, Line, Format, line, told, counted, also, made, times, Each, table, EachFits, Fits}
 
 -- what a line owes
 abbrev pub IsFitting : {A : Type 0} {F : List ℕ → Type 0} → Line A F → Type 0

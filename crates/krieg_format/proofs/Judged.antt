@@ -1,11 +1,10 @@
 -- Lines and repeats as parts of a format.
 use Rattle.std.proofs.Common.{◌≡◌, inl, inr, ℕ, zero, suc, true, List, [], ◌∷◌, length, Result, Ok, Err, refl, ap}
 use Rattle.std.specs.Prelude.{◌⊎◌}
-use Rattle.krieg_text.proofs.Common.{TextKind, is_beyond_form, Always, Language, One, ◌⨾◌, LineReader, taken}
+use Rattle.krieg_format.proofs.Common.{TextKind, is_beyond_form, Always, Language, One, ◌⨾◌, LineReader, taken, Line, Power, repeated, Each}
 use Rattle.krieg_text.proofs.Formats.{line_format}
 use Rattle.krieg_text.proofs.Goings.{line_goes}
 use Rattle.krieg_text.proofs.Grammars.{untold}
-use Rattle.krieg_format.proofs.Common.{Line, Power, repeated, Each}
 use Rattle.krieg_format.proofs.Binds.{Lawful, bind_also, none_goes, none_format}
 
 -- a line is read, or refused by what is beyond its form

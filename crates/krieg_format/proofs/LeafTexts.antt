@@ -1,9 +1,8 @@
 -- What lines that owe little write.
 use Rattle.std.proofs.Common.{◌≡◌, ℕ, ◌<◌, ◌^◌, true, List, [], ◌∷◌, Option, None, refl, arith}
-use Rattle.krieg_text.proofs.Common.{TextKind, number_text, One, is_line, joined}
+use Rattle.krieg_format.proofs.Common.{TextKind, number_text, One, is_line, joined, Line, number_line, literal, tested}
 use Rattle.krieg_text.proofs.CleanTexts.{number_line as number_clean}
 use Rattle.krieg_text.proofs.LineTexts.{line_append}
-use Rattle.krieg_format.proofs.Common.{Line, number_line, literal, tested}
 use Rattle.krieg_format.proofs.Writing.{Says, IsWritten}
 
 pub literal_written : (word : List ℕ) → is_line word ≡ true → IsWritten (literal word)

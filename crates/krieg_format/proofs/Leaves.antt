@@ -1,13 +1,12 @@
 -- Lines that owe little.
 use Rattle.std.proofs.Common.{◌≡◌, inl, inr, ℕ, ◌<◌, ◌^◌, Bool, true, false, cond, List, Option, Some, None, Result, Ok, Err, refl, sym, ap, subst, ◌∙◌}
 use Rattle.std.specs.Prelude.{◌⊎◌}
-use Rattle.krieg_text.proofs.Common.{TextKind, Syntax, number_form, is_beyond_form, IsFormed, Has, Always, One, ◌>>=◌, Pieces}
+use Rattle.krieg_format.proofs.Common.{TextKind, Syntax, number_form, is_beyond_form, IsFormed, Has, Always, One, ◌>>=◌, Pieces, Line, formed, literal_form, literal, number_line, unless, tested, which, telling}
 use Rattle.std.specs.Str.{bytes_eq}
 use Rattle.std.proofs.lemmas.Slice.Eq.{bytes_eq-Decides}
 use Rattle.krieg_text.proofs.FormSpellings.{number_is, number_read}
 use Rattle.krieg_text.proofs.Formats.{IsForm, line_format}
 use Rattle.krieg_text.proofs.Goings.{line_goes}
-use Rattle.krieg_format.proofs.Common.{Line, formed, literal_form, literal, number_line, unless, tested, which, telling}
 use Rattle.krieg_format.proofs.Binds.{IsPart}
 use Rattle.krieg_format.proofs.Judged.{Judgement, IsLine, Sample}
 

@@ -1,3 +1,4 @@
+mod Common
 pub mod Binds
 pub mod Judged
 pub mod Reading
@@ -6,4 +7,3 @@ pub mod Leaves
 pub mod Repeats
 pub mod LeafTexts
 pub mod Fitting
-pub mod Common

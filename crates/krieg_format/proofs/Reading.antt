@@ -1,9 +1,8 @@
 -- The laws of a format, by induction: it reads exactly what its table says, and its fault is the first bad line.
 use Rattle.std.proofs.Common.{◌≡◌, ℕ, zero, suc, List, ◌∷◌, Result, Ok, Err, refl, sym, ap, subst, ◌∙◌}
-use Rattle.krieg_text.proofs.Common.{TextFault, Always, IsReading, Language, ◌⨾◌, ◌>>=◌, Place, LineReader, taken, whole, Gives}
+use Rattle.krieg_format.proofs.Common.{TextFault, Always, IsReading, Language, ◌⨾◌, ◌>>=◌, Place, LineReader, taken, whole, Gives, Format, line, told, counted, also, made, times, repeated, read_then, reader, table}
 use Rattle.krieg_text.proofs.Formats.{reading_as, whole_found, whole_only}
 use Rattle.krieg_text.proofs.Locality.{followed}
-use Rattle.krieg_format.proofs.Common.{Format, line, told, counted, also, made, times, repeated, read_then, reader, table}
 use Rattle.krieg_format.proofs.Binds.{Lawful, IsPart, joining, bind_told, bind_also, made_law}
 use Rattle.krieg_format.proofs.Judged.{IsLine, Sample, line_law, times_law}
 

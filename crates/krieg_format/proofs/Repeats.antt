@@ -1,8 +1,7 @@
 -- Code that takes one item after another in a loop: what it has, and what is read after it, is what the whole gives.
 use Rattle.std.proofs.Common.{◌≡◌, ℕ, suc, ◌+◌, ◌-◌, ◌<◌, ◌≤◌, List, [], ◌∷◌, ◌++◌, Result, Ok, Err, refl, sym, ap, ◌∙◌, append_assoc, arith}
 use Rattle.std.proofs.lemmas.List.{append-nil}
-use Rattle.krieg_text.proofs.Common.{TextFault, At, NoMemory, ◌>>=◌, Place, LineReader, GivesOn}
-use Rattle.krieg_format.proofs.Common.{repeated}
+use Rattle.krieg_format.proofs.Common.{TextFault, At, NoMemory, ◌>>=◌, Place, LineReader, GivesOn, repeated}
 
 -- the items of the list, and those that are read after them
 abbrev pub with_front : {A : Type 0} → List A → Result (List A × Place) TextFault → Result (List A × Place) TextFault

@@ -1,10 +1,9 @@
 -- What a format writes says the value, so it is read again.
 use Rattle.std.proofs.Common.{◌≡◌, ℕ, zero, suc, true, List, [], ◌∷◌, ◌++◌, map, Ok, refl, sym, ap, subst, ◌∙◌}
 use Rattle.std.proofs.lemmas.List.{map-append}
-use Rattle.krieg_text.proofs.Common.{lines, is_line, AreLines, Language, ◌⨾◌, whole, Pieces, put_lines, joined}
+use Rattle.krieg_format.proofs.Common.{lines, is_line, AreLines, Language, ◌⨾◌, whole, Pieces, put_lines, joined, Line, Format, line, told, counted, also, made, times, reader, Each, table, each_text, written, EachFits, Fits}
 use Rattle.krieg_text.proofs.LineTexts.{lines_append, lines_again}
 use Rattle.krieg_text.proofs.Writings.{put_lines_is}
-use Rattle.krieg_format.proofs.Common.{Line, Format, line, told, counted, also, made, times, reader, Each, table, each_text, written, EachFits, Fits}
 use Rattle.krieg_format.proofs.Reading.{Owes, format_again}
 
 -- lines that say it, none of which has a line feed

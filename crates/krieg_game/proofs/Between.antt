@@ -2,7 +2,7 @@
 use Rattle.std.proofs.Common.{◌≡◌, ℕ, suc, ◌<◌, List, [], ◌∷◌, ◌++◌, ◌⊎◌, inl, inr, length, get_or, take, drop, refl, sym, ap, ◌∙◌}
 use Rattle.std.specs.Prelude.{slice_set}
 use Rattle.std.proofs.lemmas.List.{set-get_or, set_split}
-use Rattle.krieg_theory.proofs.Common.{In}
+use Rattle.krieg_game.proofs.Common.{In}
 
 module _ {X : Type 0} where
   -- the element at a place is between what is before it and what is behind it

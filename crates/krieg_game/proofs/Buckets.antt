@@ -9,15 +9,12 @@ use Rattle.std.proofs.lemmas.Bool.{both_ways}
 use Rattle.std.proofs.lemmas.List.{map-append, get_or-take, get_or-drop, length-take, length-drop, set_split, take-append-drop}
 use Rattle.std.proofs.lemmas.List.Sorted.{searchable_from_sorted}
 use Rattle.std.proofs.lemmas.Simd.{map-map}
-use Rattle.krieg_board.proofs.Common.{Pos}
-use Rattle.krieg_theory.proofs.Common.{In, Ascending, at_key, keys_in}
+use Rattle.krieg_game.proofs.Common.{Pos, In, Ascending, at_key, keys_in, set_of, Key, key_cmp, key_lt, KeyedPosition, class_at, classes_in, outcomes_of, outcomes_in, bucket_class, AreBuckets, Gains, IsAsBefore, IsTrimmed, IsPlace, Holds, Bucket}
 use Rattle.krieg_theory.proofs.Lists.{in_append_left, in_append_right, append_in, in_flat, flat_in, in_map, map_in}
 use Rattle.krieg_theory.proofs.Ascending.{same_set, as_set_ascending, asym}
 use Rattle.krieg_theory.proofs.Keys.{at_key_in, in_at_key, key_occurs, occurs_at}
-use Rattle.krieg_pack.proofs.Common.{set_of}
 use Rattle.krieg_pack.proofs.Membership.{in_contains}
 use Rattle.krieg_pack.proofs.PositionSets.{in_set, set_in, same_sets}
-use Rattle.krieg_game.proofs.Common.{Key, key_cmp, key_lt, KeyedPosition, class_at, classes_in, outcomes_of, outcomes_in, bucket_class, AreBuckets, Gains, IsAsBefore, IsTrimmed, IsPlace, Holds, Bucket}
 use Rattle.krieg_game.proofs.KeyLaws.{key_total, key_equal, key_order}
 use Rattle.krieg_game.proofs.OutcomeSets.{same_outcomes, map_agree}
 use Rattle.krieg_game.proofs.Between.{split_with, in_others, in_between, between_in}

@@ -1,9 +1,6 @@
 -- The umpire's game meets the laws of the theory, in every dialect and for either side.
-use Rattle.krieg_board.proofs.Common.{Side}
-use Rattle.krieg_words.proofs.Common.{Dialect}
-use Rattle.krieg_theory.proofs.Common.{IsGame, IsOutset}
+use Rattle.krieg_game.proofs.Common.{Side, Dialect, IsGame, IsOutset, chess, outset}
 use Rattle.krieg_pack.proofs.PositionSets.{position_order}
-use Rattle.krieg_game.proofs.Common.{chess, outset}
 use Rattle.krieg_game.proofs.KeyLaws.{key_order, root_order}
 use Rattle.krieg_game.proofs.MoveOrder.{legal_listed, moves_up, move_order}
 

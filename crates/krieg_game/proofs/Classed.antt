@@ -6,13 +6,8 @@ use Rattle.std.specs.declared.cmp.Ordering.{Ordering}
 use Rattle.std.specs.declared.cmp.Ordering.TheVariants.{Less, Equal, Greater}
 use Rattle.std.proofs.lemmas.Simd.{map-map}
 use Rattle.std.proofs.lemmas.List.{map-append}
-use Rattle.krieg_board.proofs.Common.{is_same_side, Pos, Side}
-use Rattle.krieg_moves.proofs.Common.{moves}
-use Rattle.krieg_words.proofs.Common.{Said, words_cmp, opening, told, Dialect}
+use Rattle.krieg_game.proofs.Common.{is_same_side, Pos, Side, moves, Said, words_cmp, opening, told, Dialect, set_of, In, same, insert_once, at_key, keys_in, all_starts, Key, RootKey, key_lt, root_lt, chess, outcome, outset, starts, classes_in, first_outcomes, first_heard, OutcomesAreClassed, FirstMovesAreClassed, OpeningsAreClassed}
 use Rattle.krieg_words.proofs.OrderLaws.{words_cmp_self}
-use Rattle.krieg_pack.proofs.Common.{set_of}
-use Rattle.krieg_theory.proofs.Common.{In, same, insert_once, at_key, keys_in, all_starts}
-use Rattle.krieg_game.proofs.Common.{Key, RootKey, key_lt, root_lt, chess, outcome, outset, starts, classes_in, first_outcomes, first_heard, OutcomesAreClassed, FirstMovesAreClassed, OpeningsAreClassed}
 use Rattle.krieg_game.proofs.Starting.{own_start, first_moves}
 
 pub outcomes_are_classed : (d : Dialect) → OutcomesAreClassed d

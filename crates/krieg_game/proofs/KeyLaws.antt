@@ -6,11 +6,9 @@ use Rattle.std.specs.declared.cmp.Ordering.{Ordering}
 use Rattle.std.specs.declared.cmp.Ordering.TheVariants.{Less, Equal, Greater}
 use Rattle.std.proofs.lemmas.Cmp.{then_total, on_total}
 use Rattle.std.specs.Prelude.{Option, Some, None}
-use Rattle.krieg_words.proofs.Common.{Said, words_cmp}
+use Rattle.krieg_game.proofs.Common.{Said, words_cmp, same, IsOrder, Key, RootKey, key_cmp, key_lt, heard_cmp, root_cmp, root_lt, IsStrict}
 use Rattle.krieg_words.proofs.OrderLaws.{words_cmp_total, words_cmp_equal}
-use Rattle.krieg_theory.proofs.Common.{same, IsOrder}
 use Rattle.krieg_pack.proofs.Sorting.{is_order}
-use Rattle.krieg_game.proofs.Common.{Key, RootKey, key_cmp, key_lt, heard_cmp, root_cmp, root_lt, IsStrict}
 
 -- two comparisons one after the other say equal where both do
 pub both_equal : (o r : Ordering) → ordering_then o r ≡ Equal → (o ≡ Equal) × (r ≡ Equal)

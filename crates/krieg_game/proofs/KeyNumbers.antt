@@ -2,8 +2,7 @@
 use Rattle.std.proofs.Common.{◌≡◌, ℕ, ◌+◌, ◌*◌, ◌/◌, ◌%◌, ◌<◌, ap, ◌∙◌, arith}
 use Rattle.std.specs.Ordering.{nat_cmp, ordering_then}
 use Rattle.std.proofs.lemmas.Bool.Decides.{nat_tests}
-use Rattle.krieg_words.proofs.Common.{words_cmp, words_number, words_at, WORDS_LIMIT}
-use Rattle.krieg_game.proofs.Common.{Key, key_cmp, key_number, key_at, AreSaid}
+use Rattle.krieg_game.proofs.Common.{words_cmp, Key, key_cmp, words_number, words_at, key_number, key_at, AreSaid, WORDS_LIMIT}
 use Rattle.krieg_words.proofs.WordNumbers.{number_below, number_cmp, words_back}
 
 digits_words : (a b x y : ℕ) → x < WORDS_LIMIT → y < WORDS_LIMIT → ordering_then (nat_cmp a b) (nat_cmp x y) ≡ nat_cmp (a * WORDS_LIMIT + x) (b * WORDS_LIMIT + y)

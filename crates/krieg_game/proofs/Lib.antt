@@ -1,3 +1,4 @@
+mod Common
 pub mod KeyLaws
 pub mod MoveOrder
 pub mod ChessLaws
@@ -12,4 +13,3 @@ pub mod Pools
 mod Between
 mod Buckets
 pub mod Classed
-pub mod Common

@@ -1,14 +1,11 @@
 -- Moves are ordered as the theory asks, all of them ascend, and a legal one is among them.
 use Rattle.std.proofs.Common.{◌≡◌, true}
-use Rattle.krieg_board.proofs.Common.{move_lt, move_cmp, Pos, Move}
+use Rattle.krieg_game.proofs.Common.{move_lt, move_cmp, Pos, Move, is_legal, all_moves, In, Ascending, IsOrder, IsStrict}
 use Rattle.krieg_board.proofs.MoveOrder.{move_total, move_equal}
-use Rattle.krieg_moves.proofs.Common.{is_legal, all_moves}
 use Rattle.krieg_moves.proofs.Ascending.{all_moves_ascend}
 use Rattle.krieg_moves.proofs.Listed.{legal_in_all}
-use Rattle.krieg_theory.proofs.Common.{In, Ascending, IsOrder}
 use Rattle.krieg_pack.proofs.Membership.{contains_in}
 use Rattle.krieg_pack.proofs.Sorting.{ascending_from, is_order}
-use Rattle.krieg_game.proofs.Common.{IsStrict}
 
 pub legal_listed : (p : Pos) (m : Move) → is_legal p m ≡ true → In m all_moves
 legal_listed p m h = contains_in m all_moves (legal_in_all p m h)

@@ -3,15 +3,12 @@ use Rattle.std.proofs.Common.{◌≡◌, List, [], ◌∷◌, inl, inr, map, ap,
 use Rattle.std.specs.Cmp.{IsTotalOrder}
 use Rattle.std.specs.declared.cmp.Ordering.TheVariants.{Equal}
 use Rattle.std.proofs.lemmas.Cmp.{on_total, then_total}
-use Rattle.krieg_board.proofs.Common.{Pos}
-use Rattle.krieg_pack.proofs.Common.{position_cmp, position_total, same_position}
+use Rattle.krieg_game.proofs.Common.{Pos, position_cmp, position_total, same_position, In, IsOrder, at_key, keys_in, Key, key_cmp, key_lt, KeyedPosition, outcome_cmp, outcome_lt, outcome_set, class_at, classes_in, SetsHaveTheClasses, SetsMayGrow}
 use Rattle.krieg_pack.proofs.PositionSets.{same_sets}
 use Rattle.krieg_pack.proofs.Sorting.{is_order}
 use Rattle.krieg_pack.proofs.Counts.{as_set_early}
-use Rattle.krieg_theory.proofs.Common.{In, IsOrder, at_key, keys_in}
 use Rattle.krieg_theory.proofs.Ascending.{same_set, as_set_ascending, in_as_set, as_set_in}
 use Rattle.krieg_theory.proofs.Keys.{at_key_in, in_at_key, key_occurs, occurs_at}
-use Rattle.krieg_game.proofs.Common.{Key, key_cmp, key_lt, KeyedPosition, outcome_cmp, outcome_lt, outcome_set, class_at, classes_in, SetsHaveTheClasses, SetsMayGrow}
 use Rattle.krieg_game.proofs.KeyLaws.{both_equal, key_total, key_equal, key_order}
 
 outcome_total : IsTotalOrder outcome_cmp

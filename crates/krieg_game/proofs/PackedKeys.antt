@@ -2,9 +2,7 @@
 use Rattle.std.proofs.Common.{◌≡◌, ℕ, ◌+◌, ◌*◌, ◌/◌, ◌%◌, nat_eq, sym, ap, subst, ◌∙◌, arith}
 use Rattle.std.specs.Ordering.{is_eq, nat_cmp}
 use Rattle.std.proofs.lemmas.Bool.Decides.{nat_tests}
-use Rattle.krieg_words.proofs.Common.{Said, IsSaid, words_number, words_at, WORDS_LIMIT}
-use Rattle.krieg_theory.proofs.Common.{same}
-use Rattle.krieg_game.proofs.Common.{Key, key_cmp, key_lt, key_number, key_at, AreSaid, unpacked_key, IsPacked, Inside}
+use Rattle.krieg_game.proofs.Common.{Said, IsSaid, same, Key, key_cmp, key_lt, words_number, words_at, key_number, key_at, AreSaid, WORDS_LIMIT, unpacked_key, IsPacked, Inside}
 use Rattle.krieg_game.proofs.KeyLaws.{key_is}
 use Rattle.krieg_game.proofs.KeyNumbers.{key_number_cmp, key_back}
 

@@ -1,13 +1,8 @@
 -- What a class has, in the words of chess.
 use Rattle.std.proofs.Common.{Bool, true, false, not, cond, List, [], ◌∷◌, filter, sym, ap, ◌∙◌}
-use Rattle.krieg_board.proofs.Common.{Pos, Move}
-use Rattle.krieg_moves.proofs.Common.{after, is_legal, moves}
-use Rattle.krieg_pack.proofs.Common.{IsAscending}
-use Rattle.krieg_words.proofs.Common.{Said, words, Dialect}
-use Rattle.krieg_theory.proofs.Common.{ComesBy}
+use Rattle.krieg_game.proofs.Common.{Pos, Move, after, is_legal, IsAscending, moves, Said, words, Dialect, ComesBy, chess, outcome, outcomes, ComesAbout, ClassesComeAbout, RefusedAscends}
 use Rattle.krieg_theory.proofs.Lists.{in_map, map_in, filter_in}
 use Rattle.krieg_theory.proofs.Theorems.{classes_are_split}
-use Rattle.krieg_game.proofs.Common.{chess, outcome, outcomes, ComesAbout, ClassesComeAbout, RefusedAscends}
 use Rattle.krieg_game.proofs.ChessLaws.{chess_is_game}
 
 filter_up : (f : Pos → Bool) (ps : List Pos) → IsAscending ps → IsAscending (filter f ps)

@@ -3,17 +3,12 @@ use Rattle.std.proofs.Common.{◌≡◌, ℕ, Bool, true, false, not, ◌&&◌, 
 use Rattle.std.specs.Prelude.{Some, None}
 use Rattle.std.specs.List.{list_all}
 use Rattle.std.proofs.lemmas.Bool.{cond-true, cond-false, both_ways, false_from_ne_true}
-use Rattle.krieg_board.proofs.Common.{is_same_side, Pos, Side}
-use Rattle.krieg_moves.proofs.Common.{after, moves, is_ended}
+use Rattle.krieg_game.proofs.Common.{is_same_side, Pos, Side, after, moves, is_ended, words, opening, told, Dialect, position_lt, In, at_key, is_nil, Plan, wins_root, all_starts, opening_set, openings, RootKey, root_lt, chess, outset, first_move, starts, waits, mates_from, MatesFromEach, OverIsEnded, ComesFirst, OpeningsAreMembers, OpeningsComeFirst, OpeningsOccur}
 use Rattle.krieg_moves.specs.Moves.{is_nil as no_moves}
-use Rattle.krieg_words.proofs.Common.{words, opening, told, Dialect}
 use Rattle.krieg_pack.proofs.PositionSets.{position_order}
-use Rattle.krieg_pack.proofs.Common.{position_lt}
-use Rattle.krieg_theory.proofs.Common.{In, at_key, is_nil, Plan, wins_root, all_starts, opening_set, openings}
 use Rattle.krieg_theory.proofs.Ascending.{as_set_ascending, in_as_set, as_set_in}
 use Rattle.krieg_theory.proofs.Keys.{at_key_in, in_at_key, key_occurs, occurs_at}
 use Rattle.krieg_theory.proofs.Lists.{in_flat, flat_in, in_map, map_in, nil_or_member, nil_none}
-use Rattle.krieg_game.proofs.Common.{RootKey, root_lt, chess, outset, first_move, starts, waits, mates_from, MatesFromEach, OverIsEnded, ComesFirst, OpeningsAreMembers, OpeningsComeFirst, OpeningsOccur}
 use Rattle.krieg_game.proofs.KeyLaws.{root_order}
 use Rattle.krieg_game.proofs.Winning.{all_of_map, nil_of_map}
 

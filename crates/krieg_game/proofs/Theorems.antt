@@ -1,9 +1,6 @@
 -- The theory's theorems on winning, for chess.
-use Rattle.krieg_board.proofs.Common.{Side}
-use Rattle.krieg_words.proofs.Common.{Dialect}
-use Rattle.krieg_theory.proofs.Common.{MoreMovesWin, MoreMovesMate, WorstIsThere}
+use Rattle.krieg_game.proofs.Common.{Side, Dialect, MoreMovesWin, MoreMovesMate, WorstIsThere, chess, outset}
 use Rattle.krieg_theory.proofs.Theorems as theory
-use Rattle.krieg_game.proofs.Common.{chess, outset}
 use Rattle.krieg_game.proofs.ChessLaws.{chess_is_game, outset_is_lawful}
 
 pub more_moves_win : (d : Dialect) → MoreMovesWin (chess d)

@@ -3,13 +3,9 @@ use Rattle.std.proofs.Common.{◌≡◌, Bool, true, false, not, ◌&&◌, ◌||
 use Rattle.std.specs.List.{list_all}
 use Rattle.std.proofs.lemmas.Bool.{cond-true, cond-false}
 use Rattle.std.proofs.lemmas.List.{length-map}
-use Rattle.krieg_board.proofs.Common.{Move}
-use Rattle.krieg_moves.proofs.Common.{is_legal, after, moves, in_check, is_ended, is_mate, is_stalemate}
+use Rattle.krieg_game.proofs.Common.{Move, is_legal, after, moves, in_check, is_ended, is_mate, is_stalemate, words, Dialect, is_nil, Try, wins_at, chess, stalemates, outcome, outcomes, is_answered, told_of, NothingWinsInNone, IllegalTryGoesOn, LegalTryWins, MatesAtOnce, OutcomesAreReplies}
 use Rattle.krieg_moves.specs.Moves.{is_nil as no_moves}
-use Rattle.krieg_words.proofs.Common.{words, Dialect}
-use Rattle.krieg_theory.proofs.Common.{is_nil, Try, wins_at}
 use Rattle.krieg_theory.proofs.Theorems.{first_edge_wins}
-use Rattle.krieg_game.proofs.Common.{chess, stalemates, outcome, outcomes, is_answered, told_of, NothingWinsInNone, IllegalTryGoesOn, LegalTryWins, MatesAtOnce, OutcomesAreReplies}
 
 module _ {X Y : Type 0} (f : Y → Bool) (g : X → Y) (h : X → Bool) (agree : (x : X) → f (g x) ≡ h x) where
   pub all_of_map : (xs : List X) → list_all f (map g xs) ≡ list_all h xs

@@ -2,8 +2,7 @@
 use Rattle.std.proofs.Common.{◌≡◌, ℕ, ◌+◌, ◌*◌, ◌<◌, Bool, true, ◌==◌, ◌&&◌, drop, refl, sym, ◌∙◌, ap, arith}
 use Rattle.std.proofs.lemmas.Bool.{eqb-true}
 use Rattle.std.specs.List.{list_all, range_with_len, position_or_len}
-use Rattle.krieg_board.proofs.Common.{man_at, is_man, empty_board, Pos, Black, Pawn, King}
-use Rattle.krieg_make.proofs.Common.{made_position, made_board, pair_at, pairs, pawn_place, AreDistinct, AreListedOnce, POSITION_COUNT}
+use Rattle.krieg_make.proofs.Common.{man_at, is_man, empty_board, Pos, Black, Pawn, King, made_position, made_board, pair_at, pairs, pawn_place, AreDistinct, AreListedOnce, POSITION_COUNT}
 use Rattle.krieg_make.proofs.Numbers.{all_within}
 
 -- the black king's file on the last rank, and the number of the first pair of places on which black pawns stand

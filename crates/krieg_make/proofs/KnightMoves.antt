@@ -2,12 +2,8 @@
 use Rattle.std.proofs.Common.{◌≡◌, ℕ, ◌<◌, Bool, true, false, not, ◌&&◌, ◌||◌, cond, refl, ◌∙◌, ap, arith}
 use Rattle.std.specs.List.{list_any}
 use Rattle.std.proofs.lemmas.Bool.{and_right}
-use Rattle.krieg_board.proofs.Common.{attacks, is_attacked, is_between, is_clear, is_king_attacked, man_at, Pos, squares, every_square, some_square, Move, Side, White, Black}
-use Rattle.krieg_checks.proofs.Common.{kinds, is_checked, is_checked_at, checks_from}
-use Rattle.krieg_moves.proofs.Common.{after, is_legal, is_candidate, plain_move, promotions, moves, all_moves, is_ended, is_mate, is_stalemate, in_check, can_go}
+use Rattle.krieg_make.proofs.Common.{attacks, is_attacked, is_between, is_clear, is_king_attacked, man_at, Pos, squares, every_square, some_square, Move, Side, White, Black, kinds, is_checked, is_checked_at, checks_from, after, is_legal, is_candidate, plain_move, promotions, moves, all_moves, is_ended, is_mate, is_stalemate, in_check, can_go, tries, tries_from, is_try, no_kinds, words, end_of, took_by, silent, Goes, Mate, Stalemate, Nothing, g1, f3, g8, f6, start_position}
 use Rattle.krieg_moves.proofs.MoveLists.{is_nil_filter, moves_from_at, all_moves_at}
-use Rattle.krieg_words.proofs.Common.{tries, tries_from, is_try, no_kinds, words, end_of, took_by, silent, Goes, Mate, Stalemate, Nothing}
-use Rattle.krieg_make.proofs.Common.{g1, f3, g8, f6, start_position}
 
 -- before the first move, and after each of the first three
 unfoldable pub p0 : Pos

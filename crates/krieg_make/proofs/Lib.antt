@@ -1,3 +1,4 @@
+mod Common
 mod StartText
 mod Numbers
 mod PairNumbers
@@ -9,4 +10,3 @@ mod MatedKing
 mod Mates
 mod KnightMoves
 mod RoundVerdicts
-pub mod Common

@@ -4,11 +4,8 @@ use Rattle.std.proofs.lemmas.Bool.{le-leb}
 use Rattle.std.proofs.lemmas.List.Elements.{All-nil, All-cons, All-head, All-tail}
 use Rattle.std.specs.List.{All, list_all, range_with_len}
 use Rattle.std.proofs.lemmas.List.FromFn.{length-map-range_with_len, map-range_with_len_more}
-use Rattle.krieg_board.proofs.Common.{empty_board, same_hand, has_same_men, Pos, squares, every_square, White}
+use Rattle.krieg_make.proofs.Common.{empty_board, same_hand, has_same_men, Pos, squares, every_square, White, MOST_LISTED, list_fault, other_hand, differs, Count, AreCounted, made_board, made_position, pair_at, pairs, made_count, made_number, made_positions, made_list, POSITION_COUNT}
 use Rattle.krieg_moves.proofs.Hands.{Alike, same_hand_alike, alike_same_hand, alike_back, alike_through}
-use Rattle.krieg_fen.proofs.Common.{MOST_LISTED}
-use Rattle.krieg_sheet.proofs.Common.{list_fault, other_hand, differs, Count}
-use Rattle.krieg_make.proofs.Common.{AreCounted, made_board, made_position, pair_at, pairs, made_count, made_number, made_positions, made_list, POSITION_COUNT}
 use Rattle.krieg_make.proofs.Numbers.{all_within}
 
 looks_like_first : ℕ → Bool

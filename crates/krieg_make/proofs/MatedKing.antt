@@ -5,10 +5,9 @@ use Rattle.std.specs.List.{list_any}
 use Rattle.std.proofs.lemmas.Bool.{and_from, and_parts, and_right, both_ways, cases_eq, eqb-true, false_from_ne_true, lt-ltb, not-true, not_from_false, or_cases, or_from}
 use Rattle.std.proofs.lemmas.List.Folds.{list_any_none}
 use Rattle.std.proofs.Math.ListN.{length-set}
-use Rattle.krieg_board.proofs.Common.{attacks, man_attacks, can_reach, slides, is_adjacent, is_attacked, is_between, is_clear, is_forward, is_king_attacked, Board, man_at, is_of, is_man, is_same_side, Pos, every_square, rank_of, IsValid, Kind, Pawn, King, Man, Move, Side, White, Black}
+use Rattle.krieg_make.proofs.Common.{attacks, man_attacks, can_reach, slides, is_adjacent, is_attacked, is_between, is_clear, is_forward, is_king_attacked, Board, man_at, is_of, is_man, is_same_side, Pos, every_square, rank_of, IsValid, Kind, Pawn, King, Man, Move, Side, White, Black, after, after_by, board_after, placed, is_candidate, is_legal, is_plain, has_promotion, is_step, is_double_step, is_pawn_capture, can_castle, all_moves, moves, in_check, is_ended, is_mate, Short, Long, man}
 use Rattle.krieg_board.proofs.Facts.{facts}
 use Rattle.krieg_board.proofs.SquareTests.{every_square_all, every_square_at, some_square_at, some_square_tells}
-use Rattle.krieg_moves.proofs.Common.{after, after_by, board_after, placed, is_candidate, is_legal, is_plain, has_promotion, is_step, is_double_step, is_pawn_capture, can_castle, all_moves, moves, in_check, is_ended, is_mate, Short, Long}
 use Rattle.krieg_moves.proofs.Arrivals.{placed_is}
 use Rattle.krieg_moves.proofs.Boards.{man_at_set_same, man_at_set_other}
 use Rattle.krieg_moves.proofs.Castling.{king_near}
@@ -17,7 +16,6 @@ use Rattle.krieg_moves.proofs.MoveLists.{is_nil_filter}
 use Rattle.krieg_moves.proofs.Movers.{Mover, mover, not_enemy}
 use Rattle.krieg_moves.proofs.Pawns.{step, double_step, attack_forward}
 use Rattle.krieg_moves.proofs.Shapes.{attack_reaches, board_after_plain, found_man}
-use Rattle.krieg_make.proofs.Common.{man}
 
 -- that side is to move, and nobody may castle
 abbrev pub to_move : Side → Board → Pos

@@ -3,14 +3,11 @@ use Rattle.std.proofs.Common.{◌≡◌, ℕ, ◌%◌, ◌<◌, Bool, true, not,
 use Rattle.std.specs.Prelude.{◌⊎◌, ◌++◌, replicate}
 use Rattle.std.specs.List.{list_all, range_with_len}
 use Rattle.std.proofs.lemmas.Bool.{and_parts, eqb-true, lt-ltb, or_cases}
-use Rattle.krieg_board.proofs.Common.{attacks, is_attacked, is_between, is_clear, is_king_attacked, Board, man_at, is_of, is_man, empty_board, is_same_man, square_at, squares, every_square, some_square, IsValid, Pawn, King, Man, White, Black}
-use Rattle.krieg_board.specs.declared.men.Kind.TheVariants.{Rook}
+use Rattle.krieg_make.proofs.Common.{attacks, is_attacked, is_between, is_clear, is_king_attacked, Board, man_at, is_of, is_man, empty_board, is_same_man, square_at, squares, every_square, some_square, IsValid, Pawn, Rook, King, Man, White, Black, after, after_by, is_legal, is_candidate, plain_move, is_mate, RookMates, man, made_board, made_position, pair_at, pairs, g1, g8, h7, POSITION_COUNT}
 use Rattle.krieg_board.proofs.MenLemmas.{same_side_eq, same_kind_eq}
 use Rattle.krieg_board.proofs.SquareTests.{every_square_at}
-use Rattle.krieg_moves.proofs.Common.{after, after_by, is_legal, is_candidate, plain_move, is_mate}
 use Rattle.krieg_moves.proofs.KeepsValid.{valid_after}
 use Rattle.krieg_moves.proofs.Movers.{below_from}
-use Rattle.krieg_make.proofs.Common.{RookMates, man, made_board, made_position, pair_at, pairs, g1, g8, h7, POSITION_COUNT}
 use Rattle.krieg_make.proofs.MatedKing.{to_move, Agree, Mans, Net, is_filled, is_caught, net_mates, man_found, implied, below_or_not}
 use Rattle.krieg_make.proofs.Numbers.{all_within}
 use Rattle.krieg_make.proofs.ValidPositions.{made_valid}

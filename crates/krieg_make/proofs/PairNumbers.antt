@@ -3,8 +3,7 @@ use Rattle.std.proofs.Common.{◌≡◌, ℕ, ◌+◌, ◌-◌, ◌<◌, Bool, t
 use Rattle.std.proofs.lemmas.Bool.{and_parts, eqb-true}
 use Rattle.std.proofs.lemmas.List.FromFn.{length-map-range_with_len}
 use Rattle.std.specs.List.{list_all, range_with_len}
-use Rattle.krieg_board.proofs.Common.{gathered}
-use Rattle.krieg_make.proofs.Common.{pairs_above, pairs, pair_at}
+use Rattle.krieg_make.proofs.Common.{gathered, pairs_above, pairs, pair_at}
 use Rattle.krieg_make.proofs.Numbers.{all_within}
 
 -- the pair that stands r places behind the first one of which u is the lower place

@@ -2,13 +2,9 @@
 use Rattle.std.proofs.Common.{◌≡◌, ℕ, zero, suc, ◌+◌, ◌%◌, ◌==◌, Bool, true, false, not, ◌&&◌, cond, if◌then◌else◌, Option, Some, None, List, [], ◌∷◌, ◌++◌, map, refl, ◌∙◌, ap, inl, inr, arith, add-one}
 use Rattle.std.specs.Prelude.{◌⊎◌, nat_lt, slice_index_or}
 use Rattle.std.proofs.lemmas.Bool.{and_right}
-use Rattle.krieg_board.proofs.Common.{is_king_attacked, man_at, is_of, other, is_same_side, Pos, gathered, Man, Move, Side, White, Black}
+use Rattle.krieg_make.proofs.Common.{is_king_attacked, man_at, is_of, other, is_same_side, Pos, gathered, Man, Move, Side, White, Black, after, is_legal, is_candidate, is_move_of, is_move_of_kind, plain_move, is_ended, words, silent, judge, last, verdict, next, Event, Verdict, Early, Illegal, Done, round_verdicts, RoundsAreAlike, made_tries, round_of, mover, knight_moves, knight_move, event, g1, f3}
 use Rattle.krieg_board.proofs.MenLemmas.{same_side_self}
-use Rattle.krieg_moves.proofs.Common.{after, is_legal, is_candidate, is_move_of, is_move_of_kind, plain_move, is_ended}
 use Rattle.krieg_moves.proofs.OwnMen.{other_side}
-use Rattle.krieg_words.proofs.Common.{words, silent}
-use Rattle.krieg_referee.proofs.Common.{judge, last, verdict, next, Event, Verdict, Early, Illegal, Done}
-use Rattle.krieg_make.proofs.Common.{round_verdicts, RoundsAreAlike, made_tries, round_of, mover, knight_moves, knight_move, event, g1, f3}
 use Rattle.krieg_make.proofs.KnightMoves.{Leads, p0, p1, p2, p3, all_lead}
 
 -- the verdicts of tries from a position

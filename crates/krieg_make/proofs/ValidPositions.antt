@@ -3,9 +3,8 @@ use Rattle.std.proofs.Common.{◌≡◌, ℕ, ◌<◌, Bool, true, ◌&&◌, ◌
 use Rattle.std.proofs.lemmas.Bool.{and_parts, eqb-true}
 use Rattle.std.specs.Prelude.{is_none}
 use Rattle.std.specs.List.{list_all, range_with_len}
-use Rattle.krieg_board.proofs.Common.{attacks, is_attacked, is_between, is_clear, is_king_attacked, empty_board, squares, every_square, some_square, IsValid, first_fault, has_pawns_inside}
+use Rattle.krieg_make.proofs.Common.{attacks, is_attacked, is_between, is_clear, is_king_attacked, empty_board, squares, every_square, some_square, IsValid, first_fault, has_pawns_inside, made_board, made_position, pair_at, pairs, POSITION_COUNT}
 use Rattle.krieg_moves.proofs.Shapes.{none_from}
-use Rattle.krieg_make.proofs.Common.{made_board, made_position, pair_at, pairs, POSITION_COUNT}
 use Rattle.krieg_make.proofs.Numbers.{all_within}
 
 has_no_fault : ℕ → Bool

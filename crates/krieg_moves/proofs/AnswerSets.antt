@@ -2,11 +2,10 @@
 use Rattle.std.proofs.Common.{◌≡◌, ℕ, ◌<◌, Bool, true, false, not, ◌&&◌, ◌||◌, ◌==◌, ◌⊎◌, inl, inr, refl, sym, ◌∙◌, ap, bit_and, bit_or, ◌≢◌}
 use Rattle.std.proofs.Math.Bool.{and_assoc}
 use Rattle.std.proofs.lemmas.Bool.{and_parts, and_from, cases_eq, ne_eqb, or_right}
-use Rattle.krieg_board.proofs.Common.{Side, Board, man_at, is_of, attacks, is_between, every_square, has, IsLowest}
+use Rattle.krieg_moves.proofs.Common.{Side, Board, man_at, is_of, attacks, is_between, every_square, has, IsLowest, answers, answers_all, is_answered}
 use Rattle.krieg_board.proofs.SetLemmas.{has_and, has_or, has_zero}
 use Rattle.krieg_board.proofs.SameTests.{same_tests, every_square_same}
 use Rattle.krieg_board.proofs.SquareTests.{every_square_all, every_square_at}
-use Rattle.krieg_moves.proofs.Common.{answers, answers_all, is_answered}
 
 -- no attackers are answered everywhere
 pub answers_none : (k t n : ℕ) → n ≡ 0 → answers_all n k t ≡ true

@@ -4,11 +4,9 @@ use Rattle.std.specs.Prelude.{Option, Some, None, is_some}
 use Rattle.std.proofs.lemmas.Bool.{and_left, and_right, and_from, cases_eq, eq-eqb, ne_eqb, both_ways, false_from_ne_true, true_from_ne_false, not_from_true, not-true, not-false}
 use Rattle.std.proofs.Math.ListN.{length-set}
 use Rattle.std.proofs.lemmas.List.{get_or-set_same, get_or-set_other}
-use Rattle.krieg_board.proofs.Common.{Side, King, Man, Move, other, some_square, every_square, Board, man_at, is_of, is_man, attacks, man_attacks, is_attacked, is_between, can_reach, slides, is_clear}
+use Rattle.krieg_moves.proofs.Common.{Side, King, Man, Move, other, some_square, every_square, Board, man_at, is_of, is_man, attacks, man_attacks, is_attacked, is_between, can_reach, slides, is_clear, is_pinned, is_pinned_by, moved, placed, answers, is_answered}
 use Rattle.krieg_board.proofs.SameTests.{same_tests, some_square_same, every_square_same}
 use Rattle.krieg_board.proofs.SquareTests.{some_square_at, some_square_tells, every_square_all, every_square_not}
-use Rattle.krieg_rays.proofs.Common.{is_pinned, is_pinned_by}
-use Rattle.krieg_moves.proofs.Common.{moved, placed, answers, is_answered}
 use Rattle.krieg_moves.proofs.Putting.{Puts, attacks_at_with, not_between_end}
 
 -- some square passes where not every one fails

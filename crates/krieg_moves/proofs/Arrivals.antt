@@ -2,11 +2,10 @@
 use Rattle.std.proofs.Common.{◌≡◌, ℕ, Bool, true, false, not, ◌||◌, refl, cond, ◌==◌, ◌+◌, ◌<◌, ◌≤◌, arith, sym, ◌≢◌, ◌∙◌, ap, inl, inr}
 use Rattle.std.proofs.lemmas.Bool.{and_from, and_parts, or_cases, eqb-true, eqb-false}
 use Rattle.std.specs.Prelude.{Some}
-use Rattle.krieg_board.proofs.Common.{Side, White, Black, Kind, Pawn, King, Promo, Man, Move, other, is_same_side, is_same_kind, Pos, rank_of, home_rank, landing_rank, last_rank, man_at, is_of, is_man, attacks, is_forward, is_pawn}
+use Rattle.krieg_moves.proofs.Common.{Side, White, Black, Kind, Pawn, King, Promo, Man, Move, other, is_same_side, is_same_kind, Pos, rank_of, home_rank, landing_rank, last_rank, man_at, is_of, is_man, attacks, is_forward, is_pawn, kind_after, placed, is_marked, is_plain, is_step, is_double_step, is_pawn_capture, is_pawn_move, is_move_of_kind, has_promotion, can_castle, Short, Long}
 use Rattle.krieg_board.specs.declared.men.Kind.TheVariants.{Knight, Bishop, Rook, Queen}
 use Rattle.krieg_board.specs.declared.men.Promo.TheVariants as promo
 use Rattle.krieg_board.proofs.MenLemmas.{is_man_other_kind, is_pawn_not, is_pawn_tells}
-use Rattle.krieg_moves.proofs.Common.{kind_after, placed, is_marked, is_plain, is_step, is_double_step, is_pawn_capture, is_pawn_move, is_move_of_kind, has_promotion, can_castle, Short, Long}
 use Rattle.krieg_board.proofs.Counting.{one}
 use Rattle.krieg_moves.proofs.Movers.{Mover}
 use Rattle.krieg_moves.proofs.Pawns.{step, double_step, attack_forward}

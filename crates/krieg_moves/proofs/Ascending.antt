@@ -4,10 +4,9 @@ use Rattle.std.specs.List.{AllByRecursion}
 use Rattle.std.specs.List.Sorted.{IsStrictlySortedBy}
 use Rattle.std.specs.declared.cmp.Ordering.TheVariants.{Less}
 use Rattle.std.proofs.lemmas.List.Kept.{IsStrictlySortedBy-filter}
-use Rattle.krieg_board.proofs.Common.{move_cmp, Pos, gathered, Move, Plain}
+use Rattle.krieg_moves.proofs.Common.{move_cmp, Pos, gathered, Move, Plain, is_legal, moves_between, moves_from, all_moves, moves}
 use Rattle.krieg_board.specs.declared.men.Promo.TheVariants.{Queen, Rook, Bishop, Knight}
 use Rattle.krieg_board.proofs.MoveOrder.{by_from, by_to, by_promo}
-use Rattle.krieg_moves.proofs.Common.{is_legal, moves_between, moves_from, all_moves, moves}
 
 all_append : (P : Move → Type 0) (xs ys : List Move) → AllByRecursion P xs → AllByRecursion P ys → AllByRecursion P (xs ++ ys)
 all_append P [] ys a b = b

@@ -3,9 +3,8 @@ use Rattle.std.proofs.Common.{◌≡◌, ℕ, Bool, false, ◌+◌, ◌<◌, len
 use Rattle.std.specs.Prelude.{Option, Some, None, count_by}
 use Rattle.std.proofs.lemmas.List.{get_or-set_same, get_or-set_other}
 use Rattle.std.proofs.Math.ListN.{length-set}
-use Rattle.krieg_board.proofs.Common.{Man, Move, Board, man_at}
+use Rattle.krieg_moves.proofs.Common.{Man, Move, Board, man_at, moved, placed}
 use Rattle.krieg_board.proofs.Counting.{one, count_set}
-use Rattle.krieg_moves.proofs.Common.{moved, placed}
 
 pub man_at_set_same : (b : Board) (s : ℕ) (v : Option Man) → s < length b → man_at (set b s v) s ≡ v
 man_at_set_same b s v h = get_or-set_same b s v None h

@@ -2,12 +2,11 @@
 use Rattle.std.proofs.Common.{◌≡◌, ℕ, Bool, true, false, not, ◌&&◌, ◌||◌, refl, cond, ◌==◌, nat_le, ◌<◌, arith, sym, set, ◌≢◌, ◌∙◌, ap, inl, inr, subst}
 use Rattle.std.proofs.lemmas.Bool.{and_from, and_left, and_parts, and_right, cond-false, cond-true, not-true, or_cases, eqb-true, eq-eqb, ne_eqb}
 use Rattle.std.specs.Prelude.{Option, Some, None, is_some}
-use Rattle.krieg_board.proofs.Common.{Side, White, Black, Kind, Pawn, King, Man, Move, Rights, is_same_kind, Pos, file_of, rank_of, square_at, home_rank, Board, man_at, is_man, attacks, can_reach, is_clear, is_between, apart, has_castles, has_castle}
+use Rattle.krieg_moves.proofs.Common.{Side, White, Black, Kind, Pawn, King, Man, Move, Rights, is_same_kind, Pos, file_of, rank_of, square_at, home_rank, Board, man_at, is_man, attacks, can_reach, is_clear, is_between, apart, has_castles, has_castle, king_square, corner, arrival, crossing, board_after, moved, with_rook, is_en_passant, is_castling, can_castle, holds, is_safe, is_plain, is_king_move, is_move_of_kind, Wing, Short, Long}
 use Rattle.krieg_board.specs.declared.men.Kind.TheVariants.{Rook}
 use Rattle.krieg_board.proofs.SquareTests.{every_square_at}
 use Rattle.krieg_board.proofs.Facts.{Facts}
 use Rattle.krieg_board.proofs.MenLemmas.{same_kind_eq}
-use Rattle.krieg_moves.proofs.Common.{king_square, corner, arrival, crossing, board_after, moved, with_rook, is_en_passant, is_castling, can_castle, holds, is_safe, is_plain, is_king_move, is_move_of_kind, Wing, Short, Long}
 use Rattle.krieg_moves.proofs.Effects.{Effect, Effect_castle}
 use Rattle.krieg_moves.proofs.Movers.{Mover, attacked_no_king}
 use Rattle.krieg_moves.proofs.Shapes.{found_man, attack_reaches, passes_not, effect_plain}

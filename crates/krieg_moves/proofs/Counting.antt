@@ -8,10 +8,9 @@ use Rattle.krieg_board.proofs.SetLemmas.{has_zero, has_bit, has_no_bit, has_plac
 use Rattle.std.proofs.lemmas.List.Filters.{length-filter_both}
 use Rattle.std.specs.List.{filter}
 use Rattle.std.specs.Int.{bit_at}
-use Rattle.krieg_board.proofs.Common.{Move, Pos, gathered, rank_of, last_rank, man_at, is_man, is_of, Pawn, has, IsLowest, IsValid}
+use Rattle.krieg_moves.proofs.Common.{Move, Pos, gathered, rank_of, last_rank, man_at, is_man, is_of, Pawn, has, IsLowest, IsValid, is_legal, IsAlone, moves_between, moves_from, all_moves, moves_of, moves, promotes, can_go, MOST_LEGAL_MOVES}
 use Rattle.krieg_board.proofs.Ones.{ones_zero, ones_suc, bit_by}
 use Rattle.krieg_board.proofs.Picked.{picked, picked_zero, picked_step}
-use Rattle.krieg_moves.proofs.Common.{is_legal, IsAlone, moves_between, moves_from, all_moves, moves_of, moves, promotes, can_go, MOST_LEGAL_MOVES}
 use Rattle.krieg_moves.proofs.Listing.{listed_promotions, listed_plain, picked_from, picked_men}
 
 -- lists of one entry for each square of a set, and of three more where it belongs to a second

@@ -3,10 +3,9 @@ use Rattle.std.proofs.Common.{◌≡◌, ℕ, Bool, true, false, ◌&&◌, refl,
 use Rattle.std.proofs.lemmas.Bool.{and_from}
 use Rattle.std.specs.Prelude.{Option, Some, None, count_by, ◌⊎◌}
 use Rattle.std.proofs.Math.ListN.{length-set}
-use Rattle.krieg_board.proofs.Common.{Side, Kind, Pawn, King, Man, Move, is_same_side, is_same_kind, Board, man_at, is_man, is_pawn}
+use Rattle.krieg_moves.proofs.Common.{Side, Kind, Pawn, King, Man, Move, is_same_side, is_same_kind, Board, man_at, is_man, is_pawn, moved, placed}
 use Rattle.krieg_board.specs.declared.men.Kind.TheVariants.{Rook}
 use Rattle.krieg_board.proofs.MenLemmas.{is_man_tells, is_man_other_kind, is_pawn_not, same_side_self}
-use Rattle.krieg_moves.proofs.Common.{moved, placed}
 use Rattle.krieg_board.proofs.Counting.{one, count_set}
 use Rattle.krieg_moves.proofs.Boards.{Departs, count_moved, man_at_set_same, man_at_set_other, man_at_moved_to, man_at_moved_from, man_at_moved_other, length_moved}
 

@@ -3,11 +3,9 @@ use Rattle.std.proofs.Common.{◌≡◌, ℕ, zero, suc, ◌+◌, ◌*◌, ◌^�
 use Rattle.std.proofs.Math.Bool.{and-false, or-false}
 use Rattle.std.proofs.lemmas.Bool.{cases_lt, lt-ltb, le-ltb, eqb-true, eq-eqb, ne_eqb}
 use Rattle.std.proofs.lemmas.Nat.Bits.{bit_at_above}
-use Rattle.krieg_board.proofs.Common.{Side, White, Black, Pawn, other, squares, every_square, file_of, rank_of, pawn_rank, landing_rank, gathered, last_rank, is_forward, attacks, Board, man_at, is_empty, is_of, has, squares_where, Pos, IsValid}
+use Rattle.krieg_moves.proofs.Common.{Side, White, Black, Pawn, other, squares, every_square, file_of, rank_of, pawn_rank, landing_rank, gathered, last_rank, is_forward, attacks, Board, man_at, is_empty, is_of, has, squares_where, goes, crossed, is_marked, is_step, is_double_step, is_legal, plain_move, can_go, promotes, moves_from, moves_of, ahead, two_ahead, ahead_west, ahead_east, one_if, total, ways_from, ways, Pos, IsValid, IsGuard, is_answered, Guard, IsFreePawn}
 use Rattle.krieg_board.proofs.SetLemmas.{has_no_bit, has_and}
-use Rattle.krieg_rays.proofs.Common.{goes}
 use Rattle.krieg_rays.proofs.Entries.{agree, agree_at}
-use Rattle.krieg_moves.proofs.Common.{crossed, is_marked, is_step, is_double_step, is_legal, plain_move, can_go, promotes, moves_from, moves_of, ahead, two_ahead, ahead_west, ahead_east, one_if, total, ways_from, ways, IsGuard, is_answered, Guard, IsFreePawn}
 use Rattle.std.specs.Prelude.{None}
 use Rattle.std.specs.List.{filter}
 use Rattle.std.proofs.lemmas.Nat.{and_le_l}

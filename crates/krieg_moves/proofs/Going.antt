@@ -3,11 +3,10 @@ use Rattle.std.proofs.Common.{◌≡◌, ℕ, ◌<◌, Bool, true, false, not, �
 use Rattle.std.proofs.Math.Bool.{and_comm}
 use Rattle.std.specs.Prelude.{Some, None}
 use Rattle.std.proofs.lemmas.Bool.{and_left, ne_eqb, or_left, or_right}
-use Rattle.krieg_board.proofs.Common.{Kind, Pawn, King, Man, Move, other, is_same_kind, Pos, rank_of, last_rank, man_at, is_of, is_man, attacks, man_attacks, is_attacked, IsValid}
+use Rattle.krieg_moves.proofs.Common.{Kind, Pawn, King, Man, Move, other, is_same_kind, Pos, rank_of, last_rank, man_at, is_of, is_man, attacks, man_attacks, is_attacked, IsValid, king_square, is_legal, is_candidate, is_move_of_kind, is_plain, can_castle, plain_move, promotes, can_go, is_answered, is_officer, is_king_step, Wing, Short, Long}
 use Rattle.krieg_board.specs.declared.men.Kind.TheVariants.{Knight, Bishop, Rook, Queen}
 use Rattle.krieg_board.proofs.Facts.{facts}
 use Rattle.krieg_board.proofs.MenLemmas.{is_man_other_kind}
-use Rattle.krieg_moves.proofs.Common.{king_square, is_legal, is_candidate, is_move_of_kind, is_plain, can_castle, plain_move, promotes, can_go, is_answered, is_officer, is_king_step, Wing, Short, Long}
 use Rattle.krieg_moves.proofs.Shapes.{passes_not}
 use Rattle.krieg_moves.proofs.Castling.{king_near, castling_by}
 use Rattle.krieg_moves.proofs.MoveLists.{any_plain, any_between_not_own}

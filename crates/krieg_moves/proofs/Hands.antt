@@ -3,12 +3,11 @@ use Rattle.std.proofs.Common.{◌≡◌, ℕ, Bool, true, false, not, ◌&&◌, 
 use Rattle.std.proofs.lemmas.Bool.{and_from, and_parts, and_right, cond-false, cond-true, not-true, ne_eqb}
 use Rattle.std.specs.Prelude.{Option, Some, None, ◌⊎◌}
 use Rattle.std.proofs.lemmas.Bool.Decides.{nat_tests}
-use Rattle.krieg_board.proofs.Common.{Side, White, Black, Kind, Pawn, King, Man, Move, Rights, other, is_same_side, is_same_kind, is_same_bool, Pos, man_at, is_man, is_king_attacked, same_hand, has_same_men, has_same_rights, is_same_of, IsValid}
+use Rattle.krieg_moves.proofs.Common.{Side, White, Black, Kind, Pawn, King, Man, Move, Rights, other, is_same_side, is_same_kind, is_same_bool, Pos, man_at, is_man, is_king_attacked, same_hand, has_same_men, has_same_rights, is_same_of, IsValid, corner, after, after_by, rights_after, is_en_passant, passed_square, keeps_right, is_legal, is_candidate, holds, Wing, Short, Long}
 use Rattle.krieg_board.specs.declared.men.Kind.TheVariants.{Knight, Bishop, Rook, Queen}
 use Rattle.krieg_board.proofs.Facts.{Facts, facts}
 use Rattle.krieg_board.proofs.MenLemmas.{same_side_eq, same_side_self, same_kind_eq, is_man_tells}
 use Rattle.krieg_board.proofs.SquareTests.{every_square_at, every_square_all}
-use Rattle.krieg_moves.proofs.Common.{corner, after, after_by, rights_after, is_en_passant, passed_square, keeps_right, is_legal, is_candidate, holds, Wing, Short, Long}
 use Rattle.krieg_moves.proofs.Movers.{Mover, mover}
 use Rattle.krieg_moves.proofs.OwnMen.{own, own_man, other_side, own_after, own_men, captured_on, enemy_men}
 use Rattle.krieg_moves.proofs.Pawns.{Passing, passing}

@@ -3,11 +3,10 @@ use Rattle.std.proofs.Common.{◌≡◌, ℕ, Bool, true, false, not, ◌&&◌, 
 use Rattle.std.proofs.lemmas.Bool.{and_from, and_parts, not-true, eqb-true, eq-eqb, eqb-false, both_ways}
 use Rattle.std.specs.Prelude.{Some}
 use Rattle.std.proofs.lemmas.Bool.Decides.{nat_tests}
-use Rattle.krieg_board.proofs.Common.{Side, White, Black, Pawn, King, Man, Move, is_same_side, is_same_kind, Pos, rank_of, Board, man_at, is_of, is_man, is_pawn, has_kings, has_pawns_inside, has_castles, has_castle, is_small, count_kind, count_side}
+use Rattle.krieg_moves.proofs.Common.{Side, White, Black, Pawn, King, Man, Move, is_same_side, is_same_kind, Pos, rank_of, Board, man_at, is_of, is_man, is_pawn, has_kings, has_pawns_inside, has_castles, has_castle, is_small, count_kind, count_side, king_square, corner, rook_file, placed, rights_after, keeps_right, Wing, Short, Long}
 use Rattle.krieg_board.specs.declared.men.Kind.TheVariants.{Rook}
 use Rattle.krieg_board.proofs.SquareTests.{every_square_at, every_square_all}
 use Rattle.krieg_board.proofs.Facts.{Facts}
-use Rattle.krieg_moves.proofs.Common.{king_square, corner, rook_file, placed, rights_after, keeps_right, Wing, Short, Long}
 use Rattle.krieg_board.proofs.Counting.{one}
 use Rattle.krieg_moves.proofs.Effects.{Effect}
 use Rattle.krieg_moves.proofs.Movers.{Mover}

@@ -2,11 +2,10 @@
 use Rattle.std.proofs.Common.{◌≡◌, ℕ, true, false, not, ◌||◌, refl, sym, ◌∙◌, ap, length}
 use Rattle.std.proofs.lemmas.Bool.{and_parts, not-true}
 use Rattle.std.specs.Prelude.{Option, Some, None}
-use Rattle.krieg_board.proofs.Common.{Side, Kind, Pawn, King, Man, Move, Rights, other, is_same_kind, Pos, Board, man_at, attacks, is_king_attacked, IsValid, first_fault}
+use Rattle.krieg_moves.proofs.Common.{Side, Kind, Pawn, King, Man, Move, Rights, other, is_same_kind, Pos, Board, man_at, attacks, is_king_attacked, IsValid, first_fault, after, after_by, board_after, rights_after, mark_after, is_legal, is_candidate, is_move_of_kind, is_officer_move, is_plain, is_step, is_double_step, is_pawn_capture, has_promotion, can_castle, Short, Long}
 use Rattle.krieg_board.specs.declared.men.Kind.TheVariants.{Knight, Bishop, Rook, Queen}
 use Rattle.krieg_board.proofs.Facts.{Facts, facts, no_fault}
 use Rattle.krieg_board.proofs.MenLemmas.{other_other}
-use Rattle.krieg_moves.proofs.Common.{after, after_by, board_after, rights_after, mark_after, is_legal, is_candidate, is_move_of_kind, is_officer_move, is_plain, is_step, is_double_step, is_pawn_capture, has_promotion, can_castle, Short, Long}
 use Rattle.krieg_moves.proofs.Effects.{Effect}
 use Rattle.krieg_moves.proofs.Movers.{Mover, mover}
 use Rattle.krieg_moves.proofs.Shapes.{effect_officer}

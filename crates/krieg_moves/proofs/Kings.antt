@@ -1,12 +1,11 @@
 -- Each side has one king, before and after a move that is legal but for its safety, and he decides whether it is in check.
 use Rattle.std.proofs.Common.{◌≡◌, ℕ, ◌<◌, true, sym, ◌∙◌, ap, length, subst, arith}
 use Rattle.std.specs.Prelude.{Option, Some}
-use Rattle.krieg_board.proofs.Common.{Side, King, Man, Move, other, Pos, Board, man_at, is_man, is_attacked, is_king_attacked, IsValid, count_kind}
+use Rattle.krieg_moves.proofs.Common.{Side, King, Man, Move, other, Pos, Board, man_at, is_man, is_attacked, is_king_attacked, IsValid, count_kind, board_after, is_candidate}
 use Rattle.krieg_board.proofs.Facts.{facts}
 use Rattle.krieg_board.proofs.Faults.{one_king_each}
 use Rattle.krieg_board.proofs.Counting.{counted}
 use Rattle.krieg_board.proofs.OneKing.{one_king_attacked}
-use Rattle.krieg_moves.proofs.Common.{board_after, is_candidate}
 use Rattle.krieg_moves.proofs.Movers.{mover}
 use Rattle.krieg_moves.proofs.Arrivals.{arrives}
 use Rattle.krieg_moves.proofs.Keeps.{kings_after}

@@ -2,9 +2,8 @@
 use Rattle.std.proofs.Common.{◌≡◌, ◌<◌, Bool, true, false, not, ◌&&◌, ◌||◌, refl, cond, nat_lt, ◌==◌, sym, ◌∙◌, ap}
 use Rattle.std.proofs.lemmas.Bool.{and_parts}
 use Rattle.std.specs.Prelude.{Option, Some, None}
-use Rattle.krieg_board.proofs.Common.{Kind, Pawn, King, Man, Move, is_same_side, is_same_kind, Pos, rank_of, last_rank, man_at, is_of, is_man, attacks, is_king_attacked}
+use Rattle.krieg_moves.proofs.Common.{Kind, Pawn, King, Man, Move, is_same_side, is_same_kind, Pos, rank_of, last_rank, man_at, is_of, is_man, attacks, is_king_attacked, after, promotes, is_legal, is_candidate, is_move_of, is_move_of_kind, is_plain, has_promotion, is_step, is_double_step, is_pawn_capture, can_castle, Short, Long}
 use Rattle.krieg_board.specs.declared.men.Kind.TheVariants.{Knight, Bishop, Rook, Queen}
-use Rattle.krieg_moves.proofs.Common.{after, promotes, is_legal, is_candidate, is_move_of, is_move_of_kind, is_plain, has_promotion, is_step, is_double_step, is_pawn_capture, can_castle, Short, Long}
 use Rattle.krieg_moves.proofs.Movers.{below_from}
 
 -- the parts of a legal move that speak of the mover

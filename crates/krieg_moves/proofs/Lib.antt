@@ -1,3 +1,4 @@
+mod Common
 pub mod Boards
 pub mod Effects
 pub mod Movers
@@ -31,4 +32,3 @@ pub mod Officers
 pub mod Shifts
 pub mod PawnWays
 pub mod FreePawns
-pub mod Common

@@ -2,9 +2,8 @@
 use Rattle.std.proofs.Common.{◌≡◌, ℕ, zero, suc, ◌<◌, Bool, true, false, cond, List, [], ◌∷◌, ◌++◌, ◌⊎◌, inl, inr, refl, sym, subst, arith}
 use Rattle.std.specs.List.{filter, Contains}
 use Rattle.std.proofs.lemmas.List.Elements.{All-contains, Contains-append_left, Contains-append_right}
-use Rattle.krieg_board.proofs.Common.{Promo, Move, Pos, gathered}
+use Rattle.krieg_moves.proofs.Common.{Promo, Move, Pos, is_legal, gathered, moves_between, moves_from, all_moves, moves}
 use Rattle.krieg_board.specs.declared.men.Promo.TheVariants as promo
-use Rattle.krieg_moves.proofs.Common.{is_legal, moves_between, moves_from, all_moves, moves}
 use Rattle.krieg_moves.proofs.LegalMoves.{legal_squares}
 use Rattle.krieg_moves.proofs.MoveLists.{moves_legal}
 

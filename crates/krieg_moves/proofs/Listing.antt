@@ -5,11 +5,10 @@ use Rattle.std.specs.List.{filter, list_any}
 use Rattle.std.specs.Int.{trailing_zeros}
 use Rattle.std.proofs.lemmas.Bool.{and_parts, or_parts}
 use Rattle.std.proofs.lemmas.List.Elements.{filter-append}
-use Rattle.krieg_board.proofs.Common.{Pawn, Promo, Move, Pos, rank_of, last_rank, gathered, man_at, is_of, is_man, has, IsLowest, IsValid}
+use Rattle.krieg_moves.proofs.Common.{Pawn, Promo, Move, Pos, rank_of, last_rank, gathered, man_at, is_of, is_man, has, IsLowest, IsValid, is_legal, is_plain, plain_move, promotions, moves_between, moves_from, all_moves, promotes, can_go}
 use Rattle.krieg_board.specs.declared.men.Promo.TheVariants as promo
 use Rattle.krieg_board.proofs.SetLemmas.{lowest}
 use Rattle.krieg_board.proofs.Picked.{picked, picked_zero, picked_step, picked_all}
-use Rattle.krieg_moves.proofs.Common.{is_legal, is_plain, plain_move, promotions, moves_between, moves_from, all_moves, promotes, can_go}
 use Rattle.krieg_moves.proofs.Shapes.{found_man}
 use Rattle.krieg_moves.proofs.Kings.{king_stands}
 use Rattle.krieg_moves.proofs.MoveLists.{any_plain, any_by_filter, filter_plain, filter_promotions, filter_not_own, moves_from_at, all_moves_at}

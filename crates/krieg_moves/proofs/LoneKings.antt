@@ -4,13 +4,11 @@ use Rattle.std.proofs.Common.{◌≡◌, ◌≢◌, ℕ, ◌<◌, ◌^◌, Bool,
 use Rattle.std.specs.Prelude.{Option, Some, None, count_ones, slice_set}
 use Rattle.std.proofs.Math.Bool.{or-false, and-false, and-true}
 use Rattle.std.proofs.lemmas.Bool.{cases_eq, eqb-true, eq-eqb, ne_eqb, false_from_ne_true, and_parts, both_ways}
-use Rattle.krieg_board.proofs.Common.{other, is_same_side, is_same_kind, Pos, has, Board, man_at, is_of, is_man, can_reach, is_attacked, is_king_attacked, IsValid, Side, White, Pawn, King, Man, Move}
+use Rattle.krieg_moves.proofs.Common.{other, is_same_side, is_same_kind, Pos, has, Board, man_at, is_of, is_man, can_reach, is_attacked, is_king_attacked, IsValid, Side, White, Pawn, King, Man, Move, goes, corner, king_square, arrival, moved, placed, board_after, after, after_by, is_legal, is_candidate, holds, can_castle, can_go, plain_move, moves, moves_from, is_king_step, is_step_of_king, IsAlone, Wing, Short, Long}
 use Rattle.krieg_board.specs.declared.men.Kind.TheVariants.{Rook}
 use Rattle.krieg_board.proofs.Facts.{facts}
 use Rattle.krieg_board.proofs.MenLemmas.{is_man_tells, is_man_other_kind, same_side_self, other_other}
-use Rattle.krieg_rays.proofs.Common.{goes}
 use Rattle.krieg_rays.proofs.Attacking.{king_from}
-use Rattle.krieg_moves.proofs.Common.{corner, king_square, arrival, moved, placed, board_after, after, after_by, is_legal, is_candidate, holds, can_castle, can_go, plain_move, moves, moves_from, is_king_step, is_step_of_king, IsAlone, Wing, Short, Long}
 use Rattle.krieg_moves.proofs.Boards.{man_at_moved_to, man_at_moved_from, man_at_moved_other}
 use Rattle.krieg_moves.proofs.Castling.{rook_stands, squares_apart}
 use Rattle.krieg_moves.proofs.Counting.{counted_plain, lone_counted}

@@ -2,9 +2,8 @@
 use Rattle.std.proofs.Common.{◌≡◌, ℕ, Bool, true, false, not, ◌&&◌, ◌||◌, refl, ◌==◌, ◌+◌, arith, sym, ◌≢◌, ◌∙◌, ap, inl, inr, subst}
 use Rattle.std.proofs.lemmas.Bool.{and_from, and_parts, cond-false, cond-true, or_cases, eqb-true, eq-eqb, ne_eqb}
 use Rattle.std.specs.Prelude.{Some, None, is_none}
-use Rattle.krieg_board.proofs.Common.{Side, White, Black, Kind, Pawn, Man, Move, other, is_same_side, is_same_kind, Pos, file_of, rank_of, square_at, pawn_rank, crossed_rank, landing_rank, last_rank, Board, man_at, is_of, is_man, is_empty, attacks, is_forward, has_mark, is_crossed}
+use Rattle.krieg_moves.proofs.Common.{Side, White, Black, Kind, Pawn, Man, Move, other, is_same_side, is_same_kind, Pos, file_of, rank_of, square_at, pawn_rank, crossed_rank, landing_rank, last_rank, Board, man_at, is_of, is_man, is_empty, attacks, is_forward, has_mark, is_crossed, board_after, moved, is_marked, is_advance, crossed, mark_after, is_move_of_kind, is_plain, is_step, is_double_step, is_pawn_capture, is_pawn_move, has_promotion}
 use Rattle.krieg_board.proofs.MenLemmas.{same_side_self, same_kind_eq, other_other}
-use Rattle.krieg_moves.proofs.Common.{board_after, moved, is_marked, is_advance, crossed, mark_after, is_move_of_kind, is_plain, is_step, is_double_step, is_pawn_capture, is_pawn_move, has_promotion}
 use Rattle.krieg_moves.proofs.Boards.{man_at_moved_to, man_at_moved_from, man_at_moved_other}
 use Rattle.krieg_moves.proofs.Movers.{Mover}
 use Rattle.krieg_moves.proofs.Shapes.{board_after_plain}

@@ -6,9 +6,8 @@ use Rattle.std.specs.Prelude.{◌⊎◌}
 use Rattle.std.specs.List.{list_any, filter, All}
 use Rattle.std.proofs.lemmas.List.Elements.{filter_passes, filter-append}
 use Rattle.std.proofs.lemmas.List.Folds.{list_any-append}
-use Rattle.krieg_board.proofs.Common.{Promo, Move, Pos, man_at, is_of, gathered}
+use Rattle.krieg_moves.proofs.Common.{Promo, Move, Pos, man_at, is_of, is_legal, is_plain, gathered, promotes, plain_move, promotions, moves_between, moves_from, all_moves, is_nil, moves}
 use Rattle.krieg_board.specs.declared.men.Promo.TheVariants as promo
-use Rattle.krieg_moves.proofs.Common.{is_legal, is_plain, promotes, plain_move, promotions, moves_between, moves_from, all_moves, is_nil, moves}
 use Rattle.krieg_moves.proofs.LegalMoves.{legal_own, legal_promotion}
 
 pub gathered_moves_from : (f n : ℕ) → n ≡ 64 → gathered (moves_between f) n ≡ moves_from f

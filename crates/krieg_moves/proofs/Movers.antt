@@ -3,11 +3,10 @@ use Rattle.std.proofs.Common.{◌≡◌, ℕ, true, false, not, ◌&&◌, refl, 
 use Rattle.std.proofs.lemmas.Bool.{and_from, and_parts, not-true, false_from_ne_true}
 use Rattle.std.specs.Prelude.{Option, Some, None, ◌⊎◌}
 use Rattle.std.proofs.lemmas.Bool.Decides.{nat_tests}
-use Rattle.krieg_board.proofs.Common.{Side, White, Black, Kind, King, Man, Move, other, is_same_side, is_same_kind, Pos, Board, man_at, is_man, is_of, attacks, is_attacked, is_king_attacked}
+use Rattle.krieg_moves.proofs.Common.{Side, White, Black, Kind, King, Man, Move, other, is_same_side, is_same_kind, Pos, Board, man_at, is_man, is_of, attacks, is_attacked, is_king_attacked, is_candidate, is_move_of, is_move_of_kind}
 use Rattle.krieg_board.proofs.SquareTests.{some_square_at}
 use Rattle.krieg_board.proofs.Facts.{Facts}
 use Rattle.krieg_board.proofs.MenLemmas.{same_side_eq, same_side_self, same_side_other, other_other}
-use Rattle.krieg_moves.proofs.Common.{is_candidate, is_move_of, is_move_of_kind}
 use Rattle.krieg_moves.proofs.Boards.{Departs}
 
 pub record Mover (p : Pos) (m : Move) (man : Man) : Type 0 where

@@ -5,11 +5,10 @@ use Rattle.std.specs.List.{filter}
 use Rattle.std.proofs.lemmas.Bool.{and_parts, both_ways, false_from_ne_true}
 use Rattle.std.proofs.lemmas.Nat.{or_lt}
 use Rattle.std.proofs.Math.Bool.{and-false}
-use Rattle.krieg_board.proofs.Common.{Side, Kind, Pawn, King, Man, Move, Sets, is_same_side, is_same_kind, Pos, gathered, man_at, is_of, is_man, is_kind, Show, has}
+use Rattle.krieg_moves.proofs.Common.{Side, Kind, Pawn, King, Man, Move, Sets, is_same_side, is_same_kind, Pos, gathered, man_at, is_of, is_man, is_kind, Show, has, is_legal, moves_from, moves_of, is_officer, is_officer_of, is_free_officer}
 use Rattle.krieg_board.specs.declared.men.Kind.TheVariants.{Knight, Bishop, Rook, Queen}
 use Rattle.krieg_board.proofs.MenLemmas.{same_side_eq, same_kind_eq}
 use Rattle.krieg_board.proofs.SetLemmas.{has_and, has_or, has_not}
-use Rattle.krieg_moves.proofs.Common.{is_legal, moves_from, moves_of, is_officer, is_officer_of, is_free_officer}
 use Rattle.krieg_moves.proofs.Counting.{counted_apart}
 use Rattle.krieg_moves.proofs.Going.{no_pawn}
 use Rattle.krieg_moves.proofs.Movers.{is_of_man}

@@ -3,11 +3,10 @@ use Rattle.std.proofs.Common.{◌≡◌, ℕ, Bool, true, false, not, ◌&&◌, 
 use Rattle.std.proofs.lemmas.Bool.{and_parts, cond-false, cond-true, eqb-true, eqb-false, ne_eqb}
 use Rattle.std.specs.Prelude.{Option, Some, None}
 use Rattle.std.proofs.Math.ListN.{length-set}
-use Rattle.krieg_board.proofs.Common.{Side, White, Black, Pawn, Man, Move, other, is_same_side, is_same_kind, Pos, Board, man_at, file_of}
+use Rattle.krieg_moves.proofs.Common.{Side, White, Black, Pawn, Man, Move, other, is_same_side, is_same_kind, Pos, Board, man_at, file_of, corner, crossing, board_after, moved, placed, with_rook, is_en_passant, is_castling, is_marked, passed_square, Wing, Short, Long}
 use Rattle.krieg_board.specs.declared.men.Kind.TheVariants.{Rook}
 use Rattle.krieg_board.proofs.Facts.{Facts}
 use Rattle.krieg_board.proofs.MenLemmas.{same_side_self, same_kind_eq}
-use Rattle.krieg_moves.proofs.Common.{corner, crossing, board_after, moved, placed, with_rook, is_en_passant, is_castling, is_marked, passed_square, Wing, Short, Long}
 use Rattle.krieg_moves.proofs.Boards.{man_at_set_same, man_at_set_other, length_moved}
 use Rattle.krieg_moves.proofs.Movers.{Mover}
 use Rattle.krieg_moves.proofs.Pawns.{Passing, passing, pawn_castles_not}

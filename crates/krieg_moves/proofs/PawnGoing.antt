@@ -3,12 +3,10 @@ use Rattle.std.proofs.Common.{◌≡◌, ℕ, ◌<◌, Bool, true, false, not, �
 use Rattle.std.proofs.Math.Bool.{and-true, and-false, or-false}
 use Rattle.std.specs.Prelude.{Option, Some, None, is_none}
 use Rattle.std.proofs.lemmas.Bool.{and_parts, and_left, and_right, eqb-true, ne_eqb, both_ways}
-use Rattle.krieg_board.proofs.Common.{Side, White, Black, Pawn, King, Promo, Man, Move, other, is_same_side, is_same_kind, Pos, file_of, rank_of, last_rank, crossed_rank, pawn_rank, landing_rank, man_at, is_of, is_man, is_empty, attacks, apart, can_reach, is_forward, IsValid, has}
+use Rattle.krieg_moves.proofs.Common.{Side, White, Black, Pawn, King, Promo, Man, Move, other, is_same_side, is_same_kind, Pos, file_of, rank_of, last_rank, crossed_rank, pawn_rank, landing_rank, man_at, is_of, is_man, is_empty, attacks, apart, can_reach, is_forward, IsValid, is_marked, is_en_passant, crossed, is_legal, is_candidate, is_move_of_kind, is_plain, is_step, is_double_step, is_pawn_move, has_promotion, plain_move, promotes, can_go, is_answered, IsGuard, Guard, has, is_pinned, is_capture}
 use Rattle.krieg_board.specs.declared.men.Promo.TheVariants as promo
 use Rattle.krieg_board.proofs.Facts.{Facts, facts}
 use Rattle.krieg_board.proofs.MenLemmas.{same_side_self}
-use Rattle.krieg_moves.proofs.Common.{is_marked, is_en_passant, crossed, is_legal, is_candidate, is_move_of_kind, is_plain, is_step, is_double_step, is_pawn_move, has_promotion, plain_move, promotes, can_go, is_answered, IsGuard, Guard, is_capture}
-use Rattle.krieg_rays.proofs.Common.{is_pinned}
 use Rattle.krieg_moves.proofs.Answering.{unpinned_answered}
 use Rattle.krieg_moves.proofs.Shapes.{attack_reaches, found_man}
 use Rattle.krieg_moves.proofs.Pawns.{marked_crossed, other_file}

@@ -4,14 +4,12 @@ use Rattle.std.specs.Prelude.{Option, Some, None, is_some, is_none, count_ones, 
 use Rattle.std.proofs.Math.Bool.{or-false, and-false, and-true}
 use Rattle.std.proofs.lemmas.List.{set-get_or}
 use Rattle.std.proofs.lemmas.Bool.{cases_eq, eq-eqb, ne_eqb, eqb-true, false_from_ne_true, or_right, or_cases, both_ways}
-use Rattle.krieg_board.proofs.Common.{other, is_same_side, is_same_kind, Pos, has, rank_of, last_rank, pawn_rank, landing_rank, Board, man_at, is_of, is_man, is_empty, attacks, is_attacked, IsValid, count_kind, Side, Kind, Pawn, King, Plain, Man, Move, White}
+use Rattle.krieg_moves.proofs.Common.{other, is_same_side, is_same_kind, Pos, has, rank_of, last_rank, pawn_rank, landing_rank, Board, man_at, is_of, is_man, is_empty, attacks, is_attacked, IsValid, count_kind, Side, Kind, Pawn, King, Plain, Man, Move, White, goes, is_pinned, corner, moved, placed, board_after, crossed, after, after_by, is_legal, holds, IsGuard, answers, is_answered, moves, HasOnlyPawns, is_step_of_king, ways, Guard, Wing}
 use Rattle.krieg_board.specs.declared.men.Kind.TheVariants.{Knight, Bishop, Rook, Queen}
 use Rattle.krieg_board.proofs.Facts.{facts}
 use Rattle.krieg_board.proofs.MenLemmas.{is_man_tells, same_side_self, other_other}
 use Rattle.krieg_board.proofs.SquareTests.{some_square_at, every_square_all}
 use Rattle.krieg_board.proofs.SetLemmas.{has_zero, has_all, has_place}
-use Rattle.krieg_rays.proofs.Common.{goes, is_pinned}
-use Rattle.krieg_moves.proofs.Common.{corner, moved, placed, board_after, crossed, after, after_by, is_legal, holds, IsGuard, answers, is_answered, moves, HasOnlyPawns, is_step_of_king, ways, Guard, Wing}
 use Rattle.krieg_moves.proofs.Answering.{attacked_step}
 use Rattle.krieg_moves.proofs.Boards.{length_moved, man_at_moved_to, man_at_moved_from, man_at_moved_other}
 use Rattle.krieg_moves.proofs.Castling.{rook_stands, squares_apart}

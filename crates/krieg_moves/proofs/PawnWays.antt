@@ -4,12 +4,11 @@ use Rattle.std.proofs.Math.Nat.{mod-one}
 use Rattle.std.proofs.Math.Bool.{and-true, and-false}
 use Rattle.std.proofs.lemmas.Bool.{cases_lt, lt-ltb, le-ltb, eqb-true}
 use Rattle.std.proofs.lemmas.Nat.Bits.{bit_at_above}
-use Rattle.krieg_board.proofs.Common.{Side, White, Black, is_same_bool, squares, every_square, file_of, rank_of, pawn_rank, has}
+use Rattle.krieg_moves.proofs.Common.{Side, White, Black, is_same_bool, squares, every_square, file_of, rank_of, pawn_rank, has, ahead, two_ahead, ahead_west, ahead_east, one_if, total, ways_from, ways}
 use Rattle.krieg_board.proofs.SetLemmas.{has_and, has_no_bit}
 use Rattle.krieg_board.proofs.Ones.{ones_zero, ones_suc, bit_by}
 use Rattle.krieg_board.proofs.SameTests.{same_bool_eq}
 use Rattle.krieg_board.proofs.SquareTests.{every_square_at}
-use Rattle.krieg_moves.proofs.Common.{ahead, two_ahead, ahead_west, ahead_east, one_if, total, ways_from, ways}
 use Rattle.krieg_moves.proofs.Shifts.{has_down, has_up, has_up_low}
 
 -- two tests that agree on each square, as evaluation tells

@@ -2,10 +2,9 @@
 use Rattle.std.proofs.Common.{◌≡◌, ℕ, Bool, true, false, not, ◌&&◌, ◌||◌, refl, ◌==◌, ◌+◌, ◌<◌, arith, sym, set, ◌≢◌, ◌∙◌, ap, inl, inr, subst}
 use Rattle.std.proofs.lemmas.Bool.{and_from, and_left, and_parts, cond-true, or_cases, eqb-true, ne_eqb}
 use Rattle.std.specs.Prelude.{Option, Some, None}
-use Rattle.krieg_board.proofs.Common.{Side, White, Black, Kind, Pawn, King, Man, Move, other, is_same_kind, Pos, file_of, rank_of, square_at, pawn_rank, crossed_rank, landing_rank, Board, man_at, is_empty, is_of, is_man, attacks, can_reach, apart, is_forward, has_mark, is_crossed}
+use Rattle.krieg_moves.proofs.Common.{Side, White, Black, Kind, Pawn, King, Man, Move, other, is_same_kind, Pos, file_of, rank_of, square_at, pawn_rank, crossed_rank, landing_rank, Board, man_at, is_empty, is_of, is_man, attacks, can_reach, apart, is_forward, has_mark, is_crossed, board_after, moved, is_en_passant, is_castling, is_marked, passed_square, crossed, is_step, is_double_step, is_pawn_capture, is_pawn_move, is_move_of_kind, has_promotion, Wing}
 use Rattle.krieg_board.proofs.Facts.{Facts}
 use Rattle.krieg_board.proofs.MenLemmas.{same_kind_eq}
-use Rattle.krieg_moves.proofs.Common.{board_after, moved, is_en_passant, is_castling, is_marked, passed_square, crossed, is_step, is_double_step, is_pawn_capture, is_pawn_move, is_move_of_kind, has_promotion, Wing}
 use Rattle.krieg_moves.proofs.Effects.{Effect, Effect_passing}
 use Rattle.krieg_moves.proofs.Movers.{Mover, attacked_no_king, empty_no_king}
 use Rattle.krieg_moves.proofs.Shapes.{none_from, found_man, attack_reaches, castles_not, effect_plain}

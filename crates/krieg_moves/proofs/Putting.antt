@@ -2,7 +2,7 @@
 use Rattle.std.proofs.Common.{◌≡◌, ℕ, ◌<◌, Bool, true, false, not, ◌&&◌, ◌||◌, ◌==◌, ◌⊎◌, inl, inr, refl, sym, ◌∙◌, ap, ◌≢◌}
 use Rattle.std.specs.Prelude.{Option, Some, None, is_some}
 use Rattle.std.proofs.lemmas.Bool.{and_parts, and_from, cases_eq, not-true}
-use Rattle.krieg_board.proofs.Common.{Side, White, Black, Kind, Pawn, King, Man, squares, every_square, Board, man_at, attacks, man_attacks, can_reach, slides, is_clear, is_between}
+use Rattle.krieg_moves.proofs.Common.{Side, White, Black, Kind, Pawn, King, Man, squares, every_square, Board, man_at, attacks, man_attacks, can_reach, slides, is_clear, is_between}
 use Rattle.krieg_board.specs.declared.men.Kind.TheVariants.{Knight, Bishop, Rook, Queen}
 use Rattle.krieg_board.proofs.SameTests.{same_tests}
 use Rattle.krieg_board.proofs.SquareTests.{every_square_all, every_square_at}

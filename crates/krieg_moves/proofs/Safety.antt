@@ -3,11 +3,10 @@ use Rattle.std.proofs.Common.{◌≡◌, ℕ, ◌<◌, Bool, true, false, not, �
 use Rattle.std.proofs.Math.Bool.{not-not, and-false}
 use Rattle.std.specs.Prelude.{Some, None}
 use Rattle.std.proofs.lemmas.Bool.{and_from, lt-ltb, both_ways}
-use Rattle.krieg_board.proofs.Common.{Side, Pawn, King, Man, Move, other, is_same_side, is_same_kind, Pos, man_at, is_of, is_man, is_attacked, is_king_attacked, IsValid, count_kind}
+use Rattle.krieg_moves.proofs.Common.{Side, Pawn, King, Man, Move, other, is_same_side, is_same_kind, Pos, man_at, is_of, is_man, is_attacked, is_king_attacked, IsValid, count_kind, after, after_by, board_after, moved, placed, is_en_passant, is_castling, is_legal, is_candidate, is_move_of, is_move_of_kind, plain_move, is_answered, Wing}
 use Rattle.krieg_board.proofs.Facts.{facts}
 use Rattle.krieg_board.proofs.MenLemmas.{is_man_other_kind, same_side_other, same_side_self}
 use Rattle.krieg_board.proofs.OneKing.{one_king_attacked}
-use Rattle.krieg_moves.proofs.Common.{after, after_by, board_after, moved, placed, is_en_passant, is_castling, is_legal, is_candidate, is_move_of, is_move_of_kind, plain_move, is_answered, Wing}
 use Rattle.krieg_moves.proofs.Boards.{man_at_moved_other, man_at_moved_to}
 use Rattle.krieg_moves.proofs.Shapes.{board_after_plain, castles_not, passes_not}
 use Rattle.krieg_moves.proofs.Movers.{Mover, mover, is_of_man}

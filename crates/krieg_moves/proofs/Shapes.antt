@@ -2,10 +2,9 @@
 use Rattle.std.proofs.Common.{◌≡◌, ℕ, true, false, not, ◌&&◌, ◌||◌, refl, ◌==◌, sym, ◌∙◌, subst}
 use Rattle.std.proofs.lemmas.Bool.{and_left, and_parts, cond-false}
 use Rattle.std.specs.Prelude.{Option, Some, None, is_none}
-use Rattle.krieg_board.proofs.Common.{Side, Kind, Pawn, King, Man, Move, is_same_kind, Pos, file_of, Board, man_at, is_man, attacks, can_reach, slides, is_clear, man_attacks}
+use Rattle.krieg_moves.proofs.Common.{Side, Kind, Pawn, King, Man, Move, is_same_kind, Pos, file_of, Board, man_at, is_man, attacks, can_reach, slides, is_clear, man_attacks, king_square, arrival, board_after, moved, is_en_passant, is_castling, is_marked, Wing, Short, Long}
 use Rattle.krieg_board.proofs.Facts.{Facts}
 use Rattle.krieg_board.proofs.MenLemmas.{is_man_tells}
-use Rattle.krieg_moves.proofs.Common.{king_square, arrival, board_after, moved, is_en_passant, is_castling, is_marked, Wing, Short, Long}
 use Rattle.krieg_moves.proofs.Effects.{Effect, Effect_moved}
 use Rattle.krieg_moves.proofs.Movers.{Mover, attacked_no_king}
 

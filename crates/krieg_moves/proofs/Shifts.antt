@@ -4,7 +4,7 @@ use Rattle.std.proofs.Math.Pow.{split}
 use Rattle.std.proofs.lemmas.Nat.{pow_pos, mod_below}
 use Rattle.std.proofs.lemmas.Nat.Bits.{bit_at-zero, bit_at_cat_low, bit_at_cat_high}
 use Rattle.std.specs.Int.{bit_at}
-use Rattle.krieg_board.proofs.Common.{has}
+use Rattle.krieg_moves.proofs.Common.{has}
 use Rattle.krieg_board.proofs.SetLemmas.{has_no_bit}
 
 pub has_down : (n d k : ℕ) → has (n / 2 ^ d) k ≡ has n (k + d)

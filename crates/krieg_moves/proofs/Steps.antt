@@ -3,10 +3,8 @@ use Rattle.std.proofs.Common.{◌≡◌, ℕ, ◌<◌, Bool, true, false, not, �
 use Rattle.std.proofs.Math.Bool.{and-false}
 use Rattle.std.specs.Prelude.{Option, Some, None, is_some, is_none}
 use Rattle.std.proofs.lemmas.Bool.{and_parts, eqb-true, and_right}
-use Rattle.krieg_board.proofs.Common.{Side, White, Black, Man, squares, every_square, file_of, rank_of, pawn_rank, landing_rank, Board, man_at, is_forward}
+use Rattle.krieg_moves.proofs.Common.{Side, White, Black, Man, squares, every_square, file_of, rank_of, pawn_rank, landing_rank, Board, man_at, is_forward, is_ahead, crossed, is_step, is_double_step, plain_move}
 use Rattle.krieg_board.proofs.SquareTests.{every_square_at}
-use Rattle.krieg_rays.proofs.Common.{is_ahead}
-use Rattle.krieg_moves.proofs.Common.{crossed, is_step, is_double_step, plain_move}
 
 -- one step from the rank where pawns begin leads to the square that is crossed in two
 unfoldable steps_to_crossed : Side → Bool

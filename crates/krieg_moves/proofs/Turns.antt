@@ -1,8 +1,7 @@
 -- What a legal move tells: the game goes on where there is one, and it passes the turn.
 use Rattle.std.proofs.Common.{◌≡◌, true, false, List, [], ◌∷◌, Option, Some, None, refl, arith}
 use Rattle.std.specs.List.{Contains}
-use Rattle.krieg_board.proofs.Common.{other, Pos, man_at, is_of, Man, Move}
-use Rattle.krieg_moves.proofs.Common.{is_legal, after, after_by, moves, is_nil, is_ended}
+use Rattle.krieg_moves.proofs.Common.{other, Pos, man_at, is_of, Man, Move, is_legal, after, after_by, moves, is_nil, is_ended}
 use Rattle.krieg_moves.proofs.LegalMoves.{legal_own}
 use Rattle.krieg_moves.proofs.Listed.{legal_listed}
 

@@ -6,8 +6,7 @@ use Rattle.std.specs.Ordering.{nat_cmp, ordering_then}
 use Rattle.std.specs.declared.cmp.Ordering.{Ordering}
 use Rattle.std.proofs.lemmas.Cmp.{ranked, by_ranked}
 use Rattle.std.proofs.lemmas.List.{take_more_set, drop_more, get_or-map, length-map, take-append-drop, append-nil, drop_all}
-use Rattle.krieg_board.proofs.Common.{bits_of, Pos, Man}
-use Rattle.krieg_pack.proofs.Common.{man_code, mark_code, side_code, numbers, paired, bytes_of, position_cmp}
+use Rattle.krieg_pack.proofs.Common.{bits_of, Pos, Man, man_code, mark_code, side_code, numbers, paired, bytes_of, position_cmp}
 use Rattle.krieg_pack.proofs.CodeBits.{code_below}
 use Rattle.krieg_pack.proofs.PackedOrder.{cmp_less, cmp_greater, cmp_same}
 

@@ -3,10 +3,8 @@ use Rattle.std.proofs.Common.{◌≡◌, ℕ, zero, suc, ◌+◌, ◌-◌, ◌*�
 use Rattle.std.specs.Prelude.{Option, Some, None}
 use Rattle.std.specs.Int.RustNames.{bit_xor}
 use Rattle.std.proofs.lemmas.Nat.{and_le_l}
-use Rattle.krieg_board.proofs.Common.{has, Board, man_at, is_of, is_kind, Show, Sets, Side, White, Black, Kind, Pawn, King, Man}
-use Rattle.krieg_board.specs.declared.men.Kind.TheVariants.{Knight, Bishop, Rook, Queen}
+use Rattle.krieg_pack.proofs.Common.{has, Board, man_at, is_of, is_kind, Show, Sets, Side, White, Black, Kind, Pawn, Knight, Bishop, Rook, Queen, King, Man, man_code}
 use Rattle.krieg_board.proofs.SetLemmas.{has_and, has_or, has_xor, has_not, differ}
-use Rattle.krieg_pack.proofs.Common.{man_code}
 
 -- what is known of one square: its code, the bits of the code, and which sets of men have it
 pub record Row : Type 0 where

@@ -3,9 +3,8 @@ use Rattle.std.proofs.Common.{◌≡◌, ℕ, ◌+◌, ◌-◌, ◌*◌, ◌<◌
 use Rattle.std.specs.Prelude.{Option}
 use Rattle.std.specs.Int.RustNames.{bit_xor}
 use Rattle.std.proofs.lemmas.Bool.{cases_Bool, cases_lt, lt-ltb, le-ltb, eq-eqb, ne_eqb, or_parts, both_ways}
-use Rattle.krieg_board.proofs.Common.{man_at, Pos, has, Man}
+use Rattle.krieg_pack.proofs.Common.{man_at, Pos, has, Man, man_code, Inside}
 use Rattle.krieg_board.proofs.SetLemmas.{differ}
-use Rattle.krieg_pack.proofs.Common.{man_code, Inside}
 use Rattle.krieg_pack.proofs.CodeBits.{code_from_bits, bit_le, or_is, xor_is, without_is}
 use Rattle.krieg_pack.proofs.Unpacking.{Coded, Narrow}
 

@@ -1,7 +1,7 @@
 -- How many members sets have, and repeats that are dropped early.
 use Rattle.std.proofs.Common.{◌≡◌, suc, ◌≤◌, Bool, true, false, cond, List, [], ◌∷◌, ◌++◌, ◌⊎◌, inl, inr, length, sym, subst, ◌∙◌, refl, arith}
 use Rattle.std.proofs.lemmas.Bool.{both_ways}
-use Rattle.krieg_theory.proofs.Common.{In, Ascending, IsOrder, as_set, insert_once}
+use Rattle.krieg_pack.proofs.Common.{In, Ascending, IsOrder, as_set, insert_once}
 use Rattle.krieg_theory.proofs.Lists.{in_append_left, in_append_right, append_in}
 use Rattle.krieg_theory.proofs.Ascending.{same_set, as_set_ascending, in_as_set, as_set_in}
 

@@ -1,3 +1,4 @@
+mod Common
 pub mod CodeBits
 pub mod Unpacking
 pub mod MenSets
@@ -8,4 +9,3 @@ pub mod Membership
 pub mod Sorting
 pub mod Counts
 pub mod PositionSets
-pub mod Common

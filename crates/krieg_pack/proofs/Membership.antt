@@ -2,7 +2,7 @@
 use Rattle.std.proofs.Common.{◌≡◌, ℕ, zero, suc, ◌<◌, List, [], ◌∷◌, inl, inr, length, arith}
 use Rattle.std.specs.Prelude.{slice_index_or}
 use Rattle.std.specs.List.{Contains}
-use Rattle.krieg_theory.proofs.Common.{In}
+use Rattle.krieg_pack.proofs.Common.{In}
 
 module _ {X : Type 0} where
   -- what is found at a place stands in the list

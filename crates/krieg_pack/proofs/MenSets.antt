@@ -2,10 +2,9 @@
 use Rattle.std.proofs.Common.{◌≡◌, ℕ, ◌-◌, ◌^◌, ◌<◌, ◌&&◌, ◌||◌, ap, ◌∙◌, bit_and, bit_or, length}
 use Rattle.std.specs.Int.RustNames.{bit_xor}
 use Rattle.std.proofs.lemmas.Nat.{or_lt, xor_lt}
-use Rattle.krieg_board.proofs.Common.{has, Board, man_at, AreExact, Show, board_of, Sets}
+use Rattle.krieg_pack.proofs.Common.{has, Board, man_at, AreExact, Show, board_of, Sets, man_code, Inside}
 use Rattle.krieg_board.proofs.SetLemmas.{differ}
 use Rattle.krieg_board.proofs.Writing.{Small, shown, shown_board}
-use Rattle.krieg_pack.proofs.Common.{man_code, Inside}
 use Rattle.krieg_pack.proofs.CodeBits.{Row, same_row, and_is, or_is, xor_is, without_is, and_small}
 use Rattle.krieg_pack.proofs.Unpacking.{Coded, Narrow}
 

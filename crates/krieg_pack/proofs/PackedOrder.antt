@@ -10,9 +10,8 @@ use Rattle.std.proofs.lemmas.Bool.{eq-eqb, ne_eqb, eqb-true, not-false}
 use Rattle.std.proofs.lemmas.Bool.Decides.{nat_tests}
 use Rattle.std.proofs.lemmas.Cmp.{ranked, by_ranked}
 use Rattle.std.proofs.lemmas.List.{length-map, get_or-map, ext_get_or}
-use Rattle.krieg_board.proofs.Common.{man_at, Pos, has, IsLowest}
+use Rattle.krieg_pack.proofs.Common.{man_at, Pos, has, IsLowest, numbers, man_code, position_cmp, state, Inside}
 use Rattle.krieg_board.proofs.SetLemmas.{has_zero, lowest}
-use Rattle.krieg_pack.proofs.Common.{numbers, man_code, position_cmp, state, Inside}
 use Rattle.krieg_pack.proofs.Unpacking.{Stand}
 use Rattle.krieg_pack.proofs.CodePairs.{AreApart}
 

@@ -4,10 +4,8 @@ use Rattle.std.specs.List.{dedup}
 use Rattle.std.specs.List.Sorted.{IsSorted, IsPermutation, IsBinarySearchResult, IsSearchInRange}
 use Rattle.std.specs.Cmp.Lexicographic.{pointwise}
 use Rattle.std.specs.Prelude.{Result, is_ok}
-use Rattle.krieg_board.proofs.Common.{Pos}
-use Rattle.krieg_theory.proofs.Common.{In, IsOrder}
+use Rattle.krieg_pack.proofs.Common.{Pos, In, IsOrder, position_cmp, position_eq, position_lt, IsAscending, IsSetOf, set_of, position_total, same_position}
 use Rattle.krieg_theory.proofs.Ascending.{same_set, as_set_ascending, in_as_set, as_set_in}
-use Rattle.krieg_pack.proofs.Common.{position_cmp, position_eq, position_lt, IsAscending, IsSetOf, set_of, position_total, same_position}
 use Rattle.krieg_pack.proofs.Sorting.{is_order, sorted_set, found, pointwise_same, pointwise_self}
 use Rattle.krieg_pack.proofs.Counts.{part_le, as_set_early}
 

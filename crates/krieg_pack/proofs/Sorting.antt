@@ -12,7 +12,7 @@ use Rattle.std.proofs.lemmas.Cmp.{tied_itself, eq_by_cmp_equiv, ranked, by_ranke
 use Rattle.std.proofs.lemmas.List.Kept.{IsStrictlySortedBy-dedup, Contains-dedup, Contains-from_dedup}
 use Rattle.std.proofs.lemmas.List.Sorted.{Contains-permutation, IsPermutation-sym, searchable_from_sorted}
 use Rattle.std.proofs.lemmas.Bool.{both_ways, and_parts, and_from}
-use Rattle.krieg_theory.proofs.Common.{In, Ascending, IsOrder, as_set}
+use Rattle.krieg_pack.proofs.Common.{In, Ascending, IsOrder, as_set}
 use Rattle.krieg_theory.proofs.Ascending.{less_from, same_set, as_set_ascending, in_as_set, as_set_in, asym}
 use Rattle.krieg_pack.proofs.Membership.{in_at, contains_in, in_contains}
 

@@ -2,10 +2,9 @@
 use Rattle.std.proofs.Common.{◌≡◌, ℕ, ◌+◌, ◌*◌, ◌^◌, ◌<◌, ◌≤◌, cond, length, refl, sym, ap, subst, ◌∙◌, arith, map}
 use Rattle.std.proofs.lemmas.List.{length-map, ext_get_or, get_or-map}
 use Rattle.std.specs.Prelude.{None}
-use Rattle.krieg_board.proofs.Common.{bits_of, Pos, Board, man_at, has, squares, IsValid}
+use Rattle.krieg_pack.proofs.Common.{bits_of, Pos, Board, man_at, has, squares, IsValid, man_code, mark_code, side_code, man_of, mark_of, side_of, rights_of, plane, code_at, packed, unpacked, IsPacked, Inside, man_back, side_back, mark_back, rights_back}
 use Rattle.krieg_board.proofs.BoardSets.{has_squares_where, squares_where_is, squares_where_small}
 use Rattle.krieg_board.proofs.SquareTests.{length_squares, get_or_squares}
-use Rattle.krieg_pack.proofs.Common.{man_code, mark_code, side_code, man_of, mark_of, side_of, rights_of, plane, code_at, packed, unpacked, IsPacked, Inside, man_back, side_back, mark_back, rights_back}
 use Rattle.krieg_pack.proofs.CodeBits.{code_from_bits}
 
 -- a set that has the squares whose code has bit i

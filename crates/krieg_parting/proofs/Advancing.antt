@@ -3,13 +3,8 @@ use Rattle.std.proofs.Common.{◌≡◌, Bool, false, not, ◌&&◌, ◌||◌, L
 use Rattle.std.proofs.Math.Bool.{or_assoc, or-false}
 use Rattle.std.specs.List.{list_any}
 use Rattle.std.proofs.lemmas.List.{length-map}
-use Rattle.krieg_board.proofs.Common.{is_same_side, Pos, Side}
-use Rattle.krieg_moves.proofs.Common.{moves, is_ended}
-use Rattle.krieg_words.proofs.Common.{opening, Dialect}
-use Rattle.krieg_theory.proofs.Common.{is_over}
-use Rattle.krieg_game.proofs.Common.{chess, outcome, outset, waits, starts, first_move, outcome_set, first_outcomes, Holds}
+use Rattle.krieg_parting.proofs.Common.{is_same_side, Pos, Side, moves, is_ended, opening, Dialect, is_over, chess, outcome, outset, waits, starts, first_move, outcome_set, first_outcomes, IsOthersTurn, Holds, IsAdvanced, AreFirstMoves, FirstMoves}
 use Rattle.krieg_game.proofs.Starting.{first_moves, over_is_ended}
-use Rattle.krieg_parting.proofs.Common.{IsOthersTurn, IsAdvanced, AreFirstMoves, FirstMoves}
 use Rattle.krieg_game.proofs.Pools.{holds_grown, holds_all}
 
 -- what was found, and what the rest adds, is all

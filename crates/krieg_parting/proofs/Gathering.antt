@@ -3,12 +3,7 @@ use Rattle.std.proofs.Common.{◌≡◌, ℕ, suc, ◌+◌, Bool, true, false, c
 use Rattle.std.proofs.Math.Bool.{or_assoc, or-false}
 use Rattle.std.proofs.lemmas.List.{append-nil}
 use Rattle.std.proofs.lemmas.Bool.{both_ways}
-use Rattle.krieg_board.proofs.Common.{Pos, Move}
-use Rattle.krieg_moves.proofs.Common.{is_legal}
-use Rattle.krieg_words.proofs.Common.{Dialect}
-use Rattle.krieg_theory.proofs.Common.{refused, stale_in_some, given, all_outcomes}
-use Rattle.krieg_game.proofs.Common.{chess, stalemates, outcome_set, Holds}
-use Rattle.krieg_parting.proofs.Common.{Charged, replies, PartStop, is_wanted, IsAdded, IsGathered, Gathered}
+use Rattle.krieg_parting.proofs.Common.{Pos, Move, is_legal, Dialect, refused, stale_in_some, given, all_outcomes, chess, stalemates, outcome_set, Holds, Charged, replies, PartStop, is_wanted, IsAdded, IsGathered, Gathered}
 use Rattle.krieg_game.proofs.Pools.{holds_grown, holds_all}
 use Rattle.krieg_parting.proofs.Charges.{said}
 use Rattle.krieg_parting.proofs.LastMoves.{given_length}

@@ -2,18 +2,12 @@
 use Rattle.std.proofs.Common.{◌≡◌, ◌+◌, Bool, true, false, cond, not, ◌&&◌, List, [], length, refl, sym, ap, ◌∙◌}
 use Rattle.std.specs.List.{list_any}
 use Rattle.std.proofs.lemmas.Bool.{both_ways, and_parts, and_from, not_from_false, not-true, false_from_ne_true}
-use Rattle.krieg_board.proofs.Common.{Pos, Move}
-use Rattle.krieg_moves.proofs.Common.{is_legal, after, moves, is_mate}
-use Rattle.krieg_words.proofs.Common.{Dialect}
-use Rattle.krieg_theory.proofs.Common.{stale_in_some, given, mates_at}
+use Rattle.krieg_parting.proofs.Common.{Pos, Move, is_legal, after, moves, is_mate, Dialect, stale_in_some, given, mates_at, made, lives_in_some, chess, outcomes, lives, replies, looked_at, AreTried, IsMating, Mating}
 use Rattle.krieg_theory.proofs.Lists.{any_at, any_from}
 use Rattle.krieg_theory.proofs.Steps.{any_agree}
-use Rattle.krieg_costs.proofs.Common.{made, lives_in_some}
 use Rattle.krieg_costs.proofs.Totals.{total_agree}
-use Rattle.krieg_game.proofs.Common.{chess, outcomes}
 use Rattle.krieg_game.proofs.ChessLaws.{chess_is_game}
 use Rattle.krieg_game.proofs.Winning.{mates_at_once, outcomes_are_replies}
-use Rattle.krieg_parting.proofs.Common.{lives, replies, looked_at, AreTried, IsMating, Mating}
 
 module _ (d : Dialect) where
   -- what is looked at is made

@@ -1,3 +1,4 @@
+mod Common
 mod Wanted
 mod Items
 pub mod Charges
@@ -5,4 +6,3 @@ pub mod LastMoves
 pub mod Gathering
 mod Trying
 pub mod Advancing
-pub mod Common

@@ -3,8 +3,7 @@ use Rattle.std.proofs.Common.{◌≡◌, Bool, true, false, ◌||◌, List, [], 
 use Rattle.std.proofs.Math.Bool.{or_assoc, or-false}
 use Rattle.std.proofs.lemmas.List.{append-nil}
 use Rattle.std.specs.List.{list_any}
-use Rattle.krieg_board.proofs.Common.{Pos, Move}
-use Rattle.krieg_parting.proofs.Common.{lives, refuses, IsTried, AreTried, is_wanted, Mating}
+use Rattle.krieg_parting.proofs.Common.{Pos, Move, lives, refuses, IsTried, AreTried, is_wanted, Mating}
 use Rattle.krieg_parting.proofs.Gathering.{filtered_more}
 use Rattle.krieg_parting.proofs.Wanted.{wanted_before}
 

@@ -9,11 +9,8 @@ use Rattle.std.specs.declared.cmp.Ordering.TheVariants.{Less, Equal, Greater}
 use Rattle.std.proofs.lemmas.Bool.{and_parts}
 use Rattle.std.proofs.lemmas.Cmp.{ranked, by_ranked}
 use Rattle.std.proofs.lemmas.List.Sorted.{searchable_from_sorted}
-use Rattle.krieg_board.proofs.Common.{Move}
-use Rattle.krieg_theory.proofs.Common.{same, Maybe, Nothing, Just}
+use Rattle.krieg_plan.proofs.Common.{Move, same, Maybe, Nothing, Just, Key, NodeTree, is_ascending}
 use Rattle.krieg_theory.proofs.Ascending.{less_from}
-use Rattle.krieg_game.proofs.Common.{Key}
-use Rattle.krieg_plan.proofs.Common.{NodeTree, is_ascending}
 
 module _ {X K : Type 0} (key : X → K) (tree : X → NodeTree) (cmp : K → K → Ordering) (o : IsTotalOrder cmp) (k : K) where
   abbrev lt : K → K → Bool

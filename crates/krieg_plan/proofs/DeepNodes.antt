@@ -1,7 +1,7 @@
 -- How deep what is left may be, as a walk over `no` goes on.
 use Rattle.std.proofs.Common.{◌≡◌, ℕ, ◌+◌, ◌-◌, ◌<◌, ◌≤◌, List, map, max, sym, ap, ◌∙◌, arith}
-use Rattle.krieg_theory.proofs.Common.{depth, depth_other, depth_edges}
-use Rattle.krieg_plan.proofs.Common.{tree_of, edge_of, as_edges, Node, Edge, out-Node}
+use Rattle.krieg_plan.proofs.Common.{depth, depth_other, depth_edges, tree_of, edge_of, as_edges, Node, out-Node}
+use Rattle.krieg_plan.specs.declared.node.Edge.{Edge}
 use Rattle.krieg_plan.proofs.NodeTrees.{other_of, tree_out}
 
 -- the walk began at n, where `most` nodes were allowed, and is at `here`, where `room` are

@@ -1,10 +1,8 @@
 -- A drop of a node ends: with each step, what is left grows lighter.
 use Rattle.std.proofs.Common.{◌≡◌, ℕ, ◌+◌, ◌<◌, List, [], ◌∷◌, ◌++◌, ap, ◌∙◌, map, arith}
 use Rattle.std.proofs.lemmas.List.{map-append}
-use Rattle.krieg_board.proofs.Common.{Move}
-use Rattle.krieg_theory.proofs.Common.{Try, Maybe, Nothing, Just, size, size_other, size_edges}
-use Rattle.krieg_game.proofs.Common.{Key}
-use Rattle.krieg_plan.proofs.Common.{NodeTree, tree_of, edge_of, as_edges, Node, Edge, out-Node, roll-Node}
+use Rattle.krieg_plan.proofs.Common.{Move, Try, Maybe, Nothing, Just, size, size_other, size_edges, Key, NodeTree, tree_of, edge_of, as_edges, Node, out-Node, roll-Node}
+use Rattle.krieg_plan.specs.declared.node.Edge.{Edge}
 use Rattle.krieg_plan.proofs.NodeTrees.{Layer, other_of, edges_of, tree_out, tree_rolled}
 
 abbrev mutual

@@ -1,8 +1,7 @@
 -- The last key alone ascends, and so does none.
 use Rattle.std.proofs.Common.{◌≡◌, ℕ, ◌-◌, ◌≤◌, true, List, [], ◌∷◌, length, map, drop, refl, arith, length-drop}
-use Rattle.krieg_theory.proofs.Common.{edge_keys}
-use Rattle.krieg_game.proofs.Common.{key_lt, root_lt}
-use Rattle.krieg_plan.proofs.Common.{is_ascending, edge_of, as_edges, root_of, Edge, Root}
+use Rattle.krieg_plan.proofs.Common.{edge_keys, key_lt, root_lt, is_ascending, edge_of, as_edges, root_of, Root}
+use Rattle.krieg_plan.specs.declared.node.Edge.{Edge}
 
 edges_short : (es : List Edge) → length es ≤ 1 → is_ascending key_lt (edge_keys (as_edges (map edge_of es))) ≡ true
 edges_short [] h = refl

@@ -1,3 +1,4 @@
+mod Common
 pub mod NodeTrees
 pub mod OrderedTrees
 pub mod Listed
@@ -8,4 +9,3 @@ mod Lookups
 mod LastKeys
 mod OrderedNodes
 mod DeepNodes
-pub mod Common

@@ -1,7 +1,7 @@
 -- A position at a place of a list is in it.
 use Rattle.std.proofs.Common.{◌≡◌, ℕ, zero, suc, List, [], ◌∷◌, inl, inr, Some}
 use Rattle.std.specs.Prelude.{slice_get}
-use Rattle.krieg_theory.proofs.Common.{In}
+use Rattle.krieg_plan.proofs.Common.{In}
 
 pub get_in : {X : Type 0} (xs : List X) (i : ℕ) (x : X) → slice_get xs i ≡ Some x → In x xs
 get_in [] i x e = absurd cc

@@ -2,9 +2,8 @@
 use Rattle.std.proofs.Common.{◌≡◌, ℕ, true, List, [], ◌∷◌, length, map, refl, sym, ap, ◌∙◌}
 use Rattle.std.specs.Prelude.{slice_index_or, Result, MatchResult, if◌then◌else◌}
 use Rattle.std.specs.List.Sorted.{IsBinarySearchResult, IsSearchInRange}
-use Rattle.krieg_theory.proofs.Common.{same, Nothing, Just, first_edge, edge_keys}
-use Rattle.krieg_game.proofs.Common.{Key, RootKey, key_cmp, key_lt, root_cmp, root_lt}
-use Rattle.krieg_plan.proofs.Common.{NodeTree, edges_in, first_edge_in, first_root_in, is_ascending, is_ordered, is_ordered_plan, tree_of, edge_of, as_edges, root_of, Node, Edge, out-Node, Root}
+use Rattle.krieg_plan.proofs.Common.{same, Nothing, Just, first_edge, edge_keys, Key, RootKey, key_cmp, key_lt, root_cmp, root_lt, NodeTree, edges_in, first_edge_in, first_root_in, is_ascending, is_ordered, is_ordered_plan, tree_of, edge_of, as_edges, root_of, Node, out-Node, Root}
+use Rattle.krieg_plan.specs.declared.node.Edge.{Edge}
 use Rattle.krieg_game.proofs.KeyLaws.{key_total, root_total}
 use Rattle.krieg_plan.proofs.NodeTrees.{tree_out}
 use Rattle.krieg_plan.proofs.OrderedTrees.{own_keys, root_keys_ascend}

@@ -1,11 +1,8 @@
 -- What a node means, part by part: as it is taken apart, and as it is made.
 use Rattle.std.proofs.Common.{◌≡◌, Some, None, refl, ◌∙◌, map}
 use Rattle.std.specs.Prelude.{option_map}
-use Rattle.krieg_board.proofs.Common.{Move}
-use Rattle.krieg_theory.proofs.Common.{Try, Maybe, Edges}
-use Rattle.krieg_game.proofs.Common.{Key}
-use Rattle.krieg_plan.proofs.Common.{NodeTree, tree_of, edge_of, as_other, as_edges, edge_step, node_step, Node, Edge, Node-F, Edge-F, out-Node, roll-Node, roll-Edge, map-Node, fold_out-Node, fold_out-Edge, fold-roll-Node, fold-roll-Edge}
-use Rattle.krieg_plan.specs.declared.node.Edge.TheViews.{out-Edge}
+use Rattle.krieg_plan.proofs.Common.{Move, Try, Maybe, Edges, Key, NodeTree, tree_of, edge_of, as_other, as_edges, edge_step, node_step, Node, Node-F, Edge-F, out-Node, out-Edge, roll-Node, roll-Edge, map-Node, fold_out-Node, fold_out-Edge, fold-roll-Node, fold-roll-Edge}
+use Rattle.krieg_plan.specs.declared.node.Edge.{Edge}
 
 -- one layer of a node, with nodes below it
 abbrev pub Layer : Type 0

@@ -1,8 +1,7 @@
 -- Whether a node ascends, by its own keys, the nodes after its edges and the node over `no`.
 use Rattle.std.proofs.Common.{◌≡◌, Bool, true, false, ◌&&◌, List, refl, sym, ap, ◌∙◌, map}
-use Rattle.krieg_theory.proofs.Common.{edge_keys}
-use Rattle.krieg_game.proofs.Common.{key_lt}
-use Rattle.krieg_plan.proofs.Common.{is_ascending, is_ordered, is_ordered_other, are_ordered, tree_of, edge_of, as_edges, Node, Edge, out-Node}
+use Rattle.krieg_plan.proofs.Common.{edge_keys, key_lt, is_ascending, is_ordered, is_ordered_other, are_ordered, tree_of, edge_of, as_edges, Node, out-Node}
+use Rattle.krieg_plan.specs.declared.node.Edge.{Edge}
 use Rattle.krieg_plan.proofs.NodeTrees.{other_of, tree_out}
 
 none : (a b : Bool) → a && (b && false) ≡ false

@@ -2,10 +2,8 @@
 use Rattle.std.proofs.Common.{◌≡◌, true, false, ◌&&◌, [], ◌∷◌, map, refl, sym, ap, ◌∙◌}
 use Rattle.std.specs.Prelude.{if◌then◌else◌}
 use Rattle.std.proofs.lemmas.Bool.{and_parts}
-use Rattle.krieg_board.proofs.Common.{Move}
-use Rattle.krieg_theory.proofs.Common.{same, Try, Maybe, Just, Edges, NoEdges, Edge, first_edge, edge_keys}
-use Rattle.krieg_game.proofs.Common.{Key, RootKey, key_lt, root_lt}
-use Rattle.krieg_plan.proofs.Common.{NodeTree, PlanTrees, edges_in, first_edge_in, first_root_in, is_ascending, is_ordered, is_ordered_other, are_ordered, is_ordered_plan, are_ordered_roots}
+use Rattle.krieg_plan.proofs.Common.{Move, same, Try, Maybe, Just, Edges, NoEdges, first_edge, edge_keys, Key, RootKey, key_lt, root_lt, NodeTree, PlanTrees, edges_in, first_edge_in, first_root_in, is_ascending, is_ordered, is_ordered_other, are_ordered, is_ordered_plan, are_ordered_roots}
+use Rattle.krieg_theory.specs.Tree.{Edge}
 
 -- the keys of a node's edges
 pub own_keys : (n : NodeTree) → is_ordered n ≡ true → is_ascending key_lt (edge_keys (edges_in n)) ≡ true

@@ -1,10 +1,6 @@
 -- A plan wins from a root exactly where the tree that is found there wins.
 use Rattle.std.proofs.Common.{◌≡◌, ℕ, Bool, true, false, cond, [], ◌∷◌, refl}
-use Rattle.krieg_board.proofs.Common.{Pos, Side}
-use Rattle.krieg_words.proofs.Common.{Dialect}
-use Rattle.krieg_theory.proofs.Common.{same, Just, wins, wins_other, wins_root}
-use Rattle.krieg_game.proofs.Common.{RootKey, root_lt, chess, outset}
-use Rattle.krieg_plan.proofs.Common.{PlanTrees, first_root_in}
+use Rattle.krieg_plan.proofs.Common.{Pos, Side, Dialect, same, Just, wins, wins_other, wins_root, RootKey, root_lt, chess, outset, PlanTrees, first_root_in}
 
 pub root_wins : (d : Dialect) (who : Side) (rs : PlanTrees) (key : RootKey) (p : Pos) (k : ℕ) → wins_root (chess d) (outset d who) rs key p k ≡ wins_other (chess d) (first_root_in rs key) p k
 root_wins d who [] key p k = refl

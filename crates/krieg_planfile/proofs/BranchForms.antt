@@ -1,10 +1,9 @@
 -- The lines of branches, be they edges or roots: what the reading of one needs of its form.
 use Rattle.std.proofs.Common.{◌≡◌, inl, inr, ℕ, Bool, true, false, cond, List, Option, Result, Ok, Err, refl, sym, subst, arith}
 use Rattle.std.specs.Prelude.{◌⊎◌, ◌&&◌, is_some}
-use Rattle.krieg_text.proofs.Common.{TextKind, OutOfPlace, is_beyond_form, ◌>>=◌, Pieces, joined}
-use Rattle.krieg_words.proofs.Common.{no_kinds, Said, Dialect, Wild16, Anytry, Plain, Goes, Nothing}
-use Rattle.krieg_game.proofs.Common.{Key, RootKey, key_lt, root_lt}
-use Rattle.krieg_planfile.proofs.Common.{follows, placed, on_form, on_line, IsToldIn, IsToldKey, is_root_of, root_placed, root_form, IsRootOf, root_line}
+use Rattle.krieg_planfile.proofs.Common.{TextKind, OutOfPlace, is_beyond_form, ◌>>=◌, Pieces, joined, no_kinds, Said, Dialect, Wild16, Anytry, Goes, Key, RootKey, key_lt, root_lt, follows, placed, on_form, on_line, IsToldIn, IsToldKey, is_root_of, root_placed, root_form, IsRootOf, root_line}
+use Rattle.krieg_words.specs.declared.dialects.Dialect.TheVariants.{Plain}
+use Rattle.krieg_words.specs.declared.words.Took.TheVariants.{Nothing}
 use Rattle.krieg_planfile.proofs.KeyForms.{any_on, any_root, on_spells, on_again, root_spells, root_again}
 
 -- A line of the form is that of a key that can be told, fits and follows the last one; in the grammar the key may be in any order.

@@ -1,9 +1,7 @@
 -- Reading branches one after another.
 use Rattle.std.proofs.Common.{◌≡◌, ℕ, suc, ◌+◌, ◌-◌, ◌<◌, ◌≤◌, List, [], ◌∷◌, ◌++◌, Option, Some, Result, Ok, Err, refl, sym, ap, ◌∙◌, append_assoc, arith}
 use Rattle.std.proofs.lemmas.List.{append-nil}
-use Rattle.krieg_text.proofs.Common.{TextFault, At, NoMemory, TextKind, ◌>>=◌, Place, GivesOn}
-use Rattle.krieg_plan.proofs.Common.{NodeTree}
-use Rattle.krieg_planfile.proofs.Common.{NodeReader, branch_by, branches_by}
+use Rattle.krieg_planfile.proofs.Common.{TextFault, At, NoMemory, TextKind, ◌>>=◌, Place, GivesOn, NodeTree, NodeReader, branch_by, branches_by}
 
 module _ {K : Type 0} (node : NodeReader) (form : Option K → List ℕ → Result K TextKind) where
   -- what is read, after the branches of the front

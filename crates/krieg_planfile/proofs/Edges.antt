@@ -1,11 +1,7 @@
 -- Edges as a list of branches.
 use Rattle.std.proofs.Common.{◌≡◌, ℕ, suc, ◌+◌, Bool, true, ◌&&◌, max, List, [], ◌∷◌, ◌++◌, map, length, refl, ap}
-use Rattle.krieg_board.proofs.Common.{Move}
-use Rattle.krieg_theory.proofs.Common.{Edges, NoEdges, Edge, size, size_edges, depth, depth_edges, edge_keys}
-use Rattle.krieg_words.proofs.Common.{Dialect}
-use Rattle.krieg_game.proofs.Common.{Key}
-use Rattle.krieg_plan.proofs.Common.{as_edges, is_ordered, are_ordered, NodeTree}
-use Rattle.krieg_planfile.proofs.Common.{edge_count, node_lines, on_line, edges_lines, branches_lines, IsToldKey, AreTold, AreToldBranches, HaveFewEdges, HaveFewBranches}
+use Rattle.krieg_planfile.proofs.Common.{Move, Edges, NoEdges, size, size_edges, depth, depth_edges, edge_keys, Dialect, Key, as_edges, is_ordered, are_ordered, NodeTree, edge_count, node_lines, on_line, edges_lines, branches_lines, IsToldKey, AreTold, AreToldBranches, HaveFewEdges, HaveFewBranches}
+use Rattle.krieg_theory.specs.Tree.{Edge}
 
 -- the list of them
 abbrev pub edges_of : Edges Move Key → List (Key × NodeTree)

@@ -2,17 +2,15 @@
 use Rattle.std.proofs.Common.{◌≡◌, inl, inr, ℕ, zero, suc, ◌+◌, ◌≤◌, eqb, List, [], ◌∷◌, ◌++◌, Result, Ok, refl, sym, ap, subst, ◌∙◌, arith}
 use Rattle.std.specs.Prelude.{codes}
 use Rattle.std.proofs.lemmas.Fmt.{decimal_digit}
-use Rattle.krieg_text.proofs.Common.{TextFault, Version, number_text, Always, One, ◌>>=◌, Place, place, taken}
+use Rattle.krieg_planfile.proofs.Common.{TextFault, Version, number_text, Always, One, ◌>>=◌, Place, place, taken, unnamed_dialect, dialect_line, dialect_form, dialect_at, Dialect, plan_version_form, heading_at, IsVersion}
 use Rattle.krieg_text.proofs.Formats.{IsFormat, format_of, format_keeps}
 use Rattle.krieg_text.proofs.FormSpellings.{number_is}
 use Rattle.krieg_text.proofs.Grammars.{Said, KeepsTo, line_keeps, bind_keeps, made_keeps}
 use Rattle.krieg_text.proofs.FormGrammars.{value_form}
 use Rattle.krieg_text.proofs.Locality.{IsLocal, ok_is, local_pure, local_taken, local_bind}
 use Rattle.krieg_text.proofs.Takings.{steps, taken_at, taken_again, Read}
-use Rattle.krieg_words.proofs.Common.{unnamed_dialect, dialect_line, dialect_form, dialect_at, Dialect}
 use Rattle.krieg_words.proofs.VersionFormats.{DialectPart, dialect_keeps}
 use Rattle.krieg_words.proofs.VersionSpellings.{line_is, line_read, form_read, local_dialect}
-use Rattle.krieg_planfile.proofs.Common.{plan_version_form, heading_at, IsVersion}
 
 -- ---- what is read
 

@@ -1,10 +1,8 @@
 -- What the lines behind a plan file lead to, one after another.
 use Rattle.std.proofs.Common.{◌≡◌, ℕ, ◌+◌, List, [], ◌∷◌, ◌++◌, Result, Ok, Err, refl, sym, ap, ◌∙◌, append_assoc}
 use Rattle.std.proofs.lemmas.List.{append-nil}
-use Rattle.krieg_text.proofs.Common.{TextFault, At, TextKind, ◌>>=◌, Place, place, on, line_at}
+use Rattle.krieg_planfile.proofs.Common.{TextFault, At, TextKind, ◌>>=◌, Place, place, on, line_at, Dialect, Line, heard_form, all_by}
 use Rattle.krieg_text.proofs.Locality.{ok_is}
-use Rattle.krieg_words.proofs.Common.{Dialect, Line}
-use Rattle.krieg_planfile.proofs.Common.{heard_form, all_by}
 
 -- what is read, behind what was read before
 abbrev pub behind_all : List Line → Result (List Line) TextFault → Result (List Line) TextFault

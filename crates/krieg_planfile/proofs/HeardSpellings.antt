@@ -4,12 +4,10 @@ use Rattle.std.specs.Prelude.{IfOk, IfErr, is_some}
 use Rattle.std.specs.List.{All}
 use Rattle.std.proofs.lemmas.List.{append-nil}
 use Rattle.std.proofs.lemmas.List.Elements.{All-nil, All-cons, All-head, All-tail}
-use Rattle.krieg_text.proofs.Common.{TextFault, At, NoMemory, TextKind, Syntax, Always, ◌>>=◌, Place, place, on, Gives}
+use Rattle.krieg_planfile.proofs.Common.{TextFault, At, NoMemory, TextKind, Syntax, Always, ◌>>=◌, Place, place, on, Gives, line_in, Dialect, Line, HeardState, heard_form, all_by, heard_plan, SpellsHeard, SpellsLines, FirstBadHeard, IsHeardReading, or_syntax, PlanState, IsPlanFile, plan_at, SpellsPlan, PlanGrammar}
 use Rattle.krieg_text.proofs.FirstBadLine.{first_bad}
 use Rattle.krieg_text.proofs.Locality.{ok_is}
 use Rattle.krieg_text.proofs.Takings.{Read, read_whole}
-use Rattle.krieg_words.proofs.Common.{line_in, Dialect, Line}
-use Rattle.krieg_planfile.proofs.Common.{HeardState, heard_form, all_by, heard_plan, SpellsHeard, SpellsLines, FirstBadHeard, IsHeardReading, or_syntax, PlanState, IsPlanFile, plan_at, SpellsPlan, PlanGrammar}
 use Rattle.krieg_planfile.proofs.PlanGrammars.{plan_goes}
 use Rattle.krieg_planfile.proofs.PlanSpellings.{whole_plan, all_again}
 

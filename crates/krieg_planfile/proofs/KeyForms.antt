@@ -4,16 +4,13 @@ use Rattle.std.specs.Prelude.{codes, slice_index, ◌==◌, ◌&&◌, is_some}
 use Rattle.std.specs.List.{list_all}
 use Rattle.std.proofs.lemmas.Bool.{and_parts, and_from}
 use Rattle.std.proofs.lemmas.List.{take_more, take_all}
-use Rattle.krieg_text.proofs.Common.{TextKind, OutOfPlace, behind, cut, ◌>>=◌, joined}
+use Rattle.krieg_planfile.proofs.Common.{TextKind, OutOfPlace, behind, cut, ◌>>=◌, joined, Said, IsSaid, words_text, words_in, Dialect, Key, RootKey, key_lt, root_lt, unspaced, words_at, both, key_across, key_in, or_syntax, any_on_form, follows, placed, on_form, on_line, IsToldKey, IsToldRoot, root_with, root_in, any_root_form, is_root_of, root_placed, root_form, root_line}
 use Rattle.krieg_text.proofs.Formats.{IsForm, named_form}
 use Rattle.krieg_text.proofs.NameLemmas.{behind_again, behind_spells, cut_again, cut_spells}
 use Rattle.krieg_text.proofs.Takings.{steps}
-use Rattle.krieg_words.proofs.Common.{Said, IsSaid, words_text, words_in, Dialect}
 use Rattle.krieg_words.proofs.CleanWords.{words_no_slash}
 use Rattle.krieg_words.proofs.PartLaws.{Free}
 use Rattle.krieg_words.proofs.WordsLaws.{words_spell, words_again}
-use Rattle.krieg_game.proofs.Common.{Key, RootKey, key_lt, root_lt}
-use Rattle.krieg_planfile.proofs.Common.{unspaced, words_at, both, key_across, key_in, or_syntax, any_on_form, follows, placed, on_form, on_line, IsToldKey, IsToldRoot, root_with, root_in, any_root_form, is_root_of, root_placed, root_form, root_line}
 
 -- ---- the space before the slash
 

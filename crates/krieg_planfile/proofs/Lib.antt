@@ -1,3 +1,4 @@
+mod Common
 mod Branches
 mod PlayForms
 pub mod KeyForms
@@ -17,4 +18,3 @@ mod HeardSpellings
 pub mod TextSizes
 mod PlanSizes
 pub mod ReadSizes
-pub mod Common

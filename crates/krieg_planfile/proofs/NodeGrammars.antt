@@ -2,18 +2,14 @@
 use Rattle.std.proofs.Common.{◌≡◌, inl, inr, ℕ, zero, suc, ◌+◌, ◌-◌, ◌≤◌, Bool, true, false, cond, List, [], ◌∷◌, ◌++◌, map, length, Option, Some, None, Result, Ok, Err, refl, sym, ap, subst, ◌∙◌, arith}
 use Rattle.std.specs.Prelude.{◌⊎◌, ◌==◌}
 use Rattle.std.proofs.lemmas.List.{map-append}
-use Rattle.krieg_board.proofs.Common.{Move, Plain}
-use Rattle.krieg_text.proofs.Common.{TextFault, At, TextKind, Large, Deep, is_beyond_form, IsGoodTo, Always, Language, One, Nothing, Any, ◌⨾◌, ◌>>=◌, Place, place, LineReader, on, taken, Pieces, joined}
+use Rattle.krieg_planfile.proofs.Common.{Move, TextFault, At, TextKind, Large, Deep, is_beyond_form, IsGoodTo, Always, Language, One, ◌⨾◌, ◌>>=◌, Place, place, LineReader, on, taken, Pieces, joined, Try, Maybe, Just, Edges, NoEdges, Dialect, Key, key_lt, as_edges, NodeTree, MOST_NODES, Play, play_form, on_form, NodeReader, other_by, branch_by, branches_by, below_by, deep_form, node_at, edge_count, is_just, play_line, on_line, node_lines, other_lines, edges_lines, branches_lines, IsToldKey, IsTold, IsToldOther, AreToldBranches, HasFewEdges, HasFewOther, HaveFewBranches, NodeGrammar, BranchesGrammar}
+use Rattle.krieg_board.specs.declared.men.Promo.TheVariants.{Plain}
+use Rattle.krieg_text.specs.Languages.{Nothing, Any}
 use Rattle.krieg_text.proofs.Goings.{Gone, GoesBy, goes_by, line_missing, line_goes, bind_goes, same_goes, then_goes, made_goes}
 use Rattle.krieg_text.proofs.Grammars.{Judged, untold, pure_keeps, IsJudgedForm}
 use Rattle.krieg_text.proofs.Locality.{local_taken}
 use Rattle.krieg_text.proofs.Takings.{taken_at}
-use Rattle.krieg_theory.proofs.Common.{Try, Maybe, Just, Edges, NoEdges}
 use Rattle.krieg_theory.specs.Tree as tree
-use Rattle.krieg_words.proofs.Common.{Dialect}
-use Rattle.krieg_game.proofs.Common.{Key, key_lt}
-use Rattle.krieg_plan.proofs.Common.{as_edges, NodeTree, MOST_NODES}
-use Rattle.krieg_planfile.proofs.Common.{Play, play_form, on_form, NodeReader, other_by, branch_by, branches_by, below_by, deep_form, node_at, edge_count, is_just, play_line, on_line, node_lines, other_lines, edges_lines, branches_lines, IsToldKey, IsTold, IsToldOther, AreToldBranches, HasFewEdges, HasFewOther, HaveFewBranches, NodeGrammar, BranchesGrammar}
 use Rattle.krieg_planfile.proofs.BranchForms.{IsBranchForm, edges_form, some_said, some_told}
 use Rattle.krieg_planfile.proofs.Edges.{edges_of, edges_back, lines_of_edges, told_edges, told_back, few_edges, few_back, count_of_edges}
 use Rattle.krieg_planfile.proofs.PlayForms.{SaysPlay, any_play, play_spells}

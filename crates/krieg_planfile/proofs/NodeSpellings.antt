@@ -2,16 +2,10 @@
 use Rattle.std.proofs.Common.{◌≡◌, ℕ, zero, suc, ◌+◌, ◌-◌, ◌≤◌, Bool, true, false, ◌&&◌, max, List, [], ◌∷◌, ◌++◌, map, length, Option, Some, None, Result, Ok, Err, refl, sym, ap, subst, ◌∙◌, arith, append_assoc}
 use Rattle.std.proofs.lemmas.Bool.{and_from}
 use Rattle.std.proofs.lemmas.List.{map-append}
-use Rattle.krieg_board.proofs.Common.{Move}
-use Rattle.krieg_text.proofs.Common.{TextKind, Deep, ◌>>=◌, Place, taken, Pieces, joined}
+use Rattle.krieg_planfile.proofs.Common.{Move, TextKind, Deep, ◌>>=◌, Place, taken, Pieces, joined, Try, Maybe, Just, Edges, size, size_other, depth, depth_other, depth_edges, edge_keys, Dialect, Key, key_lt, as_edges, NodeTree, is_ascending, is_ordered, is_ordered_other, are_ordered, Play, play_form, on_form, follows, NodeReader, other_by, branch_by, branches_by, below_by, deep_form, node_at, edge_count, is_just, play_line, on_line, node_lines, other_lines, edges_lines, branches_lines, IsToldKey, IsTold, IsToldOther, AreToldBranches}
 use Rattle.krieg_text.proofs.Locality.{ok_is}
 use Rattle.krieg_text.proofs.Takings.{steps, taken_at}
-use Rattle.krieg_theory.proofs.Common.{Try, Maybe, Just, Edges, size, size_other, depth, depth_other, depth_edges, edge_keys}
 use Rattle.krieg_theory.specs.Tree as tree
-use Rattle.krieg_words.proofs.Common.{Dialect}
-use Rattle.krieg_game.proofs.Common.{Key, key_lt}
-use Rattle.krieg_plan.proofs.Common.{as_edges, NodeTree, is_ascending, is_ordered, is_ordered_other, are_ordered}
-use Rattle.krieg_planfile.proofs.Common.{Play, play_form, on_form, follows, NodeReader, other_by, branch_by, branches_by, below_by, deep_form, node_at, edge_count, is_just, play_line, on_line, node_lines, other_lines, edges_lines, branches_lines, IsToldKey, IsTold, IsToldOther, AreToldBranches}
 use Rattle.krieg_planfile.proofs.BranchForms.{IsBranchForm, edges_form}
 use Rattle.krieg_planfile.proofs.Edges.{branches_size, branches_depth, are_ordered_branches, lines_of_edges, count_of_edges, told_edges, size_of_edges, depth_of_edges, ordered_edges, keys_of_edges}
 use Rattle.krieg_planfile.proofs.PlayForms.{SaysPlay, play_spells}

@@ -3,15 +3,10 @@ use Rattle.std.proofs.Common.{Box, Global, Bool, Option, Some, None, ◌≡◌, 
 use Rattle.std.specs.Prelude.{is_some, option_map}
 use Rattle.std.proofs.lemmas.List.{append-nil, length-map, map-append, take_all}
 use Rattle.std.proofs.lemmas.Grind.{take_at_read}
-use Rattle.krieg_text.proofs.Common.{Pieces, Written, PutsLines, HasLines, put_lines}
+use Rattle.krieg_planfile.proofs.Common.{Pieces, Written, PutsLines, HasLines, put_lines, Try, size, size_edges, Dialect, Key, tree_of, edge_of, as_other, as_edges, edge_step, node_step, NodeTree, edges_in, Node, Node-F, out-Node, map-Node, fold_out-Node, edge_count, is_just, other_in, play_line, on_line, node_lines, other_lines, edges_lines, branches_lines, IsTold, AreTold, IsToldKey, AreToldBranches}
 use Rattle.krieg_text.proofs.Writings.{lines_then}
-use Rattle.krieg_theory.proofs.Common.{Try, size, size_edges}
-use Rattle.krieg_words.proofs.Common.{Dialect}
-use Rattle.krieg_game.proofs.Common.{Key}
-use Rattle.krieg_plan.proofs.Common.{tree_of, edge_of, as_other, as_edges, edge_step, node_step, NodeTree, edges_in, Node, Node-F, out-Node, map-Node, fold_out-Node}
 use Rattle.krieg_plan.specs.declared.node.Edge.{Edge as EdgeValue}
 use Rattle.krieg_planfile.proofs.Edges.{count_of_edges, lines_of_edges}
-use Rattle.krieg_planfile.proofs.Common.{edge_count, is_just, other_in, play_line, on_line, node_lines, other_lines, edges_lines, branches_lines, IsTold, AreTold, IsToldKey, AreToldBranches}
 
 -- lines and then more lines
 pub puts_then : {E : Type 0} (r : Result (Unit {0}) E) (old mid new : Written) (xs ys : List Pieces) → HasLines old mid xs → PutsLines r mid new ys → PutsLines r old new (xs ++ ys)

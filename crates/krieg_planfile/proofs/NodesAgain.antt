@@ -2,15 +2,10 @@
 use Rattle.std.proofs.Common.{◌≡◌, ℕ, zero, suc, ◌+◌, ◌-◌, ◌≤◌, Bool, true, ◌&&◌, max, List, [], ◌∷◌, ◌++◌, map, length, Option, Some, None, Result, Ok, refl, sym, ap, ◌∙◌, arith, append_assoc}
 use Rattle.std.proofs.lemmas.Bool.{and_parts}
 use Rattle.std.proofs.lemmas.List.{map-append}
-use Rattle.krieg_board.proofs.Common.{Move}
-use Rattle.krieg_text.proofs.Common.{TextFault, TextKind, ◌>>=◌, Place, place, Pieces, joined}
+use Rattle.krieg_planfile.proofs.Common.{Move, TextFault, TextKind, ◌>>=◌, Place, place, Pieces, joined, Try, Maybe, Just, Edges, NoEdges, size, size_other, size_edges, depth, depth_other, depth_edges, edge_keys, Dialect, Key, key_lt, as_edges, NodeTree, is_ascending, is_ordered, is_ordered_other, are_ordered, MOST_NODES, Play, play_form, on_form, follows, NodeReader, other_by, branch_by, branches_by, below_by, node_at, edge_count, is_just, play_line, on_line, node_lines, other_lines, edges_lines, branches_lines, IsToldKey, IsTold, IsToldOther, AreTold, AreToldBranches}
 use Rattle.krieg_text.proofs.Takings.{Read, taken_again}
-use Rattle.krieg_theory.proofs.Common.{Try, Maybe, Just, Edges, NoEdges, Edge, size, size_other, size_edges, depth, depth_other, depth_edges, edge_keys}
+use Rattle.krieg_theory.specs.Tree.{Edge}
 use Rattle.krieg_theory.specs.Tree as tree
-use Rattle.krieg_words.proofs.Common.{Dialect}
-use Rattle.krieg_game.proofs.Common.{Key, key_lt}
-use Rattle.krieg_plan.proofs.Common.{as_edges, NodeTree, is_ascending, is_ordered, is_ordered_other, are_ordered, MOST_NODES}
-use Rattle.krieg_planfile.proofs.Common.{Play, play_form, on_form, follows, NodeReader, other_by, branch_by, branches_by, below_by, node_at, edge_count, is_just, play_line, on_line, node_lines, other_lines, edges_lines, branches_lines, IsToldKey, IsTold, IsToldOther, AreTold, AreToldBranches}
 use Rattle.krieg_planfile.proofs.BranchForms.{IsBranchForm, edges_form}
 use Rattle.krieg_planfile.proofs.Edges.{edges_of, edges_back, branches_size, branches_depth, are_ordered_branches, lines_of_edges, count_of_edges, told_back, size_of_edges, depth_of_edges, ordered_edges, keys_of_edges}
 use Rattle.krieg_planfile.proofs.NodeSpellings.{chain, AllFit}

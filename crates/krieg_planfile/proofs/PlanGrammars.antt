@@ -3,22 +3,16 @@ use Rattle.std.proofs.Common.{◌≡◌, inl, ℕ, ◌≤◌, Bool, true, false,
 use Rattle.std.specs.Prelude.{codes, is_some}
 use Rattle.std.specs.Str.{bytes_eq}
 use Rattle.std.proofs.lemmas.Slice.Eq.{bytes_eq-Decides}
-use Rattle.krieg_board.proofs.Common.{Pos, Side}
-use Rattle.krieg_text.proofs.Common.{TextKind, Syntax, Count, Has, Always, One, ◌⨾◌, taken, joined}
-use Rattle.krieg_fen.proofs.Common.{listing_at, ListingGrammar}
+use Rattle.krieg_planfile.proofs.Common.{Pos, Side, TextKind, Syntax, Count, Has, Always, listing_at, One, ◌⨾◌, ListingGrammar, taken, joined, Dialect, RootKey, root_lt, branches_by, node_at, waits, worst_form, roots_form, end_form, root_form, turn_in, heading_at, claim_at, plan_at, IsVersion, IsRootOf, RootsGrammar, ClaimGrammar, PlanGrammar, root_line, worst_line, count_line, MOST_NODES, MOST_ON_PATH}
 use Rattle.krieg_text.proofs.FormSpellings.{number_is, number_read}
 use Rattle.krieg_text.proofs.Goings.{GoesBy, goes_by, goes_whole, bind_goes, then_goes, made_goes}
 use Rattle.krieg_text.proofs.Grammars.{untold, HasForm, line_keeps}
 use Rattle.krieg_fen.proofs.ListGrammars.{listing_keeps}
 use Rattle.krieg_text.proofs.FormGrammars.{form_of, value_form}
-use Rattle.krieg_words.proofs.Common.{Dialect}
-use Rattle.krieg_game.proofs.Common.{RootKey, root_lt}
-use Rattle.krieg_planfile.proofs.Common.{branches_by, node_at, waits, worst_form, roots_form, end_form, root_form, turn_in, heading_at, claim_at, plan_at, IsVersion, IsRootOf, RootsGrammar, ClaimGrammar, PlanGrammar, root_line, worst_line, count_line}
 use Rattle.krieg_planfile.proofs.BranchForms as branches
 use Rattle.krieg_planfile.proofs.BranchForms.{some_said, is_some_said}
 use Rattle.krieg_planfile.proofs.Headings.{heading_keeps}
 use Rattle.krieg_planfile.proofs.NodeGrammars.{branches_go, node_goes}
-use Rattle.krieg_plan.proofs.Common.{MOST_NODES, MOST_ON_PATH}
 
 -- ---- the lines of the claim
 

@@ -2,11 +2,7 @@
 use Rattle.std.proofs.Common.{◌≡◌, ℕ, Bool, true, ◌&&◌, [], ◌∷◌, map, None, Ok, refl, ap, ◌∙◌}
 use Rattle.std.specs.Prelude.{is_some}
 use Rattle.std.proofs.lemmas.Bool.{and_from}
-use Rattle.krieg_text.proofs.Common.{Place}
-use Rattle.krieg_words.proofs.Common.{Dialect}
-use Rattle.krieg_game.proofs.Common.{RootKey, root_lt}
-use Rattle.krieg_plan.proofs.Common.{is_ordered, are_ordered_roots, is_ascending, is_ordered_plan, PlanTrees, MOST_ON_PATH}
-use Rattle.krieg_planfile.proofs.Common.{branches_by, node_at, root_form, IsRootOf, root_line}
+use Rattle.krieg_planfile.proofs.Common.{Place, Dialect, RootKey, root_lt, is_ordered, are_ordered_roots, is_ascending, is_ordered_plan, PlanTrees, MOST_ON_PATH, branches_by, node_at, root_form, IsRootOf, root_line}
 use Rattle.krieg_planfile.proofs.BranchForms.{roots_form}
 use Rattle.krieg_planfile.proofs.Edges.{are_ordered_branches}
 use Rattle.krieg_planfile.proofs.NodeSpellings.{BranchesRead, branches_spell, node_spells}

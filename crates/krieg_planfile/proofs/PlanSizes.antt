@@ -1,15 +1,10 @@
 -- How long the text of a plan file may be: an input has room for it.
 use Rattle.std.proofs.Common.{ℕ, ◌+◌, ◌*◌, ◌<◌, ◌≤◌, lit≤, Bool, true, false, List, [], ◌∷◌, ◌++◌, map, length, Some, None, arith, length-append}
 use Rattle.std.specs.Prelude.{codes}
-use Rattle.krieg_board.proofs.Common.{Move}
-use Rattle.krieg_text.proofs.Common.{number_text, Pieces, alone, joined}
-use Rattle.krieg_fen.proofs.Common.{head_lines, position_line, listing_lines, move_text}
-use Rattle.krieg_theory.proofs.Common.{Try, Maybe, Nothing, Just, Edges, NoEdges, Edge, size_other, size_edges}
+use Rattle.krieg_planfile.proofs.Common.{Move, number_text, Pieces, alone, joined, head_lines, position_line, listing_lines, move_text, Try, Maybe, Just, Edges, NoEdges, size_other, size_edges, words_text, Dialect, Wild16, Anytry, Key, RootKey, NodeTree, PlanTrees, plan_size, MOST_NODES, edge_count, is_just, no_text, play_line, on_line, node_lines, other_lines, edges_lines, IsToldKey, IsTold, IsToldOther, AreTold, PlanState, waits, IsToldRoot, AreToldRoots, CanBeWritten, heading, root_line, roots_lines, claim_lines, plan_lines, plan_text, text_bound}
+use Rattle.krieg_theory.specs.Tree.{Nothing, Edge}
 use Rattle.krieg_theory.specs.Tree.{size as nodes}
-use Rattle.krieg_words.proofs.Common.{words_text, Dialect, Wild16, Anytry, Plain}
-use Rattle.krieg_game.proofs.Common.{Key, RootKey}
-use Rattle.krieg_plan.proofs.Common.{NodeTree, PlanTrees, plan_size, MOST_NODES}
-use Rattle.krieg_planfile.proofs.Common.{edge_count, is_just, no_text, play_line, on_line, node_lines, other_lines, edges_lines, IsToldKey, IsTold, IsToldOther, AreTold, PlanState, waits, IsToldRoot, AreToldRoots, CanBeWritten, heading, root_line, roots_lines, claim_lines, plan_lines, plan_text, text_bound}
+use Rattle.krieg_words.specs.declared.dialects.Dialect.TheVariants.{Plain}
 use Rattle.krieg_planfile.proofs.NodesAgain.{count_size}
 use Rattle.krieg_planfile.proofs.TextSizes.{append_short, words_short, number_short, move_short, size, size_append, text_size, positions_short, side_line_short}
 

@@ -5,19 +5,12 @@ use Rattle.std.specs.List.{All}
 use Rattle.std.proofs.lemmas.Bool.{and_parts}
 use Rattle.std.proofs.lemmas.List.{append-nil, map-append}
 use Rattle.std.proofs.lemmas.List.Elements.{All-nil, All-cons}
-use Rattle.krieg_board.proofs.Common.{same_hand, is_same_side, Pos, Side}
-use Rattle.krieg_text.proofs.Common.{TextFault, Always, IsReading, ◌>>=◌, Place, place, taken, whole, Gives, joined}
-use Rattle.krieg_fen.proofs.Common.{Turn, listing_at, has_turn, SpellList, SpellsListing}
+use Rattle.krieg_planfile.proofs.Common.{same_hand, is_same_side, Pos, Side, TextFault, Turn, Always, IsReading, listing_at, has_turn, SpellList, SpellsListing, ◌>>=◌, Place, place, taken, whole, Gives, joined, Dialect, RootKey, root_lt, Try, size, depth, is_ordered_plan, is_ascending, are_ordered_roots, PlanTrees, plan_size, plan_depth, MOST_NODES, MOST_ON_PATH, branches_by, node_at, AreToldBranches, branches_lines, PlanState, waits, AreAlike, AreToldRoots, AreRootsOf, IsPlanFile, worst_form, roots_form, end_form, root_form, turn_in, heading_at, claim_at, plan_at, IsVersion, IsRootOf, SpellsPlan, PlanGrammar, root_line, roots_lines, worst_line, count_line, claim_lines}
 use Rattle.krieg_text.proofs.Formats.{reading_as}
 use Rattle.krieg_fen.proofs.Listings.{listing_spells, listing_reads}
 use Rattle.krieg_fen.proofs.ListSpellings.{spelled_valid}
 use Rattle.krieg_text.proofs.Locality.{ok_is}
 use Rattle.krieg_text.proofs.Takings.{steps, taken_at, taken_again, Read, whole_read, read_whole}
-use Rattle.krieg_words.proofs.Common.{Dialect}
-use Rattle.krieg_game.proofs.Common.{RootKey, root_lt}
-use Rattle.krieg_theory.proofs.Common.{Try, size, depth}
-use Rattle.krieg_plan.proofs.Common.{is_ordered_plan, is_ascending, are_ordered_roots, PlanTrees, plan_size, plan_depth, MOST_NODES, MOST_ON_PATH}
-use Rattle.krieg_planfile.proofs.Common.{branches_by, node_at, AreToldBranches, branches_lines, PlanState, waits, AreAlike, AreToldRoots, AreRootsOf, IsPlanFile, worst_form, roots_form, end_form, root_form, turn_in, heading_at, claim_at, plan_at, IsVersion, IsRootOf, SpellsPlan, PlanGrammar, root_line, roots_lines, worst_line, count_line, claim_lines}
 use Rattle.krieg_planfile.proofs.BranchForms as branches
 use Rattle.krieg_planfile.proofs.Edges.{branches_size, branches_depth}
 use Rattle.krieg_planfile.proofs.Headings.{heading_format}

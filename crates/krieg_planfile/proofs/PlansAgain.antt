@@ -4,21 +4,16 @@ use Rattle.std.specs.Prelude.{codes}
 use Rattle.std.specs.List.{All}
 use Rattle.std.proofs.lemmas.Bool.{not-false}
 use Rattle.std.proofs.lemmas.List.Elements.{All-head, All-tail}
-use Rattle.krieg_board.proofs.Common.{same_hand, is_same_side, Pos, IsValid, Move, Side}
-use Rattle.krieg_fen.proofs.Common.{Turn, position_text, has_turn, SpellList, list_head, listing_lines, move_text}
-use Rattle.krieg_text.proofs.Common.{number_text, lines, is_line, AreLines, whole, Pieces, joined, alone}
+use Rattle.krieg_planfile.proofs.Common.{same_hand, is_same_side, Pos, IsValid, Move, Side, Turn, number_text, position_text, has_turn, lines, is_line, AreLines, SpellList, list_head, listing_lines, move_text, whole, Pieces, joined, alone, Try, Maybe, Just, Edges, NoEdges, size, size_other, size_edges, Said, words_text, dialect_line, Dialect, Wild16, Anytry, Key, RootKey, is_ordered_plan, NodeTree, PlanTrees, plan_size, MOST_NODES, edge_count, is_just, no_text, play_line, on_line, node_lines, other_lines, edges_lines, IsToldIn, IsToldKey, IsTold, IsToldOther, AreTold, PlanState, waits, AreAlike, IsToldRoot, AreToldRoots, CanBeWritten, turn_in, plan_at, IsVersion, SpellsPlan, heading, root_line, roots_lines, claim_lines, plan_lines, plan_text}
 use Rattle.krieg_fen.proofs.CleanTexts.{move_line, positions_are, list_head_are}
 use Rattle.krieg_text.proofs.CleanTexts.{number_line}
 use Rattle.krieg_text.proofs.LineTexts.{line_above, line_append, lines_append, lines_again}
 use Rattle.krieg_fen.proofs.ListSpellings.{written_spells}
 use Rattle.krieg_text.proofs.Writings.{put_lines_is, joined_alone, joined_each}
-use Rattle.krieg_theory.proofs.Common.{Try, Maybe, Nothing, Just, Edges, NoEdges, Edge, size, size_other, size_edges}
-use Rattle.krieg_words.proofs.Common.{Said, words_text, dialect_line, Dialect, Wild16, Anytry, Plain}
+use Rattle.krieg_theory.specs.Tree.{Nothing, Edge}
+use Rattle.krieg_words.specs.declared.dialects.Dialect.TheVariants.{Plain}
 use Rattle.krieg_words.proofs.CleanWords.{words_above}
 use Rattle.krieg_words.proofs.VersionTexts.{version_are}
-use Rattle.krieg_game.proofs.Common.{Key, RootKey}
-use Rattle.krieg_plan.proofs.Common.{is_ordered_plan, NodeTree, PlanTrees, plan_size, MOST_NODES}
-use Rattle.krieg_planfile.proofs.Common.{edge_count, is_just, no_text, play_line, on_line, node_lines, other_lines, edges_lines, IsToldIn, IsToldKey, IsTold, IsToldOther, AreTold, PlanState, waits, AreAlike, IsToldRoot, AreToldRoots, CanBeWritten, turn_in, plan_at, IsVersion, SpellsPlan, heading, root_line, roots_lines, claim_lines, plan_lines, plan_text}
 use Rattle.krieg_planfile.proofs.NodesAgain.{count_size}
 use Rattle.krieg_planfile.proofs.PlanSpellings.{spelled_again}
 

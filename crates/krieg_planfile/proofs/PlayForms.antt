@@ -4,9 +4,7 @@ use Rattle.std.specs.Prelude.{codes, ◌==◌}
 use Rattle.std.specs.Char.{is_ascii_digit}
 use Rattle.std.specs.List.{list_all}
 use Rattle.std.proofs.lemmas.Bool.{and_from, ne_eqb}
-use Rattle.krieg_board.proofs.Common.{Move}
-use Rattle.krieg_text.proofs.Common.{TextKind, Count, Large, NumberFault, NotPlain, OutOfRange, number_text, number_between, ranged, behind, cut, ◌>>=◌, joined}
-use Rattle.krieg_fen.proofs.Common.{move_text, move_of, IsOnBoard}
+use Rattle.krieg_planfile.proofs.Common.{Move, TextKind, Count, Large, NumberFault, NotPlain, OutOfRange, number_text, number_between, ranged, move_text, move_of, IsOnBoard, behind, cut, ◌>>=◌, joined, Play, edges_form, play_with, no_or_edges, moved_form, played_form, any_play_form, play_form, no_text, play_line, MOST_NODES}
 use Rattle.krieg_fen.proofs.CleanTexts.{move_above}
 use Rattle.krieg_text.proofs.Formats.{IsForm, named_form}
 use Rattle.krieg_text.proofs.Free.{Above}
@@ -14,8 +12,6 @@ use Rattle.krieg_fen.proofs.MoveTexts.{move_spells, move_again}
 use Rattle.krieg_text.proofs.NameLemmas.{behind_again, behind_spells, cut_again, cut_spells}
 use Rattle.krieg_text.proofs.Numbers.{between_spells, between_again, digits_again}
 use Rattle.krieg_text.proofs.Takings.{steps}
-use Rattle.krieg_planfile.proofs.Common.{Play, edges_form, play_with, no_or_edges, moved_form, played_form, any_play_form, play_form, no_text, play_line}
-use Rattle.krieg_plan.proofs.Common.{MOST_NODES}
 
 -- ---- what is read
 

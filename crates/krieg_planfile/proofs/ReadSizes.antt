@@ -4,11 +4,7 @@ use Rattle.std.specs.Prelude.{◌==◌, ◌&&◌, codes, IfOk, nat_le, is_some, 
 use Rattle.std.specs.List.{join_with_byte, list_all}
 use Rattle.std.specs.Char.{is_ascii_digit}
 use Rattle.std.proofs.lemmas.Bool.{and_parts}
-use Rattle.krieg_board.proofs.Common.{Board, Pos, Man, Side}
-use Rattle.krieg_text.proofs.Common.{lines, onto_line, Pieces, joined, whole, Gives, TextFault}
-use Rattle.krieg_fen.proofs.Common.{Turn, is_clock, rank_at, side_text, rights_text, mark_text, man_of, SpellList, Row, squares_at, row_of, onto_row, SpellRanks, AreClocks, Spells}
-use Rattle.krieg_words.proofs.Common.{Dialect}
-use Rattle.krieg_planfile.proofs.Common.{PlanState, turn_in, plan_at, read_bound, IsVersion, claim_lines}
+use Rattle.krieg_planfile.proofs.Common.{Board, Pos, Man, Side, lines, onto_line, Pieces, joined, Turn, is_clock, rank_at, side_text, rights_text, mark_text, man_of, SpellList, Row, squares_at, row_of, onto_row, SpellRanks, AreClocks, Spells, whole, Gives, TextFault, Dialect, PlanState, turn_in, plan_at, read_bound, IsVersion, claim_lines}
 use Rattle.krieg_planfile.proofs.PlanSizes.{named_short, claim_short}
 use Rattle.krieg_planfile.proofs.PlanSpellings.{whole_plan}
 use Rattle.krieg_planfile.proofs.TextSizes.{dialect_short, side_line_short, taken_short, side_short, rights_short, mark_short, size}

@@ -2,13 +2,12 @@
 use Rattle.std.proofs.Common.{◌≡◌, ℕ, zero, suc, ◌+◌, ◌*◌, ◌<◌, ◌≤◌, ◌^◌, lit≤, Bool, true, false, cond, List, [], ◌∷◌, ◌++◌, map, take, drop, length, Option, Some, None, refl, ap, ◌∙◌, arith, length-append}
 use Rattle.std.specs.Prelude.{codes}
 use Rattle.std.proofs.lemmas.Fmt.{length-decimal-le}
-use Rattle.krieg_board.proofs.Common.{Board, Pos, Move, Promo, Plain, Rights, Side, White, Black}
-use Rattle.krieg_board.specs.declared.men.Promo.TheVariants.{Queen, Rook, Bishop, Knight}
-use Rattle.krieg_text.proofs.Common.{number_text, ended_line, with_ends, put_lines, Pieces, joined}
+use Rattle.krieg_planfile.proofs.Common.{Board, Pos, Move, Promo, Queen, Rook, Bishop, Knight, Rights, Side, White, Black, number_text, ended_line, with_ends, put_lines, Pieces, joined, run, row_text, rank_text, rank_at, ranks_text, board_text, side_text, held_text, or_dash, rights_text, mark_text, state_text, position_text, side_line, letter, position_line, square_text, promo_text, move_text, Row, dialect_rules, Part, text_if, texts, joined_by, dialect_line, Said, took_text, kind_names, checks_text, tries_text, end_text, words_parts, spelled, words_text, ChecksTold, ByKind, Bare, Dialect, Wild16, Anytry, MenTold, Apart, Alike, TriesTold, Number, Untold, End, Goes, Mate, Stalemate, Took, Pawn, Piece}
+use Rattle.krieg_board.specs.declared.men.Promo.TheVariants.{Plain}
 use Rattle.krieg_text.proofs.Writings.{put_lines_is}
-use Rattle.krieg_fen.proofs.Common.{run, row_text, rank_text, rank_at, ranks_text, board_text, side_text, held_text, or_dash, rights_text, mark_text, state_text, position_text, side_line, letter, position_line, square_text, promo_text, move_text, Row}
-use Rattle.krieg_words.proofs.Common.{dialect_rules, Part, text_if, texts, joined_by, dialect_line, Said, took_text, kind_names, checks_text, tries_text, end_text, words_parts, spelled, words_text, ChecksTold, ByKind, Bare, Dialect, Wild16, Anytry, MenTold, Apart, Alike, TriesTold, Number, Any, Untold, End, Goes, Mate, Stalemate, Took, Nothing, Pawn, Piece}
 use Rattle.krieg_words.specs.declared.dialects.Dialect.TheVariants.{Plain as PlainDialect}
+use Rattle.krieg_words.specs.declared.dialects.TriesTold.TheVariants.{Any}
+use Rattle.krieg_words.specs.declared.words.Took.TheVariants.{Nothing}
 
 pub append_short : (a b : List ℕ) (m n : ℕ) → length a ≤ m → length b ≤ n → length (a ++ b) ≤ m + n
 append_short a b m n p q = omega (arith, p, q, length-append a b)

@@ -1,9 +1,7 @@
 -- What the calls of both sides make of any courses so far.
 use Rattle.std.proofs.Common.{◌≡◌, ℕ, List, [], length, refl, sym, ap, ◌∙◌, subst, arith, inl, inr, Result, Ok, Err}
-use Rattle.krieg_board.proofs.Common.{Side, White, Black}
-use Rattle.krieg_words.proofs.Common.{Line}
-use Rattle.krieg_seats.proofs.Common.{Account, SeatFault, Failed, NoMemory}
-use Rattle.krieg_play.proofs.Common.{Team, Turns, Stays, MayBeShort, Course, BrokenCourse, Sides, AfterTelling, Tells, TakesTurn, seat_counts, Breaks, AfterBoth, TellsBoth, AfterAsk, AsksOne, fault_of, PlayFault, Turn}
+use Rattle.krieg_play.proofs.Common.{Side, White, Black, Line, Account, SeatFault, Failed, Team, Turns, Stays, MayBeShort, Course, BrokenCourse, Sides, AfterTelling, Tells, TakesTurn, seat_counts, Breaks, AfterBoth, TellsBoth, AfterAsk, AsksOne, fault_of, PlayFault, Turn}
+use Rattle.krieg_seats.specs.declared.seat.SeatFault.TheVariants.{NoMemory}
 use Rattle.krieg_play.proofs.Courses.{course_weakens}
 
 -- where counts stay, none fell

@@ -2,10 +2,7 @@
 use Rattle.std.proofs.Common.{◌≡◌, ℕ, ◌+◌, ◌<◌, List, [], ◌∷◌, ◌++◌, length, length-append, map, refl, sym, ap, ◌∙◌, subst, append_assoc, arith}
 use Rattle.std.proofs.lemmas.List.{append-nil, length-map}
 use Rattle.std.specs.List.{flat_map}
-use Rattle.krieg_board.proofs.Common.{Move}
-use Rattle.krieg_words.proofs.Common.{Line}
-use Rattle.krieg_seats.proofs.Common.{Account}
-use Rattle.krieg_play.proofs.Common.{Team, team, Service, entry_of, now_of, asks_of, all_asks, said_of, Serves, IsService, IsRelieved, AreRelieved, IsGone, Turns, turns_since, known_behind, Stays, Course, Sides, relieved, all_relieved, seat_count, FirstChanges}
+use Rattle.krieg_play.proofs.Common.{Move, Line, Account, Team, team, Service, entry_of, now_of, asks_of, all_asks, said_of, Serves, IsService, IsRelieved, AreRelieved, IsGone, Turns, turns_since, known_behind, Stays, Course, Sides, relieved, all_relieved, seat_count, FirstChanges}
 use Rattle.krieg_play.proofs.Serving.{serves_none, serves_more}
 
 own_service : {X : Type 0} (account : X → Account) (x : X) → IsService account (record { entry = x; now = x; said = []; heard = []; vain = 0 })

@@ -1,11 +1,7 @@
 -- One more try of a game.
 use Rattle.std.proofs.Common.{◌≡◌, ℕ, ◌+◌, ◌≤◌, List, [], ◌∷◌, ◌++◌, length, length-append, refl, sym, ap, ◌∙◌, subst, inr, arith, Result, Ok, Err, Option, None, option_to_list}
 use Rattle.std.proofs.lemmas.List.Elements.{filter_map-append}
-use Rattle.krieg_board.proofs.Common.{Pos, Side, White, Black}
-use Rattle.krieg_words.proofs.Common.{opening, Line, Opens}
-use Rattle.krieg_referee.proofs.Common.{next, GameState, judge, judged, last, line_for, lines_for, Event, Judged}
-use Rattle.krieg_seats.proofs.Common.{Account}
-use Rattle.krieg_play.proofs.Common.{Turns, Stays, Course, events_of, AreOnTurn, IsGameFrom, Sides, by_side, Courses, lines_of, turns_so_far, last_turns, LastAsk, Breaks, lines_to, seat_count, HasTried, AfterBoth, TellsBoth, Judges, PlayFault}
+use Rattle.krieg_play.proofs.Common.{Pos, Side, White, Black, opening, Line, Opens, next, GameState, judge, judged, last, line_for, lines_for, Event, Judged, Account, Turns, Stays, Course, events_of, AreOnTurn, IsGameFrom, Sides, by_side, Courses, lines_of, turns_so_far, last_turns, LastAsk, Breaks, lines_to, seat_count, HasTried, AfterBoth, TellsBoth, Judges, PlayFault}
 use Rattle.krieg_play.proofs.Courses.{course_grows, both_counted}
 use Rattle.krieg_play.proofs.HeardLines.{heard_is, lines_are}
 use Rattle.krieg_play.proofs.Tellings.{lone}

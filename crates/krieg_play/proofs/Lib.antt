@@ -1,3 +1,4 @@
+mod Common
 pub mod FirstSeats
 pub mod Tellings
 pub mod Serving
@@ -10,4 +11,3 @@ pub mod Turning
 pub mod Stopping
 pub mod Opening
 pub mod Seen
-pub mod Common

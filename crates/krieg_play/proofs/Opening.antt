@@ -1,10 +1,7 @@
 -- How a game begins: both sides are told the opening words.
 use Rattle.std.proofs.Common.{◌≡◌, ℕ, ◌+◌, ◌<◌, List, [], ◌∷◌, length, refl, sym, ap, ◌∙◌, subst, inl, arith, Result, Ok, Err, Some, None, option_to_list}
-use Rattle.krieg_board.proofs.Common.{Pos, Side, White, Black}
-use Rattle.krieg_words.proofs.Common.{opening, Line, Opens}
-use Rattle.krieg_referee.proofs.Common.{GameState, Judged, Stop}
-use Rattle.krieg_seats.proofs.Common.{Account}
-use Rattle.krieg_play.proofs.Common.{team, IsGameFrom, Sides, sides, by_side, Courses, lines_of, turns_so_far, IsUnderway, IsPlayed, IsBroken, Refuses, lines_to, AfterBoth, TellsBoth, PlaysOn, ComesTo, PlayFault, Vacant, Seat, NoMemory}
+use Rattle.krieg_play.proofs.Common.{Pos, opening, Line, Opens, Side, White, Black, GameState, Judged, Stop, Account, team, IsGameFrom, Sides, sides, by_side, Courses, lines_of, turns_so_far, IsUnderway, IsPlayed, IsBroken, Refuses, lines_to, AfterBoth, TellsBoth, PlaysOn, ComesTo, PlayFault, Vacant, Seat}
+use Rattle.krieg_play.specs.declared.outcome.PlayFault.TheVariants.{NoMemory}
 use Rattle.krieg_play.proofs.BothSides.{short_course}
 use Rattle.krieg_play.proofs.Courses.{course_starts}
 

@@ -2,11 +2,9 @@
 use Rattle.std.proofs.Common.{◌≡◌, ℕ, ◌+◌, ◌<◌, List, [], ◌∷◌, ◌++◌, length, map, refl, sym, ap, ◌∙◌, subst, ◌⊎◌, inl, inr, Option, None}
 use Rattle.std.proofs.lemmas.List.{length-map}
 use Rattle.std.specs.List.{flat_map}
-use Rattle.krieg_board.proofs.Common.{Pos, Move, Side, White, Black}
-use Rattle.krieg_words.proofs.Common.{Line}
-use Rattle.krieg_referee.proofs.Common.{GameState, Stop, Ended, Left, AsksUsed}
-use Rattle.krieg_seats.proofs.Common.{Account}
-use Rattle.krieg_play.proofs.Common.{Team, Service, entry_of, now_of, asks_of, all_asks, said_of, known_behind, Turns, AreRelieved, Course, Sides, seen_team, seen, relieved, used_up, IsAskedWithin, leaver, last_ask, Courses, lines_of, IsWhole, LastAsk, turns_then, StopsBy, IsPlayed, EndsAt, IsUntold, Breaks, IsBroken, Refuses, PlayFault, Vacant, Seat, NoMemory}
+use Rattle.krieg_play.proofs.Common.{Pos, Move, Side, White, Black, Line, GameState, Stop, Ended, AsksUsed, Account, Team, Service, entry_of, now_of, asks_of, all_asks, said_of, known_behind, Turns, AreRelieved, Course, Sides, seen_team, seen, relieved, used_up, IsAskedWithin, leaver, last_ask, Courses, lines_of, IsWhole, LastAsk, turns_then, StopsBy, IsPlayed, EndsAt, IsUntold, Breaks, IsBroken, Refuses, PlayFault, Vacant, Seat}
+use Rattle.krieg_referee.specs.declared.verdict.Stop.TheVariants.{Left}
+use Rattle.krieg_play.specs.declared.outcome.PlayFault.TheVariants.{NoMemory}
 
 abbrev itself : Account → Account
 itself a = a

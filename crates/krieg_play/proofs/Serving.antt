@@ -1,11 +1,7 @@
 -- What becomes of the account of a seat, from one call to the next.
 use Rattle.std.proofs.Common.{◌≡◌, ℕ, zero, suc, ◌+◌, List, [], ◌∷◌, ◌++◌, length, length-append, refl, sym, ap, ◌∙◌, append_assoc, Ok, arith}
 use Rattle.std.proofs.lemmas.List.{append-nil}
-use Rattle.krieg_ports.proofs.Common.{one_more, many_more}
-use Rattle.krieg_board.proofs.Common.{Move}
-use Rattle.krieg_words.proofs.Common.{Line}
-use Rattle.krieg_seats.proofs.Common.{Account, Asked, Try}
-use Rattle.krieg_play.proofs.Common.{Serves}
+use Rattle.krieg_play.proofs.Common.{one_more, many_more, Move, Line, Account, Asked, Try, Serves}
 
 -- nothing
 pub serves_none : (a : Account) → Serves [] [] 0 a a

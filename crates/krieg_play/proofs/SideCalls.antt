@@ -1,11 +1,8 @@
 -- What the calls of one side make of any course so far.
 use Rattle.std.proofs.Common.{◌≡◌, ℕ, ◌+◌, ◌<◌, ◌≤◌, List, [], ◌∷◌, ◌++◌, length, refl, sym, ap, ◌∙◌, subst, inl, inr, arith, Result, Ok, Err, Option, Some, option_to_list}
 use Rattle.std.proofs.lemmas.List.{append-nil}
-use Rattle.krieg_ports.proofs.Common.{one_more, Rose}
-use Rattle.krieg_board.proofs.Common.{Move}
-use Rattle.krieg_words.proofs.Common.{Line}
-use Rattle.krieg_seats.proofs.Common.{Account, Asked, Told, Say, Try, Leave, SeatFault, Failed, NoMemory}
-use Rattle.krieg_play.proofs.Common.{Team, team, Turns, Stays, HasFailed, HasLeft, IsGone, MayBeShort, Course, ToldAll, BreaksOff, FirstChanges, AfterTelling, Relieves, Tells, once_more, one_try, AfterTurn, TakesTurn, EndsTurn, relieved_turn, Turn, Tried}
+use Rattle.krieg_play.proofs.Common.{one_more, Rose, Move, Line, Account, Asked, Told, Say, Try, Leave, SeatFault, Failed, Team, team, Turns, Stays, HasFailed, HasLeft, IsGone, MayBeShort, Course, ToldAll, BreaksOff, FirstChanges, AfterTelling, Relieves, Tells, once_more, one_try, AfterTurn, TakesTurn, EndsTurn, relieved_turn, Turn, Tried}
+use Rattle.krieg_seats.specs.declared.seat.SeatFault.TheVariants.{NoMemory}
 use Rattle.krieg_play.proofs.Serving.{only_hears, tries_move, asked_in_vain}
 use Rattle.krieg_play.proofs.Courses.{course_changes, course_moves, course_weakens}
 use Rattle.krieg_play.proofs.Tellings.{one_told}

@@ -4,12 +4,8 @@ use Rattle.std.specs.Prelude.{slice_index_or, Option, Some, None, option_to_list
 use Rattle.std.specs.List.{cons_option}
 use Rattle.std.proofs.lemmas.List.{append-nil, take_more}
 use Rattle.std.proofs.lemmas.List.Elements.{filter_map-append}
-use Rattle.krieg_ports.proofs.Common.{Rose}
-use Rattle.krieg_words.proofs.Common.{Line}
-use Rattle.krieg_board.proofs.Common.{Side}
-use Rattle.krieg_referee.proofs.Common.{Judged, line_for, lines_for}
-use Rattle.krieg_seats.proofs.Common.{Account, Told, SeatFault, Failed, NoMemory}
-use Rattle.krieg_play.proofs.Common.{ToldAll, BreaksOff}
+use Rattle.krieg_play.proofs.Common.{Rose, Line, Side, Judged, line_for, lines_for, Account, Told, SeatFault, Failed, ToldAll, BreaksOff}
+use Rattle.krieg_seats.specs.declared.seat.SeatFault.TheVariants.{NoMemory}
 
 -- a seat that heard some more lines
 abbrev pub hearing : Account → List Line → Account

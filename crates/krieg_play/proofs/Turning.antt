@@ -3,11 +3,8 @@ use Rattle.std.proofs.Common.{◌≡◌, ℕ, ◌+◌, ◌-◌, ◌<◌, ◌≤�
 use Rattle.std.specs.List.{cons_option}
 use Rattle.std.proofs.lemmas.List.{append-nil}
 use Rattle.std.proofs.lemmas.List.Elements.{filter_map-append}
-use Rattle.krieg_board.proofs.Common.{Pos, Side, White, Black, Move}
-use Rattle.krieg_words.proofs.Common.{Line}
-use Rattle.krieg_referee.proofs.Common.{GameState, Event, Judged}
-use Rattle.krieg_seats.proofs.Common.{Account, SeatFault, Failed}
-use Rattle.krieg_play.proofs.Common.{Team, Turns, turns_since, turns_of, Stays, Course, events_of, tries_of, try_of, Sides, seats_of, relieved, all_relieved, used_up, IsAskedWithin, last_ask, Courses, lines_of, turns_so_far, last_turns, IsWhole, LastAsk, IsUnderway, Breaks, IsBroken, lines_to, AfterTurn, seat_count, HasTried, AfterAsk, AsksOne, Passes, Judges, fault_of, PlayFault, Turn, Tried, Relieved, Left}
+use Rattle.krieg_play.proofs.Common.{Pos, Side, White, Black, Move, Line, GameState, Event, Judged, Account, SeatFault, Failed, Team, Turns, turns_since, turns_of, Stays, Course, events_of, tries_of, try_of, Sides, seats_of, relieved, all_relieved, used_up, IsAskedWithin, last_ask, Courses, lines_of, turns_so_far, last_turns, IsWhole, LastAsk, IsUnderway, Breaks, IsBroken, lines_to, AfterTurn, seat_count, HasTried, AfterAsk, AsksOne, Passes, Judges, fault_of, PlayFault, Turn, Tried, Relieved}
+use Rattle.krieg_play.specs.declared.turn.Turn.TheVariants.{Left}
 use Rattle.krieg_play.proofs.Courses.{course_starts, course_counts, both_counted, seated}
 use Rattle.krieg_play.proofs.BothSides.{white_breaks, black_breaks}
 use Rattle.krieg_play.proofs.HeardLines.{lines_are}

@@ -1,2 +1,1 @@
 pub mod ToldBytes
-pub mod Common

@@ -4,7 +4,7 @@ use Rattle.std.proofs.lemmas.List.{take_all}
 use Rattle.std.proofs.lemmas.Grind.{common_steps}
 use Rattle.std.specs.Prelude.{Option, Some, None, IfSome}
 use Rattle.std.specs.Io.KnownBytes.{Appends, Consumes, Keeps, IsAtEnd}
-use Rattle.krieg_ports.proofs.Common.{AppendsPrefix, Gave}
+use Rattle.krieg_ports.specs.Bytes.{AppendsPrefix, Gave}
 
 -- ---- a sink
 

@@ -5,14 +5,12 @@ use Rattle.std.proofs.lemmas.List.{get_or-set_same, get_or-set_other, get_or_pas
 use Rattle.std.proofs.Math.ListN.{length-set}
 use Rattle.std.specs.Prelude.{Option, Some, None, is_some}
 use Rattle.std.proofs.Math.Bool.{and-true, and-false, or-false, and_assoc, and-or_distrib_right}
-use Rattle.krieg_board.proofs.Common.{Side, White, Kind, Pawn, King, Man, Sets, Board, man_at, is_of, is_kind, Show, attacks, man_attacks, can_reach, slides, is_clear, is_between, has, some_square, every_square}
-use Rattle.krieg_board.specs.declared.men.Kind.TheVariants.{Knight, Bishop, Rook, Queen}
+use Rattle.krieg_rays.proofs.Common.{Side, White, Kind, Pawn, Knight, Bishop, Rook, Queen, King, Man, Sets, Board, man_at, is_of, is_kind, Show, attacks, man_attacks, can_reach, slides, is_clear, is_between, has, some_square, every_square, goes, is_open, reaches}
 use Rattle.krieg_board.proofs.MenLemmas.{same_side_eq}
 use Rattle.krieg_board.proofs.SetLemmas.{has_and, has_or}
 use Rattle.krieg_board.proofs.OneKing.{set_empty}
 use Rattle.krieg_board.proofs.SameTests.{every_square_same, same_tests}
 use Rattle.krieg_board.proofs.SquareTests.{every_square_at, every_square_all, some_square_at, some_square_tells}
-use Rattle.krieg_rays.proofs.Common.{goes, is_open, reaches}
 use Rattle.krieg_rays.specs.Snipers as near
 use Rattle.krieg_rays.proofs.Sniping.{men_here, of_side}
 use Rattle.krieg_rays.proofs.Spans.{is_between_turned}

@@ -4,11 +4,10 @@ use Rattle.std.specs.Prelude.{Some, None, is_some}
 use Rattle.std.proofs.lemmas.Bool.{cases_eq, or_cases, or_left, or_right, and_parts, and_from, eq-eqb, ne_eqb}
 use Rattle.std.proofs.Math.Bool.{or-false, and-false, and-true}
 use Rattle.std.proofs.lemmas.List.{get_or-set_same, get_or-set_other}
-use Rattle.krieg_board.proofs.Common.{has, some_square, Board, man_at, is_of, attacks, man_attacks, is_attacked, Man}
+use Rattle.krieg_rays.proofs.Common.{has, some_square, Board, man_at, is_of, attacks, man_attacks, is_attacked, Man, reaches}
 use Rattle.krieg_board.proofs.MenLemmas.{same_side_self}
 use Rattle.krieg_board.proofs.SameTests.{same_tests, some_square_same}
 use Rattle.krieg_board.proofs.SquareTests.{some_square_at, some_square_tells}
-use Rattle.krieg_rays.proofs.Common.{reaches}
 use Rattle.krieg_rays.proofs.Attacking.{IsOccupied, attack_there, reaches_attacks}
 
 -- some square passes a test, or the one square another

@@ -3,13 +3,11 @@ use Rattle.std.proofs.Common.{◌≡◌, ℕ, ◌<◌, Bool, true, false, ◌&&�
 use Rattle.std.specs.Prelude.{Option, Some, None}
 use Rattle.std.proofs.lemmas.Bool.{or_cases, or_left, or_right}
 use Rattle.std.proofs.Math.Bool.{or-false}
-use Rattle.krieg_board.proofs.Common.{Side, Kind, Pawn, King, Man, Sets, is_same_kind, has, some_square, Board, man_at, is_of, is_kind, Show}
-use Rattle.krieg_board.specs.declared.men.Kind.TheVariants.{Knight, Bishop, Rook, Queen}
+use Rattle.krieg_rays.proofs.Common.{Side, Kind, Pawn, Knight, Bishop, Rook, Queen, King, Man, Sets, is_same_kind, has, some_square, Board, man_at, is_of, is_kind, Show, reaches}
 use Rattle.krieg_board.proofs.MenLemmas.{same_side_eq}
 use Rattle.krieg_board.proofs.SetLemmas.{has_and}
 use Rattle.krieg_board.proofs.SameTests.{same_tests, some_square_same}
 use Rattle.krieg_board.proofs.SquareTests.{some_square_at, some_square_tells}
-use Rattle.krieg_rays.proofs.Common.{reaches}
 
 -- some square passes one of two tests
 some_or : (p q : ℕ → Bool) → (some_square p || some_square q) ≡ some_square (λ f. p f || q f)

@@ -6,9 +6,8 @@ use Rattle.std.proofs.lemmas.Bool.{and_right, cases_lt, le-leb, lt-leb, lt-ltb, 
 use Rattle.std.proofs.lemmas.Nat.{leading_top, or_lt, le_or_r, le-div, div_below, shl_whole}
 use Rattle.std.proofs.lemmas.Nat.Bits.{bit_at_mask_inside, bit_at_mask_below, bit_at_ones, bit_at_ones_above, bit_at_above, ones_shl}
 use lib.Count.{count_leading_zeros}
-use Rattle.krieg_board.proofs.Common.{every_square, has, IsLowest}
+use Rattle.krieg_rays.proofs.Common.{every_square, has, IsLowest, none_below, none_above}
 use Rattle.krieg_board.proofs.SquareTests.{every_square_all, every_square_not}
-use Rattle.krieg_rays.proofs.Common.{none_below, none_above}
 use Rattle.krieg_board.proofs.SetLemmas.{lowest, has_up_to, has_zero, has_bit, has_no_bit, has_or, has_all}
 
 none_below_zero : (k : ℕ) → none_below 0 k ≡ true

@@ -1,10 +1,8 @@
 -- The tables say where men go on an empty board and which squares are on a line: each bit of each entry, by evaluation.
 use Rattle.std.proofs.Common.{◌≡◌, ℕ, ◌<◌, Bool, true, refl, List, get_or}
-use Rattle.krieg_board.specs.declared.men.Kind.TheVariants.{Knight}
-use Rattle.krieg_board.proofs.Common.{Pawn, King, White, Black, is_same_bool, squares, every_square, has}
+use Rattle.krieg_rays.proofs.Common.{Pawn, Knight, King, White, Black, is_same_bool, squares, every_square, has, goes, is_ahead, is_on_file, is_on_rank, is_on_rising, is_on_falling, KNIGHTS, KINGS, WHITE_PAWNS, BLACK_PAWNS, WHITE_STEPS, BLACK_STEPS, FILES, RANKS, RISING, FALLING}
 use Rattle.krieg_board.proofs.SameTests.{same_bool_eq}
 use Rattle.krieg_board.proofs.SquareTests.{every_square_at}
-use Rattle.krieg_rays.proofs.Common.{goes, is_ahead, is_on_file, is_on_rank, is_on_rising, is_on_falling, KNIGHTS, KINGS, WHITE_PAWNS, BLACK_PAWNS, WHITE_STEPS, BLACK_STEPS, FILES, RANKS, RISING, FALLING}
 
 -- two tests agree on each pair of squares
 unfoldable pub agree : (ℕ → ℕ → Bool) → (ℕ → ℕ → Bool) → Bool

@@ -2,12 +2,10 @@
 use Rattle.std.proofs.Common.{◌≡◌, ℕ, ◌<◌, Bool, true, false, not, ◌&&◌, ◌||◌, refl, sym, ◌∙◌, ap, bit_and, bit_or}
 use Rattle.std.proofs.lemmas.Bool.{and_parts, not-true}
 use Rattle.std.proofs.Math.Bool.{and-or_distrib_right}
-use Rattle.krieg_board.specs.declared.men.Kind.TheVariants.{Bishop, Rook}
-use Rattle.krieg_board.proofs.Common.{White, is_same_bool, squares, every_square, is_inside, is_between, has}
+use Rattle.krieg_rays.proofs.Common.{Bishop, Rook, White, is_same_bool, squares, every_square, is_inside, is_between, has, goes, is_seen, is_open, is_on_file, is_on_rank, is_on_rising, is_on_falling}
 use Rattle.krieg_board.proofs.SquareTests.{every_square_at}
 use Rattle.krieg_board.proofs.SetLemmas.{has_and, has_or, has_zero}
 use Rattle.krieg_board.proofs.SameTests.{every_square_same, same_bool_eq}
-use Rattle.krieg_rays.proofs.Common.{goes, is_seen, is_open, is_on_file, is_on_rank, is_on_rising, is_on_falling}
 use Rattle.krieg_rays.proofs.Entries.{agree, agree_at}
 
 -- between s and k lie the squares of the line with the numbers between

@@ -3,7 +3,7 @@ use Rattle.std.proofs.Common.{◌≡◌, ℕ, ◌<◌, ◌≤◌, ◌⊎◌, inl
 use Rattle.std.specs.Prelude.{Option, None}
 use Rattle.std.proofs.lemmas.Bool.{and_from, and_parts, both_ways, cases_lt, eqb-true}
 use Rattle.std.proofs.lemmas.List.{get_or_past}
-use Rattle.krieg_board.proofs.Common.{Side, White, Black, King, Man, some_square, Board, man_at, is_man, Pos, IsValid, count_kind}
+use Rattle.krieg_rays.proofs.Common.{Side, White, Black, King, Man, some_square, Board, man_at, is_man, Pos, IsValid, count_kind}
 use Rattle.krieg_board.proofs.Facts.{facts}
 use Rattle.krieg_board.proofs.Counting.{one_place}
 use Rattle.krieg_board.proofs.SquareTests.{some_square_at, some_square_tells}

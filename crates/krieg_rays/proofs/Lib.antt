@@ -1,3 +1,4 @@
+mod Common
 pub mod Ends
 pub mod Seen
 pub mod Entries
@@ -12,4 +13,3 @@ pub mod Kings
 pub mod ByKind
 pub mod Behind
 pub mod PinsBehind
-pub mod Common

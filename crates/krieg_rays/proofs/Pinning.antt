@@ -4,11 +4,9 @@ use Rattle.std.specs.Prelude.{Option, Some, None, is_some}
 use Rattle.std.proofs.lemmas.Bool.{both_ways, cases_eq, eq-eqb, ne_eqb, not-true}
 use Rattle.std.proofs.lemmas.List.{get_or-set_other}
 use Rattle.std.proofs.Math.Bool.{and-true, and-false, or-false, and-or_distrib_right}
-use Rattle.krieg_board.proofs.Common.{Side, White, Black, Pawn, King, Man, other, squares, every_square, some_square, Board, man_at, is_of, is_man, is_kind, attacks, man_attacks, is_between, is_clear, has, count_kind}
-use Rattle.krieg_board.specs.declared.men.Kind.TheVariants.{Knight, Bishop, Rook, Queen}
+use Rattle.krieg_rays.proofs.Common.{Side, White, Black, Pawn, Knight, Bishop, Rook, Queen, King, Man, other, squares, every_square, some_square, Board, man_at, is_of, is_man, is_kind, attacks, man_attacks, is_between, is_clear, has, count_kind, goes, is_pinned, is_pinned_by, is_near, is_sniper, is_only}
 use Rattle.krieg_board.proofs.SquareTests.{every_square_at, some_square_none}
 use Rattle.krieg_board.proofs.SameTests.{every_square_same, some_square_same}
-use Rattle.krieg_rays.proofs.Common.{goes, is_pinned, is_pinned_by, is_near, is_sniper, is_only}
 use Rattle.krieg_rays.proofs.Kings.{king_search}
 use Rattle.krieg_rays.proofs.Spans.{is_between_turned}
 use Rattle.krieg_rays.proofs.Symmetry.{rook_turned, bishop_turned}

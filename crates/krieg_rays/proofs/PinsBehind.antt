@@ -4,11 +4,9 @@ use Rattle.std.specs.Prelude.{Some, None}
 use Rattle.std.proofs.lemmas.Bool.{cases_eq, eq-eqb, ne_eqb}
 use Rattle.std.proofs.Math.Bool.{or-false, and-false, and-true}
 use Rattle.std.proofs.lemmas.List.{get_or-set_other}
-use Rattle.krieg_board.proofs.Common.{other, has, Board, man_at, is_of, is_man, is_kind, count_kind, Side, White, King, Man}
-use Rattle.krieg_board.specs.declared.men.Kind.TheVariants.{Rook, Bishop, Queen}
+use Rattle.krieg_rays.proofs.Common.{other, has, Board, man_at, is_of, is_man, is_kind, count_kind, Side, White, Rook, Bishop, Queen, King, Man, goes, is_pinned, is_sniper}
 use Rattle.krieg_board.proofs.SetLemmas.{has_zero}
 use Rattle.krieg_board.proofs.SquareTests.{some_square_none}
-use Rattle.krieg_rays.proofs.Common.{goes, is_pinned, is_sniper}
 use Rattle.krieg_rays.proofs.Attacking.{emptied}
 use Rattle.krieg_rays.proofs.Pinning.{shields, some_sniper_pins}
 

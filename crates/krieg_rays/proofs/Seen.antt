@@ -3,8 +3,7 @@ use Rattle.std.proofs.Common.{◌≡◌, ℕ, ◌-◌, ◌*◌, ◌%◌, ◌^◌
 use Rattle.std.proofs.lemmas.Bool.{both_ways}
 use Rattle.std.proofs.lemmas.Bool.Decides.{nat_tests}
 use Rattle.std.proofs.Math.Bool.{and-true, and_assoc}
-use Rattle.krieg_board.proofs.Common.{every_square, is_inside, has}
-use Rattle.krieg_rays.proofs.Common.{none_below, none_above, is_seen}
+use Rattle.krieg_rays.proofs.Common.{every_square, is_inside, has, none_below, none_above, is_seen}
 use Rattle.krieg_board.proofs.SetLemmas.{has_and}
 use Rattle.krieg_board.proofs.SameTests.{every_square_both, every_square_same}
 use Rattle.krieg_rays.proofs.Ends.{has_from, has_before}

@@ -1,9 +1,8 @@
 -- The snipers of a side, from the sets of its men.
 use Rattle.std.proofs.Common.{◌≡◌, ℕ, ◌<◌, Bool, ◌&&◌, ◌||◌, sym, ◌∙◌, bit_and, bit_or}
 use Rattle.std.proofs.Math.Bool.{and_assoc, and-or_distrib_right}
-use Rattle.krieg_board.proofs.Common.{Side, Sets, Board, man_at, is_of, Show, has}
+use Rattle.krieg_rays.proofs.Common.{Side, Sets, Board, man_at, is_of, Show, has, is_on_file, is_on_rank, is_on_rising, is_on_falling, is_sniper}
 use Rattle.krieg_board.proofs.SetLemmas.{has_and, has_or}
-use Rattle.krieg_rays.proofs.Common.{is_on_file, is_on_rank, is_on_rising, is_on_falling, is_sniper}
 use Rattle.krieg_rays.proofs.Geometry.{straight_lines, diagonal_lines}
 
 -- a square of the men of two kinds and of one side

@@ -2,10 +2,9 @@
 use Rattle.std.proofs.Common.{◌≡◌, ℕ, ◌-◌, ◌*◌, ◌%◌, ◌^◌, ◌<◌, Bool, true, false, ◌&&◌, ◌||◌, refl, sym, ◌∙◌, bit_and, bit_or, nat_lt}
 use Rattle.std.specs.Int.RustNames.{bit_xor}
 use Rattle.std.proofs.Math.Bool.{and_comm}
-use Rattle.krieg_board.proofs.Common.{is_same_bool, squares, every_square, is_between, has}
+use Rattle.krieg_rays.proofs.Common.{is_same_bool, squares, every_square, is_between, has, is_on_file, is_on_rank, is_on_rising, is_on_falling}
 use Rattle.krieg_board.proofs.SquareTests.{every_square_at}
 use Rattle.krieg_board.proofs.SetLemmas.{differ, has_and, has_or, has_xor}
-use Rattle.krieg_rays.proofs.Common.{is_on_file, is_on_rank, is_on_rising, is_on_falling}
 use Rattle.krieg_board.proofs.SameTests.{same_bool_eq}
 use Rattle.krieg_rays.proofs.Ends.{has_before}
 

@@ -1,8 +1,6 @@
 -- Where men go reads the same from both ends, but for pawns, whose sides change.
 use Rattle.std.proofs.Common.{◌≡◌, ℕ, ◌<◌, true, refl, sym}
-use Rattle.krieg_board.specs.declared.men.Kind.TheVariants.{Knight, Bishop, Rook}
-use Rattle.krieg_board.proofs.Common.{Pawn, King, Side, White, Black, other, squares, every_square}
-use Rattle.krieg_rays.proofs.Common.{goes}
+use Rattle.krieg_rays.proofs.Common.{Pawn, Knight, Bishop, Rook, King, Side, White, Black, other, squares, every_square, goes}
 use Rattle.krieg_rays.proofs.Entries.{agree, agree_at}
 
 knights : agree (goes Knight White) (λ s k. goes Knight White k s) ≡ true

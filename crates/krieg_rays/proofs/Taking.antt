@@ -4,11 +4,10 @@ use Rattle.std.specs.Int.{trailing_zeros}
 use Rattle.std.proofs.lemmas.Nat.{and_le_l}
 use Rattle.std.proofs.lemmas.Bool.{and_from, and_parts, and_left, and_right, both_ways, cases_eq, eq-eqb, ne_eqb, or_cases, or_left, or_right, false_from_ne_true, not-true}
 use Rattle.std.proofs.Math.Bool.{or_assoc, or-false}
-use Rattle.krieg_board.proofs.Common.{every_square, some_square, has, IsLowest}
+use Rattle.krieg_rays.proofs.Common.{every_square, some_square, has, IsLowest, is_only}
 use Rattle.krieg_board.proofs.SquareTests.{every_square_all, every_square_at, some_square_at, some_square_none, some_square_tells}
 use Rattle.krieg_board.proofs.SameTests.{same_tests}
 use Rattle.krieg_board.proofs.SetLemmas.{has_or, has_zero, has_rest, lowest}
-use Rattle.krieg_rays.proofs.Common.{is_only}
 
 -- some square of a set passes: its lowest, or one of the rest
 some_taken : (test : ℕ → Bool) (set t rest : ℕ) → IsLowest set t → ((k : ℕ) → k < 64 → has rest k ≡ (has set k && not (k == t))) →

@@ -2,13 +2,11 @@
 use Rattle.std.proofs.Common.{◌≡◌, ℕ, ◌<◌, ◌/◌, ◌%◌, Bool, true, false, not, cond, ◌&&◌, ◌==◌, refl, sym, ap, ◌∙◌, arith, ◌⊎◌, inl, inr}
 use Rattle.std.proofs.lemmas.Bool.{and_parts, and_from, eqb-true, eq-eqb, ne_eqb, cases_eq}
 use Rattle.std.specs.Prelude.{Some, None}
-use Rattle.krieg_board.proofs.Common.{Pos, file_of, rank_of, Move}
+use Rattle.krieg_record.proofs.Common.{Pos, file_of, rank_of, Move, is_legal, plain_move, Officer, Origin, told, IsCoordinate, kind_of, is_own, fits, is_rival, is_shared, origin}
 use Rattle.krieg_board.specs.declared.men.Promo.TheVariants as promo
 use Rattle.krieg_board.proofs.SquareTests.{some_square_at}
-use Rattle.krieg_moves.proofs.Common.{is_legal, plain_move}
 use Rattle.krieg_moves.proofs.LegalMoves.{legal}
 use Rattle.krieg_moves.proofs.Movers.{below_from}
-use Rattle.krieg_record.proofs.Common.{Officer, Origin, told, IsCoordinate, kind_of, is_own, fits, is_rival, is_shared, origin}
 
 pub same_move : (m o : Move) → m.from ≡ o.from → m.to ≡ o.to → m.promo ≡ o.promo → m ≡ o
 same_move m o f t r = λ i. record { from = f i; to = t i; promo = r i }

@@ -1,3 +1,4 @@
+mod Common
 pub mod LastBytes
 pub mod OriginTexts
 pub mod OfficerTexts
@@ -15,4 +16,3 @@ pub mod RecordGrammars
 pub mod RecordReadings
 pub mod SanLines
 pub mod RecordTexts
-pub mod Common

@@ -5,14 +5,13 @@ use Rattle.std.specs.Prelude.{Option, Some, None, Result, Ok, Err, is_none}
 use Rattle.std.specs.List.{filter, Contains, All, AllPairs}
 use Rattle.std.proofs.lemmas.List.Elements.{filter_passes, All-head, All-tail}
 use Rattle.std.proofs.lemmas.List.Kept.{AllPairs-filter}
-use Rattle.krieg_board.proofs.Common.{is_same_bool, Pos, squares, Move}
+use Rattle.krieg_record.proofs.Common.{is_same_bool, Pos, squares, Move, after, is_legal, King, Movement, Castles, ByOfficer, ByPawn, Notation, SanFault, Syntax, Unknown, Several, NoMemory, Says, notation_of, kind_of, is_own, castling, captures, fits, san_text, move_from, goes_from, the_only, meant_by, meant, is_movement, is_ending, is_matched, is_same_promo, Matches, IsOnly, Means}
 use Rattle.krieg_board.specs.declared.men.Promo.TheVariants as promo
 use Rattle.krieg_board.proofs.SquareTests.{length_squares, get_or_squares}
-use Rattle.krieg_moves.proofs.Common.{after, is_legal}
 use Rattle.krieg_moves.proofs.LegalMoves.{legal}
 use Rattle.krieg_moves.proofs.Movers.{below_from}
-use Rattle.krieg_record.proofs.Common.{King, Movement, Castles, ByOfficer, ByPawn, Notation, SanFault, Syntax, Unknown, Several, NoMemory, Says, notation_of, kind_of, is_own, castling, captures, fits, san_text, move_from, goes_from, the_only, meant_by, meant, is_pawn_capture, is_movement, is_ending, is_matched, is_same_promo, Matches, IsOnly, Means}
 use Rattle.krieg_board.specs.declared.men.Kind.TheVariants as kind
+use Rattle.krieg_record.specs.Matching.{is_pawn_capture}
 use Rattle.krieg_record.proofs.NotationTexts.{notation_spells, notation_again, says_one}
 use Rattle.krieg_record.proofs.MoveTellings.{castling_tells, officer_plain}
 use Rattle.krieg_record.proofs.Disambiguations.{same_move}

@@ -3,15 +3,11 @@ use Rattle.std.proofs.Common.{◌≡◌, ◌⊎◌, inl, inr, ℕ, Bool, true, f
 use Rattle.std.specs.Prelude.{codes}
 use Rattle.std.specs.Str.{bytes_eq}
 use Rattle.std.proofs.lemmas.Slice.Eq.{bytes_eq-Decides}
-use Rattle.krieg_board.proofs.Common.{is_same_side, Pos, Side, White, Black, Move}
+use Rattle.krieg_record.proofs.Common.{is_same_side, Pos, Side, White, Black, Move, after, is_legal, TextKind, behind, ◌>>=◌, Step, SanFault, RecordLine, Played, End, Means, after_all, marked_by, marked, in_turn, move_by, move_form, line_form, led, step_form, SpellsMove, side_mark, meant}
 use Rattle.krieg_board.proofs.MenLemmas.{same_side_eq, same_side_self}
-use Rattle.krieg_moves.proofs.Common.{after, is_legal}
-use Rattle.krieg_text.proofs.Common.{TextKind, behind, ◌>>=◌, Step}
 use Rattle.krieg_text.proofs.Formats.{IsStep, IsItemForm}
 use Rattle.krieg_text.proofs.NameLemmas.{behind_spells, behind_again}
-use Rattle.krieg_record.proofs.Common.{SanFault, RecordLine, Played, End, Means, after_all, marked_by, marked, in_turn, move_by, move_form, line_form, led, step_form, SpellsMove, meant}
 use Rattle.krieg_record.specs.declared.san_reading.SanFault.TheVariants as fault
-use Rattle.krieg_fen.proofs.Common.{side_mark}
 use Rattle.krieg_record.proofs.Meanings.{meant_means, meant_only}
 
 -- ---- the marks

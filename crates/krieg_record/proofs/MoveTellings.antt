@@ -2,13 +2,11 @@
 use Rattle.std.proofs.Common.{◌≡◌, Bool, true, false, not, cond, ◌&&◌, ◌==◌, refl, sym, ap, ◌∙◌}
 use Rattle.std.proofs.lemmas.Bool.{and_parts, and_from, eqb-true}
 use Rattle.std.specs.Prelude.{Option, Some, None}
-use Rattle.krieg_board.proofs.Common.{is_same_side, is_same_kind, Pos, rank_of, last_rank, man_at, is_of, is_man, Side, Kind, Man, Move, Promo}
+use Rattle.krieg_record.proofs.Common.{is_same_side, is_same_kind, Pos, rank_of, last_rank, man_at, is_of, is_man, Side, Kind, Man, Move, Promo, is_castling, is_legal, is_plain, king_square, arrival, Wing, Short, Long, Officer, King, Queen, Rook, Bishop, Knight, kind_of, officer_of, officer_by, officer_at, is_own, castling_by, castling}
 use Rattle.krieg_board.specs.declared.men.Kind.TheVariants as kind
 use Rattle.krieg_board.specs.declared.men.Promo.TheVariants as promo
 use Rattle.krieg_board.proofs.MenLemmas.{same_side_eq, same_side_self, is_man_tells, is_man_other_kind}
-use Rattle.krieg_moves.proofs.Common.{is_castling, is_legal, is_plain, king_square, arrival, Wing, Short, Long}
 use Rattle.krieg_moves.proofs.LegalMoves.{legal_own, legal_promotion}
-use Rattle.krieg_record.proofs.Common.{Officer, King, Queen, Rook, Bishop, Knight, kind_of, officer_of, officer_by, officer_at, is_own, castling_by, castling}
 
 -- ---- the man that goes
 

@@ -3,11 +3,8 @@ use Rattle.std.proofs.Common.{◌≡◌, ℕ, ◌+◌, ◌<◌, ◌/◌, ◌%◌
 use Rattle.std.specs.Str.{bytes_eq}
 use Rattle.std.proofs.lemmas.Bool.{eqb-true, ne_eqb}
 use Rattle.std.proofs.lemmas.Slice.Eq.{bytes_eq-Decides}
-use Rattle.krieg_board.proofs.Common.{Promo}
+use Rattle.krieg_record.proofs.Common.{Promo, Short, Long, square_text, Officer, King, Queen, Rook, Bishop, Knight, Movement, Castles, ByOfficer, ByPawn, Ending, Nothing, Check, Mate, Notation, letter, file_text, rank_text, capture_text, promotion_text, pawn_capture_text, officer_text, movement_text, ending_text, notation_text, IsMovement, Says, officer_movement, pawn_movement, castling_movement, movement_from, movement_of, with_ending, ending_of, front_of, notation_by, notation_of}
 use Rattle.krieg_board.specs.declared.men.Promo.TheVariants as promo
-use Rattle.krieg_moves.proofs.Common.{Short, Long}
-use Rattle.krieg_fen.proofs.Common.{square_text}
-use Rattle.krieg_record.proofs.Common.{Officer, King, Queen, Rook, Bishop, Knight, Movement, Castles, ByOfficer, ByPawn, Ending, Nothing, Check, Mate, Notation, letter, file_text, rank_text, capture_text, promotion_text, pawn_capture_text, officer_text, movement_text, ending_text, notation_text, IsMovement, Says, officer_movement, pawn_movement, castling_movement, movement_from, movement_of, with_ending, ending_of, front_of, notation_by, notation_of}
 use Rattle.krieg_record.proofs.LastBytes.{ending_last, front_last, front_check, front_mate}
 use Rattle.krieg_record.proofs.OfficerTexts.{Spells, officer_spells, officer_again}
 use Rattle.krieg_record.proofs.PawnTexts.{pawn_spells, pawn_again}

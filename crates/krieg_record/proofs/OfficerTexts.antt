@@ -1,9 +1,8 @@
 -- A text that is read as an officer's move spells it, and the other way round.
 use Rattle.std.proofs.Common.{◌≡◌, ℕ, ◌+◌, ◌<◌, Bool, true, false, cond, eqb, List, [], ◌∷◌, ◌++◌, Option, Some, None, refl, sym, ap, ◌∙◌, subst, arith, append_assoc}
 use Rattle.std.proofs.lemmas.Bool.{eqb-true, ne_eqb}
-use Rattle.krieg_fen.proofs.Common.{square_text, square_of}
+use Rattle.krieg_record.proofs.Common.{square_text, square_of, Officer, Origin, Movement, ByOfficer, told, letter, file_text, rank_text, capture_text, officer_text, movement_text, IsCoordinate, IsMovement, one_told, both_told, officer_with, officer_movement}
 use Rattle.krieg_fen.proofs.MoveTexts.{square_again, square_spells}
-use Rattle.krieg_record.proofs.Common.{Officer, Origin, Movement, ByOfficer, told, letter, file_text, rank_text, capture_text, officer_text, movement_text, IsCoordinate, IsMovement, one_told, both_told, officer_with, officer_movement}
 use Rattle.krieg_record.proofs.OriginTexts.{file_again, rank_again, no_file, Tells, none_tells, one_tells, both_tell}
 
 -- the bytes are those of the movement

@@ -6,13 +6,11 @@ use Rattle.std.specs.Prelude.{◌⊎◌, is_none}
 use Rattle.std.specs.List.{filter, range_with_len}
 use Rattle.std.proofs.lemmas.List.{map-id}
 use Rattle.std.proofs.lemmas.List.FromFn.{filter_of_map_range_with_len_more}
-use Rattle.krieg_board.proofs.Common.{Pos, squares, some_square, gathered, has, IsLowest, Move}
+use Rattle.krieg_record.proofs.Common.{Pos, squares, some_square, gathered, has, IsLowest, is_legal, plain_move, Officer, Origin, Notation, Move, Movement, Castles, ByOfficer, ByPawn, kind_of, is_own, castling, fits, is_rival, is_shared, is_movement, is_matched, mover, move_from, goes_from, leaving}
 use Rattle.krieg_board.proofs.Picked.{picked, picked_zero, picked_step, picked_all, gathered_same}
 use Rattle.krieg_board.proofs.SetLemmas.{has_zero}
 use Rattle.krieg_board.proofs.SquareTests.{some_square_at, some_square_none}
 use Rattle.krieg_board.proofs.SameTests.{some_square_same}
-use Rattle.krieg_moves.proofs.Common.{is_legal, plain_move}
-use Rattle.krieg_record.proofs.Common.{Officer, Origin, Notation, Movement, Castles, ByOfficer, ByPawn, kind_of, is_own, castling, fits, is_rival, is_shared, is_movement, is_matched, mover, move_from, goes_from, leaving}
 use Rattle.krieg_board.specs.declared.men.Kind.TheVariants as kind
 use Rattle.krieg_record.proofs.MoveTellings.{castling_tells}
 use Rattle.krieg_record.proofs.Sans.{wing_is}

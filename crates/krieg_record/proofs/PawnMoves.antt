@@ -2,13 +2,12 @@
 use Rattle.std.proofs.Common.{◌≡◌, ℕ, ◌+◌, Bool, true, false, not, ◌&&◌, ◌||◌, ◌==◌, refl, sym, ap, ◌∙◌, subst, arith, ◌⊎◌, inl, inr}
 use Rattle.std.proofs.lemmas.Bool.{and_parts, or_cases, eqb-true, ne_eqb}
 use Rattle.std.specs.Prelude.{Option, Some, None, is_none}
-use Rattle.krieg_board.proofs.Common.{Side, White, Black, Pawn, Man, Move, other, is_same_kind, is_same_side, Pos, file_of, rank_of, crossed_rank, landing_rank, man_at, is_empty, is_of, is_man, attacks, can_reach, apart, is_forward}
+use Rattle.krieg_record.proofs.Common.{Side, White, Black, Pawn, Man, Move, other, is_same_kind, is_same_side, Pos, file_of, rank_of, crossed_rank, landing_rank, man_at, is_empty, is_of, is_man, attacks, can_reach, apart, is_forward, is_en_passant, is_marked, crossed, is_legal, is_move_of, is_move_of_kind, is_pawn_move, is_step, is_double_step, has_promotion, captures, captures_by, is_own}
 use Rattle.krieg_board.proofs.MenLemmas.{is_man_tells}
-use Rattle.krieg_moves.proofs.Common.{is_en_passant, is_marked, crossed, is_legal, is_move_of, is_move_of_kind, is_pawn_move, is_step, is_double_step, is_pawn_capture, has_promotion}
+use Rattle.krieg_moves.specs.Legal.{is_pawn_capture}
 use Rattle.krieg_moves.proofs.LegalMoves.{legal}
 use Rattle.krieg_moves.proofs.Shapes.{attack_reaches}
 use Rattle.krieg_moves.proofs.Pawns.{Step, step, DoubleStep, double_step}
-use Rattle.krieg_record.proofs.Common.{captures, captures_by, is_own}
 
 -- a pawn of the side to move stands on the from-square
 pub record IsPawn (p : Pos) (m : Move) : Type 0 where

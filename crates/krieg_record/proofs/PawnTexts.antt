@@ -1,11 +1,9 @@
 -- A text that is read as a pawn's move spells it, and the other way round.
 use Rattle.std.proofs.Common.{◌≡◌, ℕ, ◌+◌, ◌<◌, ◌/◌, Bool, true, false, cond, ◌&&◌, eqb, List, [], ◌∷◌, ◌++◌, Option, Some, None, refl, sym, ap, ◌∙◌, subst, arith}
 use Rattle.std.proofs.lemmas.Bool.{eqb-true}
-use Rattle.krieg_board.proofs.Common.{Promo}
+use Rattle.krieg_record.proofs.Common.{Promo, square_text, square_of, Movement, ByPawn, promotion_text, pawn_capture_text, pawn_text, IsCoordinate, file_named, promo_named, pawn_with, pawn_taking, pawn_movement}
 use Rattle.krieg_board.specs.declared.men.Promo.TheVariants as promo
-use Rattle.krieg_fen.proofs.Common.{square_text, square_of}
 use Rattle.krieg_fen.proofs.MoveTexts.{square_again, square_spells}
-use Rattle.krieg_record.proofs.Common.{Movement, ByPawn, promotion_text, pawn_capture_text, pawn_text, IsCoordinate, file_named, promo_named, pawn_with, pawn_taking, pawn_movement}
 use Rattle.krieg_record.proofs.OriginTexts.{file_again, file_spells}
 use Rattle.krieg_record.proofs.OfficerTexts.{Spells, no_x_rank}
 

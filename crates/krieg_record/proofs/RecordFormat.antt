@@ -2,13 +2,10 @@
 use Rattle.std.proofs.Common.{◌≡◌, ℕ, List, [], ◌++◌, Ok, refl, sym, ap, subst, ◌∙◌, arith}
 use Rattle.std.specs.Prelude.{codes}
 use Rattle.std.proofs.lemmas.Fmt.{decimal_digit}
-use Rattle.krieg_board.proofs.Common.{Pos}
-use Rattle.krieg_text.proofs.Common.{Version, Always, version_form, Language, Behind, One, UpToLast, LineReader, taken}
-use Rattle.krieg_fen.proofs.Common.{start_form, Spells}
+use Rattle.krieg_record.proofs.Common.{Pos, Version, Always, version_form, Language, Behind, One, UpToLast, LineReader, taken, start_form, Spells, record_version, step_form, moves_at, record_at, SpellsMoves, SpellsRecord}
 use Rattle.krieg_fen.proofs.FormSpellings.{starts_form}
 use Rattle.krieg_text.proofs.FormSpellings.{number_is, number_read}
 use Rattle.krieg_text.proofs.Formats.{IsForm, IsFormat, IsFormatIf, line_format, last_part, part_then, items_format}
-use Rattle.krieg_record.proofs.Common.{record_version, step_form, moves_at, record_at, SpellsMoves, SpellsRecord}
 use Rattle.krieg_record.proofs.MoveLines.{Spelled, Ended, moves_form}
 
 -- the same values from the same lines, said otherwise

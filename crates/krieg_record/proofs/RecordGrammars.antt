@@ -1,16 +1,13 @@
 -- The reader of a record keeps to the grammar.
 use Rattle.std.proofs.Common.{◌≡◌, ◌⊎◌, inl, inr, ℕ, Bool, true, false, List, [], ◌∷◌, ◌++◌, Result, Ok, Err, refl, ap, subst, ◌∙◌}
 use Rattle.std.specs.Prelude.{codes}
-use Rattle.krieg_board.proofs.Common.{is_same_side, Pos, Move}
-use Rattle.krieg_text.proofs.Common.{TextKind, OutOfPlace, Has, is_beyond_form, Always, One, ◌>>=◌, taken, goes_on, stops}
+use Rattle.krieg_record.proofs.Common.{is_same_side, Pos, Move, TextKind, OutOfPlace, Has, is_beyond_form, Always, One, ◌>>=◌, taken, goes_on, stops, SanFault, RecordLine, Played, Means, after_all, record_version, marked, in_turn, move_by, move_form, led, step_form, moves_at, record_at, IsMoveLine, RecordGrammar, start_form, meant}
 use Rattle.krieg_text.proofs.Formats.{IsStep}
 use Rattle.krieg_text.proofs.Grammars.{untold, KeepsTo, HasForm, line_keeps, then_keeps, made_keeps}
 use Rattle.krieg_fen.proofs.ListGrammars.{some_start}
 use Rattle.krieg_text.proofs.FormGrammars.{form_of}
 use Rattle.krieg_text.proofs.LoopGrammars.{Goes, HasLoopForm, loop_keeps}
-use Rattle.krieg_record.proofs.Common.{SanFault, RecordLine, Played, Means, after_all, record_version, marked, in_turn, move_by, move_form, led, step_form, moves_at, record_at, IsMoveLine, RecordGrammar, meant}
 use Rattle.krieg_record.specs.declared.san_reading.SanFault.TheVariants as fault
-use Rattle.krieg_fen.proofs.Common.{start_form}
 use Rattle.krieg_record.proofs.Meanings.{meant_means}
 use Rattle.krieg_record.proofs.MoveLines.{Spelled, Ended, marks_again, line_again, step_is, moves_form}
 use Rattle.krieg_record.proofs.RecordFormat.{versions_form}

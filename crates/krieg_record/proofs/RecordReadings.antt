@@ -1,10 +1,8 @@
 -- The reader gives the record that is spelled, or the first bad line; and what is spelled is a record.
 use Rattle.std.proofs.Common.{ℕ, List, [], ◌∷◌, ◌++◌, Result, Ok, Err, subst}
 use Rattle.std.specs.Prelude.{IfOk}
-use Rattle.krieg_board.proofs.Common.{Pos, Move}
-use Rattle.krieg_text.proofs.Common.{TextFault, Always, IsReading, UpToLast, whole, Gives}
+use Rattle.krieg_record.proofs.Common.{Pos, Move, TextFault, Always, IsReading, UpToLast, whole, Gives, RecordState, after_all, AreLegal, IsRecord, record_at, SpellsRecord, RecordGrammar}
 use Rattle.krieg_text.proofs.Formats.{whole_found, reading}
-use Rattle.krieg_record.proofs.Common.{RecordState, after_all, AreLegal, IsRecord, record_at, SpellsRecord, RecordGrammar}
 use Rattle.krieg_record.proofs.MoveLines.{Spelled, Ended, after_more}
 use Rattle.krieg_record.proofs.RecordFormat.{record_format}
 use Rattle.krieg_record.proofs.RecordGrammars.{record_keeps}

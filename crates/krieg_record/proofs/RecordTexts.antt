@@ -1,16 +1,12 @@
 -- The written text of a record spells it, and is read as it again.
 use Rattle.std.proofs.Common.{◌≡◌, List, [], ◌∷◌, ◌++◌, map, Ok, refl, sym, ap, subst, ◌∙◌}
 use Rattle.std.specs.Prelude.{codes}
-use Rattle.krieg_board.proofs.Common.{Pos, IsValid, Move}
-use Rattle.krieg_moves.proofs.Common.{after}
-use Rattle.krieg_fen.proofs.Common.{position_text, side_mark}
-use Rattle.krieg_text.proofs.Common.{Always, UpToLast, lines, AreLines, whole, joined}
+use Rattle.krieg_record.proofs.Common.{Pos, IsValid, Move, after, position_text, Always, UpToLast, lines, AreLines, whole, joined, RecordState, after_all, AreLegal, IsRecord, record_at, SpellsMove, SpellsRecord, move_line, move_lines, record_lines, record_text, san_text, side_mark}
 use Rattle.krieg_fen.proofs.CleanTexts.{position_line, mark_line}
 use Rattle.krieg_text.proofs.Formats.{whole_only}
 use Rattle.krieg_text.proofs.LineTexts.{line_append, lines_again}
 use Rattle.krieg_fen.proofs.ListSpellings.{written_spells}
 use Rattle.krieg_text.proofs.Writings.{put_lines_is}
-use Rattle.krieg_record.proofs.Common.{RecordState, after_all, AreLegal, IsRecord, record_at, SpellsMove, SpellsRecord, move_line, move_lines, record_lines, record_text, san_text}
 use Rattle.krieg_record.proofs.Sans.{san_only}
 use Rattle.krieg_record.proofs.MoveLines.{Spelled, Ended, after_more}
 use Rattle.krieg_record.proofs.RecordFormat.{record_format}

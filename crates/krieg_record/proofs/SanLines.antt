@@ -1,14 +1,10 @@
 -- The text of a move has no line feed.
 use Rattle.std.proofs.Common.{◌≡◌, ℕ, ◌+◌, ◌<◌, Bool, true, false, [], ◌∷◌, ◌++◌, Option, Some, None, refl, arith}
 use Rattle.std.proofs.lemmas.Bool.{ne_eqb}
-use Rattle.krieg_board.proofs.Common.{Pos, Move, Promo}
+use Rattle.krieg_record.proofs.Common.{Pos, Move, Promo, Short, Long, is_line, square_text, Officer, King, Queen, Rook, Bishop, Knight, Movement, Castles, ByOfficer, ByPawn, Ending, Nothing, Check, Mate, letter, file_text, rank_text, capture_text, promotion_text, pawn_capture_text, movement_text, ending_text, notation_text, san, san_text}
 use Rattle.krieg_board.specs.declared.men.Promo.TheVariants as promo
-use Rattle.krieg_moves.proofs.Common.{Short, Long}
-use Rattle.krieg_text.proofs.Common.{is_line}
-use Rattle.krieg_fen.proofs.Common.{square_text}
 use Rattle.krieg_fen.proofs.CleanTexts.{square_above}
 use Rattle.krieg_text.proofs.LineTexts.{line_above, line_append}
-use Rattle.krieg_record.proofs.Common.{Officer, King, Queen, Rook, Bishop, Knight, Movement, Castles, ByOfficer, ByPawn, Ending, Nothing, Check, Mate, letter, file_text, rank_text, capture_text, promotion_text, pawn_capture_text, movement_text, ending_text, notation_text, san, san_text}
 
 byte_line : (k n : ℕ) → 10 < k → is_line ((k + n) ∷ []) ≡ true
 byte_line k n l = rw (ne_eqb (k + n) 10 (λ e. omega arith)) refl

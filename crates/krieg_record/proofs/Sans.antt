@@ -2,13 +2,12 @@
 use Rattle.std.proofs.Common.{◌≡◌, ◌<◌, Bool, true, false, not, cond, ◌==◌, refl, sym, ap, ◌∙◌, arith}
 use Rattle.std.proofs.lemmas.Bool.{and_parts, and_from, eqb-true, eq-eqb, not-true}
 use Rattle.std.specs.Prelude.{Option, Some, None, is_none}
-use Rattle.krieg_board.proofs.Common.{is_same_bool, Pos, file_of, Move, Promo}
+use Rattle.krieg_record.proofs.Common.{is_same_bool, Pos, file_of, Move, Promo, after, is_legal, in_check, is_mate, Wing, Short, Long, Officer, King, Nothing, Check, Mate, IsCoordinate, IsMovement, Says, kind_of, officer_at, is_own, castling, captures, fits, origin, movement_by, ending, san, san_text, is_wing, is_same_promo, is_movement, is_ending, is_matched, IsOnly}
 use Rattle.krieg_board.specs.declared.men.Kind.TheVariants as kind
 use Rattle.krieg_board.specs.declared.men.Promo.TheVariants as promo
-use Rattle.krieg_moves.proofs.Common.{after, is_legal, in_check, is_mate, Wing, Short, Long}
 use Rattle.krieg_moves.proofs.LegalMoves.{legal}
 use Rattle.krieg_moves.proofs.Movers.{below_from}
-use Rattle.krieg_record.proofs.Common.{Officer, King, Nothing, Check, Mate, IsCoordinate, IsMovement, Says, kind_of, officer_at, is_own, castling, captures, fits, origin, movement_by, ending, san, san_text, is_wing, is_same_promo, is_pawn_capture, is_movement, is_ending, is_matched, IsOnly}
+use Rattle.krieg_record.specs.Matching.{is_pawn_capture}
 use Rattle.krieg_record.proofs.NotationTexts.{says_one}
 use Rattle.krieg_record.proofs.PawnMoves.{IsPawn, pawn_is, same_quiet, same_taking}
 use Rattle.krieg_record.proofs.MoveTellings.{own_officer, own_pawn, officer_plain, castling_tells}

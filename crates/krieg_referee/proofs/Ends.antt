@@ -1,8 +1,13 @@
 -- The words of a move say whether the game has ended after it.
 use Rattle.std.proofs.Common.{◌≡◌, Bool, true, false, not, ◌&&◌, cond, refl, ap, ◌∙◌}
-use Rattle.krieg_board.proofs.Common.{Pos, Move}
-use Rattle.krieg_moves.proofs.Common.{after, in_check, is_ended, is_mate, is_stalemate}
-use Rattle.krieg_words.proofs.Common.{Said, words, has_ended, Goes, Mate, Stalemate}
+use Rattle.krieg_board.specs.Pos.{Pos}
+use Rattle.krieg_board.specs.declared.men.Move.{Move}
+use Rattle.krieg_moves.specs.After.{after}
+use Rattle.krieg_moves.specs.Moves.{in_check, is_ended, is_mate, is_stalemate}
+use Rattle.krieg_words.specs.Words.{Said}
+use Rattle.krieg_words.specs.WordsOfMoves.{words}
+use Rattle.krieg_words.specs.WordsText.{has_ended}
+use Rattle.krieg_words.specs.declared.words.End.TheVariants.{Goes, Mate, Stalemate}
 
 -- by whether the side to move is in check, and whether it has no move
 pub ended_so : (check ended : Bool) → has_ended (cond (check && ended) Mate (cond (not check && ended) Stalemate Goes)) ≡ ended

@@ -3,10 +3,20 @@ use Rattle.std.proofs.Common.{◌≡◌, Bool, true, false, ◌||◌, refl, sym,
 use Rattle.std.proofs.lemmas.Bool.{or_parts}
 use Rattle.std.specs.Prelude.{Some, None, map}
 use Rattle.std.specs.List.{cons_option}
-use Rattle.krieg_board.proofs.Common.{is_same_side, Pos, Side, Move}
-use Rattle.krieg_words.proofs.Common.{opening, told_line}
+use Rattle.krieg_board.specs.Men.{is_same_side}
+use Rattle.krieg_board.specs.Pos.{Pos}
+use Rattle.krieg_board.specs.declared.men.Side.{Side}
+use Rattle.krieg_board.specs.declared.men.Move.{Move}
+use Rattle.krieg_words.specs.WordsOfMoves.{opening}
+use Rattle.krieg_words.specs.Line.{told_line}
 use Rattle.krieg_words.specs.declared.line.Line.TheVariants as line
-use Rattle.krieg_referee.proofs.Common.{Event, Verdict, Over, Early, Illegal, Done, verdict, next, is_done, position_after, judge, judged, strip, line_for, lines_for, others_line, own_line, HearsNoMore}
+use Rattle.krieg_referee.specs.declared.verdict.Event.{Event}
+use Rattle.krieg_referee.specs.declared.verdict.Verdict.{Verdict}
+use Rattle.krieg_referee.specs.declared.verdict.Verdict.TheVariants.{Over, Early, Illegal, Done}
+use Rattle.krieg_referee.specs.Verdicts.{verdict, next, is_done, position_after}
+use Rattle.krieg_referee.specs.Games.{judge, judged}
+use Rattle.krieg_referee.specs.Hearing.{strip, line_for, lines_for, others_line, own_line}
+use Rattle.krieg_referee.specs.Laws.{HearsNoMore}
 
 position_kept : (v : Verdict) (p : Pos) (m : Move) → is_done v ≡ false → position_after v p m ≡ p
 position_kept Over p m h = refl

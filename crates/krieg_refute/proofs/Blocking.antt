@@ -3,27 +3,20 @@ use Rattle.std.proofs.Common.{◌≡◌, ℕ, zero, suc, ◌-◌, ◌<◌, Bool,
 use Rattle.std.specs.Prelude.{◌==◌, IfSome, option_map, if◌then◌else◌}
 use Rattle.std.proofs.lemmas.Bool.{eqb-true, false_from_ne_true}
 use Rattle.std.proofs.lemmas.List.Elements.{All-head, All-tail, All-weaker}
-use Rattle.krieg_board.proofs.Common.{Pos, Move}
-use Rattle.krieg_words.proofs.Common.{Dialect}
-use Rattle.krieg_pack.proofs.Common.{position_lt}
-use Rattle.krieg_theory.proofs.Common.{In, refused, legal_in_some, keys, class}
-use Rattle.krieg_costs.proofs.Common.{Block, Lives, Stale, LostClass, LostRefused, NoBlock, block, pair_of, block_pair, behind, Reason, ByLife, ByStalemate, ByClass, ByRefused}
+use Rattle.krieg_refute.proofs.Common.{Pos, Move, Dialect, position_lt, refused, legal_in_some, keys, class, Block, Lives, Stale, LostClass, LostRefused, NoBlock, block, pair_of, block_pair, behind, ByLife, ByStalemate, ByClass, ByRefused, StoredLost, stored, claimed, add_all, is_loss, positions_in, reasons_in, AreFew, behind_try, Stands, Key, chess, class_pair, Interned, entries, Left, Leaves, IsReady, AddsSets, Asked, Claimed, Why, Draft, claims_over, AreWithin, why_of, claims_of, most_claims, most_claimed, IsBlockedBy, IsLost, is_lost_class, at_once_reason, pairs_in, IsClaimed, Claims, Blocks}
+use Rattle.krieg_theory.specs.Sets.{In}
+use Rattle.krieg_costs.specs.Refutation.{Reason}
 use Rattle.krieg_costs.proofs.Blocks.{BlockSays, block_says}
 use Rattle.krieg_costs.proofs.Reached.{class_some}
-use Rattle.krieg_accounts.proofs.Common.{StoredLost, stored}
 use Rattle.krieg_accounts.proofs.TryEnds.{find_map}
-use Rattle.krieg_claims.proofs.Common.{claimed, add_all, is_loss, positions_in, reasons_in, AreFew, behind_try, Stands}
 use Rattle.krieg_claims.specs.Written as written
 use Rattle.krieg_claims.proofs.Adding.{in_all}
 use Rattle.krieg_claims.proofs.Standing.{claimed_root}
 use Rattle.krieg_claims.proofs.StoredLosses.{block_lost, class_blocks, refused_blocks, at_once}
-use Rattle.krieg_game.proofs.Common.{Key, chess, class_pair}
 use Rattle.krieg_game.proofs.ChessLaws.{chess_is_game}
-use Rattle.krieg_table.proofs.Common.{Interned, entries}
-use Rattle.krieg_search.proofs.Common.{Left, Leaves, IsReady, AddsSets, Asked}
 use Rattle.krieg_search.proofs.Blocked.{keyed_some, keyed_none, alive}
 use Rattle.krieg_search.proofs.Building.{adds_nothing, adds_then}
-use Rattle.krieg_refute.proofs.Common.{Claimed, Why, Draft, Claim, claims_over, AreWithin, why_of, claims_of, most_claims, most_claimed, IsBlockedBy, IsLost, is_lost_class, at_once_reason, pairs_in, IsClaimed, Claims, Blocks}
+use Rattle.krieg_refute.specs.declared.refutation.Claim.{Claim}
 use Rattle.krieg_refute.proofs.Carrying.{AreTooMany}
 
 is_one : (i : ℕ) → (suc i == 1) ≡ (i == 0)

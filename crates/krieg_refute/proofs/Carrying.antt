@@ -3,22 +3,16 @@ use Rattle.std.proofs.Common.{◌≡◌, ℕ, suc, ◌+◌, ◌-◌, ◌<◌, fa
 use Rattle.std.specs.Result.{IsErrAnd}
 use Rattle.std.proofs.lemmas.List.{drop_more, take-append-drop}
 use Rattle.std.proofs.lemmas.Grind.{flat_map-append}
-use Rattle.krieg_board.proofs.Common.{Pos, Move}
-use Rattle.krieg_words.proofs.Common.{Dialect}
-use Rattle.krieg_theory.proofs.Common.{In, is_nil, tries, can}
-use Rattle.krieg_claims.proofs.Common.{claimed, add_all, AreMany, behind_try, Walks, WalksTries}
+use Rattle.krieg_refute.proofs.Common.{Pos, Move, Dialect, is_nil, tries, can, claimed, add_all, AreMany, behind_try, Walks, WalksTries, chess, Interned, AddsSets, SearchStop, Spent, Large, NoMemory, block_pair, Key, Asked, Claimed, most_claims, most_claimed, pairs_in, IsNext, IsPushed, Claims}
+use Rattle.krieg_theory.specs.Sets.{In}
 use Rattle.krieg_claims.specs.Written as written
 use Rattle.krieg_claims.proofs.Adding.{all_append}
 use Rattle.krieg_claims.proofs.Standing.{claimed_step}
 use Rattle.krieg_claims.proofs.Walking.{many_behind, root_walks, root_is_new}
-use Rattle.krieg_game.proofs.Common.{chess, Key}
 use Rattle.krieg_game.proofs.ChessLaws.{chess_is_game}
-use Rattle.krieg_table.proofs.Common.{Interned}
-use Rattle.krieg_search.proofs.Common.{AddsSets, SearchStop, Spent, Large, NoMemory, Asked}
 use Rattle.std.specs.Prelude.{IfSome}
-use Rattle.krieg_costs.proofs.Common.{block_pair, Reason}
+use Rattle.krieg_costs.specs.Refutation.{Reason}
 use Rattle.krieg_costs.proofs.Costs.{legal_try}
-use Rattle.krieg_refute.proofs.Common.{Claimed, most_claims, most_claimed, pairs_in, IsNext, IsPushed, Claims}
 
 -- why a step stopped is why the whole does
 pub carried : {B : Type 0} (P : SearchStop → Type 0) (r : Result B SearchStop) (e : SearchStop) (C : SearchStop → Type 0) (W : Result B SearchStop → Type 0)

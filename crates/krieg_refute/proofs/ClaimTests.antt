@@ -3,17 +3,14 @@ use Rattle.std.proofs.Common.{◌≡◌, ℕ, zero, suc, ◌+◌, ◌-◌, ◌<�
 use Rattle.std.specs.List.{list_all, list_any}
 use Rattle.std.proofs.lemmas.List.{map-append, take_more, drop_more}
 use Rattle.std.proofs.lemmas.Bool.{and_parts, and_from, cases_Bool, cond-true, cond-false, not-true, not_from_false, leb-true, le-leb, ltb-false, le-ltb}
-use Rattle.krieg_board.proofs.Common.{Pos, Move, move_lt}
-use Rattle.krieg_words.proofs.Common.{Dialect}
-use Rattle.krieg_theory.proofs.Common.{In, is_nil, same, legal_in_some, tries}
+use Rattle.krieg_refute.proofs.Common.{Pos, Move, Dialect, is_nil, same, legal_in_some, tries, last_of, holds, are_reasons, claim_holds, claims_hold, Key, chess, move_lt, holds_if_own, try_holds}
+use Rattle.krieg_theory.specs.Sets.{In}
 use Rattle.krieg_theory.proofs.Lists.{all_at, all_from, any_at, any_from}
 use Rattle.krieg_theory.proofs.Ascending.{same_eq, same_refl}
-use Rattle.krieg_costs.proofs.Common.{Reason, Claim, last_of, holds, are_reasons, claim_holds, claims_hold}
+use Rattle.krieg_costs.specs.Refutation.{Reason, Claim}
 use Rattle.krieg_costs.proofs.Costs.{try_legal, legal_try}
-use Rattle.krieg_game.proofs.Common.{Key, chess}
 use Rattle.krieg_game.proofs.ChessLaws.{chess_is_game}
 use Rattle.krieg_game.proofs.MoveOrder.{move_order}
-use Rattle.krieg_refute.proofs.Common.{holds_if_own, try_holds}
 
 pub both : (a b : Bool) → (a ≡ true → b ≡ true) → (b ≡ true → a ≡ true) → a ≡ b
 both true b f g = sym (f refl)

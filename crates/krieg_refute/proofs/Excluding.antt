@@ -3,9 +3,8 @@ use Rattle.std.proofs.Common.{◌≡◌, Bool, true, ◌&&◌, [], sym, ◌∙�
 use Rattle.std.proofs.lemmas.Bool.{and_parts, and_from}
 use Rattle.krieg_costs.specs.Refutation as theory
 use Rattle.krieg_costs.proofs.Refuted.{refutation_excludes}
-use Rattle.krieg_game.proofs.Common.{chess, outset}
+use Rattle.krieg_refute.proofs.Common.{chess, outset, Refutation, claims_of, is_own_turn, NoneMates}
 use Rattle.krieg_game.proofs.ChessLaws.{chess_is_game, outset_is_lawful}
-use Rattle.krieg_refute.proofs.Common.{Refutation, claims_of, is_own_turn, NoneMates}
 
 module _ (f : Refutation) where
   pub excluded : (held denied : Bool) → held ≡ theory.claims_hold (chess f.dialect) [] (claims_of f.dialect f.claims.items)

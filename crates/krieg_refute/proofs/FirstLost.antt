@@ -3,30 +3,22 @@ use Rattle.std.proofs.Common.{◌≡◌, ℕ, ◌<◌, Bool, true, false, not, L
 use Rattle.std.specs.Prelude.{IfSome, option_map}
 use Rattle.std.specs.Result.{IsErrAnd}
 use Rattle.std.proofs.lemmas.Bool.{both_ways, not_from_false, false_from_ne_true, true_from_ne_false}
-use Rattle.krieg_board.proofs.Common.{Pos, Side}
-use Rattle.krieg_words.proofs.Common.{Dialect}
-use Rattle.krieg_pack.proofs.Common.{position_lt}
-use Rattle.krieg_theory.proofs.Common.{In, is_nil, can, is_over, openings, opening_set, can_plan}
+use Rattle.krieg_refute.proofs.Common.{Pos, Side, Dialect, position_lt, is_nil, can, is_over, openings, opening_set, can_plan, first_lost, stored, claims, claims_from, denial, is_loss, AreMany, RootKey, chess, outset, Interned, set_at, entries, Opening, Found, SearchStop, opening_in, sets_in, IsDecided, Denied, claims_of, most_claims, most_claimed, IsLost, is_lost_opening, AreClaims, IsDenial, IsMated, IsDenied, IsTaken}
+use Rattle.krieg_theory.specs.Sets.{In}
 use Rattle.krieg_theory.proofs.Lists.{any_none}
 use Rattle.krieg_theory.proofs.Planned.{can_plan_from, mates_shows}
 use Rattle.krieg_theory.proofs.Theorems.{can_plan_is_mated}
-use Rattle.krieg_costs.proofs.Common.{first_lost}
 use Rattle.krieg_costs.proofs.Blocks.{found, none_found}
 use Rattle.krieg_costs.proofs.Reached.{opening_some}
 use Rattle.krieg_accounts.proofs.TryEnds.{find_map}
-use Rattle.krieg_accounts.proofs.Common.{stored}
 use Rattle.krieg_accounts.proofs.Tables.{result_can}
-use Rattle.krieg_claims.proofs.Common.{claims, claims_from, denial, is_loss, AreMany}
 use Rattle.krieg_claims.proofs.Denied.{denial_refutes}
 use Rattle.krieg_claims.proofs.StoredLosses.{find_agree}
 use Rattle.krieg_costs.specs.Refutation as theory
-use Rattle.krieg_game.proofs.Common.{RootKey, chess, outset}
 use Rattle.krieg_game.proofs.ChessLaws.{chess_is_game, outset_is_lawful}
-use Rattle.krieg_table.proofs.Common.{Interned, set_at, entries}
-use Rattle.krieg_search.proofs.Common.{Opening, Found, SearchStop, opening_in, sets_in, IsDecided}
 use Rattle.krieg_search.specs.declared.stop.SearchStop.TheVariants as search
 use Rattle.krieg_search.specs.Decided as decided
-use Rattle.krieg_refute.proofs.Common.{Claim, Denied, claims_of, most_claims, most_claimed, IsLost, is_lost_opening, AreClaims, IsDenial, IsMated, IsDenied, IsTaken}
+use Rattle.krieg_refute.specs.declared.refutation.Claim.{Claim}
 
 is_stored : (o : Option (Option (Rattle.krieg_board.specs.declared.men.Move.Move))) → is_loss o ≡ true → o ≡ Some None
 is_stored None e = absurd (both_ways false refl e)

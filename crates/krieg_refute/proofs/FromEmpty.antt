@@ -2,15 +2,10 @@
 use Rattle.std.proofs.Common.{◌≡◌, ℕ, List, [], Vec, Global, Result, Ok, Err, sym, ap, subst, ◌∙◌, arith, length, ◌<◌}
 use Rattle.std.proofs.lemmas.List.Elements.{All-nil, All-same}
 use Rattle.std.specs.Result.{IsErrAnd}
-use Rattle.krieg_board.proofs.Common.{Pos}
-use Rattle.krieg_words.proofs.Common.{Dialect}
-use Rattle.krieg_theory.proofs.Common.{In}
-use Rattle.krieg_claims.proofs.Common.{claimed, add_all, positions_in, reasons_in, AreFew, AreMany, Stands}
+use Rattle.krieg_refute.proofs.Common.{Pos, Dialect, claimed, add_all, positions_in, reasons_in, AreFew, AreMany, Stands, chess, Interned, SearchStop, Claimed, Draft, claims_over, claims_of, most_claims, most_claimed, pairs_in, IsClaimed, Claims, AreClaims}
+use Rattle.krieg_theory.specs.Sets.{In}
 use Rattle.krieg_claims.specs.Written as written
-use Rattle.krieg_game.proofs.Common.{chess}
-use Rattle.krieg_table.proofs.Common.{Interned}
-use Rattle.krieg_search.proofs.Common.{SearchStop}
-use Rattle.krieg_refute.proofs.Common.{Claimed, Claim, Draft, claims_over, claims_of, most_claims, most_claimed, pairs_in, IsClaimed, Claims, AreClaims}
+use Rattle.krieg_refute.specs.declared.refutation.Claim.{Claim}
 use Rattle.krieg_refute.proofs.Carrying.{carried}
 
 module _ (d : Dialect) (T : Interned) (w : Claimed) (ws : w.claims.items ≡ []) (ks : w.places.keys ≡ []) where

@@ -2,22 +2,15 @@
 use Rattle.std.proofs.Common.{◌≡◌, ℕ, ◌<◌, Bool, true, false, not, ◌&&◌, ◌||◌, ◌⊎◌, List, [], ◌∷◌, map, length, refl, sym, ap, subst, inl, inr, ◌∙◌, arith}
 use Rattle.std.specs.Prelude.{◌==◌}
 use Rattle.std.proofs.lemmas.Bool.{cases_Bool, cond-true, cond-false, both_ways, false_from_ne_true, eqb-true}
-use Rattle.krieg_board.proofs.Common.{Pos, Move}
-use Rattle.krieg_words.proofs.Common.{Dialect}
-use Rattle.krieg_pack.proofs.Common.{set_of}
-use Rattle.krieg_theory.proofs.Common.{In, is_nil, same, keys, class}
+use Rattle.krieg_refute.proofs.Common.{Pos, Move, Dialect, set_of, is_nil, same, keys, class, lives_in_some, Key, key_lt, chess, class_pair, Parted, IsParted, Why, why_of, class_in}
+use Rattle.krieg_theory.specs.Sets.{In}
 use Rattle.krieg_theory.proofs.Lists.{nil_or_member}
 use Rattle.krieg_theory.proofs.Ascending.{same_eq, same_refl}
 use Rattle.krieg_theory.proofs.Theorems.{classes_are_split}
-use Rattle.krieg_costs.proofs.Common.{lives_in_some}
 use Rattle.krieg_costs.specs.Refutation as theory
 use Rattle.krieg_costs.proofs.Reached.{not_nil}
-use Rattle.krieg_game.proofs.Common.{Key, key_lt, chess, class_pair}
 use Rattle.krieg_game.proofs.KeyLaws.{key_order}
 use Rattle.krieg_game.proofs.ChessLaws.{chess_is_game}
-use Rattle.krieg_parting.proofs.Common.{Parted}
-use Rattle.krieg_split.proofs.Common.{IsParted}
-use Rattle.krieg_refute.proofs.Common.{Why, why_of, class_in}
 use Rattle.krieg_refute.proofs.ClassesAt.{lives_is}
 
 -- the set at a key of a list of classes

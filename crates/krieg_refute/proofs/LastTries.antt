@@ -4,17 +4,11 @@ use Rattle.std.specs.Prelude.{All}
 use Rattle.std.specs.List.{list_all}
 use Rattle.std.proofs.lemmas.Bool.{and_parts, and_from}
 use Rattle.std.proofs.lemmas.List.Elements.{All-map}
-use Rattle.krieg_board.proofs.Common.{Pos, Move}
-use Rattle.krieg_words.proofs.Common.{Dialect}
-use Rattle.krieg_pack.proofs.Common.{position_lt}
+use Rattle.krieg_refute.proofs.Common.{Pos, Move, Dialect, position_lt, same, refused, total, made, is_within, chess, refuses, tally_of, Tally}
 use Rattle.krieg_pack.proofs.PositionSets.{position_order}
-use Rattle.krieg_theory.proofs.Common.{In, same, refused}
+use Rattle.krieg_theory.specs.Sets.{In}
 use Rattle.krieg_theory.proofs.Lists.{all_at, all_from, any_at, any_from, in_filter, filter_in}
 use Rattle.krieg_theory.proofs.Ascending.{same_eq, same_refl}
-use Rattle.krieg_costs.proofs.Common.{total, made, is_within}
-use Rattle.krieg_game.proofs.Common.{chess}
-use Rattle.krieg_parting.proofs.Common.{refuses}
-use Rattle.krieg_split.proofs.Common.{tally_of, Tally}
 use Rattle.krieg_refute.proofs.ClaimTests.{both}
 
 -- a set is within itself

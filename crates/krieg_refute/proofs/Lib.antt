@@ -1,3 +1,4 @@
+mod Common
 mod Slots
 pub mod Membership
 pub mod ClassesAt
@@ -16,4 +17,3 @@ pub mod FirstLost
 pub mod FromEmpty
 pub mod Sides
 pub mod Excluding
-pub mod Common

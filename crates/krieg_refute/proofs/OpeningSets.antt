@@ -4,20 +4,14 @@ use Rattle.std.specs.List.{list_any, list_all}
 use Rattle.std.specs.Ordering.{is_eq}
 use Rattle.std.specs.Cmp.{Equal-is}
 use Rattle.std.proofs.lemmas.Bool.{and_parts, and_from, both_ways, not-true, not_from_false}
-use Rattle.krieg_board.proofs.Common.{Pos, Side}
-use Rattle.krieg_words.proofs.Common.{words_cmp, opening, told, Dialect}
+use Rattle.krieg_refute.proofs.Common.{Pos, Side, words_cmp, opening, told, Dialect, position_lt, IsSetOf, is_nil, same, openings, opening_set, is_within, RootKey, chess, outset, IsOwnTurn, opens_with, within_opening}
 use Rattle.krieg_words.proofs.OrderLaws.{words_cmp_equal, words_cmp_self}
-use Rattle.krieg_pack.proofs.Common.{position_lt, IsSetOf}
 use Rattle.krieg_pack.proofs.PositionSets.{position_order}
-use Rattle.krieg_theory.proofs.Common.{In, is_nil, same, openings, opening_set}
+use Rattle.krieg_theory.specs.Sets.{In}
 use Rattle.krieg_theory.proofs.Lists.{all_at, all_from, any_at, any_from, nil_or_member}
 use Rattle.krieg_theory.proofs.Ascending.{same_eq, same_refl}
-use Rattle.krieg_costs.proofs.Common.{is_within}
 use Rattle.krieg_costs.proofs.Reached.{not_nil}
-use Rattle.krieg_game.proofs.Common.{RootKey, chess, outset}
 use Rattle.krieg_game.proofs.Starting.{openings_are_members, openings_occur}
-use Rattle.krieg_split.proofs.Common.{IsOwnTurn}
-use Rattle.krieg_refute.proofs.Common.{opens_with, within_opening}
 use Rattle.krieg_refute.proofs.ClaimTests.{both}
 
 module _ (d : Dialect) (who : Side) (S B : List Pos) (s : IsSetOf B S) (own : IsOwnTurn who S) where

@@ -3,18 +3,11 @@ use Rattle.std.proofs.Common.{◌≡◌, ℕ, zero, suc, ◌<◌, ◌==◌, ◌&
 use Rattle.std.specs.List.{list_any}
 use Rattle.std.proofs.lemmas.List.Quantifiers.{position-Some}
 use Rattle.std.proofs.lemmas.Bool.{both_ways, cond-true, cond-false, false_from_ne_true, and_parts, eqb-true}
-use Rattle.krieg_board.proofs.Common.{Pos}
-use Rattle.krieg_theory.proofs.Common.{In}
+use Rattle.krieg_refute.proofs.Common.{Pos, Dialect, IsOnce, same_pair, index_of, chess, Interned, sets, set_at, Asked, pairs_in}
+use Rattle.krieg_theory.specs.Sets.{In}
 use Rattle.krieg_theory.proofs.Lists.{any_from, map_in}
-use Rattle.krieg_words.proofs.Common.{Dialect}
-use Rattle.krieg_costs.proofs.Common.{IsOnce, same_pair}
 use Rattle.krieg_costs.proofs.Pairs.{same_pair_eq, same_pair_refl}
-use Rattle.krieg_claims.proofs.Common.{index_of}
-use Rattle.krieg_game.proofs.Common.{chess}
 use Rattle.krieg_game.proofs.ChessLaws.{chess_is_game}
-use Rattle.krieg_table.proofs.Common.{Interned, sets, set_at}
-use Rattle.krieg_search.proofs.Common.{Asked}
-use Rattle.krieg_refute.proofs.Common.{pairs_in}
 
 set_in : (T : Interned) (i : ℕ) → i < length T → In (set_at T i) (sets T)
 set_in [] i h = absurd (omega arith)

@@ -2,23 +2,17 @@
 use Rattle.std.proofs.Common.{◌≡◌, ℕ, suc, ◌+◌, ◌<◌, ◌≤◌, min, leb, Bool, true, false, ◌⊎◌, List, [], ◌∷◌, ◌++◌, length, sym, ap, subst, inl, inr, ◌∙◌, arith, length-append}
 use Rattle.std.proofs.lemmas.Bool.{cases_Bool, cond-true, cond-false, both_ways, false_from_ne_true, leb-true, leb-false}
 use Rattle.std.proofs.lemmas.List.{map-append, length-map}
-use Rattle.krieg_board.proofs.Common.{Pos}
-use Rattle.krieg_words.proofs.Common.{Dialect}
-use Rattle.krieg_theory.proofs.Common.{In}
+use Rattle.krieg_refute.proofs.Common.{Pos, Dialect, same_pair, index_of, place_of, positions_in, reasons_in, AreFew, AreMany, Stands, chess, Interned, set_at, Asked, reason_of, claim_of, claims_of, most_claims, most_claimed, pairs_in, IsNext}
+use Rattle.krieg_theory.specs.Sets.{In}
 use Rattle.krieg_theory.proofs.Lists.{append_in}
-use Rattle.krieg_costs.proofs.Common.{same_pair}
 use Rattle.krieg_costs.specs.Refutation as theory
 use Rattle.krieg_costs.proofs.Pairs.{same_pair_eq, same_pair_refl}
 use Rattle.krieg_costs.proofs.Totals.{total_append}
 use Rattle.krieg_claims.specs.Written as written
-use Rattle.krieg_claims.proofs.Common.{index_of, place_of, positions_in, reasons_in, AreFew, AreMany, Stands}
 use Rattle.krieg_claims.proofs.Standing.{stands_more}
 use Rattle.krieg_claims.proofs.Walking.{claims_more}
-use Rattle.krieg_game.proofs.Common.{chess}
 use Rattle.krieg_game.proofs.ChessLaws.{chess_is_game}
-use Rattle.krieg_table.proofs.Common.{Interned, set_at}
-use Rattle.krieg_search.proofs.Common.{Asked}
-use Rattle.krieg_refute.proofs.Common.{Claim, reason_of, claim_of, claims_of, most_claims, most_claimed, pairs_in, IsNext}
+use Rattle.krieg_refute.specs.declared.refutation.Claim.{Claim}
 
 module _ (d : Dialect) where
   -- the index of a pair that comes behind all others

@@ -2,17 +2,13 @@
 use Rattle.std.proofs.Common.{◌≡◌, ℕ, suc, ◌+◌, ◌-◌, ◌<◌, List, [], ◌∷◌, ◌++◌, length, map, take, get_or, sym, ap, subst, ◌∙◌, arith}
 use Rattle.std.specs.Prelude.{IfSome}
 use Rattle.std.proofs.lemmas.List.{map-append, take_more}
-use Rattle.krieg_board.proofs.Common.{Pos, Move}
-use Rattle.krieg_words.proofs.Common.{Dialect}
-use Rattle.krieg_theory.proofs.Common.{In}
-use Rattle.krieg_costs.proofs.Common.{block_pair, Reason}
-use Rattle.krieg_claims.proofs.Common.{add_all, reason_at, behind_try, WalksTries, Stands, HasTries}
+use Rattle.krieg_refute.proofs.Common.{Pos, Move, Dialect, block_pair, add_all, reason_at, behind_try, WalksTries, Stands, HasTries, Key, chess, why_of, reason_of}
+use Rattle.krieg_theory.specs.Sets.{In}
+use Rattle.krieg_costs.specs.Refutation.{Reason}
 use Rattle.krieg_claims.proofs.Adding.{all_more}
 use Rattle.krieg_claims.proofs.Walking.{walks_try, reasons_keep}
-use Rattle.krieg_game.proofs.Common.{Key, chess}
 use Rattle.krieg_game.proofs.ChessLaws.{chess_is_game}
 use Rattle.krieg_refute.specs.declared.refutation.Reason.{Reason as Reason'}
-use Rattle.krieg_refute.proofs.Common.{why_of, reason_of}
 
 module _ (d : Dialect) where
   abbrev pub told : List (List Pos × ℕ) → ℕ → List Pos → List Move → List (Move × Reason Key)

@@ -2,18 +2,11 @@
 use Rattle.std.proofs.Common.{◌≡◌, ℕ, ◌<◌, ◌-◌, false, true, List, ◌∷◌, length, map, get_or, Result, Ok, Err, Vec, sym, ap, subst, ◌∙◌, arith}
 use Rattle.std.specs.declared.alloc.Global.{Global}
 use Rattle.std.proofs.lemmas.List.{length-map, get_or-map}
-use Rattle.krieg_board.proofs.Common.{Pos, Move}
-use Rattle.krieg_words.proofs.Common.{Dialect}
-use Rattle.krieg_theory.proofs.Common.{legal_in_some}
+use Rattle.krieg_refute.proofs.Common.{Pos, Move, Dialect, legal_in_some, add_all, WalksTries, chess, Interned, set_at, IsMore, Asked, Note, SearchStop, Spent, Large, NoMemory, IsBlock, IsRow, AddsSets, Claimed, pairs_in, IsClaimed, Reasons}
 use Rattle.krieg_accounts.proofs.TryWalk.{legal_at}
-use Rattle.krieg_claims.proofs.Common.{add_all, WalksTries}
-use Rattle.krieg_game.proofs.Common.{chess}
 use Rattle.krieg_game.proofs.ChessLaws.{chess_is_game}
-use Rattle.krieg_table.proofs.Common.{Interned, set_at, IsMore}
-use Rattle.krieg_search.proofs.Common.{Asked, Note, SearchStop, Spent, Large, NoMemory, IsBlock, IsRow, AddsSets}
 use Rattle.krieg_search.proofs.Building.{adds_then}
 use Rattle.krieg_search.proofs.Noted.{more_block}
-use Rattle.krieg_refute.proofs.Common.{Claimed, pairs_in, IsClaimed, Reasons}
 use Rattle.krieg_refute.specs.declared.refutation.Reason.{Reason as Reason'}
 use Rattle.krieg_refute.proofs.Blocking.{same_pairs}
 use Rattle.krieg_refute.proofs.Carrying.{AreTooMany}

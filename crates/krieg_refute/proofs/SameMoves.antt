@@ -3,10 +3,9 @@ use Rattle.std.proofs.Common.{◌≡◌, Bool, true, sym, ap, subst, ◌∙◌}
 use Rattle.std.specs.Cmp.{Equal-is}
 use Rattle.std.specs.Ordering.{is_eq}
 use Rattle.std.proofs.lemmas.Cmp.{tied_itself}
-use Rattle.krieg_board.proofs.Common.{move_lt, move_cmp, Move}
+use Rattle.krieg_refute.proofs.Common.{move_lt, move_cmp, Move, same}
 use Rattle.krieg_board.specs.contracts.men.MovePartialEq.TheImpl as derived_eq
 use Rattle.krieg_board.proofs.MoveOrder.{move_eq_derived, move_total, move_equal}
-use Rattle.krieg_theory.proofs.Common.{same}
 use Rattle.krieg_theory.proofs.Ascending.{same_is}
 use Rattle.krieg_game.proofs.MoveOrder.{move_order}
 

@@ -1,9 +1,7 @@
 -- Whose turn it is, by the first member.
 use Rattle.std.proofs.Common.{◌≡◌, true, ◌⊎◌, List, [], ◌∷◌, inl, inr, refl}
 use Rattle.std.proofs.lemmas.Bool.{both_ways}
-use Rattle.krieg_board.proofs.Common.{is_same_side, Pos, Side, White, Black}
-use Rattle.krieg_split.proofs.Common.{IsOwnTurn, IsOthersTurn}
-use Rattle.krieg_refute.proofs.Common.{side_of, IsOneSide}
+use Rattle.krieg_refute.proofs.Common.{is_same_side, Pos, Side, White, Black, IsOwnTurn, IsOthersTurn, side_of, IsOneSide}
 
 same_side : (s : Side) → is_same_side s s ≡ true
 same_side White = refl

@@ -1,8 +1,8 @@
 -- The sets of a table, which are moved into claims one by one.
 use Rattle.std.proofs.Common.{◌≡◌, ℕ, zero, suc, ◌<◌, List, [], ◌∷◌, ◌++◌, length, set, map, slice_index_or, Option, Some, None, refl, ap, ◌∙◌, arith}
-use Rattle.krieg_board.proofs.Common.{Pos}
-use Rattle.krieg_table.proofs.Common.{Interned, sets, set_at}
-use Rattle.krieg_refute.proofs.Common.{Slot, Here, In, Claim, set_in, HaveSets}
+use Rattle.krieg_refute.proofs.Common.{Pos, Interned, sets, set_at, Slot, Here, set_in, HaveSets}
+use Rattle.krieg_refute.specs.declared.claims.Slot.TheVariants.{In}
+use Rattle.krieg_refute.specs.declared.refutation.Claim.{Claim}
 
 pub none_taken : (Bs : List (List Pos)) → map (set_in []) (map (λ B. Here B) Bs) ≡ map Some Bs
 none_taken [] = refl

@@ -4,16 +4,11 @@ use Rattle.std.specs.Prelude.{◌&&◌}
 use Rattle.std.specs.List.{list_all}
 use Rattle.std.proofs.lemmas.Bool.{and_parts}
 use Rattle.std.proofs.lemmas.List.{length-map}
-use Rattle.krieg_board.proofs.Common.{is_same_side, Move}
-use Rattle.krieg_words.proofs.Common.{Dialect}
+use Rattle.krieg_refutefile.proofs.Common.{is_same_side, Move, Dialect, price, total, ByLife, ByStalemate, ByClass, ByRefused, Key, chess, outset, why_of, reason_of, claim_of, claims_of, is_own_turn, refutes, claims_price, Why, Lives, Stale, Class, Refused, Reason, Claim, Refutation, ClaimState, RefutationState, NoneMates, claim_state_of, state_of, claims_in, is_refutation, refutation_price, why_from, reason_from, claim_from, file_of, positions_in, reasons_in}
 use Rattle.krieg_costs.proofs.Refuted.{refutation_excludes}
-use Rattle.krieg_costs.proofs.Common.{price, total, ByLife, ByStalemate, ByClass, ByRefused}
 use Rattle.krieg_costs.specs.Refutation as theory
 use Rattle.krieg_claims.specs.Sizes as sizes
 use Rattle.krieg_game.proofs.ChessLaws.{chess_is_game, outset_is_lawful}
-use Rattle.krieg_game.proofs.Common.{Key, chess, outset}
-use Rattle.krieg_refute.proofs.Common.{why_of, reason_of, claim_of, claims_of, is_own_turn, refutes, claims_price, Why, Lives, Stale, Class, Refused, Reason, Claim, Refutation}
-use Rattle.krieg_refutefile.proofs.Common.{ClaimState, RefutationState, NoneMates, claim_state_of, state_of, claims_in, is_refutation, refutation_price, why_from, reason_from, claim_from, file_of, positions_in, reasons_in}
 
 -- ---- a refutation and its state
 

@@ -2,9 +2,7 @@
 use Rattle.std.proofs.Common.{◌≡◌, ℕ, zero, suc, Bool, true, List, [], ◌∷◌, map, length, Option, Some, None, inl, inr, refl, subst}
 use Rattle.std.specs.List.{All}
 use Rattle.std.proofs.lemmas.List.Elements.{All-nil, All-cons, All-head, All-tail}
-use Rattle.krieg_theory.proofs.Common.{In, Ascending, IsOrder}
-use Rattle.krieg_planfile.proofs.Common.{follows}
-use Rattle.krieg_format.proofs.Common.{EachFits}
+use Rattle.krieg_refutefile.proofs.Common.{In, Ascending, IsOrder, follows, EachFits}
 
 -- each is greater than the last one, where there is one
 abbrev pub After : {K : Type 0} → (K → K → Bool) → Option K → List K → Type 0

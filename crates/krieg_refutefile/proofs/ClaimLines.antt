@@ -1,8 +1,7 @@
 -- Which lines stand before the positions of a claim.
 use Rattle.std.proofs.Common.{◌≡◌, ℕ, ◌<◌, ◌≤◌, ◌^◌, List, ◌∷◌, ◌++◌, Option, Some, None, Result, Ok, Err, refl, ap, subst, ◌∙◌, arith}
 use Rattle.std.specs.Prelude.{codes}
-use Rattle.krieg_board.proofs.Common.{MOST_MOVES}
-use Rattle.krieg_text.proofs.Common.{NumberFault, NotPlain, OutOfRange, number_text, number_between, cut, joined}
+use Rattle.krieg_refutefile.proofs.Common.{MOST_MOVES, NumberFault, NotPlain, OutOfRange, number_text, number_between, cut, joined, MOST_CLAIMED, both_numbers, sizes_by, sizes_form, claim_form, AreSizes, a_claim, claim_line}
 use Rattle.krieg_text.proofs.CleanTexts.{number_above, number_line}
 use Rattle.krieg_text.proofs.Formats.{IsForm, named_form}
 use Rattle.krieg_text.proofs.Free.{above_less}
@@ -11,11 +10,9 @@ use Rattle.krieg_text.proofs.NameLemmas.{cut_again, cut_spells}
 use Rattle.krieg_text.proofs.Numbers.{between_spells, between_again}
 use Rattle.krieg_words.proofs.CleanWords.{above_free}
 use Rattle.krieg_words.proofs.PartLaws.{Free}
-use Rattle.krieg_refute.proofs.Common.{MOST_CLAIMED}
 use Rattle.krieg_format.proofs.Judged.{IsLine}
 use Rattle.krieg_format.proofs.Leaves.{formed_law}
 use Rattle.krieg_format.proofs.Writing.{IsWritten}
-use Rattle.krieg_refutefile.proofs.Common.{both_numbers, sizes_by, sizes_form, claim_form, AreSizes, a_claim, claim_line}
 
 abbrev IsSizes : List ℕ → ℕ × ℕ → Type 0
 IsSizes text h = (text ≡ number_text h.0 ++ (32 ∷ number_text h.1)) × AreSizes h

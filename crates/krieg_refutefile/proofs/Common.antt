@@ -1,4 +1,65 @@
--- The words of this crate that proofs cite, passed on from one place.
+-- The words of specs/, of this crate and of those below it, that its proofs cite: passed on from one place.
+unfoldable pub use Rattle.krieg_board.specs.Hand.{same_hand}
+pub use Rattle.krieg_board.specs.Men.{is_same_side}
+pub use Rattle.krieg_board.specs.Order.{move_lt}
+pub use Rattle.krieg_board.specs.Pos.{Pos}
+pub use Rattle.krieg_board.specs.Validity.{IsValid}
+pub use Rattle.krieg_board.specs.declared.limits.TheConstants.{MOST_MOVES}
+pub use Rattle.krieg_board.specs.declared.men.Move.{Move}
+pub use Rattle.krieg_board.specs.declared.men.Side.{Side}
+pub use Rattle.krieg_board.specs.declared.men.Side.TheVariants.{White}
+pub use Rattle.krieg_text.specs.Decimals.{number_between, number_text}
+pub use Rattle.krieg_text.specs.FirstBad.{Has, is_beyond_form}
+pub use Rattle.krieg_text.specs.Formats.{Always, IsReading}
+unfoldable pub use Rattle.krieg_text.specs.Forms.{number_form}
+pub use Rattle.krieg_text.specs.Forms.{ranged}
+pub use Rattle.krieg_text.specs.Lines.{is_line, lines, onto_line}
+unfoldable pub use Rattle.krieg_text.specs.Names.{behind}
+pub use Rattle.krieg_text.specs.Names.{cut}
+pub use Rattle.krieg_text.specs.Outcomes.{◌>>=◌}
+pub use Rattle.krieg_text.specs.Reading.{Gives, GivesOn, IsRefusedAt, Place, ended, on, place, taken, whole}
+pub use Rattle.krieg_text.specs.Writing.{Pieces, Written, Wrote, alone, joined, put_lines}
+pub use Rattle.krieg_text.specs.declared.fault.TextFault.{TextFault}
+pub use Rattle.krieg_text.specs.declared.fault.TextFault.TheVariants.{At, NoMemory}
+pub use Rattle.krieg_text.specs.declared.fault.TextKind.{TextKind}
+pub use Rattle.krieg_text.specs.declared.fault.TextKind.TheVariants.{Count, Differs, Large, OutOfPlace, Syntax, Version}
+pub use Rattle.krieg_text.specs.declared.number.NumberFault.{NumberFault}
+pub use Rattle.krieg_text.specs.declared.number.NumberFault.TheVariants.{NotPlain, OutOfRange}
+unfoldable pub use Rattle.krieg_fen.specs.Forms.{position_form, side_form}
+pub use Rattle.krieg_fen.specs.Forms.{has_turn}
+pub use Rattle.krieg_fen.specs.ListText.{position_line}
+unfoldable pub use Rattle.krieg_fen.specs.MoveText.{move_text}
+pub use Rattle.krieg_fen.specs.MoveText.{move_of}
+pub use Rattle.krieg_fen.specs.declared.forms.Turn.TheVariants.{Own}
+pub use Rattle.krieg_format.specs.Lines.{literal_form}
+pub use Rattle.krieg_format.specs.Readers.{reader, repeated}
+pub use Rattle.krieg_format.specs.Tables.{table}
+pub use Rattle.krieg_format.specs.Written.{EachFits, Fits, each_text, written}
+pub use Rattle.krieg_words.specs.Dialects.{unnamed_dialect}
+unfoldable pub use Rattle.krieg_words.specs.Versions.{dialect_form}
+pub use Rattle.krieg_words.specs.Versions.{dialect_line}
+unfoldable pub use Rattle.krieg_words.specs.WordsText.{words_text}
+pub use Rattle.krieg_words.specs.declared.dialects.Dialect.{Dialect}
+pub use Rattle.krieg_words.specs.declared.dialects.Dialect.TheVariants.{Anytry, Wild16}
+pub use Rattle.krieg_theory.specs.Sets.{Ascending, In, IsOrder}
+pub use Rattle.krieg_costs.specs.Cost.{price}
+pub use Rattle.krieg_costs.specs.Refutation.{ByClass, ByLife, ByRefused, ByStalemate}
+pub use Rattle.krieg_costs.specs.Sums.{total}
+unfoldable pub use Rattle.krieg_pack.specs.Members.{set_of}
+pub use Rattle.krieg_pack.specs.Members.{IsAscending}
+pub use Rattle.krieg_pack.specs.Order.{position_lt}
+pub use Rattle.krieg_game.specs.Chess.{chess}
+pub use Rattle.krieg_game.specs.Keys.{Key}
+pub use Rattle.krieg_game.specs.Outset.{outset}
+pub use Rattle.krieg_planfile.specs.NodeForms.{follows, key_in}
+pub use Rattle.krieg_planfile.specs.PlanFiles.{AreAlike}
+pub use Rattle.krieg_refute.specs.Refutations.{claim_of, claims_of, claims_price, is_own_turn, reason_of, refutes, why_of}
+pub use Rattle.krieg_refute.specs.declared.refutation.Claim.{Claim}
+pub use Rattle.krieg_refute.specs.declared.refutation.Reason.{Reason}
+pub use Rattle.krieg_refute.specs.declared.refutation.Refutation.{Refutation}
+pub use Rattle.krieg_refute.specs.declared.refutation.TheConstants.{MOST_CLAIMED, MOST_CLAIMS}
+pub use Rattle.krieg_refute.specs.declared.refutation.Why.{Why}
+pub use Rattle.krieg_refute.specs.declared.refutation.Why.TheVariants.{Class, Lives, Refused, Stale}
 unfoldable pub use Rattle.krieg_refutefile.specs.LineForms.{claim_form, cut_last, reason_form}
 pub use Rattle.krieg_refutefile.specs.LineForms.{both_numbers, citing_form, class_form, class_with, onto_front, place_form, reason_by, sizes_by, sizes_form, why_form}
 pub use Rattle.krieg_refutefile.specs.OwnedLines.{HaveBytes, at_line, behind_line, lines_back}

@@ -1,6 +1,6 @@
 -- A text that is written into pieces is the text of its lines.
 use Rattle.std.proofs.Common.{◌≡◌, ℕ, List, [], ◌++◌, sym, ap, ◌∙◌, append_assoc}
-use Rattle.krieg_text.proofs.Common.{Pieces, Written, put_lines}
+use Rattle.krieg_refutefile.proofs.Common.{Pieces, Written, put_lines}
 use Rattle.krieg_text.proofs.Writings.{lines_after}
 
 -- lines that are written after the last piece stand after the text

@@ -1,3 +1,4 @@
+mod Common
 mod LastCuts
 mod ClaimLines
 mod ReasonLines
@@ -12,4 +13,3 @@ mod Loops
 mod RefutationTexts
 pub mod Agreeing
 pub mod Sizes
-pub mod Common

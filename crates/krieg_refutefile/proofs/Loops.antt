@@ -2,18 +2,12 @@
 use Rattle.std.proofs.Common.{◌≡◌, ℕ, ◌+◌, ◌-◌, ◌<◌, ◌≤◌, List, [], ◌∷◌, ◌++◌, length, Option, Some, Result, Ok, refl, ap, ◌∙◌, arith, length-append}
 use Rattle.std.specs.Prelude.{slice_get}
 use Rattle.std.specs.Option.{option_map}
-use Rattle.krieg_board.proofs.Common.{Pos}
-use Rattle.krieg_text.proofs.Common.{TextFault, ◌>>=◌, Place}
+use Rattle.krieg_refutefile.proofs.Common.{Pos, TextFault, ◌>>=◌, Place, Dialect, set_of, Reason, MOST_CLAIMED, repeated, set_format, claim_format, member_at, set_at, reason_at, claim_at, last_in, last_move, Totals, ClaimState}
 use Rattle.krieg_text.proofs.Writings.{map_last}
-use Rattle.krieg_words.proofs.Common.{Dialect}
-use Rattle.krieg_pack.proofs.Common.{set_of}
 use Rattle.krieg_pack.proofs.PositionSets.{set_of_ascending}
-use Rattle.krieg_refute.proofs.Common.{Reason, MOST_CLAIMED}
-use Rattle.krieg_format.proofs.Common.{repeated}
 use Rattle.krieg_format.proofs.Fitting.{said_fits}
 use Rattle.krieg_format.proofs.Reading.{law}
 use Rattle.krieg_format.proofs.Repeats.{with_front, item_ok, item_gives, items_end}
-use Rattle.krieg_refutefile.proofs.Common.{set_format, claim_format, member_at, set_at, reason_at, claim_at, last_in, last_move, Totals, ClaimState}
 use Rattle.krieg_refutefile.proofs.RefutationLaws.{set_owes, claim_owes}
 use Rattle.krieg_refutefile.proofs.Writables.{set_from, sizes_from, claim_says}
 

@@ -2,10 +2,9 @@
 use Rattle.std.proofs.Common.{eqb-true, ◌≡◌, ◌≢◌, ◌⊎◌, inl, inr, ℕ, zero, suc, ◌+◌, ◌-◌, ◌<◌, ◌≤◌, Bool, true, false, cond, eqb, List, [], ◌∷◌, ◌++◌, length, get_or, take, drop, Vec, Result, Ok, Err, refl, sym, ap, ◌∙◌, append_assoc, arith, add-one, length-take, length-drop, length-append}
 use Rattle.std.proofs.lemmas.List.{append-nil, drop-drop, take_rest, take_all, drop_all}
 use Rattle.std.specs.declared.alloc.Global.{Global}
-use Rattle.krieg_text.proofs.Common.{lines, onto_line, TextFault, At, NoMemory, TextKind, Syntax, ◌>>=◌, Place, place, on, taken, GivesOn, IsRefusedAt}
+use Rattle.krieg_refutefile.proofs.Common.{lines, onto_line, TextFault, At, NoMemory, TextKind, Syntax, ◌>>=◌, Place, place, on, taken, GivesOn, IsRefusedAt, lines_back, HaveBytes, behind_line, at_line}
 use Rattle.krieg_text.proofs.Locality.{ok_is}
 use Rattle.krieg_text.proofs.LineCuts.{lines_cut, lines_whole, left_lines}
-use Rattle.krieg_refutefile.proofs.Common.{lines_back, HaveBytes, behind_line, at_line}
 
 -- ---- two parts of a text
 

@@ -3,27 +3,21 @@ use Rattle.std.proofs.Common.{◌≡◌, ℕ, ◌+◌, ◌<◌, ◌≤◌, Bool,
 use Rattle.std.specs.Prelude.{codes, slice_index}
 use Rattle.std.specs.Str.{bytes_eq}
 use Rattle.std.proofs.lemmas.Slice.Eq.{bytes_eq-Decides}
-use Rattle.krieg_board.proofs.Common.{Move, Plain}
-use Rattle.krieg_text.proofs.Common.{TextKind, OutOfPlace, NumberFault, NotPlain, OutOfRange, number_text, number_between, Has, ranged, is_line, behind, cut, ◌>>=◌, joined}
+use Rattle.krieg_refutefile.proofs.Common.{Move, TextKind, OutOfPlace, NumberFault, NotPlain, OutOfRange, number_text, number_between, Has, ranged, is_line, behind, cut, ◌>>=◌, joined, move_text, move_of, words_text, Dialect, Key, key_in, MOST_CLAIMS, Why, Lives, Stale, Class, Refused, Reason, place_form, cut_last, class_with, class_form, citing_form, why_form, reason_by, reason_form, a_reason, why_pieces, reason_line, CitesBelow, IsToldWhy, IsToldReason}
+use Rattle.krieg_board.specs.declared.men.Promo.TheVariants.{Plain}
 use Rattle.krieg_text.proofs.CleanTexts.{number_line}
 use Rattle.krieg_text.proofs.Formats.{IsForm}
 use Rattle.krieg_text.proofs.Free.{above_less}
 use Rattle.krieg_text.proofs.LineTexts.{line_above, line_append}
 use Rattle.krieg_text.proofs.NameLemmas.{behind_again, behind_spells, cut_again, cut_spells}
 use Rattle.krieg_text.proofs.Numbers.{between_spells, between_again}
-use Rattle.krieg_fen.proofs.Common.{move_text, move_of}
 use Rattle.krieg_fen.proofs.CleanTexts.{move_above, move_line}
 use Rattle.krieg_fen.proofs.MoveTexts.{move_spells, move_again}
-use Rattle.krieg_words.proofs.Common.{words_text, Dialect}
 use Rattle.krieg_words.proofs.CleanWords.{words_above, above_free}
-use Rattle.krieg_game.proofs.Common.{Key}
-use Rattle.krieg_planfile.proofs.Common.{key_in}
 use Rattle.krieg_planfile.proofs.KeyForms.{key_spells, key_again}
-use Rattle.krieg_refute.proofs.Common.{MOST_CLAIMS, Why, Lives, Stale, Class, Refused, Reason}
 use Rattle.krieg_format.proofs.Judged.{IsLine, Sample}
 use Rattle.krieg_format.proofs.Leaves.{formed_law, formed_some}
 use Rattle.krieg_format.proofs.Writing.{IsWritten}
-use Rattle.krieg_refutefile.proofs.Common.{place_form, cut_last, class_with, class_form, citing_form, why_form, reason_by, reason_form, a_reason, why_pieces, reason_line, CitesBelow, IsToldWhy, IsToldReason}
 use Rattle.krieg_refutefile.proofs.ClaimLines.{number_free}
 use Rattle.krieg_refutefile.proofs.LastCuts.{last_spells, last_again}
 

@@ -1,19 +1,14 @@
 -- A refutation file: what is read is what is spelled, and a fault is the first bad line.
 use Rattle.std.proofs.Common.{◌≡◌, ℕ, ◌≤◌, Bool, true, false, List, ◌++◌, Option, Some, None, Result, Ok, refl, sym, ap, ◌∙◌, arith}
 use Rattle.std.specs.Prelude.{codes}
-use Rattle.krieg_board.proofs.Common.{Pos, Side, White}
-use Rattle.krieg_text.proofs.Common.{TextFault, TextKind, Version, Count, Differs, OutOfPlace, Large, number_text, is_beyond_form, Has, number_form, Always, IsReading, whole, Gives, joined}
+use Rattle.krieg_refutefile.proofs.Common.{Pos, Side, White, TextFault, TextKind, Version, Count, Differs, OutOfPlace, Large, number_text, is_beyond_form, Has, number_form, Always, IsReading, whole, Gives, joined, side_form, position_form, unnamed_dialect, dialect_form, Dialect, literal_form, RefutationState, a_version, a_moves, a_list, a_claims, a_tries, a_dialect, a_side, a_position, a_claim, a_reason, where_not, listed, Totals, set_format, claim_format, refutation_format, refutation_at, SpellsRefutation, RefutationGrammar, claim_line}
 use Rattle.krieg_text.proofs.FormSpellings.{number_read}
-use Rattle.krieg_fen.proofs.Common.{side_form, position_form}
 use Rattle.krieg_fen.proofs.FormSpellings.{positions, side_spells, side_again}
 use Rattle.krieg_fen.proofs.ListGrammars.{lone_kings, kings_valid, written_form}
-use Rattle.krieg_words.proofs.Common.{unnamed_dialect, dialect_form, Dialect}
 use Rattle.krieg_words.proofs.VersionSpellings.{line_is, line_read}
-use Rattle.krieg_format.proofs.Common.{literal_form}
 use Rattle.krieg_format.proofs.Judged.{IsLine, Sample, each_length}
 use Rattle.krieg_format.proofs.Leaves.{IsBeyond, formed_law, formed_some, literal_law, number_law, tested_law, which_law, telling_law}
 use Rattle.krieg_format.proofs.Reading.{Owes, format_reading}
-use Rattle.krieg_refutefile.proofs.Common.{RefutationState, a_version, a_moves, a_list, a_claims, a_tries, a_dialect, a_side, a_position, a_claim, a_reason, where_not, listed, Totals, set_format, claim_format, refutation_format, refutation_at, SpellsRefutation, RefutationGrammar, claim_line}
 use Rattle.krieg_refutefile.proofs.ClaimLines.{claim_law, some_claim}
 use Rattle.krieg_refutefile.proofs.ReasonLines.{reason_law, some_reason}
 

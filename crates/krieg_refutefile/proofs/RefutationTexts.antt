@@ -1,14 +1,12 @@
 -- The text of a refutation spells it, and is read as it again.
 use Rattle.std.proofs.Common.{◌≡◌, true, List, [], Ok, refl, subst, arith}
 use Rattle.std.specs.Prelude.{codes}
-use Rattle.krieg_text.proofs.Common.{Version, Count, lines, is_line, whole, Pieces, put_lines}
+use Rattle.krieg_refutefile.proofs.Common.{Version, Count, lines, is_line, whole, Pieces, put_lines, dialect_line, Dialect, Wild16, Anytry, reader, table, RefutationState, claim_format, refutation_format, refutation_at, SpellsRefutation, a_list, a_claims, a_tries, a_dialect, a_position, a_claim, a_reason, Totals, refutation_text, CanBeWritten}
 use Rattle.krieg_fen.proofs.CleanTexts.{position_line, side_is}
 use Rattle.krieg_fen.proofs.ListSpellings.{written_spells}
-use Rattle.krieg_words.proofs.Common.{dialect_line, Dialect, Wild16, Anytry, Plain}
-use Rattle.krieg_format.proofs.Common.{reader, table}
+use Rattle.krieg_words.specs.declared.dialects.Dialect.TheVariants.{Plain}
 use Rattle.krieg_format.proofs.LeafTexts.{literal_written, number_written, tested_written, which_written, telling_written}
 use Rattle.krieg_format.proofs.Writing.{OwesText, IsWritten, text_says, text_again}
-use Rattle.krieg_refutefile.proofs.Common.{RefutationState, claim_format, refutation_format, refutation_at, SpellsRefutation, a_list, a_claims, a_tries, a_dialect, a_position, a_claim, a_reason, Totals, refutation_text, CanBeWritten}
 use Rattle.krieg_refutefile.proofs.ClaimLines.{claim_written}
 use Rattle.krieg_refutefile.proofs.ReasonLines.{reason_written}
 use Rattle.krieg_refutefile.proofs.RefutationLaws.{refutation_owes}

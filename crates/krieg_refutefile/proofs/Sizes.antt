@@ -3,12 +3,7 @@ use Rattle.std.proofs.Common.{◌≡◌, ℕ, ◌+◌, ◌*◌, ◌<◌, ◌≤�
 use Rattle.std.specs.Prelude.{codes}
 use Rattle.std.specs.List.{All, flat_map}
 use Rattle.std.proofs.lemmas.List.Elements.{All-head, All-tail}
-use Rattle.krieg_board.proofs.Common.{Move}
-use Rattle.krieg_text.proofs.Common.{number_text, whole, Pieces, alone, joined}
-use Rattle.krieg_fen.proofs.Common.{position_line, move_text}
-use Rattle.krieg_words.proofs.Common.{words_text, Dialect}
-use Rattle.krieg_refute.proofs.Common.{MOST_CLAIMS, MOST_CLAIMED, Reason, Why, Lives, Stale, Class, Refused}
-use Rattle.krieg_refutefile.proofs.Common.{refutation_at, ClaimState, RefutationState, numbered, why_pieces, reason_line, claim_line, claim_lines, head_lines, refutation_lines, refutation_text, text_bound, CitesBelow, IsToldWhy, IsToldReason, AreToldClaims, positions_in, reasons_in, CanBeWritten}
+use Rattle.krieg_refutefile.proofs.Common.{Move, number_text, whole, Pieces, alone, joined, position_line, move_text, words_text, Dialect, MOST_CLAIMS, MOST_CLAIMED, Reason, Why, Lives, Stale, Class, Refused, refutation_at, ClaimState, RefutationState, numbered, why_pieces, reason_line, claim_line, claim_lines, head_lines, refutation_lines, refutation_text, text_bound, CitesBelow, IsToldWhy, IsToldReason, AreToldClaims, positions_in, reasons_in, CanBeWritten}
 use Rattle.krieg_refutefile.proofs.RefutationLaws.{refutation_reading}
 use Rattle.krieg_refutefile.proofs.Writables.{cites_any, spelled_can}
 use Rattle.krieg_planfile.proofs.TextSizes.{append_short, words_short, number_short, move_short, size, size_append, text_size, positions_short, dialect_short, side_line_short}

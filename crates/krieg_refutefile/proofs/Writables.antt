@@ -5,19 +5,10 @@ use Rattle.std.specs.List.{All}
 use Rattle.std.proofs.lemmas.Bool.{and_parts, and_from, le-leb, leb-true, lt-ltb, ltb-true}
 use Rattle.std.proofs.lemmas.List.{map-id}
 use Rattle.std.proofs.lemmas.List.Elements.{All-nil, All-cons, All-head, All-tail}
-use Rattle.krieg_board.proofs.Common.{same_hand, move_lt, Pos, IsValid, Side, Move}
-use Rattle.krieg_text.proofs.Common.{TextKind, Differs, OutOfPlace, Large}
-use Rattle.krieg_fen.proofs.Common.{Own, has_turn}
-use Rattle.krieg_words.proofs.Common.{Dialect}
-use Rattle.krieg_pack.proofs.Common.{IsAscending, position_lt}
+use Rattle.krieg_refutefile.proofs.Common.{same_hand, move_lt, Pos, IsValid, Side, Move, TextKind, Differs, OutOfPlace, Large, Own, has_turn, Dialect, IsAscending, position_lt, Ascending, follows, AreAlike, MOST_CLAIMS, MOST_CLAIMED, Why, Lives, Stale, Class, Refused, Reason, EachFits, Fits, ClaimState, RefutationState, set_format, reasons_format, claim_format, claims_format, list_format, refutation_format, none_yet, SpellsRefutation, where_not, listed, ascending, Totals, with_claim, cites_below, argued, CitesBelow, IsToldReason, IsToldClaim, AreToldClaims, positions_in, reasons_in, IsTurnOf, CanBeWritten}
 use Rattle.krieg_pack.proofs.PositionSets.{position_order}
 use Rattle.krieg_game.proofs.MoveOrder.{move_order}
-use Rattle.krieg_theory.proofs.Common.{Ascending}
-use Rattle.krieg_planfile.proofs.Common.{follows, AreAlike}
-use Rattle.krieg_refute.proofs.Common.{MOST_CLAIMS, MOST_CLAIMED, Why, Lives, Stale, Class, Refused, Reason}
-use Rattle.krieg_format.proofs.Common.{EachFits, Fits}
 use Rattle.krieg_format.proofs.Fitting.{OwesFit, said_fits}
-use Rattle.krieg_refutefile.proofs.Common.{ClaimState, RefutationState, set_format, reasons_format, claim_format, claims_format, list_format, refutation_format, none_yet, SpellsRefutation, where_not, listed, ascending, Totals, with_claim, cites_below, argued, CitesBelow, IsToldReason, IsToldClaim, AreToldClaims, positions_in, reasons_in, IsTurnOf, CanBeWritten}
 use Rattle.krieg_refutefile.proofs.Chains.{chain_to, chain_from}
 
 -- ---- tests

@@ -3,13 +3,8 @@ use Rattle.std.proofs.Common.{◌≡◌, ℕ, ◌+◌, List, [], ◌∷◌, ◌+
 use Rattle.std.specs.List.{All, flat_map}
 use Rattle.std.proofs.lemmas.List.{append-nil, length-map}
 use Rattle.std.proofs.lemmas.List.Elements.{All-nil, All-cons, All-weaker}
-use Rattle.krieg_board.proofs.Common.{Pos, Side}
-use Rattle.krieg_text.proofs.Common.{alone, put_lines}
+use Rattle.krieg_refutefile.proofs.Common.{Pos, Side, alone, put_lines, position_line, Dialect, Claim, IsTold, AreTold, numbered, claim_lines, head_lines, refutation_lines, claim_state_of, state_from, IsToldReason, AreToldClaims}
 use Rattle.krieg_text.proofs.Writings.{lines_then}
-use Rattle.krieg_fen.proofs.Common.{position_line}
-use Rattle.krieg_words.proofs.Common.{Dialect}
-use Rattle.krieg_refute.proofs.Common.{Claim}
-use Rattle.krieg_refutefile.proofs.Common.{IsTold, AreTold, numbered, claim_lines, head_lines, refutation_lines, claim_state_of, state_from, IsToldReason, AreToldClaims}
 
 pub flat_last : {A B : Type 0} (f : A → List B) (xs : List A) (x : A) → flat_map f (xs ++ x ∷ []) ≡ flat_map f xs ++ f x
 flat_last f [] x = append-nil (f x)

@@ -2,13 +2,7 @@
 use Rattle.std.proofs.Common.{◌≡◌, List, [], ◌∷◌, ◌++◌, map, length, Option, Some, None, refl, ap, ◌∙◌}
 use Rattle.std.specs.Prelude.{codes, unwrap_or}
 use Rattle.std.specs.List.{flat_map}
-use Rattle.krieg_board.proofs.Common.{Pos, Move}
-use Rattle.krieg_text.proofs.Common.{Pieces, alone}
-use Rattle.krieg_fen.proofs.Common.{position_line}
-use Rattle.krieg_words.proofs.Common.{Dialect}
-use Rattle.krieg_refute.proofs.Common.{Reason}
-use Rattle.krieg_format.proofs.Common.{each_text, written}
-use Rattle.krieg_refutefile.proofs.Common.{ClaimState, RefutationState, none_yet, claim_format, refutation_format, Totals, with_claim, numbered, reason_line, claim_line, claim_lines, head_lines, refutation_lines}
+use Rattle.krieg_refutefile.proofs.Common.{Pos, Move, Pieces, alone, position_line, Dialect, Reason, each_text, written, ClaimState, RefutationState, none_yet, claim_format, refutation_format, Totals, with_claim, numbered, reason_line, claim_line, claim_lines, head_lines, refutation_lines}
 
 -- the text of an item rests on nothing before it
 each_is : {S A : Type 0} (item : S → A → List Pieces) (f : A → List Pieces) (next : S → A → S) → ((s : S) (x : A) → item s x ≡ f x) → (s : S) (xs : List A) → each_text item next s xs ≡ flat_map f xs

@@ -4,16 +4,11 @@ use Rattle.std.specs.List.{cons_option}
 use Rattle.std.proofs.lemmas.Bool.{both_ways}
 use Rattle.std.proofs.lemmas.List.{append-nil}
 use Rattle.std.proofs.lemmas.List.Elements.{filter_map-append}
-use Rattle.krieg_ports.proofs.Common.{Rose, one_more}
-use Rattle.krieg_board.proofs.Common.{other, is_same_side, Pos, Side, White, Black, Move}
+use Rattle.krieg_robot.proofs.Common.{Rose, one_more, other, is_same_side, Pos, Side, White, Black, Move, GameState, Event, Line, Account, once_asked, Leave, events_of, tries_of, try_of, played_counts, once, Serves, HasLeft, PlanFile, next_try, Follower, follow_file, stand_of, say_of, said_so, stand_after, IsTried, AreTried, lines_of, LastAsk, IsBroken, TurnAsked, IsUnderway, HasTried, IsLeft, LeadFault, Seat, NoMemory}
 use Rattle.krieg_board.proofs.MenLemmas.{same_side_eq, same_side_self, same_side_other}
-use Rattle.krieg_referee.proofs.Common.{GameState, Event}
-use Rattle.krieg_words.proofs.Common.{Line}
-use Rattle.krieg_seats.proofs.Common.{Account, once_asked, Try, Leave}
-use Rattle.krieg_play.proofs.Common.{events_of, tries_of, try_of, played_counts, once, Serves, Stays, HasLeft}
+use Rattle.krieg_seats.specs.declared.seat.Say.TheVariants.{Try}
+use Rattle.krieg_play.specs.Teams.{Stays}
 use Rattle.krieg_play.proofs.Serving.{serves_none, tries_move, asked_in_vain, serves_more}
-use Rattle.krieg_plan.proofs.Common.{PlanFile}
-use Rattle.krieg_robot.proofs.Common.{next_try, Follower, follow_file, stand_of, say_of, said_so, stand_after, IsTried, AreTried, lines_of, LastAsk, IsBroken, TurnAsked, IsUnderway, HasTried, IsLeft, LeadFault, Seat, NoMemory}
 use Rattle.krieg_robot.proofs.Moving.{is_other}
 use Rattle.krieg_robot.proofs.Breaking.{IsShort, breaks_by}
 

@@ -1,12 +1,7 @@
 -- How a game that a plan leads begins.
 use Rattle.std.proofs.Common.{◌≡◌, ℕ, List, [], ◌∷◌, ◌++◌, refl, sym, ap, subst, ◌∙◌, inl, arith, Result, Ok, Err}
-use Rattle.krieg_board.proofs.Common.{other, Pos, Side}
-use Rattle.krieg_words.proofs.Common.{opening, told_line, Dialect, Line, Opens}
-use Rattle.krieg_referee.proofs.Common.{GameState, heard, Stop}
-use Rattle.krieg_seats.proofs.Common.{Account, new_account}
+use Rattle.krieg_robot.proofs.Common.{other, Pos, Side, opening, told_line, Dialect, Line, Opens, GameState, heard, Stop, Account, new_account, PlanFile, Follower, IsLed, IsBroken, hearing, BothTold, IsUnderway, LeadFault, NoMemory}
 use Rattle.krieg_play.proofs.Serving.{serves_none, only_hears}
-use Rattle.krieg_plan.proofs.Common.{PlanFile}
-use Rattle.krieg_robot.proofs.Common.{Follower, IsLed, IsBroken, hearing, BothTold, IsUnderway, LeadFault, NoMemory}
 use Rattle.krieg_robot.proofs.Breaking.{IsShort, breaks_by}
 
 abbrev begun_game : Pos → ℕ → GameState

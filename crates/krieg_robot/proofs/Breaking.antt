@@ -1,13 +1,9 @@
 -- What the opponent did where a game is given up.
 use Rattle.std.proofs.Common.{◌≡◌, ℕ, ◌+◌, ◌≤◌, List, [], ◌++◌, ap, subst, ◌∙◌, append_assoc, arith}
 use Rattle.std.proofs.lemmas.List.{append-nil}
-use Rattle.krieg_ports.proofs.Common.{Rose}
-use Rattle.krieg_board.proofs.Common.{Move}
-use Rattle.krieg_words.proofs.Common.{Line}
-use Rattle.krieg_seats.proofs.Common.{Account}
-use Rattle.krieg_play.proofs.Common.{Serves, Stays}
+use Rattle.krieg_robot.proofs.Common.{Rose, Move, Line, Account, Serves, Breaks, broken_counts, fault_counts, LeadFault, Seat, NoMemory}
+use Rattle.krieg_play.specs.Teams.{Stays}
 use Rattle.krieg_play.proofs.Serving.{serves_more}
-use Rattle.krieg_robot.proofs.Common.{Breaks, broken_counts, fault_counts, LeadFault, Seat, NoMemory}
 
 -- a call that met a fault, and asked him so often in vain
 pub record IsShort (fault : LeadFault) (told due : List Line) (vain : ℕ) (before now : Account) : Type 0 where

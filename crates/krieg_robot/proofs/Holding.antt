@@ -4,17 +4,11 @@ use Rattle.std.specs.List.{list_all}
 use Rattle.std.proofs.lemmas.Bool.{and_parts, both_ways, not-true}
 use Rattle.std.proofs.lemmas.Slice.Eq.{bytes_eq-Decides}
 use Rattle.std.proofs.lemmas.Map.Text.{is_eq-slice_cmp}
-use Rattle.krieg_board.proofs.Common.{is_same_side, move_numbers, Pos, Side, Move}
+use Rattle.krieg_robot.proofs.Common.{is_same_side, move_numbers, Pos, Side, Move, is_legal, after, moves, is_ended, is_mate, Said, words, told, told_line, Dialect, Line, verdict, position_after, is_done, own_line, others_line, Event, Verdict, Over, Early, Illegal, Done, Maybe, Nothing, Just, Edges, wins, wins_other, Key, chess, is_answered, NodeTree, PlanTrees, first_root_in, first_edge_in, Stand, Unopened, Opened, At, Sent, Won, Lost, at, node_try, is_try, after_try, follow_on, next_try}
 use Rattle.krieg_board.proofs.MenLemmas.{same_side_eq, same_side_self}
-use Rattle.krieg_moves.proofs.Common.{is_legal, after, moves, is_ended, is_mate}
-use Rattle.krieg_words.proofs.Common.{Said, words, told, told_line, Dialect, Line}
-use Rattle.krieg_referee.proofs.Common.{verdict, position_after, is_done, own_line, others_line, Event, Verdict, Over, Early, Illegal, Done}
-use Rattle.krieg_theory.proofs.Common.{Try, Maybe, Nothing, Just, Edges, wins, wins_other}
+use Rattle.krieg_theory.specs.Tree.{Try}
 use Rattle.krieg_theory.proofs.Lists.{all_at}
-use Rattle.krieg_game.proofs.Common.{Key, chess, is_answered}
 use Rattle.krieg_game.proofs.Winning.{illegal_try_goes_on, legal_try_wins}
-use Rattle.krieg_plan.proofs.Common.{NodeTree, PlanTrees, first_root_in, first_edge_in}
-use Rattle.krieg_robot.proofs.Common.{Stand, Unopened, Opened, At, Sent, Won, Lost, at, node_try, is_try, after_try, follow_on, next_try}
 use Rattle.krieg_robot.proofs.Moving.{turn_passes, legal_in, mate_ends, mated_words}
 use Rattle.krieg_moves.proofs.Turns.{legal_goes}
 

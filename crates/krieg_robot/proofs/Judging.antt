@@ -2,15 +2,9 @@
 use Rattle.std.proofs.Common.{◌≡◌, ℕ, ◌+◌, List, [], ◌∷◌, ◌++◌, length, map, refl, sym, ap, subst, ◌∙◌, inr, arith, Result, Ok, Err, Option, Some, None, option_to_list}
 use Rattle.std.specs.Prelude.{option_map}
 use Rattle.std.proofs.lemmas.List.{append-nil}
-use Rattle.krieg_board.proofs.Common.{other, Pos, Move, Side, White, Black}
-use Rattle.krieg_words.proofs.Common.{told_line, Dialect, Line}
-use Rattle.krieg_referee.proofs.Common.{verdict, next, GameState, judged, heard, line_for, Event, Verdict}
-use Rattle.krieg_seats.proofs.Common.{Account}
-use Rattle.krieg_play.proofs.Common.{Serves, events_of, tries_of, IsGameFrom, once}
+use Rattle.krieg_robot.proofs.Common.{other, Pos, Move, Side, White, Black, told_line, Dialect, Line, verdict, next, GameState, judged, heard, line_for, Event, Verdict, Account, Serves, events_of, tries_of, IsGameFrom, once, PlanFile, Follower, AreTried, lines_of, LastAsk, IsBroken, hearing, HearsPart, BothTold, IsUnderway, HasTried, Judges, LeadFault}
 use Rattle.krieg_play.proofs.Judging.{events_end, game_stepped}
 use Rattle.krieg_play.proofs.Serving.{only_hears, serves_more}
-use Rattle.krieg_plan.proofs.Common.{PlanFile}
-use Rattle.krieg_robot.proofs.Common.{Follower, AreTried, lines_of, LastAsk, IsBroken, hearing, HearsPart, BothTold, IsUnderway, HasTried, Judges, LeadFault}
 use Rattle.krieg_robot.proofs.HeardMore.{heard_end}
 use Rattle.krieg_robot.proofs.Breaking.{IsShort, breaks_by}
 

@@ -1,3 +1,4 @@
+mod Common
 mod Following
 mod HeardMore
 mod Moving
@@ -8,4 +9,3 @@ mod Asking
 mod Judging
 mod Passing
 mod Beginning
-pub mod Common

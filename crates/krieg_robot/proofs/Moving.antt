@@ -1,14 +1,11 @@
 -- What a legal move makes of the turn, and what its words tell of the end.
 use Rattle.std.proofs.Common.{◌≡◌, Bool, true, false, not, cond, refl, ap, ◌∙◌}
 use Rattle.std.proofs.lemmas.Bool.{and_parts}
-use Rattle.krieg_board.proofs.Common.{other, is_same_side, Pos, Side, White, Black, Move}
-use Rattle.krieg_moves.proofs.Common.{is_legal, after, moves, all_moves, in_check, is_ended, is_mate, is_stalemate}
+use Rattle.krieg_robot.proofs.Common.{other, is_same_side, Pos, Side, White, Black, Move, is_legal, after, moves, all_moves, in_check, is_ended, is_mate, is_stalemate, words, told, Mate, Stalemate, Dialect, In, is_mated}
 use Rattle.krieg_moves.proofs.Turns.{side_after}
-use Rattle.krieg_words.proofs.Common.{words, told, Goes, Mate, Stalemate, Dialect}
-use Rattle.krieg_theory.proofs.Common.{In}
+use Rattle.krieg_words.specs.declared.words.End.TheVariants.{Goes}
 use Rattle.krieg_theory.proofs.Lists.{in_filter}
 use Rattle.krieg_game.proofs.MoveOrder.{legal_listed}
-use Rattle.krieg_robot.proofs.Common.{is_mated}
 
 -- ---- whose turn it is
 

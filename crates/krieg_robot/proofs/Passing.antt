@@ -1,10 +1,7 @@
 -- What a turn makes of a game that a plan leads, and how the game stops.
 use Rattle.std.proofs.Common.{◌≡◌, ◌<◌, Bool, true, false, sym, ap, subst, ◌∙◌, arith, Result, Ok, Err, Option, Some, None}
-use Rattle.krieg_board.proofs.Common.{is_same_side, Side, Move}
-use Rattle.krieg_moves.proofs.Common.{is_ended}
-use Rattle.krieg_referee.proofs.Common.{GameState, Ended, Left, AsksUsed}
-use Rattle.krieg_seats.proofs.Common.{Account, Say, Try, Leave}
-use Rattle.krieg_robot.proofs.Common.{Follower, TurnAsked, AfterPass, Passes, Judges, LeadsOn, LeadFault}
+use Rattle.krieg_robot.proofs.Common.{is_same_side, Side, Move, is_ended, GameState, Ended, Left, AsksUsed, Account, Say, Leave, Follower, TurnAsked, AfterPass, Passes, Judges, LeadsOn, LeadFault}
+use Rattle.krieg_seats.specs.declared.seat.Say.TheVariants.{Try}
 use Rattle.krieg_robot.proofs.Asking.{asked, left, fails, event}
 
 -- ---- a turn

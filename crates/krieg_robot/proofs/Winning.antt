@@ -2,20 +2,12 @@
 use Rattle.std.proofs.Common.{◌≡◌, ℕ, suc, ◌+◌, Bool, true, false, not, cond, List, [], ◌∷◌, ◌++◌, length, filter, map, option_to_list, refl, sym, ap, subst, ◌∙◌, append_assoc, Some, None, arith, inl}
 use Rattle.std.proofs.lemmas.Bool.{and_parts, both_ways, not-true, cond-true, cond-false}
 use Rattle.std.proofs.lemmas.List.{append-nil}
-use Rattle.krieg_board.proofs.Common.{other, is_same_side, Pos, Side}
+use Rattle.krieg_robot.proofs.Common.{other, is_same_side, Pos, Side, after, moves, is_ended, is_mate, words, opening, told, told_line, Dialect, Line, next, judge, judged, last, heard, line_for, Event, Judged, Ended, Left, events_of, AreOnTurn, In, mates_from, PlanTrees, first_root_in, IsOneTurn, plan_of, PlanFile, Stand, Unopened, Opened, At, Sent, Won, Lost, opened, follow_on, follow, next_try, is_first, stand_after, IsTried, AreTried, own_moves, is_own_move, LeadStops, MatingPlanWins}
 use Rattle.krieg_board.proofs.MenLemmas.{same_side_self}
-use Rattle.krieg_moves.proofs.Common.{after, moves, is_ended, is_mate}
-use Rattle.krieg_words.proofs.Common.{words, opening, told, told_line, Dialect, Line}
-use Rattle.krieg_referee.proofs.Common.{next, judge, judged, last, heard, line_for, Event, Judged, Ended, Left}
-use Rattle.krieg_play.proofs.Common.{events_of, AreOnTurn}
 use Rattle.krieg_play.proofs.Judging.{last_end}
-use Rattle.krieg_theory.proofs.Common.{In}
 use Rattle.krieg_theory.proofs.Lists.{all_at}
-use Rattle.krieg_game.proofs.Common.{mates_from}
 use Rattle.krieg_game.proofs.Starting.{mates_from_each}
-use Rattle.krieg_plan.proofs.Common.{PlanTrees, first_root_in, IsOneTurn, plan_of, PlanFile}
 use Rattle.krieg_plan.proofs.WonRoots.{root_wins}
-use Rattle.krieg_robot.proofs.Common.{Stand, Unopened, Opened, At, Sent, Won, Lost, opened, follow_on, follow, next_try, is_first, stand_after, IsTried, AreTried, own_moves, is_own_move, LeadStops, MatingPlanWins}
 use Rattle.krieg_robot.proofs.Following.{follow_more}
 use Rattle.krieg_robot.proofs.HeardMore.{heard_end}
 use Rattle.krieg_robot.proofs.Moving.{is_other, legal_in}

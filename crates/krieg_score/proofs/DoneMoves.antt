@@ -1,23 +1,35 @@
 -- The tries that are done are those by the side to move whose moves are legal.
 use Rattle.std.proofs.Common.{◌≡◌, Bool, true, false, not, cond, ◌&&◌, List, [], ◌∷◌, Ok, Err, refl, sym, ap, ◌∙◌, subst, arith}
 use Rattle.std.proofs.lemmas.Bool.{and_parts}
-use Rattle.krieg_board.proofs.Common.{is_same_side, Pos, IsValid, Side, Move}
+use Rattle.krieg_board.specs.Men.{is_same_side}
+use Rattle.krieg_board.specs.Pos.{Pos}
+use Rattle.krieg_board.specs.Validity.{IsValid}
+use Rattle.krieg_board.specs.declared.men.Side.{Side}
+use Rattle.krieg_board.specs.declared.men.Move.{Move}
 use Rattle.krieg_board.proofs.MenLemmas.{same_side_eq}
-use Rattle.krieg_moves.proofs.Common.{after, is_legal, moves, is_nil, is_ended}
+use Rattle.krieg_moves.specs.After.{after}
+use Rattle.krieg_moves.specs.Legal.{is_legal}
+use Rattle.krieg_moves.specs.Moves.{moves, is_nil, is_ended}
 use Rattle.krieg_moves.proofs.Listed.{legal_listed}
 use Rattle.std.specs.List.{Contains}
 use Rattle.std.specs.Prelude.{Result, IfOk}
-use Rattle.krieg_words.proofs.Common.{words}
-use Rattle.krieg_referee.proofs.Common.{Event, Verdict, Over, Early, Illegal, Done, verdict, is_done, position_after, next, judge}
-use Rattle.krieg_record.proofs.Common.{RecordState, AreLegal, IsRecord}
+use Rattle.krieg_words.specs.WordsOfMoves.{words}
+use Rattle.krieg_referee.specs.declared.verdict.Event.{Event}
+use Rattle.krieg_referee.specs.declared.verdict.Verdict.{Verdict}
+use Rattle.krieg_referee.specs.declared.verdict.Verdict.TheVariants.{Over, Early, Illegal, Done}
+use Rattle.krieg_referee.specs.Verdicts.{verdict, is_done, position_after, next}
+use Rattle.krieg_referee.specs.Games.{judge}
+use Rattle.krieg_record.specs.Records.{RecordState, AreLegal, IsRecord}
 use Rattle.krieg_record.proofs.RecordTexts.{text_again}
-use Rattle.krieg_fen.proofs.Common.{IsOnBoard}
+use Rattle.krieg_fen.specs.MoveText.{IsOnBoard}
 use Rattle.krieg_moves.proofs.LegalMoves.{legal}
 use Rattle.krieg_moves.proofs.Movers.{below_from}
-use Rattle.krieg_session.proofs.Common.{AreTries, SessionState}
+use Rattle.krieg_session.specs.Laws.{AreTries}
 use Rattle.krieg_session.proofs.SessionFormat.{sessions_again}
-use Rattle.krieg_score.proofs.Common.{done_events, done_moves, record_of, session_of, tries_of, DoneAreLegal, DoneAreTries, SansAreReadBack, UnsansAreReadBack}
+use Rattle.krieg_session.specs.Sessions.{SessionState}
+use Rattle.krieg_score.specs.Scores.{done_events, done_moves, record_of, session_of, tries_of}
 use Rattle.std.proofs.lemmas.List.Elements.{All-nil, All-cons}
+use Rattle.krieg_score.specs.Laws.{DoneAreLegal, DoneAreTries, SansAreReadBack, UnsansAreReadBack}
 
 -- where a move is legal the game is not over
 not_ended : (p : Pos) (m : Move) → is_legal p m ≡ true → is_ended p ≡ false

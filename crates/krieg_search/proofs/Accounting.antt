@@ -2,18 +2,13 @@
 -- where no try was cut at least the floor, since its results answer.
 use Rattle.std.proofs.Common.{◌≡◌, ℕ, ◌+◌, ◌<◌, ◌≤◌, Bool, true, false, List, Result, Ok, Err, refl, subst, arith}
 use Rattle.std.specs.Result.{IsErrAnd}
-use Rattle.krieg_board.proofs.Common.{Pos, Side}
-use Rattle.krieg_words.proofs.Common.{Dialect}
-use Rattle.krieg_theory.proofs.Common.{tries, begins}
-use Rattle.krieg_costs.proofs.Common.{once, made, price, cost_of, reach_of, fresh, floor_price}
+use Rattle.krieg_search.proofs.Common.{Pos, Side, Dialect, tries, begins, once, made, price, cost_of, reach_of, fresh, floor_price, pairs, chess, outset, Answer, SearchStop, Large, IsAccount, IsBetween, IsDecided, IsCharged, HasAccount, IsChargedAtMost, Takes, AccountIsBetween}
 use Rattle.krieg_costs.proofs.Costs.{fresh_is_at_most_cost}
 use Rattle.krieg_costs.proofs.Pairs.{in_once}
 use Rattle.krieg_costs.proofs.Totals.{total_up_to, total_within}
-use Rattle.krieg_accounts.proofs.Common.{pairs}
 use Rattle.krieg_accounts.proofs.Floors.{floor_is_charged}
-use Rattle.krieg_game.proofs.Common.{chess, outset}
 use Rattle.krieg_game.proofs.ChessLaws.{chess_is_game, outset_is_lawful}
-use Rattle.krieg_search.proofs.Common.{Answer, SearchStop, Spent, Large, NoMemory, IsAccount, IsBetween, IsDecided, IsCharged, HasAccount, IsChargedAtMost, Takes, AccountIsBetween}
+use Rattle.krieg_search.specs.declared.stop.SearchStop.TheVariants.{Spent, NoMemory}
 
 -- whether tries were cut or not
 at_most_fresh : (d : Dialect) (cut : Bool) (who : Side) (S : List Pos) (n had has : ℕ) → IsAccount d who S n cut had has → had ≤ has + fresh (chess d) (outset d who) n S

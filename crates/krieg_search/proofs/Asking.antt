@@ -1,11 +1,6 @@
 -- The sets of openings, one after another.
 use Rattle.std.proofs.Common.{Bool, ◌≡◌, ℕ, ◌+◌, suc, ◌<◌, true, false, List, ◌∷◌, length, drop, get_or, refl, subst, arith}
-use Rattle.krieg_board.proofs.Common.{Pos}
-use Rattle.krieg_words.proofs.Common.{Dialect}
-use Rattle.krieg_accounts.proofs.Common.{CoversSet, CoversSets}
-use Rattle.krieg_game.proofs.Common.{chess}
-use Rattle.krieg_table.proofs.Common.{Interned, set_at}
-use Rattle.krieg_search.proofs.Common.{Opening, IsSearched, TellsSet, TellsSets, AreNumbered, sets_in}
+use Rattle.krieg_search.proofs.Common.{Pos, Dialect, CoversSet, CoversSets, chess, Interned, set_at, Opening, IsSearched, TellsSet, TellsSets, AreNumbered, sets_in}
 use Rattle.krieg_search.proofs.Checking.{IsChecking, at_item, item_in, next_covers, set_lost, set_won}
 
 -- the next opening is asked for

@@ -2,13 +2,10 @@
 use Rattle.std.proofs.Common.{◌≡◌, ℕ, suc, Bool, true, false, not, ◌&&◌, ◌||◌, ◌⊎◌, List, ◌∷◌, map, find, Option, Some, None, refl, sym, ap, inl, inr, ◌∙◌}
 use Rattle.std.specs.Prelude.{◌==◌, option_map, if◌then◌else◌}
 use Rattle.std.proofs.lemmas.Bool.{cases_Bool, cond-true, cond-false, eqb-true, not_from_true, not_from_false}
-use Rattle.krieg_board.proofs.Common.{Pos, Move}
-use Rattle.krieg_words.proofs.Common.{Dialect}
-use Rattle.krieg_theory.proofs.Common.{is_nil, refused, stale_in_some, keys, class, can}
-use Rattle.krieg_costs.proofs.Common.{Lives, Stale, LostClass, LostRefused, NoBlock, lives_in_some, by_class, block}
+use Rattle.krieg_search.proofs.Common.{Pos, Move, Dialect, is_nil, refused, stale_in_some, keys, class, can, Lives, Stale, LostRefused, NoBlock, lives_in_some, by_class, block, Key, chess, class_pair, Left, Leaves}
+use Rattle.krieg_costs.specs.Block.{LostClass}
 use Rattle.krieg_accounts.proofs.TryEnds.{find_map}
-use Rattle.krieg_game.proofs.Common.{Key, chess, class_pair, Class}
-use Rattle.krieg_search.proofs.Common.{Left, Leaves}
+use Rattle.krieg_game.specs.declared.classes.Class.{Class}
 
 -- a key that is found beside its set
 pub keyed_some : (f : Key → List Pos) (o : Option Key) (key : Key) (C : List Pos) → option_map {T = Key} {U = Key × List Pos} (λ k. (k, f k)) o ≡ Some (key, C) → (o ≡ Some key) × (f key ≡ C)

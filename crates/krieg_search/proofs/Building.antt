@@ -2,23 +2,15 @@
 use Rattle.std.proofs.Common.{Bool, ◌≡◌, ℕ, suc, ◌+◌, ◌-◌, ◌≤◌, ◌<◌, ◌^◌, true, false, ◌⊎◌, inl, inr, List, [], ◌∷◌, map, Some, Result, Ok, Err, max, refl, sym, ap, subst, ◌∙◌, arith}
 use Rattle.std.specs.Result.{IsErrAnd}
 use Rattle.std.proofs.Math.Nat.{le-max_left, le-max_right}
-use Rattle.krieg_board.proofs.Common.{Pos, Move}
-use Rattle.krieg_words.proofs.Common.{Dialect}
-use Rattle.krieg_theory.proofs.Common.{In, is_nil, Try, Maybe, Just, Edges, size, size_other, size_edges, depth, depth_other, depth_edges, refused, keys, class, can, edge_with, edges_of, canon}
+use Rattle.krieg_search.proofs.Common.{Pos, Move, Dialect, In, is_nil, Maybe, Just, Edges, size, size_other, size_edges, depth, depth_other, depth_edges, refused, keys, class, can, edge_with, edges_of, canon, made, known, IsSound, charged, refused_canon, Key, chess, class_pair, IsParted, Parted, NodeTree, Interned, entries, SearchStop, Large, AreCounted, IsNumbered, IsReady, sets_of, AddsSets, WonBy, Builds, IsPaidFor, edges_for}
+use Rattle.krieg_theory.specs.Tree.{Try}
 use Rattle.krieg_theory.proofs.Lists.{map_in}
 use Rattle.krieg_theory.proofs.Built.{canon_wins}
 use Rattle.krieg_theory.proofs.Unique.{can_upto}
-use Rattle.krieg_costs.proofs.Common.{made}
-use Rattle.krieg_accounts.proofs.Common.{known, IsSound, charged, refused_canon}
 use Rattle.krieg_accounts.proofs.Tables.{result_can}
 use Rattle.krieg_accounts.proofs.Canonical.{class_won, refused_won, split_paid, stored_is_canon}
-use Rattle.krieg_game.proofs.Common.{Key, chess, class_pair}
 use Rattle.krieg_game.proofs.ChessLaws.{chess_is_game}
-use Rattle.krieg_split.proofs.Common.{IsParted}
-use Rattle.krieg_parting.proofs.Common.{Parted}
-use Rattle.krieg_plan.proofs.Common.{NodeTree}
-use Rattle.krieg_table.proofs.Common.{Interned, entries}
-use Rattle.krieg_search.proofs.Common.{SearchStop, Spent, Large, NoMemory, AreCounted, IsNumbered, IsReady, sets_of, AddsSets, WonBy, Builds, IsPaidFor, edges_for}
+use Rattle.krieg_search.specs.declared.stop.SearchStop.TheVariants.{Spent, NoMemory}
 use Rattle.krieg_search.proofs.Leaving.{sets_are}
 use Rattle.krieg_search.proofs.Searching.{more_itself, more_then}
 

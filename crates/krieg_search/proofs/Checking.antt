@@ -1,16 +1,10 @@
 -- Some sets, one after another.
 use Rattle.std.proofs.Common.{Bool, ◌≡◌, ℕ, zero, suc, ◌+◌, ◌≤◌, ◌<◌, true, false, List, [], ◌∷◌, length, drop, drop-cons, get_or, Some, refl, sym, ap, subst, ◌∙◌, arith}
-use Rattle.krieg_board.proofs.Common.{Pos}
-use Rattle.krieg_words.proofs.Common.{Dialect}
-use Rattle.krieg_theory.proofs.Common.{In}
-use Rattle.krieg_accounts.proofs.Common.{known, CoversSet, CoversSets}
+use Rattle.krieg_search.proofs.Common.{Pos, Dialect, In, known, CoversSet, CoversSets, chess, Interned, entries, IsReady, IsSearched, TellsSet, TellsSets}
 use Rattle.krieg_accounts.proofs.Covering.{covers_set}
 use Rattle.krieg_accounts.proofs.SetWalk.{WonTo, one_fails, lost_here, won_more, all_can, all_won}
 use Rattle.krieg_accounts.proofs.Stretches.{Kept}
 use Rattle.krieg_accounts.proofs.TryOrder.{get_in}
-use Rattle.krieg_game.proofs.Common.{chess}
-use Rattle.krieg_table.proofs.Common.{Interned, entries}
-use Rattle.krieg_search.proofs.Common.{IsReady, IsSearched, TellsSet, TellsSets}
 use Rattle.krieg_search.proofs.Searching.{searched_nothing, searched_then}
 
 -- what stands at a place, by what is left from there on

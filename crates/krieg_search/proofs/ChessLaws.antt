@@ -1,14 +1,10 @@
 -- The theorems on plans, costs and refutations, for chess.
-use Rattle.krieg_board.proofs.Common.{Side}
-use Rattle.krieg_words.proofs.Common.{Dialect}
-use Rattle.krieg_theory.proofs.Common.{CanBegins, CanIsWon, BeginsIsWon, CanPlanIsMated, CanonPlanIsOne, CanonPlanIsThere, CanonPlanIsLeast, CanonPlanIsComputed}
+use Rattle.krieg_search.proofs.Common.{Side, Dialect, CanBegins, CanIsWon, BeginsIsWon, CanPlanIsMated, CanonPlanIsOne, CanonPlanIsThere, CanonPlanIsLeast, CanonPlanIsComputed, ReachIsLeast, FreshIsAtMostCost, BackingIsLeast, FloorIsAtMostFresh, RefutationExcludes, chess, outset}
 use Rattle.krieg_theory.proofs.Theorems as theory
-use Rattle.krieg_costs.proofs.Common.{ReachIsLeast, FreshIsAtMostCost, BackingIsLeast, FloorIsAtMostFresh, RefutationExcludes}
 use Rattle.krieg_costs.proofs.Costs as costs
 use Rattle.krieg_costs.proofs.Reached as reached
 use Rattle.krieg_costs.proofs.Backed as backed
 use Rattle.krieg_costs.proofs.Refuted as refuted
-use Rattle.krieg_game.proofs.Common.{chess, outset}
 use Rattle.krieg_game.proofs.ChessLaws.{chess_is_game, outset_is_lawful}
 
 module _ (d : Dialect) where

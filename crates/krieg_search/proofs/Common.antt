@@ -1,4 +1,69 @@
--- The words of this crate that proofs cite, passed on from one place.
+-- The words of specs/, of this crate and of those below it, that its proofs cite: passed on from one place.
+pub use Rattle.krieg_board.specs.Men.{is_same_side}
+pub use Rattle.krieg_board.specs.Pos.{Pos}
+pub use Rattle.krieg_board.specs.declared.men.Move.{Move}
+pub use Rattle.krieg_board.specs.declared.men.Side.{Side}
+pub use Rattle.krieg_board.specs.declared.men.Side.TheVariants.{Black, White}
+unfoldable pub use Rattle.krieg_words.specs.WordNumbers.{words_number}
+pub use Rattle.krieg_words.specs.Words.{IsSaid, Said}
+pub use Rattle.krieg_words.specs.declared.dialects.Dialect.{Dialect}
+pub use Rattle.krieg_words.specs.declared.dialects.Dialect.TheVariants.{Wild16}
+pub use Rattle.krieg_words.specs.declared.word_numbers.TheConstants.{WORDS_LIMIT}
+pub use Rattle.krieg_theory.specs.Can.{begins, can, first_try, least}
+pub use Rattle.krieg_theory.specs.Canonical.{AreCanon, IsCanon, IsCanonOther}
+pub use Rattle.krieg_theory.specs.Computed.{canon, edge_with, edges_of}
+pub use Rattle.krieg_theory.specs.Laws.{BeginsIsWon, CanBegins, CanIsWon, CanPlanIsMated, CanonPlanIsComputed, CanonPlanIsLeast, CanonPlanIsOne, CanonPlanIsThere}
+pub use Rattle.krieg_theory.specs.Plans.{AreCanonRoots, IsCanonPlan, all_starts, can_plan, canon_plan, canon_worst, greatest, is_over, opening_set, openings, root_with, roots_of}
+pub use Rattle.krieg_theory.specs.Sets.{Ascending, In, is_nil}
+pub use Rattle.krieg_theory.specs.Split.{all_outcomes, class, keys, legal_in_some, refused, stale_in_some, tries}
+pub use Rattle.krieg_theory.specs.Tree.{Edges, Just, Maybe, NoEdges, Nothing, depth, depth_edges, depth_other, size, size_edges, size_other}
+pub use Rattle.krieg_costs.specs.Backing.{floor_price}
+pub use Rattle.krieg_costs.specs.Block.{Lives, LostRefused, NoBlock, Stale, block, block_pair, by_class, lives_in_some, pair_of}
+pub use Rattle.krieg_costs.specs.Cost.{cost_of, first_made, made, price}
+pub use Rattle.krieg_costs.specs.Laws.{BackingIsLeast, FloorIsAtMostFresh, FreshIsAtMostCost, ReachIsLeast, RefutationExcludes}
+pub use Rattle.krieg_costs.specs.Reach.{fresh, reach_of}
+pub use Rattle.krieg_costs.specs.Sums.{IsOnce, once, total}
+pub use Rattle.krieg_accounts.specs.Answers.{AnswersPlan, AnswersSets, LostBelow, classes, opening_sets}
+pub use Rattle.krieg_accounts.specs.Charges.{charged}
+pub use Rattle.krieg_accounts.specs.Laws.{refused_canon}
+pub use Rattle.krieg_accounts.specs.Sound.{IsBacked, IsSound, StoredLost, StoredWon, known}
+pub use Rattle.krieg_accounts.specs.Stored.{AddsResult, Entries, pairs, stored}
+pub use Rattle.krieg_accounts.specs.Stretch.{CoversPair, CoversSet, CoversSets, CoversTries, CoversTry, FallsShort, IsStretch}
+pub use Rattle.krieg_pack.specs.Order.{position_lt}
+pub use Rattle.krieg_game.specs.Chess.{chess}
+pub use Rattle.krieg_game.specs.Classes.{class_pair}
+unfoldable pub use Rattle.krieg_game.specs.KeyNumbers.{key_at, key_number}
+pub use Rattle.krieg_game.specs.KeyNumbers.{AreSaid}
+pub use Rattle.krieg_game.specs.Keys.{Key, RootKey, key_lt, root_lt}
+unfoldable pub use Rattle.krieg_game.specs.Outset.{starts, waits}
+pub use Rattle.krieg_game.specs.Outset.{outset}
+pub use Rattle.krieg_sight.specs.Seen.{flees}
+pub use Rattle.krieg_plan.specs.Nodes.{as_edges, as_other, edge_of, tree_of}
+pub use Rattle.krieg_plan.specs.Ordered.{are_ordered, are_ordered_roots, is_ascending, is_ordered, is_ordered_other, is_ordered_plan}
+pub use Rattle.krieg_plan.specs.Plans.{plan_of}
+pub use Rattle.krieg_plan.specs.Roots.{root_of}
+pub use Rattle.krieg_plan.specs.Trees.{NodeTree, PlanTrees, plan_depth, plan_size}
+pub use Rattle.krieg_plan.specs.declared.limits.TheConstants.{MOST_ON_PATH}
+pub use Rattle.krieg_plan.specs.declared.node.Edge.TheOpen.{Edge-F}
+pub use Rattle.krieg_plan.specs.declared.node.Edge.TheViews.{roll-Edge}
+pub use Rattle.krieg_plan.specs.declared.node.Node.{Node}
+pub use Rattle.krieg_plan.specs.declared.plan.Root.{Root}
+pub use Rattle.krieg_parting.specs.declared.parts.Parted.{Parted}
+pub use Rattle.krieg_parting.specs.declared.stop.PartStop.{PartStop}
+unfoldable pub use Rattle.krieg_table.specs.Entries.{entries}
+pub use Rattle.krieg_table.specs.Entries.{try_of}
+pub use Rattle.krieg_table.specs.Interned.{Interned, set_at, sets}
+pub use Rattle.krieg_table.specs.Table.{IsMore, IsNoted}
+pub use Rattle.krieg_table.specs.declared.known.Known.{Known}
+pub use Rattle.krieg_table.specs.declared.known.Known.TheVariants.{Loses, Wins}
+pub use Rattle.krieg_split.specs.Firsts.{first_cost, first_set}
+pub use Rattle.krieg_split.specs.LastMove.{AllMate, SomeLives}
+pub use Rattle.krieg_split.specs.Openings.{opened_set}
+pub use Rattle.krieg_split.specs.Parted.{IsParted}
+pub use Rattle.krieg_split.specs.Tallies.{AreTallies, tally_of}
+pub use Rattle.krieg_split.specs.Turns.{IsOthersTurn, IsOwnTurn}
+pub use Rattle.krieg_split.specs.Units.{Charged, IsPaid}
+pub use Rattle.krieg_split.specs.declared.firsts.Firsts.{Firsts}
 pub use Rattle.krieg_search.specs.Blocked.{TellsBlock, TellsFirst}
 pub use Rattle.krieg_search.specs.Built.{Builds, IsPaidFor, WonBy, edges_for, roots_for, winning_try, with_root}
 pub use Rattle.krieg_search.specs.Decided.{IsAccount, IsBetween, IsDecided, IsFound, IsLost, IsWon, sets_in}
@@ -7,7 +72,7 @@ pub use Rattle.krieg_search.specs.Leaving.{FailsAtOnce, IsLeft, Leaves}
 pub use Rattle.krieg_search.specs.Notes.{AreNotes, IsBlock, IsLostPart, IsRow, Noted, Rows, items_of, notes_in, same_asked}
 pub use Rattle.krieg_search.specs.Opened.{AddsSets, AreAdded, AreNumbered, IsAdded, IsOpened, opening_in}
 pub use Rattle.krieg_search.specs.PackedHeard.{IsPacked, bytes_of, number_of, unpacked}
-pub use Rattle.krieg_search.specs.Planned.{IsFit, IsPlan, IsPlanned, IsUnfit}
+pub use Rattle.krieg_search.specs.Planned.{IsPlan, IsPlanned, IsUnfit}
 pub use Rattle.krieg_search.specs.Searched.{AreCounted, IsAtWork, IsNumbered, IsReady, IsSearched, Stretches, TellsSet, TellsSets, TellsTry, sets_of}
 pub use Rattle.krieg_search.specs.Solved.{HasAccount, IsAnswer, IsBest, IsCharged, IsChargedAtMost, IsLarge, NoneMates, Takes}
 pub use Rattle.krieg_search.specs.Stops.{stop_of}
@@ -21,11 +86,9 @@ pub use Rattle.krieg_search.specs.declared.decide.Found.{Found}
 pub use Rattle.krieg_search.specs.declared.left.Left.{Left}
 pub use Rattle.krieg_search.specs.declared.notes.Asked.{Asked}
 pub use Rattle.krieg_search.specs.declared.notes.Block.{Block}
-pub use Rattle.krieg_search.specs.declared.notes.Block.TheVariants.{AtOnce, Class, Refused}
+pub use Rattle.krieg_search.specs.declared.notes.Block.TheVariants.{AtOnce, Refused}
 pub use Rattle.krieg_search.specs.declared.notes.Note.{Note}
 pub use Rattle.krieg_search.specs.declared.openings.Opening.{Opening}
-pub use Rattle.krieg_search.specs.declared.search.LostClass.{LostClass}
 pub use Rattle.krieg_search.specs.declared.stop.SearchStop.{SearchStop}
-pub use Rattle.krieg_search.specs.declared.stop.SearchStop.TheVariants.{Large, NoMemory, Spent}
-pub use Rattle.krieg_search.specs.declared.tried.Try.{Try}
+pub use Rattle.krieg_search.specs.declared.stop.SearchStop.TheVariants.{Large}
 pub use Rattle.krieg_search.specs.declared.tried.Try.TheVariants.{Counted, Plain}

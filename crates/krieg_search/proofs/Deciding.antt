@@ -6,26 +6,17 @@ use Rattle.std.specs.List.{list_all, list_any}
 use Rattle.std.specs.Result.{IsErrAnd}
 use Rattle.std.proofs.lemmas.Bool.{both_ways}
 use Rattle.std.proofs.lemmas.Simd.{map-map}
-use Rattle.krieg_board.proofs.Common.{Pos, Move, Side}
-use Rattle.krieg_words.proofs.Common.{Dialect}
-use Rattle.krieg_theory.proofs.Common.{In, can, openings, opening_set, is_over, can_plan}
+use Rattle.krieg_search.proofs.Common.{Pos, Move, Side, Dialect, In, can, openings, opening_set, is_over, can_plan, IsOnce, once, first_made, reach_of, fresh, position_lt, stored, pairs, known, IsSound, charged, IsStretch, FallsShort, CoversSets, AnswersSets, opening_sets, AnswersPlan, RootKey, chess, outset, PartStop, Charged, Interned, entries, IsMore, Opening, Found, Decided, Over, SearchStop, Large, stop_of, AreCounted, IsReady, IsSearched, Stretches, TellsSets, opening_in, AreNumbered, AreAdded, IsOpened, WonBy, AreNotes, sets_in, IsAccount, IsFound, IsLost, IsWon, IsDecided}
 use Rattle.krieg_theory.proofs.Lists.{all_at}
-use Rattle.krieg_costs.proofs.Common.{IsOnce, once, first_made, reach_of, fresh}
 use Rattle.krieg_costs.proofs.Pairs.{once_in}
-use Rattle.krieg_pack.proofs.Common.{position_lt}
-use Rattle.krieg_accounts.proofs.Common.{stored, pairs, known, IsSound, charged, IsStretch, FallsShort, CoversSets, AnswersSets, opening_sets, AnswersPlan}
 use Rattle.krieg_accounts.proofs.Canonical.{by_least}
 use Rattle.krieg_accounts.proofs.Searches.{empty_sound, reach_covers, short_is_below_fresh, sets_answer_plan}
 use Rattle.krieg_accounts.proofs.Tables.{in_known}
 use Rattle.krieg_accounts.proofs.TryEnds.{all_map}
-use Rattle.krieg_game.proofs.Common.{RootKey, chess, outset}
 use Rattle.krieg_game.specs.ClassLaws as game
 use Rattle.krieg_game.proofs.ChessLaws.{chess_is_game, outset_is_lawful}
-use Rattle.krieg_parting.proofs.Common.{PartStop}
 use Rattle.krieg_parting.specs.declared.stop.PartStop.TheVariants as split
-use Rattle.krieg_split.proofs.Common.{Charged}
-use Rattle.krieg_table.proofs.Common.{Interned, entries, IsMore}
-use Rattle.krieg_search.proofs.Common.{Opening, Found, Decided, Over, SearchStop, Spent, Large, NoMemory, stop_of, AreCounted, IsReady, IsSearched, Stretches, TellsSets, opening_in, AreNumbered, AreAdded, IsOpened, WonBy, AreNotes, sets_in, IsAccount, IsFound, IsLost, IsWon, IsDecided}
+use Rattle.krieg_search.specs.declared.stop.SearchStop.TheVariants.{Spent, NoMemory}
 use Rattle.krieg_search.proofs.Searching.{ready_from}
 use Rattle.krieg_search.proofs.OpenedSets.{same_openings, numbered_more}
 

@@ -1,14 +1,8 @@
 -- The edges of a node, one after another.
 use Rattle.std.proofs.Common.{◌≡◌, ℕ, ◌+◌, ◌≤◌, ◌<◌, ◌⊎◌, inl, inr, List, [], ◌∷◌, ◌++◌, max, refl, sym, ap, ◌∙◌, arith}
 use Rattle.std.proofs.Math.Nat.{le-max_left, le-max_right}
-use Rattle.krieg_board.proofs.Common.{Pos, Move}
-use Rattle.krieg_words.proofs.Common.{Dialect}
+use Rattle.krieg_search.proofs.Common.{Pos, Move, Dialect, Just, Edges, NoEdges, size, size_edges, depth, depth_edges, edge_with, canon, Key, chess, NodeTree, as_edges, Interned, AddsSets, edges_for}
 use Rattle.krieg_theory.specs.Tree.{Edge as On}
-use Rattle.krieg_theory.proofs.Common.{Just, Edges, NoEdges, size, size_edges, depth, depth_edges, edge_with, canon}
-use Rattle.krieg_game.proofs.Common.{Key, chess}
-use Rattle.krieg_plan.proofs.Common.{NodeTree, as_edges}
-use Rattle.krieg_table.proofs.Common.{Interned}
-use Rattle.krieg_search.proofs.Common.{AddsSets, edges_for}
 use Rattle.krieg_search.proofs.Building.{adds_then}
 
 -- these edges, and others behind them

@@ -4,20 +4,12 @@ use Rattle.std.specs.Prelude.{IfSome, IfOk}
 use Rattle.std.specs.List.{list_any}
 use Rattle.std.proofs.lemmas.Bool.{cond-true, both_ways}
 use Rattle.std.proofs.lemmas.Simd.{map-map}
-use Rattle.krieg_board.proofs.Common.{Pos, Move}
-use Rattle.krieg_words.proofs.Common.{Dialect}
-use Rattle.krieg_theory.proofs.Common.{stale_in_some, keys, class, begins}
-use Rattle.krieg_costs.proofs.Common.{block_pair, lives_in_some, pair_of}
+use Rattle.krieg_search.proofs.Common.{Pos, Move, Dialect, stale_in_some, keys, class, begins, block_pair, lives_in_some, pair_of, flees, classes, Key, chess, class_pair, IsParted, SomeLives, AllMate, Parted, sets_of, FailsAtOnce, Leaves, IsLeft, Left}
 use Rattle.krieg_theory.proofs.Seen.{escape_fails}
-use Rattle.krieg_sight.proofs.Common.{flees}
 use Rattle.krieg_sight.proofs.Theorems.{escapes_is_flees}
-use Rattle.krieg_accounts.proofs.Common.{classes}
 use Rattle.krieg_accounts.proofs.TryEnds.{begins_stale, blocked_stale}
-use Rattle.krieg_game.proofs.Common.{Key, chess, class_pair, Class}
+use Rattle.krieg_game.specs.declared.classes.Class.{Class}
 use Rattle.krieg_game.proofs.ChessLaws.{chess_is_game}
-use Rattle.krieg_split.proofs.Common.{IsParted, SomeLives, AllMate}
-use Rattle.krieg_parting.proofs.Common.{Parted}
-use Rattle.krieg_search.proofs.Common.{sets_of, FailsAtOnce, Leaves, IsLeft, Left}
 
 no_pair : {X : Type 0} (o : Option X) → IfSome o (λ x. ⊥) → o ≡ None
 no_pair None h = refl

@@ -1,3 +1,4 @@
+mod Common
 pub mod Searching
 pub mod Leaving
 pub mod Blocked
@@ -20,4 +21,3 @@ mod Ordering
 pub mod Solving
 mod Turning
 mod ChessLaws
-pub mod Common

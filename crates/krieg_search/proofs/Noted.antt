@@ -9,13 +9,9 @@ use Rattle.std.proofs.lemmas.List.{map-append, take_all}
 use Rattle.std.proofs.lemmas.List.Elements.{All-nil, All-push, All-weaker}
 use Rattle.std.proofs.lemmas.Bool.{cases_Bool, cond-true, cond-false, and_parts, eqb-true}
 use Rattle.indexmap.specs.IndexMap.{insert_entry}
-use Rattle.krieg_board.proofs.Common.{Pos, Move}
-use Rattle.krieg_words.proofs.Common.{Dialect}
-use Rattle.krieg_theory.proofs.Common.{In, refused, class, tries, can}
+use Rattle.krieg_search.proofs.Common.{Pos, Move, Dialect, In, refused, class, tries, can, Key, chess, Interned, set_at, IsMore, Asked, Note, Block, AtOnce, Refused, Rows, Noted, notes_in, same_asked, IsLostPart, IsBlock, IsRow, AreNotes}
 use Rattle.krieg_costs.specs.Block as theory
-use Rattle.krieg_game.proofs.Common.{Key, chess}
-use Rattle.krieg_table.proofs.Common.{Interned, set_at, IsMore}
-use Rattle.krieg_search.proofs.Common.{Asked, Note, Block, AtOnce, Class, Refused, Rows, Noted, notes_in, same_asked, IsLostPart, IsBlock, IsRow, AreNotes}
+use Rattle.krieg_search.specs.declared.notes.Block.TheVariants.{Class}
 
 equal_asked : (a b : Asked) → same_asked a b ≡ true → a ≡ b
 equal_asked a b h =

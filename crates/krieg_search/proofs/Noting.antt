@@ -3,18 +3,11 @@ use Rattle.std.proofs.Common.{Bool, ◌≡◌, ℕ, zero, suc, ◌<◌, ◌^◌,
 use Rattle.std.specs.Prelude.{option_map}
 use Rattle.std.specs.Result.{IsErrAnd}
 use Rattle.std.proofs.lemmas.Bool.{both_ways}
-use Rattle.krieg_board.proofs.Common.{Pos, Move}
-use Rattle.krieg_words.proofs.Common.{Dialect}
-use Rattle.krieg_theory.proofs.Common.{first_try}
-use Rattle.krieg_costs.proofs.Common.{price, floor_price}
-use Rattle.krieg_pack.proofs.Common.{position_lt}
-use Rattle.krieg_accounts.proofs.Common.{stored, AddsResult, known, IsBacked, CoversPair, CoversTries}
+use Rattle.krieg_search.proofs.Common.{Pos, Move, Dialect, first_try, price, floor_price, position_lt, stored, AddsResult, known, IsBacked, CoversPair, CoversTries, chess, Known, Interned, sets, set_at, try_of, entries, IsMore, IsNoted, SearchStop, Large, IsReady, IsSearched, Stretches, TellsSet}
 use Rattle.krieg_accounts.proofs.Tables.{result_can}
 use Rattle.krieg_accounts.proofs.Stretches.{stretch_noted, short_noted, still_unknown}
-use Rattle.krieg_game.proofs.Common.{chess}
 use Rattle.krieg_game.proofs.ChessLaws.{chess_is_game}
-use Rattle.krieg_table.proofs.Common.{Known, Interned, sets, set_at, try_of, entries, IsMore, IsNoted}
-use Rattle.krieg_search.proofs.Common.{SearchStop, Spent, Large, NoMemory, IsReady, IsSearched, Stretches, TellsSet}
+use Rattle.krieg_search.specs.declared.stop.SearchStop.TheVariants.{Spent, NoMemory}
 use Rattle.krieg_search.proofs.Searching.{more_then, searched_nothing}
 
 -- the sets of a table by their places

@@ -1,16 +1,10 @@
 -- The numbers of moves for one set, one after another.
 use Rattle.std.proofs.Common.{Bool, ◌≡◌, ℕ, ◌+◌, ◌≤◌, ◌<◌, true, false, ◌⊎◌, List, None, refl, sym, subst, inl, inr, arith, eq-or-lt_of_le}
 use Rattle.std.proofs.lemmas.Bool.{both_ways}
-use Rattle.krieg_board.proofs.Common.{Pos}
-use Rattle.krieg_words.proofs.Common.{Dialect}
-use Rattle.krieg_theory.proofs.Common.{can}
+use Rattle.krieg_search.proofs.Common.{Pos, Dialect, can, StoredLost, CoversSet, CoversPair, LostBelow, chess, Interned, entries, IsReady, IsSearched, TellsSet}
 use Rattle.krieg_theory.proofs.Unique.{can_upto}
-use Rattle.krieg_accounts.proofs.Common.{StoredLost, CoversSet, CoversPair, LostBelow}
 use Rattle.krieg_accounts.proofs.Covering.{covers_pair}
-use Rattle.krieg_game.proofs.Common.{chess}
 use Rattle.krieg_game.proofs.ChessLaws.{chess_is_game}
-use Rattle.krieg_table.proofs.Common.{Interned, entries}
-use Rattle.krieg_search.proofs.Common.{IsReady, IsSearched, TellsSet}
 use Rattle.krieg_search.proofs.Searching.{searched_nothing, searched_then}
 
 module _ (d : Dialect) (cut : Bool) where

@@ -3,17 +3,10 @@ use Rattle.std.proofs.Common.{◌≡◌, ℕ, suc, ◌||◌, ◌+◌, ◌<◌, t
 use Rattle.std.specs.List.{list_any, slice_get}
 use Rattle.std.specs.Result.{IsErrAnd}
 use Rattle.std.proofs.lemmas.List.{map-append, append_assoc}
-use Rattle.krieg_board.proofs.Common.{is_same_side, Pos, Side}
-use Rattle.krieg_words.proofs.Common.{Dialect}
-use Rattle.krieg_theory.proofs.Common.{In, is_nil, is_over}
+use Rattle.krieg_search.proofs.Common.{is_same_side, Pos, Side, Dialect, In, is_nil, is_over, first_made, RootKey, chess, outset, starts, waits, IsOwnTurn, IsOthersTurn, IsPaid, Charged, PartStop, Interned, IsMore, Opening, AreCounted, IsNumbered, AddsSets, opening_in, AreNumbered, IsAdded, AreAdded}
 use Rattle.krieg_theory.proofs.Lists.{append_in}
-use Rattle.krieg_costs.proofs.Common.{first_made}
-use Rattle.krieg_game.proofs.Common.{RootKey, chess, outset, starts, waits}
 use Rattle.krieg_game.proofs.Starting.{own_start}
-use Rattle.krieg_split.proofs.Common.{IsOwnTurn, IsOthersTurn, IsPaid, Charged}
-use Rattle.krieg_parting.proofs.Common.{PartStop, Spent, NoMemory}
-use Rattle.krieg_table.proofs.Common.{Interned, IsMore}
-use Rattle.krieg_search.proofs.Common.{Opening, AreCounted, IsNumbered, AddsSets, opening_in, AreNumbered, IsAdded, AreAdded}
+use Rattle.krieg_parting.specs.declared.stop.PartStop.TheVariants.{Spent, NoMemory}
 use Rattle.krieg_search.proofs.Searching.{more_itself, more_then}
 
 -- what stands first in a set is a member

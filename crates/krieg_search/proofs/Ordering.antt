@@ -1,13 +1,10 @@
 -- The keys of a canonical plan ascend, in every node.
 use Rattle.std.proofs.Common.{◌≡◌, Bool, true, List, [], ◌∷◌, map, refl, ap, inl, ◌∙◌}
 use Rattle.std.proofs.lemmas.Bool.{and_from}
-use Rattle.krieg_board.proofs.Common.{Pos, Move, Side}
-use Rattle.krieg_words.proofs.Common.{Dialect}
-use Rattle.krieg_theory.proofs.Common.{Ascending, Try, Maybe, Nothing, Just, Edges, NoEdges, Edge, refused, all_outcomes, keys, class, IsCanon, IsCanonOther, AreCanon, openings, opening_set, all_starts, AreCanonRoots, IsCanonPlan}
+use Rattle.krieg_search.proofs.Common.{Pos, Move, Side, Dialect, Ascending, Maybe, Nothing, Just, Edges, NoEdges, refused, all_outcomes, keys, class, IsCanon, IsCanonOther, AreCanon, openings, opening_set, all_starts, AreCanonRoots, IsCanonPlan, Key, key_lt, root_lt, chess, outset, NodeTree, PlanTrees, is_ascending, is_ordered, is_ordered_other, are_ordered, is_ordered_plan, are_ordered_roots}
+use Rattle.krieg_theory.specs.Tree.{Try, Edge}
 use Rattle.krieg_theory.proofs.Ascending.{as_set_ascending}
-use Rattle.krieg_game.proofs.Common.{Key, key_lt, root_lt, chess, outset}
 use Rattle.krieg_game.proofs.KeyLaws.{key_order, root_order}
-use Rattle.krieg_plan.proofs.Common.{NodeTree, PlanTrees, is_ascending, is_ordered, is_ordered_other, are_ordered, is_ordered_plan, are_ordered_roots}
 
 ascends : {K : Type 0} (lt : K → K → Bool) (ks : List K) → Ascending lt ks → is_ascending lt ks ≡ true
 ascends lt [] a = refl

@@ -1,9 +1,7 @@
 -- What the bytes of heard words stand for.
 use Rattle.std.proofs.Common.{◌≡◌, ℕ, ◌+◌, ◌*◌, sym, ap, subst, ◌∙◌, arith}
-use Rattle.krieg_words.proofs.Common.{Said, IsSaid, words_number, WORDS_LIMIT}
-use Rattle.krieg_game.proofs.Common.{key_number, key_at, AreSaid}
+use Rattle.krieg_search.proofs.Common.{Said, IsSaid, words_number, WORDS_LIMIT, key_number, key_at, AreSaid, number_of, bytes_of, unpacked, IsPacked}
 use Rattle.krieg_game.proofs.KeyNumbers.{key_back}
-use Rattle.krieg_search.proofs.Common.{number_of, bytes_of, unpacked, IsPacked}
 
 number_back : (n : ℕ) → number_of (bytes_of n) ≡ n
 number_back n = omega arith

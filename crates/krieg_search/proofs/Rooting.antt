@@ -4,19 +4,11 @@ use Rattle.std.specs.Ordering.{is_lt, nat_cmp, ord_max}
 use Rattle.std.proofs.lemmas.Bool.{cases_lt}
 use Rattle.std.proofs.lemmas.List.{append_assoc}
 use Rattle.std.proofs.Math.Nat.{le-max_left, le-max_right}
-use Rattle.krieg_board.proofs.Common.{Pos}
-use Rattle.krieg_words.proofs.Common.{Dialect}
-use Rattle.krieg_theory.proofs.Common.{In, Just, size, depth, least, canon, greatest}
+use Rattle.krieg_search.proofs.Common.{Pos, Dialect, In, Just, size, depth, least, canon, greatest, stored, RootKey, chess, position_lt, NodeTree, PlanTrees, plan_size, plan_depth, Interned, set_at, entries, AddsSets, AreNumbered, sets_in, Win, Opening, WonBy, IsPaidFor, with_root, roots_for}
 use Rattle.krieg_theory.proofs.Lists.{in_map}
-use Rattle.krieg_accounts.proofs.Common.{stored}
 use Rattle.krieg_accounts.proofs.Tables.{wins_least}
-use Rattle.krieg_game.proofs.Common.{RootKey, chess}
 use Rattle.krieg_game.proofs.ChessLaws.{chess_is_game}
-use Rattle.krieg_pack.proofs.Common.{position_lt}
-use Rattle.krieg_plan.proofs.Common.{NodeTree, PlanTrees, plan_size, plan_depth}
-use Rattle.krieg_table.proofs.Common.{Interned, set_at, entries}
 use Rattle.krieg_pack.proofs.PackedOrder.{cmp_less, cmp_same, cmp_greater}
-use Rattle.krieg_search.proofs.Common.{AddsSets, AreNumbered, sets_in, Win, Opening, WonBy, IsPaidFor, with_root, roots_for}
 use Rattle.krieg_search.proofs.Building.{adds_then, still_paid, still_won, won_at, won_can, won_node}
 
 -- the greater of two numbers

@@ -1,13 +1,9 @@
 -- One stretch of the search behind another, over the table in which sets have numbers.
 use Rattle.std.proofs.Common.{Bool, ◌≡◌, ℕ, ◌+◌, ◌≤◌, List, Result, Ok, Err, refl, sym, subst, ◌∙◌, arith}
 use Rattle.std.specs.Result.{IsErrAnd}
-use Rattle.krieg_board.proofs.Common.{Pos, Move}
-use Rattle.krieg_words.proofs.Common.{Dialect}
-use Rattle.krieg_accounts.proofs.Common.{Entries, IsStretch, FallsShort}
+use Rattle.krieg_search.proofs.Common.{Pos, Move, Dialect, Entries, IsStretch, FallsShort, chess, Interned, entries, IsMore, SearchStop, Large, IsNumbered, IsReady, IsSearched, Stretches}
 use Rattle.krieg_accounts.proofs.Stretches.{stretch_of_nothing, stretch_of_split, stretch_then, short_then, stretch_cost, short_cost}
-use Rattle.krieg_game.proofs.Common.{chess}
-use Rattle.krieg_table.proofs.Common.{Interned, entries, IsMore}
-use Rattle.krieg_search.proofs.Common.{SearchStop, Spent, Large, NoMemory, IsNumbered, IsReady, IsSearched, Stretches}
+use Rattle.krieg_search.specs.declared.stop.SearchStop.TheVariants.{Spent, NoMemory}
 
 pub more_itself : (T : Interned) → IsMore T T
 more_itself T = record { longer = omega arith; same = λ k h. refl }

@@ -1,16 +1,10 @@
 -- The plan of the opening sets is the best one.
 use Rattle.std.proofs.Common.{Bool, ◌≡◌, ℕ, ◌<◌, ◌^◌, true, false, max, List, [], ◌∷◌, map, Ok, refl, sym, ap, subst, ◌∙◌, arith}
 use Rattle.std.proofs.lemmas.Bool.{both_ways, false_from_ne_true}
-use Rattle.krieg_board.proofs.Common.{Pos, Move, Side}
-use Rattle.krieg_words.proofs.Common.{Dialect}
-use Rattle.krieg_theory.proofs.Common.{Maybe, Nothing, Just, least, canon, greatest, openings, opening_set, roots_of, root_with, can_plan, canon_plan, canon_worst}
+use Rattle.krieg_search.proofs.Common.{Pos, Move, Side, Dialect, Maybe, Nothing, Just, least, canon, greatest, openings, opening_set, roots_of, root_with, can_plan, canon_plan, canon_worst, Key, RootKey, chess, outset, PlanTrees, plan_of, is_ordered_plan, Answer, Mates, None, Found, entries, opening_in, IsWon, IsPaidFor, with_root, roots_for, IsUnfit, IsPlan, IsPlanned, IsBest, NoneMates, IsLarge, IsAnswer}
 use Rattle.krieg_theory.proofs.Planned.{mates_shows, canon_plan_is, canon_plan_worst, worst_enough, worst_least}
 use Rattle.krieg_accounts.proofs.Stretches.{weaker}
-use Rattle.krieg_game.proofs.Common.{Key, RootKey, chess, outset}
 use Rattle.krieg_game.proofs.ChessLaws.{chess_is_game, outset_is_lawful}
-use Rattle.krieg_plan.proofs.Common.{PlanTrees, plan_of, is_ordered_plan}
-use Rattle.krieg_search.proofs.Common.{Answer, Mates, None, Found, opening_in, IsWon, IsPaidFor, with_root, roots_for, IsUnfit, IsPlan, IsPlanned, IsBest, NoneMates, IsLarge, IsAnswer}
-use Rattle.krieg_table.proofs.Common.{entries}
 use Rattle.krieg_search.proofs.Ordering.{plan_ordered}
 
 module _ (d : Dialect) (who : Side) (S : List Pos) (n : ℕ) where

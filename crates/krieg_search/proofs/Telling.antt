@@ -3,9 +3,8 @@ use Rattle.std.proofs.Common.{◌≡◌, ℕ, ◌<◌, List, [], ◌∷◌, leng
 use Rattle.std.specs.Prelude.{All}
 use Rattle.std.proofs.lemmas.List.{get_or-map, length-map}
 use Rattle.std.proofs.lemmas.List.Elements.{All-map}
-use Rattle.krieg_board.proofs.Common.{Pos, Move}
-use Rattle.krieg_split.proofs.Common.{tally_of}
-use Rattle.krieg_search.proofs.Common.{move_of, IsTold, Try, Plain, Counted}
+use Rattle.krieg_search.proofs.Common.{Pos, Move, tally_of, move_of, IsTold, Plain, Counted}
+use Rattle.krieg_search.specs.declared.tried.Try.{Try}
 
 -- nothing is told
 pub plain_moves : (ts : List Move) → map move_of (map (λ t. Plain t) ts) ≡ ts

@@ -1,16 +1,9 @@
 -- The tries of a set, one after another.
 use Rattle.std.proofs.Common.{Bool, ◌≡◌, ℕ, ◌+◌, ◌≤◌, ◌<◌, true, false, List, length, take, get_or, Option, Some, None, sym, subst}
-use Rattle.krieg_board.proofs.Common.{Pos, Move}
-use Rattle.krieg_words.proofs.Common.{Dialect}
-use Rattle.krieg_theory.proofs.Common.{legal_in_some, tries, first_try}
-use Rattle.krieg_costs.proofs.Common.{total, made, price, floor_price}
-use Rattle.krieg_accounts.proofs.Common.{IsBacked, CoversTry, CoversTries, LostBelow}
+use Rattle.krieg_search.proofs.Common.{Pos, Move, Dialect, legal_in_some, tries, first_try, total, made, price, floor_price, IsBacked, CoversTry, CoversTries, LostBelow, chess, Interned, entries, IsReady, IsSearched, TellsTry}
 use Rattle.krieg_accounts.proofs.Covering.{covers_try}
 use Rattle.krieg_accounts.proofs.TryWalk.{FailedTo, legal_at, first_here, first_none, price_here, price_none, price_within, price_more, failed_more, backed_here, backed_none}
-use Rattle.krieg_game.proofs.Common.{chess}
 use Rattle.krieg_game.proofs.ChessLaws.{chess_is_game}
-use Rattle.krieg_table.proofs.Common.{Interned, entries}
-use Rattle.krieg_search.proofs.Common.{IsReady, IsSearched, TellsTry}
 use Rattle.krieg_search.proofs.Searching.{searched_nothing, searched_then}
 
 module _ (d : Dialect) (cut : Bool) where

@@ -3,18 +3,13 @@ use Rattle.std.proofs.Common.{◌≡◌, ℕ, suc, ◌+◌, ◌-◌, ◌<◌, Bo
 use Rattle.std.specs.Prelude.{IfSome, IsTrue, ◌↔◌}
 use Rattle.std.specs.List.{list_all}
 use Rattle.std.proofs.lemmas.Bool.{both_ways, or_left}
-use Rattle.krieg_board.proofs.Common.{Pos, Move}
-use Rattle.krieg_words.proofs.Common.{Dialect}
-use Rattle.krieg_theory.proofs.Common.{In, is_nil, refused, legal_in_some, can, begins}
+use Rattle.krieg_search.proofs.Common.{Pos, Move, Dialect, In, is_nil, refused, legal_in_some, can, begins, made, known, StoredLost, StoredWon, CoversSet, CoversTry, CoversSets, classes, chess, Interned, set_at, entries, Left, AtOnce, Refused, IsNumbered, IsReady, IsSearched, TellsSet, TellsTry, TellsSets, sets_of, TellsFirst, TellsBlock, FailsAtOnce, Leaves, IsLeft}
 use Rattle.krieg_theory.proofs.Steps.{refused_lt}
-use Rattle.krieg_costs.proofs.Common.{made}
-use Rattle.krieg_accounts.proofs.Common.{known, StoredLost, StoredWon, CoversSet, CoversTry, CoversSets, classes}
 use Rattle.krieg_accounts.proofs.Covering as covering
 use Rattle.krieg_accounts.proofs.TryEnds.{begins_class, begins_rest, answered_class, answered_all, answered_rest}
-use Rattle.krieg_game.proofs.Common.{chess}
 use Rattle.krieg_game.proofs.ChessLaws.{chess_is_game}
-use Rattle.krieg_table.proofs.Common.{Interned, set_at, entries}
-use Rattle.krieg_search.proofs.Common.{Left, LostClass, AtOnce, Class, Refused, IsNumbered, IsReady, IsSearched, TellsSet, TellsTry, TellsSets, sets_of, TellsFirst, TellsBlock, FailsAtOnce, Leaves, IsLeft}
+use Rattle.krieg_search.specs.declared.search.LostClass.{LostClass}
+use Rattle.krieg_search.specs.declared.notes.Block.TheVariants.{Class}
 use Rattle.krieg_search.proofs.Leaving.{sets_are}
 use Rattle.krieg_search.proofs.Blocked.{class_blocks, refused_blocks}
 use Rattle.krieg_search.proofs.Searching.{searched_split, searched_then, searched_number}

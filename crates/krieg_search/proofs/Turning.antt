@@ -2,10 +2,8 @@
 use Rattle.std.proofs.Common.{◌≡◌, Bool, true, false, ◌⊎◌, inl, inr, List, [], ◌∷◌, Some, refl, ◌∙◌}
 use Rattle.std.specs.List.{list_all, slice_get}
 use Rattle.std.proofs.lemmas.Bool.{both_ways}
-use Rattle.krieg_board.proofs.Common.{is_same_side, Pos, Side, White, Black}
-use Rattle.krieg_theory.proofs.Common.{In}
+use Rattle.krieg_search.proofs.Common.{is_same_side, Pos, Side, White, Black, In, IsOwnTurn, IsOthersTurn}
 use Rattle.krieg_theory.proofs.Lists.{all_at, all_from}
-use Rattle.krieg_split.proofs.Common.{IsOwnTurn, IsOthersTurn}
 use Rattle.krieg_search.proofs.OpenedSets.{first_in}
 
 alike : (a s who : Side) → is_same_side a s ≡ true → is_same_side a who ≡ is_same_side s who

@@ -3,10 +3,13 @@ use Rattle.std.proofs.Common.{◌≡◌, ℕ, ◌<◌, true, false, not, eqb, Li
 use Rattle.std.specs.Prelude.{option_map, unwrap_or}
 use Rattle.std.specs.Io.KnownBytes.{Consumes}
 use Rattle.std.proofs.lemmas.Bool.{and_parts, not-true}
-use Rattle.krieg_text.proofs.Common.{is_line, cut}
-use Rattle.krieg_fen.proofs.Common.{move_of}
+use Rattle.krieg_text.specs.Lines.{is_line}
+use Rattle.krieg_text.specs.Names.{cut}
+use Rattle.krieg_fen.specs.MoveText.{move_of}
 use Rattle.krieg_text.proofs.NameLemmas.{cut_again}
-use Rattle.krieg_seats.proofs.Common.{Try, Leave, next_lines, said_by, lines_left, ReadsLine, GivesByte}
+use Rattle.krieg_seats.specs.declared.seat.Say.TheVariants.{Try, Leave}
+use Rattle.krieg_seats.specs.Saying.{next_lines, said_by, lines_left, ReadsLine}
+use Rattle.krieg_seats.specs.LineReading.{GivesByte}
 
 -- ---- a line in bytes that are known
 

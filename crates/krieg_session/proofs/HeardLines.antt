@@ -2,10 +2,7 @@
 use Rattle.std.proofs.Common.{◌≡◌, List, [], ◌∷◌, ◌++◌, map, Option, Some, None, refl, ap, ◌∙◌}
 use Rattle.std.specs.List.{flat_map, cons_option}
 use Rattle.std.proofs.lemmas.List.Elements.{filter_map-append}
-use Rattle.krieg_board.proofs.Common.{Side, White, Black}
-use Rattle.krieg_words.proofs.Common.{opening, told_line, Dialect, Line, Opens}
-use Rattle.krieg_referee.proofs.Common.{Judged, judge, line_for, lines_for}
-use Rattle.krieg_session.proofs.Common.{players_line, both_lines, if_of, lines_of, LinesAreHeard}
+use Rattle.krieg_session.proofs.Common.{Side, White, Black, opening, told_line, Dialect, Line, Opens, Judged, judge, line_for, lines_for, players_line, both_lines, if_of, lines_of, LinesAreHeard}
 
 -- a player's line of one try
 abbrev own : Dialect → Option Line → List Line

@@ -1,14 +1,10 @@
 -- The entries of a player's sheet of a game are in place.
 use Rattle.std.proofs.Common.{◌≡◌, Bool, true, false, not, cond, List, [], ◌∷◌, map, Option, Some, None, refl, sym, subst, ◌∙◌}
 use Rattle.std.specs.List.{cons_option}
-use Rattle.krieg_board.proofs.Common.{other, is_same_side, Pos, Side, White, Black, Move}
-use Rattle.krieg_moves.proofs.Common.{is_legal, after, in_check, is_ended, is_mate, is_stalemate}
+use Rattle.krieg_session.proofs.Common.{other, is_same_side, Pos, Side, White, Black, Move, is_legal, after, in_check, is_ended, is_mate, is_stalemate, Said, words, opening, end_of, has_ended, told, told_line, Dialect, Wild16, Anytry, Plain, Line, Event, Verdict, Over, Early, Illegal, Done, verdict, next, position_after, judge, judged, line_for, lines_for, own_line, others_line, ends, are_in_place}
 use Rattle.krieg_moves.proofs.Turns.{side_after}
-use Rattle.krieg_words.proofs.Common.{Said, words, opening, end_of, has_ended, told, told_line, Dialect, Wild16, Anytry, Plain, Line}
 use Rattle.krieg_words.specs.declared.line.Line.TheVariants as line
-use Rattle.krieg_referee.proofs.Common.{Event, Verdict, Over, Early, Illegal, Done, verdict, next, position_after, judge, judged, line_for, lines_for, own_line, others_line}
 use Rattle.krieg_referee.proofs.Ends.{ended_so}
-use Rattle.krieg_sheet.proofs.Common.{ends, are_in_place}
 
 -- words end the game exactly where the position has no legal move
 end_is : (p : Pos) → has_ended (end_of p) ≡ is_ended p

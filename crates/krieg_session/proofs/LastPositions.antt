@@ -1,12 +1,8 @@
 -- The position in which a game stands is consistent with the sheet of each player.
 use Rattle.std.proofs.Common.{◌≡◌, Bool, true, false, not, cond, List, [], ◌∷◌, map, Option, Some, refl, arith}
 use Rattle.std.specs.List.{cons_option}
-use Rattle.krieg_board.proofs.Common.{is_same_side, Pos, Side, White, Black, Move}
-use Rattle.krieg_moves.proofs.Common.{is_legal, is_ended}
-use Rattle.krieg_words.proofs.Common.{words, told_line, Dialect, Line}
-use Rattle.krieg_referee.proofs.Common.{Event, Verdict, Over, Early, Illegal, Done, verdict, next, position_after, judge, judged, last, line_for, lines_for, own_line, others_line}
-use Rattle.krieg_sheet.proofs.Common.{Gives}
-use Rattle.krieg_session.proofs.Common.{LastIsConsistent}
+use Rattle.krieg_session.proofs.Common.{is_same_side, Pos, Side, White, Black, Move, is_legal, is_ended, words, told_line, Dialect, Line, Event, Verdict, Over, Early, Illegal, Done, verdict, next, position_after, judge, judged, last, line_for, lines_for, own_line, others_line, LastIsConsistent}
+use Rattle.krieg_sheet.specs.Games.{Gives}
 
 -- the trier, the player and the side to move
 not_mine : (mover who turn : Side) → is_same_side mover turn ≡ false → is_same_side mover who ≡ true → is_same_side turn who ≡ false

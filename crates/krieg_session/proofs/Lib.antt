@@ -1,7 +1,7 @@
+mod Common
 pub mod Tellings
 pub mod HeardLines
 pub mod InPlace
 pub mod SheetsOfGames
 pub mod SessionFormat
 pub mod LastPositions
-pub mod Common

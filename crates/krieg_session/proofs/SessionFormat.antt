@@ -2,9 +2,8 @@
 use Rattle.std.proofs.Common.{◌≡◌, inl, ℕ, true, List, [], ◌∷◌, ◌++◌, map, Option, Some, None, Result, Ok, Err, refl, sym, ap, subst, ◌∙◌}
 use Rattle.std.specs.Prelude.{codes, IfOk}
 use Rattle.std.proofs.lemmas.List.Elements.{All-nil, All-cons, All-head, All-tail}
-use Rattle.krieg_board.proofs.Common.{Pos, Side, White, Black, Move}
-use Rattle.krieg_text.proofs.Common.{TextFault, TextKind, ◌>>=◌, behind, lines, is_line, AreLines, taken, whole, Step, goes_on, stops, Gives, joined, Has, behind_or, Always, IsReading, Behind, One, UpToLast}
-use Rattle.krieg_fen.proofs.Common.{position_text, move_of, move_text, IsOnBoard, Spells, position_form, start_form, side_mark}
+use Rattle.krieg_session.proofs.Common.{Pos, Side, White, Black, Move, TextFault, TextKind, ◌>>=◌, behind, lines, is_line, AreLines, position_text, move_of, move_text, IsOnBoard, Spells, taken, whole, Step, goes_on, stops, position_form, start_form, side_mark, joined, Has, behind_or, Always, IsReading, Behind, One, UpToLast, Dialect, version_lines, version_at, SpellVersion, Event, Stop, Ended, Left, AsksUsed, SessionState, tried, white_try, try_form, last_lines, last_form, unless_last, line_form, led, event_form, events_at, session_at, session_version_at, start_at, SpellsTry, SpellsSession, SessionGrammar, SpellsStart, StartGrammar, event_line, last_text, session_lines, session_text, sheet_of, AreTries, IsGame, SessionsAreReadBack, SheetsAreReadBack, SessionLine, Try, Last}
+use Rattle.krieg_text.specs.Reading.{Gives}
 use Rattle.krieg_fen.proofs.CleanTexts.{move_line, position_line, mark_line}
 use Rattle.krieg_fen.proofs.FormSpellings.{positions, starts_form}
 use Rattle.krieg_text.proofs.Formats.{IsFormat, word_is, line_format, last_part, part_then, IsStep, IsItemForm, items_format, whole_found, whole_only, reading}
@@ -17,13 +16,10 @@ use Rattle.krieg_fen.proofs.ListSpellings.{written_spells}
 use Rattle.krieg_fen.proofs.MoveTexts.{move_spells, move_again}
 use Rattle.krieg_text.proofs.NameLemmas.{behind_spells, behind_again}
 use Rattle.krieg_text.proofs.Writings.{put_lines_is, joined_alone}
-use Rattle.krieg_words.proofs.Common.{Dialect, version_lines, version_at, SpellVersion}
 use Rattle.krieg_words.proofs.VersionFormats.{version_format, version_keeps}
 use Rattle.krieg_words.proofs.VersionTexts.{version_are}
-use Rattle.krieg_referee.proofs.Common.{Event, Stop, Ended, Left, AsksUsed}
 use Rattle.krieg_sheet.proofs.SheetsAgain.{sheet_again}
 use Rattle.krieg_session.proofs.SheetsOfGames.{sheets_in_place}
-use Rattle.krieg_session.proofs.Common.{SessionState, tried, white_try, try_form, last_lines, last_form, unless_last, line_form, led, event_form, events_at, session_at, session_version_at, start_at, SpellsTry, SpellsSession, SessionGrammar, SpellsStart, StartGrammar, event_line, last_text, session_lines, session_text, sheet_of, AreTries, IsGame, SessionsAreReadBack, SheetsAreReadBack, SessionLine, Try, Last}
 
 -- The forms.
 

@@ -3,18 +3,12 @@ use Rattle.std.proofs.Common.{◌≡◌, Bool, true, false, not, cond, List, [],
 use Rattle.std.specs.Prelude.{IfSome}
 use Rattle.std.specs.List.{All, cons_option}
 use Rattle.std.proofs.lemmas.List.Elements.{All-nil, All-cons, All-head, All-tail}
-use Rattle.krieg_board.proofs.Common.{is_same_side, Pos, IsValid, Side, Move}
-use Rattle.krieg_fen.proofs.Common.{IsOnBoard}
-use Rattle.krieg_moves.proofs.Common.{is_legal, is_ended}
+use Rattle.krieg_session.proofs.Common.{is_same_side, Pos, IsValid, Side, Move, IsOnBoard, is_legal, is_ended, Said, IsSaid, tries, words, opening, told_line, IsLine, Dialect, Line, Event, Verdict, Over, Early, Illegal, Done, verdict, next, position_after, judge, judged, line_for, lines_for, own_line, others_line, are_in_place, IsTold, AreTries, SheetsAreInPlace}
 use Rattle.krieg_moves.proofs.LegalMoves.{legal}
 use Rattle.krieg_moves.proofs.KeepsValid.{valid_after}
-use Rattle.krieg_words.proofs.Common.{Said, IsSaid, tries, words, opening, told_line, IsLine, Dialect, Line}
 use Rattle.krieg_words.specs.declared.line.Line.TheVariants as line
 use Rattle.krieg_words.proofs.SaidLaws.{opening_said, words_said}
 use Rattle.krieg_words.proofs.ToldLaws.{told_fits, told_line_fits, told_said}
-use Rattle.krieg_referee.proofs.Common.{Event, Verdict, Over, Early, Illegal, Done, verdict, next, position_after, judge, judged, line_for, lines_for, own_line, others_line}
-use Rattle.krieg_sheet.proofs.Common.{are_in_place, IsTold}
-use Rattle.krieg_session.proofs.Common.{AreTries, SheetsAreInPlace}
 use Rattle.krieg_session.proofs.InPlace.{opening_ends, entries_in_place}
 
 -- what a dialect tells of a line is a line

@@ -5,14 +5,9 @@ use Rattle.std.specs.List.{flat_map}
 use Rattle.std.proofs.lemmas.List.{map-append, append-nil}
 use Rattle.std.proofs.lemmas.List.Elements.{filter_map-append}
 use Rattle.std.proofs.lemmas.Grind.{flat_map-append}
-use Rattle.krieg_board.proofs.Common.{Pos, Side}
-use Rattle.krieg_text.proofs.Common.{Appends}
-use Rattle.krieg_words.proofs.Common.{opening, told, told_line, Dialect, Line}
+use Rattle.krieg_session.proofs.Common.{Pos, Side, Appends, opening, told, told_line, Dialect, Line, Event, Judged, next, judge, judged, last, line_for, lines_for, strip, entry_line, sheet_text, heard_lines, both_lines, marked_line, umpire_text}
 use Rattle.krieg_words.proofs.ToldLaws.{told_line_fits}
-use Rattle.krieg_referee.proofs.Common.{Event, Judged, next, judge, judged, last, line_for, lines_for, strip}
 use Rattle.krieg_referee.proofs.Stripping.{lines_strip}
-use Rattle.krieg_sheet.proofs.Common.{entry_line, sheet_text}
-use Rattle.krieg_session.proofs.Common.{heard_lines, both_lines, marked_line, umpire_text}
 
 pub ruleset fitting = (told_line_fits)
 

@@ -3,14 +3,11 @@ use Rattle.std.proofs.Common.{◌≡◌, ◌≤◌, true, List, [], ◌∷◌, m
 use Rattle.std.specs.Prelude.{codes}
 use Rattle.std.specs.List.{All}
 use Rattle.std.proofs.lemmas.List.Elements.{All-tail}
-use Rattle.krieg_fen.proofs.Common.{MOST_LISTED, position_text, list_head}
-use Rattle.krieg_text.proofs.Common.{is_line, AreLines}
+use Rattle.krieg_sheet.proofs.Common.{MOST_LISTED, is_line, AreLines, position_text, list_head, Dialect, Line, Opens, Said, line_text, IsLine, version_lines, SheetState, IsTold, IsOpening, IsSheet, opens_lines}
 use Rattle.krieg_text.proofs.LineTexts.{line_above, lines_append}
 use Rattle.krieg_fen.proofs.CleanTexts.{positions_are, list_head_are}
-use Rattle.krieg_words.proofs.Common.{Dialect, Line, Opens, Said, line_text, IsLine, version_lines}
 use Rattle.krieg_words.proofs.CleanWords as words
 use Rattle.krieg_words.proofs.VersionTexts.{version_are}
-use Rattle.krieg_sheet.proofs.Common.{SheetState, IsTold, IsOpening, IsSheet, opens_lines}
 use Rattle.krieg_sheet.proofs.SheetTexts.{written_lines}
 
 line_line : (d : Dialect) (l : Line) → IsLine l → is_line (line_text d l) ≡ true

@@ -2,9 +2,7 @@
 use Rattle.std.proofs.Common.{◌≡◌, Bool, true, List, [], ◌∷◌, ◌++◌, refl, sym, ap, ◌∙◌}
 use Rattle.std.proofs.lemmas.Bool.{and_parts, and_from}
 use Rattle.std.proofs.lemmas.List.Elements.{All-push}
-use Rattle.krieg_board.proofs.Common.{is_same_side, Side}
-use Rattle.krieg_words.proofs.Common.{Line}
-use Rattle.krieg_sheet.proofs.Common.{SheetState, entered, turn_after, over_after, turn_behind, over_behind, may_stand, are_in_place, is_in_place, first_turn, over_at_first, IsTold, IsSheet, IsKept}
+use Rattle.krieg_sheet.proofs.Common.{is_same_side, Side, Line, SheetState, entered, turn_after, over_after, turn_behind, over_behind, may_stand, are_in_place, is_in_place, first_turn, over_at_first, IsTold, IsSheet, IsKept}
 
 pub turn_behind_push : (turn : Side) (ls : List Line) (l : Line) → turn_behind turn (ls ++ l ∷ []) ≡ turn_after (turn_behind turn ls) l
 turn_behind_push turn [] l = refl

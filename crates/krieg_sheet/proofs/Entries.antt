@@ -1,9 +1,7 @@
 -- What one line of a sheet leads to.
 use Rattle.std.proofs.Common.{◌≡◌, ℕ, ◌+◌, List, [], ◌∷◌, Option, Some, None, Result, Ok, Err, sym, ap, ◌∙◌}
-use Rattle.krieg_text.proofs.Common.{TextFault, At, TextKind, ◌>>=◌, Place, place, on, goes_on, stops, line_at}
+use Rattle.krieg_sheet.proofs.Common.{TextFault, At, TextKind, ◌>>=◌, Place, place, on, goes_on, stops, line_at, Line, SheetState, next_form, led, followed_by, entries_at}
 use Rattle.krieg_text.proofs.Locality.{ok_is}
-use Rattle.krieg_words.proofs.Common.{Line}
-use Rattle.krieg_sheet.proofs.Common.{SheetState, next_form, led, followed_by, entries_at}
 
 -- where no line is left
 pub entries_end : (s : SheetState) (from : Place) (e : TextFault) → line_at from ≡ Err e → entries_at s from ≡ Err e

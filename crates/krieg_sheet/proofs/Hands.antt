@@ -3,8 +3,7 @@ use Rattle.std.proofs.Common.{◌≡◌, ℕ, suc, ◌+◌, ◌<◌, ◌≤◌, 
 use Rattle.std.proofs.lemmas.List.{drop_all, take_more, take_all}
 use Rattle.std.specs.List.{All}
 use Rattle.std.proofs.lemmas.List.Elements.{All-push}
-use Rattle.krieg_board.proofs.Common.{IsValid, Pos, same_hand, Side}
-use Rattle.krieg_sheet.proofs.Common.{other_hand}
+use Rattle.krieg_sheet.proofs.Common.{IsValid, Pos, same_hand, Side, other_hand}
 
 abbrev by : Side → Pos → ℕ → List Pos → Bool → Option ℕ
 by who first n ps same = cond same (other_hand who first (n + 1) ps) (Some n)

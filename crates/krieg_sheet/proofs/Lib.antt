@@ -1,3 +1,4 @@
+mod Common
 pub mod Hands
 pub mod Entering
 pub mod Entries
@@ -8,4 +9,3 @@ pub mod CleanLines
 pub mod SheetsAgain
 pub mod SheetsSpell
 pub mod OneHand
-pub mod Common

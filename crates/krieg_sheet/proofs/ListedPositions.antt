@@ -3,12 +3,9 @@ use Rattle.std.proofs.Common.{◌≡◌, ℕ, ◌+◌, ◌≤◌, Bool, true, fa
 use Rattle.std.specs.List.{All}
 use Rattle.std.proofs.lemmas.Bool.{leb-true}
 use Rattle.std.proofs.lemmas.List.Elements.{All-tail}
-use Rattle.krieg_board.proofs.Common.{Pos, same_hand, IsValid, Side}
-use Rattle.krieg_fen.proofs.Common.{position_text, SpellList, SpellsListing, list_head, Either, listing_at, MOST_LISTED}
-use Rattle.krieg_text.proofs.Common.{Place}
+use Rattle.krieg_sheet.proofs.Common.{Pos, same_hand, IsValid, Side, position_text, SpellList, SpellsListing, list_head, Place, Either, listing_at, MOST_LISTED, other_hand, differs, list_fault, Count}
 use Rattle.krieg_fen.proofs.ListSpellings.{written_spells, spelled_valid}
 use Rattle.krieg_fen.proofs.Listings.{listing_spells}
-use Rattle.krieg_sheet.proofs.Common.{other_hand, differs, list_fault, Count}
 
 -- What is read with one hand.
 same_hands : (ts : List (List ℕ)) (ps : List Pos) (who : Side) (f : Pos) (k : ℕ) → SpellList Either who (Some f) ts ps → other_hand who f k ps ≡ None

@@ -3,14 +3,12 @@ use Rattle.std.proofs.Common.{◌≡◌, ℕ, zero, suc, ◌+◌, ◌<◌, true,
 use Rattle.std.specs.Prelude.{slice_index_or}
 use Rattle.std.specs.List.{Contains}
 use Rattle.std.proofs.lemmas.List.Elements.{All-contains}
-use Rattle.krieg_board.proofs.Common.{other, is_same_side, Pos, same_hand, IsValid, Side, White, Black, Move}
+use Rattle.krieg_sheet.proofs.Common.{other, is_same_side, Pos, same_hand, IsValid, Side, White, Black, Move, after, Dialect, Line, Opens, Illegal, Done, Heard, Early, Over, SheetState, other_hand, list_fault, Consistent, IsSheet}
 use Rattle.krieg_board.proofs.MenLemmas.{same_side_eq}
-use Rattle.krieg_moves.proofs.Common.{after}
 use Rattle.krieg_moves.proofs.Hands.{Alike, same_hand_alike, alike_same_hand, alike_same, alike_back, alike_through, alike_own}
 use Rattle.krieg_moves.proofs.KeepsValid.{valid_after}
-use Rattle.krieg_words.proofs.Common.{Dialect, Line, Opens, Illegal, Done, Heard, Early, Over}
 use Rattle.krieg_words.proofs.HandsKept.{alike_heard}
-use Rattle.krieg_sheet.proofs.Common.{SheetState, other_hand, list_fault, Gives, Consistent, IsSheet}
+use Rattle.krieg_sheet.specs.Games.{Gives}
 use Rattle.krieg_sheet.proofs.ListedPositions.{listable, next_hand}
 
 -- each of the positions has the hand of the first one

@@ -3,15 +3,13 @@ use Rattle.std.proofs.Common.{◌≡◌, inl, inr, ℕ, Bool, true, false, cond,
 use Rattle.std.specs.Prelude.{◌⊎◌, codes}
 use Rattle.std.specs.Str.{bytes_eq}
 use Rattle.std.proofs.lemmas.Slice.Eq.{bytes_eq-Decides}
-use Rattle.krieg_text.proofs.Common.{TextFault, TextKind, OutOfPlace, behind, ◌>>=◌, Always, IsReading, One, Many, ◌⨾◌, Step, goes_on, stops, whole, Gives}
-use Rattle.krieg_fen.proofs.Common.{Either, listing_at, ListingGrammar}
+use Rattle.krieg_sheet.proofs.Common.{TextFault, TextKind, OutOfPlace, Either, behind, ◌>>=◌, Always, IsReading, listing_at, One, Many, ◌⨾◌, ListingGrammar, Step, goes_on, stops, whole, line_in, SpellVersion, version_at, Dialect, Line, Opens, Illegal, Done, Heard, Early, Over, IsSheet, may_follow, followed_by, placed, next_form, led, entry_form, sheet_at, sheet_version_at, SpellsSheet, SheetGrammar, SheetState, new_sheet}
+use Rattle.krieg_text.specs.Reading.{Gives}
 use Rattle.krieg_text.proofs.Formats.{reading_by}
 use Rattle.krieg_text.proofs.Grammars.{untold, KeepsTo, bind_keeps, then_keeps}
 use Rattle.krieg_fen.proofs.ListGrammars.{listing_keeps}
 use Rattle.krieg_text.proofs.LoopGrammars.{Goes, HasLoopForm, loop_keeps}
-use Rattle.krieg_words.proofs.Common.{line_in, SpellVersion, version_at, Dialect, Line, Opens, Illegal, Done, Heard, Early, Over}
 use Rattle.krieg_words.proofs.VersionFormats.{version_keeps}
-use Rattle.krieg_sheet.proofs.Common.{IsSheet, may_follow, followed_by, placed, next_form, led, entry_form, sheet_at, sheet_version_at, SpellsSheet, SheetGrammar, SheetState, new_sheet}
 use Rattle.krieg_sheet.proofs.SheetsAgain.{spelled_again}
 use Rattle.krieg_sheet.proofs.SheetsSpell.{sheet_spells}
 

@@ -1,12 +1,9 @@
 -- The text of a sheet is that of its lines, each with its line feed.
 use Rattle.std.proofs.Common.{◌≡◌, ℕ, List, [], ◌∷◌, ◌++◌, length, map, ap, ◌∙◌, append_assoc}
 use Rattle.std.specs.Prelude.{codes}
-use Rattle.krieg_text.proofs.Common.{with_ends, alone, joined}
-use Rattle.krieg_fen.proofs.Common.{position_text, side_line, list_line, list_head, position_line}
+use Rattle.krieg_sheet.proofs.Common.{with_ends, position_text, side_line, list_line, list_head, position_line, alone, joined, line_text, version_lines, SheetState, opens_lines, entry_line, end_line, sheet_lines, sheet_text, told_lines}
 use Rattle.krieg_fen.specs.ListText as list
 use Rattle.krieg_text.proofs.Writings.{put_lines_is, joined_alone, joined_each}
-use Rattle.krieg_words.proofs.Common.{line_text, version_lines}
-use Rattle.krieg_sheet.proofs.Common.{SheetState, opens_lines, entry_line, end_line, sheet_lines, sheet_text, told_lines}
 
 -- the lines, each as one text
 abbrev pub written_lines : SheetState → List (List ℕ)

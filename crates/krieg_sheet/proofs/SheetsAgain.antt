@@ -6,16 +6,12 @@ use Rattle.std.specs.List.{All}
 use Rattle.std.proofs.lemmas.Bool.{and_parts}
 use Rattle.std.proofs.lemmas.List.{append-nil}
 use Rattle.std.proofs.lemmas.List.Elements.{All-tail}
-use Rattle.krieg_board.proofs.Common.{is_same_side, Pos, Side}
-use Rattle.krieg_text.proofs.Common.{TextFault, OutOfPlace, ◌>>=◌, lines, Place, place, whole}
-use Rattle.krieg_fen.proofs.Common.{position_text, Either, listing_at, list_head}
+use Rattle.krieg_sheet.proofs.Common.{is_same_side, Pos, Side, TextFault, OutOfPlace, ◌>>=◌, position_text, lines, Place, place, whole, Either, listing_at, list_head, Said, line_text, line_in, Dialect, Line, Opens, Illegal, Done, Heard, Early, Over, version_lines, SheetState, new_sheet, entered, first_turn, over_at_first, turn_after, over_after, may_stand, are_in_place, turn_of, is_over, is_in_place, OpeningFits, IsOpening, IsTold, IsSheet, may_follow, followed_by, placed, next_form, entries_at, sheet_at, sheet_version_at, opens_lines, sheet_text, told_lines, SpellsSheet}
 use Rattle.krieg_fen.proofs.Listings.{listing_reads}
 use Rattle.krieg_text.proofs.Takings.{Read, read_whole}
 use Rattle.krieg_text.proofs.LineTexts.{lines_again}
-use Rattle.krieg_words.proofs.Common.{Said, line_text, line_in, Dialect, Line, Opens, Illegal, Done, Heard, Early, Over, version_lines}
 use Rattle.krieg_words.proofs.VersionSpellings.{version_reads}
 use Rattle.krieg_words.proofs.LineLaws.{line_again}
-use Rattle.krieg_sheet.proofs.Common.{SheetState, new_sheet, entered, first_turn, over_at_first, turn_after, over_after, may_stand, are_in_place, turn_of, is_over, is_in_place, OpeningFits, IsOpening, IsTold, IsSheet, may_follow, followed_by, placed, next_form, entries_at, sheet_at, sheet_version_at, opens_lines, sheet_text, told_lines, SpellsSheet}
 use Rattle.krieg_sheet.proofs.Entering.{turn_behind_push, over_behind_push}
 use Rattle.krieg_sheet.proofs.Entries.{entries_last, entries_more}
 use Rattle.krieg_sheet.proofs.CleanLines.{sheet_are}

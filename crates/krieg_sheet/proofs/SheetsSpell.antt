@@ -6,16 +6,12 @@ use Rattle.std.specs.Str.{bytes_eq}
 use Rattle.std.proofs.lemmas.Bool.{ne_eqb}
 use Rattle.std.proofs.lemmas.List.{append-nil}
 use Rattle.std.proofs.lemmas.Slice.Eq.{bytes_eq-Decides}
-use Rattle.krieg_board.proofs.Common.{Pos, Side}
-use Rattle.krieg_text.proofs.Common.{TextFault, TextKind, OutOfPlace, ◌>>=◌, Place, place, on, goes_on, stops, whole}
-use Rattle.krieg_fen.proofs.Common.{Either, listing_at, SpellsListing}
+use Rattle.krieg_sheet.proofs.Common.{Pos, Side, TextFault, TextKind, OutOfPlace, ◌>>=◌, Place, place, on, goes_on, stops, whole, Either, listing_at, SpellsListing, Said, line_text, line_in, SpellVersion, version_at, Dialect, Line, Opens, Illegal, Done, Heard, Early, Over, SheetState, new_sheet, entered, may_open, may_follow, with_opening, followed_by, placed, next_form, led, entries_at, sheet_at, sheet_version_at, opens_lines, SpellsSheet}
 use Rattle.krieg_text.proofs.Locality.{ok_is}
 use Rattle.krieg_fen.proofs.Listings.{listing_spells}
 use Rattle.krieg_text.proofs.Takings.{steps, whole_read}
-use Rattle.krieg_words.proofs.Common.{Said, line_text, line_in, SpellVersion, version_at, Dialect, Line, Opens, Illegal, Done, Heard, Early, Over}
 use Rattle.krieg_words.proofs.LineLaws.{line_spells}
 use Rattle.krieg_words.proofs.VersionSpellings.{version_spells}
-use Rattle.krieg_sheet.proofs.Common.{SheetState, new_sheet, entered, may_open, may_follow, with_opening, followed_by, placed, next_form, led, entries_at, sheet_at, sheet_version_at, opens_lines, SpellsSheet}
 
 -- the lines after the positions
 abbrev NextIs : SheetState → List ℕ → Option Line → Type 0

@@ -1,11 +1,14 @@
 -- A run with players is a start.
 use Rattle.std.proofs.Common.{◌≡◌, ℕ, List, [], ◌∷◌, inl, refl, subst}
-use Rattle.krieg_seats.proofs.Common.{Account}
-use Rattle.krieg_play.proofs.Common.{team, Sides, sides, seen}
-use Rattle.krieg_args.proofs.Common.{command_of, Files}
-use Rattle.krieg_cli.proofs.Common.{Stream, World, IsRun}
+use Rattle.krieg_seats.specs.Accounts.{Account}
+use Rattle.krieg_play.specs.Teams.{team}
+use Rattle.krieg_play.specs.Played.{Sides, sides, seen}
+use Rattle.krieg_args.specs.Command.{command_of}
+use Rattle.krieg_args.specs.Files.{Files}
+use Rattle.krieg_cli.specs.World.{Stream, World}
+use Rattle.krieg_cli.specs.Top.{IsRun}
 use Rattle.krieg_cli.proofs.Tables.{run_seen}
-use Rattle.krieg_shell.proofs.Common.{Made, both_at, one_at, StartsAt}
+use Rattle.krieg_shell.specs.Start.{Made, both_at, one_at, StartsAt}
 
 starts : {X : Type 0} {account : X → Account} {entry now : Sides X} {code : ℕ} {before after : World} {err err' : Stream} (players : Sides Account) (words : List (List ℕ)) →
     seen account entry ≡ players → IsRun account entry now (command_of words) code before after err err' → StartsAt players words code before after err err'

@@ -1,4 +1,4 @@
+mod Common
 pub mod Theorems
 pub mod Telling
 pub mod Looking
-pub mod Common

@@ -3,11 +3,8 @@ use Rattle.std.proofs.Common.{◌≡◌, ℕ, zero, suc, ◌<◌, Bool, true, fa
 use Rattle.std.specs.Prelude.{◌==◌}
 use Rattle.std.specs.List.{list_all, list_any}
 use Rattle.std.proofs.lemmas.Bool.{both_ways, eqb-true}
-use Rattle.krieg_board.proofs.Common.{Pos, Move}
-use Rattle.krieg_moves.proofs.Common.{is_legal, after, moves, all_moves, in_check, is_ended, is_mate, is_stalemate, is_nil}
-use Rattle.krieg_theory.proofs.Common.{In}
+use Rattle.krieg_sight.proofs.Common.{Pos, Move, is_legal, after, moves, all_moves, in_check, is_ended, is_mate, is_stalemate, is_nil, In, is_met, mates_within}
 use Rattle.krieg_theory.proofs.Lists.{filter_in}
-use Rattle.krieg_sight.proofs.Common.{is_met, mates_within}
 
 item_in : {X : Type 0} (xs : List X) (k : ℕ) (x : X) → k < length xs → x ≡ get_or xs k x → In x xs
 item_in [] k x l e = absurd (omega arith)

@@ -4,13 +4,8 @@ use Rattle.std.specs.Prelude.{Result, Ok, Err, OnOk, OnErr}
 use Rattle.std.specs.Map.{lookup}
 use Rattle.std.proofs.lemmas.Bool.{cases_Bool, cond-true, cond-false, both_ways, false_from_ne_true}
 use Rattle.indexmap.specs.IndexMap.{insert_entry}
-use Rattle.krieg_board.proofs.Common.{Pos}
-use Rattle.krieg_words.proofs.Common.{Wild16}
-use Rattle.krieg_pack.proofs.Common.{position_eq, equal_position}
-use Rattle.krieg_theory.proofs.Common.{In}
+use Rattle.krieg_sight.proofs.Common.{Pos, Wild16, position_eq, equal_position, In, chess, Told, mates_within, Memo, IsRight, AreRight}
 use Rattle.krieg_theory.proofs.Seen.{more_moves_see}
-use Rattle.krieg_game.proofs.Common.{chess}
-use Rattle.krieg_sight.proofs.Common.{Told, mates_within, Memo, IsRight, AreRight}
 use Rattle.krieg_sight.proofs.Theorems.{sees_is}
 
 -- a mate within some moves is one within more

@@ -1,13 +1,8 @@
 -- Mate by a player who sees the position is that of the theory.
 use Rattle.std.proofs.Common.{◌≡◌, ℕ, zero, suc, Bool, true, false, not, ◌&&◌, ◌||◌, List, [], ◌∷◌, map, filter, cond, refl, sym, ap, ◌∙◌}
 use Rattle.std.specs.List.{list_all, list_any}
-use Rattle.krieg_board.proofs.Common.{Pos, Move}
-use Rattle.krieg_moves.proofs.Common.{is_legal, after, moves, all_moves, is_stalemate}
-use Rattle.krieg_words.proofs.Common.{words, Dialect}
-use Rattle.krieg_theory.proofs.Common.{mates_with, sees, escapes, escapes_in_some}
-use Rattle.krieg_game.proofs.Common.{Key, chess, stalemates, outcome, outcomes}
+use Rattle.krieg_sight.proofs.Common.{Pos, Move, is_legal, after, moves, all_moves, is_stalemate, words, Dialect, mates_with, sees, escapes, escapes_in_some, Key, chess, stalemates, outcome, outcomes, is_met, mates_within, flees, SeesIsMates, EscapesIsFlees}
 use Rattle.krieg_game.proofs.Winning.{all_of_map}
-use Rattle.krieg_sight.proofs.Common.{is_met, mates_within, flees, SeesIsMates, EscapesIsFlees}
 
 any_filter : {X : Type 0} (f g : X → Bool) (xs : List X) → list_any f (filter g xs) ≡ list_any (λ x. g x && f x) xs
 any_filter f g [] = refl

@@ -1,8 +1,7 @@
 -- What is taken of the caller's units at the end.
 use Rattle.std.proofs.Common.{◌≡◌, ℕ, Result, Ok, Err, refl, subst, arith}
 use Rattle.std.specs.Result.{IsErrAnd}
-use Rattle.krieg_parting.proofs.Common.{PartStop, Spent, NoMemory}
-use Rattle.krieg_split.proofs.Common.{Charged, IsPaid}
+use Rattle.krieg_split.proofs.Common.{PartStop, Spent, NoMemory, Charged, IsPaid}
 
 -- all of the work was too dear, on other units: the caller's are as they were
 pub unpaid : {A B : Type 0} (Q : PartStop → Type 0) (r : Result B PartStop) (e : PartStop) (holds : A → Type 0) (cost all units old now : ℕ) →

@@ -1,16 +1,10 @@
 -- The first moves in a set, and what they are at the opponent's turn.
 use Rattle.std.proofs.Common.{◌≡◌, suc, ◌+◌, Bool, false, cond, not, List, [], ◌∷◌, map, length, refl, sym, ap, ◌∙◌, arith}
 use Rattle.std.proofs.lemmas.Simd.{map-map}
-use Rattle.krieg_board.proofs.Common.{is_same_side, Pos, Side}
-use Rattle.krieg_moves.proofs.Common.{moves}
-use Rattle.krieg_words.proofs.Common.{Dialect}
-use Rattle.krieg_costs.proofs.Common.{first_made, total}
+use Rattle.krieg_split.proofs.Common.{is_same_side, Pos, Side, moves, Dialect, first_made, total, chess, outset, waits, starts, class_pair, classes_in, first_outcomes, both_heard, Class, AreFirstMoves, FirstMoves, IsOthersTurn, first_cost, first_pair, AreFirsts, AreOpeningSets, Firsts}
 use Rattle.krieg_costs.proofs.Totals.{total_agree}
-use Rattle.krieg_game.proofs.Common.{chess, outset, waits, starts, class_pair, classes_in, first_outcomes, both_heard, Class}
 use Rattle.krieg_game.proofs.Classed.{first_moves_are_classed}
-use Rattle.krieg_parting.proofs.Common.{AreFirstMoves, FirstMoves}
 use Rattle.krieg_parting.proofs.Advancing.{some_over, as_many}
-use Rattle.krieg_split.proofs.Common.{IsOthersTurn, first_cost, first_pair, AreFirsts, AreOpeningSets, Firsts}
 
 -- the members, and their moves
 pub by_members : (B : List Pos) → first_cost B ≡ length B + total (λ p. length (moves p)) B

@@ -2,19 +2,12 @@
 use Rattle.std.proofs.Common.{◌≡◌, Bool, true, false, cond, not, ◌&&◌, ◌||◌, List, [], ◌∷◌, ◌⊎◌, inl, inr, Option, Some, None, refl, sym, ap, ◌∙◌, subst}
 use Rattle.std.specs.List.{list_all}
 use Rattle.std.proofs.lemmas.Bool.{both_ways, and_parts, not-true, false_from_ne_true}
-use Rattle.krieg_board.proofs.Common.{Pos, Move}
-use Rattle.krieg_words.proofs.Common.{Dialect}
-use Rattle.krieg_pack.proofs.Common.{IsAscending, set_of}
+use Rattle.krieg_split.proofs.Common.{Pos, Move, Dialect, IsAscending, set_of, In, is_nil, refused, legal_in_some, stale_in_some, keys, class, can, begins, lives_in_some, chess, AllMate, IsLastMove, IsMating, Mating}
 use Rattle.krieg_pack.proofs.PositionSets.{set_of_ascending}
-use Rattle.krieg_theory.proofs.Common.{In, is_nil, refused, legal_in_some, stale_in_some, keys, class, can, begins}
 use Rattle.krieg_theory.proofs.Lists.{all_at, nil_or_member}
-use Rattle.krieg_costs.proofs.Common.{lives_in_some}
 use Rattle.krieg_costs.proofs.Blocks.{lives_how, lives_by_key}
-use Rattle.krieg_game.proofs.Common.{chess}
 use Rattle.krieg_game.proofs.ChessLaws.{chess_is_game}
 use Rattle.krieg_game.proofs.Splitting.{refused_ascends}
-use Rattle.krieg_split.proofs.Common.{AllMate, IsLastMove}
-use Rattle.krieg_parting.proofs.Common.{IsMating, Mating}
 use Rattle.krieg_parting.proofs.LastMoves.{stale_lives}
 
 module _ (d : Dialect) where

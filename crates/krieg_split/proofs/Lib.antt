@@ -1,3 +1,4 @@
+mod Common
 mod Charges
 mod PartSizes
 pub mod LastMoves
@@ -5,4 +6,3 @@ mod Renaming
 mod FirstMoves
 mod TryLists
 mod Tallying
-pub mod Common

@@ -1,17 +1,11 @@
 -- The parts of a set, and how large they are.
 use Rattle.std.proofs.Common.{suc, ◌≤◌, Bool, true, false, cond, List, [], ◌∷◌, length, arith}
-use Rattle.krieg_board.proofs.Common.{Pos, Move}
-use Rattle.krieg_words.proofs.Common.{Dialect}
-use Rattle.krieg_pack.proofs.Common.{position_lt}
+use Rattle.krieg_split.proofs.Common.{Pos, Move, Dialect, position_lt, same, at_key, given, all_outcomes, class, made, Key, key_lt, KeyedPosition, chess, ClassesAreSets, RefusedIsSet}
 use Rattle.krieg_pack.proofs.Counts.{as_set_le}
-use Rattle.krieg_theory.proofs.Common.{same, at_key, given, all_outcomes, class}
 use Rattle.krieg_theory.proofs.Steps.{refused_lt}
-use Rattle.krieg_costs.proofs.Common.{made}
 use Rattle.krieg_costs.proofs.Totals.{length_flat}
-use Rattle.krieg_game.proofs.Common.{Key, key_lt, KeyedPosition, chess}
 use Rattle.krieg_game.proofs.ChessLaws.{chess_is_game}
 use Rattle.krieg_game.proofs.Splitting.{refused_ascends, classes_come_about}
-use Rattle.krieg_split.proofs.Common.{ClassesAreSets, RefusedIsSet}
 
 at_key_le : (key : Key) (os : List KeyedPosition) → length (at_key key_lt key os) ≤ length os
 at_key_le key [] = omega arith

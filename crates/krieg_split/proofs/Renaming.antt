@@ -2,12 +2,9 @@
 use Rattle.std.proofs.Common.{◌≡◌, List, [], ◌∷◌, ◌++◌, map, sym, ap, ◌∙◌, append_assoc}
 use Rattle.std.proofs.lemmas.List.{map_push}
 use Rattle.std.proofs.lemmas.Simd.{map-map}
-use Rattle.krieg_board.proofs.Common.{Pos, Side}
-use Rattle.krieg_words.proofs.Common.{Dialect, Said, silent}
+use Rattle.krieg_split.proofs.Common.{Pos, Side, Dialect, Said, silent, RootKey, classes_in, opened, opening_sets, IsOwnTurn, opened_pair, opened_set, heard_first, Opened}
 use Rattle.std.specs.Prelude.{None}
-use Rattle.krieg_game.proofs.Common.{RootKey, classes_in, opened, opening_sets}
 use Rattle.krieg_game.proofs.Classed.{openings_are_classed}
-use Rattle.krieg_split.proofs.Common.{IsOwnTurn, opened_pair, opened_set, heard_first, Opened}
 
 -- one more is named
 pub named_more : {A Z : Type 0} (f : A → Z) (xs ys : List A) (x : A) (rest left all : List Z) → ys ≡ xs ++ x ∷ [] → left ≡ f x ∷ rest → map f xs ++ left ≡ all → map f ys ++ rest ≡ all

@@ -11,20 +11,13 @@ use Rattle.std.proofs.lemmas.List.Elements.{All-map}
 use Rattle.std.proofs.lemmas.Option.{slice_get_within, get_or_from_slice_get}
 use Rattle.std.specs.Prelude.{All}
 use Rattle.std.specs.List.{slice_get, list_any}
-use Rattle.krieg_board.proofs.Common.{Pos, Move}
-use Rattle.krieg_moves.proofs.Common.{after, is_legal, moves, all_moves, is_mate}
+use Rattle.krieg_split.proofs.Common.{Pos, Move, after, is_legal, moves, all_moves, is_mate, Dialect, Wild16, In, total, chess, lives, replies, tally_of, tally_with, AreTallies, Listed, MOST_COUNTED, Tally}
 use Rattle.krieg_moves.proofs.Counting.{few_moves}
-use Rattle.krieg_words.proofs.Common.{Dialect, Wild16}
 use Rattle.krieg_pack.proofs.Membership.{in_at}
-use Rattle.krieg_theory.proofs.Common.{In}
 use Rattle.krieg_theory.specs.Split as theory
 use Rattle.krieg_theory.proofs.Lists.{filter_in, any_from}
-use Rattle.krieg_costs.proofs.Common.{total}
 use Rattle.krieg_costs.proofs.Totals.{total_append}
-use Rattle.krieg_game.proofs.Common.{chess}
-use Rattle.krieg_parting.proofs.Common.{lives, replies}
 use Rattle.krieg_split.proofs.TryLists.{at_head}
-use Rattle.krieg_split.proofs.Common.{tally_of, tally_with, AreTallies, Listed, MOST_COUNTED, Tally}
 
 -- a move that stands in the list of the legal ones
 pub listed_is_legal : (p : Pos) (ms : List Move) (k : ℕ) (t : Move) → ms ≡ moves p → slice_get ms k ≡ Some t → is_legal p t ≡ true

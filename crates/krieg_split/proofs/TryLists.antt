@@ -8,22 +8,17 @@ use Rattle.std.proofs.lemmas.Grind.{flat_map-append}
 use Rattle.std.specs.List.{slice_get, list_any, insert}
 use Rattle.std.specs.Ordering.{is_lt, is_some_and, partial_lt}
 use Rattle.std.proofs.lemmas.List.Kept.{IsStrictlySortedBy-filter}
-use Rattle.krieg_board.proofs.Common.{move_lt, move_cmp, Pos, Move}
+use Rattle.krieg_split.proofs.Common.{move_lt, move_cmp, Pos, Move, is_legal, moves, all_moves, Dialect, In, Ascending, as_set, insert_once, chess, AllBefore, IsPut, move_set}
 use Rattle.krieg_board.specs.contracts.men.MovePartialOrd.TheImpl.{partial_cmp-value as derived_partial}
 use Rattle.krieg_board.specs.contracts.men.MoveOrd.TheImpl.Laws as laws
 use Rattle.krieg_board.proofs.MoveOrder.{move_cmp_derived, move_total, move_equal}
-use Rattle.krieg_moves.proofs.Common.{is_legal, moves, all_moves}
 use Rattle.krieg_moves.proofs.Ascending.{all_moves_ascend, moves_ascend as ascend}
-use Rattle.krieg_words.proofs.Common.{Dialect}
 use Rattle.krieg_pack.proofs.Counts.{as_set_early}
 use Rattle.krieg_pack.proofs.Sorting.{ascending_from}
-use Rattle.krieg_theory.proofs.Common.{In, Ascending, as_set, insert_once}
 use Rattle.krieg_theory.specs.Split as theory
 use Rattle.krieg_theory.proofs.Ascending.{same_set, as_set_ascending, in_as_set, as_set_in, asym, in_insert_here, in_insert, insert_in, insert_ascending}
 use Rattle.krieg_theory.proofs.Lists.{in_append_left, in_append_right, append_in, in_filter, filter_in, in_flat, flat_in, any_from, any_at}
-use Rattle.krieg_game.proofs.Common.{chess}
 use Rattle.krieg_game.proofs.MoveOrder.{move_order}
-use Rattle.krieg_split.proofs.Common.{AllBefore, IsPut, move_set}
 
 -- the derived order is that of moves
 pub derived_lt : (a b : Move) → partial_lt derived_partial.it a b ≡ move_lt a b

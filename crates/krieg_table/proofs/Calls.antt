@@ -7,11 +7,7 @@ use Rattle.std.specs.Cmp.Lexicographic.{pointwise}
 use Rattle.std.proofs.lemmas.Bool.{cases_Bool, cond-true, cond-false, both_ways}
 use Rattle.indexmap.specs.IndexMap.{insert_entry}
 use Rattle.indexmap.specs.Layout.{set_value_at}
-use Rattle.krieg_board.proofs.Common.{Pos, MOST_MOVES}
-use Rattle.krieg_pack.proofs.Common.{position_lt, position_eq}
-use Rattle.krieg_theory.proofs.Common.{In}
-use Rattle.krieg_costs.proofs.Common.{same_list, IsOnce}
-use Rattle.krieg_table.proofs.Common.{Known, Results, nothing, with_known, Row, Interned, sets, row_at, number_of, interned, with_result, IsTable, IsInterned, IsNoted}
+use Rattle.krieg_table.proofs.Common.{Pos, MOST_MOVES, position_lt, position_eq, In, same_list, IsOnce, Known, Results, nothing, with_known, Row, Interned, sets, row_at, number_of, interned, with_result, IsTable, IsInterned, IsNoted}
 use Rattle.krieg_table.proofs.Sets.{test_is, set_itself}
 use Rattle.krieg_table.proofs.Interning.{interned_is, stays_table}
 use Rattle.krieg_table.proofs.Noting.{row_in, noted_is}

@@ -1,8 +1,16 @@
--- The words of this crate that proofs cite, passed on from one place.
+-- The words of specs/, of this crate and of those below it, that its proofs cite: passed on from one place.
+pub use Rattle.krieg_board.specs.Pos.{Pos}
+pub use Rattle.krieg_board.specs.declared.limits.TheConstants.{MOST_MOVES}
+pub use Rattle.krieg_board.specs.declared.men.Move.{Move}
+pub use Rattle.krieg_theory.specs.Sets.{In}
+pub use Rattle.krieg_costs.specs.Sums.{IsOnce, same_list, total}
+pub use Rattle.krieg_accounts.specs.Stored.{AddsResult, Entries, PairOf, pairs, same_entry, stored}
+pub use Rattle.krieg_pack.specs.Order.{position_cmp, position_eq, position_lt}
+pub use Rattle.krieg_pack.specs.OrderLaws.{position_total}
+pub use Rattle.krieg_pack.specs.SameNumbers.{same_position}
 unfoldable pub use Rattle.krieg_table.specs.Entries.{entries}
 pub use Rattle.krieg_table.specs.Entries.{row_entries, try_of}
 pub use Rattle.krieg_table.specs.Interned.{Interned, Row, interned, known_at, number_of, row_at, set_at, sets, with_result}
 pub use Rattle.krieg_table.specs.Results.{Results, known_for, nothing, with_known}
-pub use Rattle.krieg_table.specs.Table.{IsInterned, IsMore, IsNoted, IsTable}
+pub use Rattle.krieg_table.specs.Table.{IsInterned, IsNoted, IsTable}
 pub use Rattle.krieg_table.specs.declared.known.Known.{Known}
-pub use Rattle.krieg_table.specs.declared.known.Known.TheVariants.{Loses, Wins}

@@ -1,11 +1,7 @@
 -- The rows once a set has come: it has its number, and all else is as it was.
 use Rattle.std.proofs.Common.{◌≡◌, ℕ, zero, suc, ◌≤◌, ◌<◌, Bool, true, false, ◌⊎◌, inl, inr, List, [], ◌∷◌, ◌++◌, length, refl, sym, ap, subst, ◌∙◌, arith}
 use Rattle.std.proofs.lemmas.Bool.{cases_Bool, cond-true, cond-false, both_ways}
-use Rattle.krieg_board.proofs.Common.{Pos, MOST_MOVES}
-use Rattle.krieg_pack.proofs.Common.{position_lt}
-use Rattle.krieg_theory.proofs.Common.{In}
-use Rattle.krieg_costs.proofs.Common.{same_list, IsOnce}
-use Rattle.krieg_table.proofs.Common.{nothing, Row, Interned, sets, set_at, number_of, interned, entries, IsTable, IsInterned}
+use Rattle.krieg_table.proofs.Common.{Pos, MOST_MOVES, position_lt, In, same_list, IsOnce, nothing, Row, Interned, sets, set_at, number_of, interned, entries, IsTable, IsInterned}
 use Rattle.krieg_table.proofs.Sets.{one_set, set_itself}
 
 abbrev has : List Pos → Row → Bool

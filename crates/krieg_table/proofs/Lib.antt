@@ -1,7 +1,7 @@
+mod Common
 pub mod Sets
 pub mod Interning
 pub mod RowEntries
 pub mod Noting
 pub mod Onces
 pub mod Calls
-pub mod Common

@@ -1,14 +1,9 @@
 -- The rows once a result has come.
 use Rattle.std.proofs.Common.{◌≡◌, ℕ, zero, suc, ◌+◌, ◌≤◌, ◌<◌, true, false, ◌⊎◌, inl, inr, List, [], ◌∷◌, ◌++◌, length, set, slice_index_or, Option, Some, None, option_map, refl, sym, ap, subst, ◌∙◌, arith}
 use Rattle.std.proofs.lemmas.Bool.{cases_Bool, both_ways}
-use Rattle.krieg_board.proofs.Common.{Pos, Move, MOST_MOVES}
-use Rattle.krieg_pack.proofs.Common.{position_lt}
+use Rattle.krieg_table.proofs.Common.{Pos, Move, MOST_MOVES, position_lt, In, total, IsOnce, PairOf, Entries, same_entry, stored, pairs, AddsResult, Known, Results, known_for, Row, Interned, sets, row_at, set_at, known_at, with_result, try_of, row_entries, entries, IsTable, IsNoted}
 use Rattle.krieg_pack.proofs.PositionSets.{position_order}
-use Rattle.krieg_theory.proofs.Common.{In}
-use Rattle.krieg_costs.proofs.Common.{total, IsOnce}
-use Rattle.krieg_accounts.proofs.Common.{PairOf, Entries, same_entry, stored, pairs, AddsResult}
 use Rattle.krieg_accounts.proofs.Appended.{entry_is, entry_refl}
-use Rattle.krieg_table.proofs.Common.{Known, Results, known_for, Row, Interned, sets, row_at, set_at, known_at, with_result, try_of, row_entries, entries, IsTable, IsNoted}
 use Rattle.krieg_table.proofs.RowEntries.{or_else, stored_append, other_set, before_first, at_place, others_stay, row_total}
 
 one : (i : ℕ) → suc i ≡ 1 + i

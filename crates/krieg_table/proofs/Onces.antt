@@ -1,13 +1,9 @@
 -- No pair of a set and a number has two results.
 use Rattle.std.proofs.Common.{◌≡◌, ℕ, suc, ◌≤◌, ◌⊎◌, inl, inr, List, [], ◌∷◌, ◌++◌, Option, Some, None, sym, ap, subst, arith}
 use Rattle.std.proofs.lemmas.List.{map-append}
-use Rattle.krieg_board.proofs.Common.{Pos, Move}
-use Rattle.krieg_theory.proofs.Common.{In}
+use Rattle.krieg_table.proofs.Common.{Pos, Move, In, IsOnce, PairOf, Entries, pairs, Results, Interned, sets, row_entries, entries}
 use Rattle.krieg_theory.proofs.Lists.{append_in}
-use Rattle.krieg_costs.proofs.Common.{IsOnce}
 use Rattle.krieg_costs.proofs.Onces.{once_append}
-use Rattle.krieg_accounts.proofs.Common.{PairOf, Entries, pairs}
-use Rattle.krieg_table.proofs.Common.{Results, Interned, sets, row_entries, entries}
 
 pairs_append : (xs ys : Entries Pos Move) → pairs (xs ++ ys) ≡ pairs xs ++ pairs ys
 pairs_append xs ys = map-append (λ (e : PairOf Pos × Option Move). e.0) xs ys

@@ -1,13 +1,9 @@
 -- The results of one set: what is stored for each number of moves, and what changes where one is put in.
 use Rattle.std.proofs.Common.{◌≡◌, ℕ, zero, suc, ◌+◌, ◌<◌, Bool, true, false, cond, List, [], ◌∷◌, ◌++◌, length, set, slice_index_or, Option, Some, None, option_map, refl, sym, ap, ◌∙◌, arith}
 use Rattle.std.proofs.lemmas.Bool.{cond-true, cond-false, false_from_ne_true}
-use Rattle.krieg_board.proofs.Common.{Pos, Move}
-use Rattle.krieg_pack.proofs.Common.{position_lt}
+use Rattle.krieg_table.proofs.Common.{Pos, Move, position_lt, total, PairOf, Entries, same_entry, stored, pairs, Known, Results, try_of, row_entries}
 use Rattle.krieg_pack.proofs.PositionSets.{position_order}
-use Rattle.krieg_costs.proofs.Common.{total}
-use Rattle.krieg_accounts.proofs.Common.{PairOf, Entries, same_entry, stored, pairs}
 use Rattle.krieg_accounts.proofs.Appended.{entry_is, entry_refl}
-use Rattle.krieg_table.proofs.Common.{Known, Results, try_of, row_entries}
 
 -- what is stored in one list, or else in another
 abbrev pub or_else : {X : Type 0} → Option X → Option X → Option X

@@ -1,11 +1,9 @@
 -- Sets of positions as keys of a map: two that compare equal are one.
 use Rattle.std.proofs.Common.{◌≡◌, true, List, sym, subst}
 use Rattle.std.specs.Cmp.Lexicographic.{pointwise}
-use Rattle.krieg_board.proofs.Common.{Pos}
+use Rattle.krieg_table.proofs.Common.{Pos, same_list, position_lt, position_cmp, position_eq, position_total, same_position}
 use Rattle.krieg_board.proofs.SameTests.{same_tests}
-use Rattle.krieg_costs.proofs.Common.{same_list}
 use Rattle.krieg_costs.proofs.Pairs.{same_list_eq, same_list_refl}
-use Rattle.krieg_pack.proofs.Common.{position_lt, position_cmp, position_eq, position_total, same_position}
 use Rattle.krieg_pack.proofs.Sorting.{pointwise_same, pointwise_self}
 use Rattle.krieg_pack.proofs.PositionSets.{position_order}
 

@@ -1,3 +1,4 @@
+mod Common
 pub mod LineCuts
 pub mod PieceCuts
 pub mod NameLemmas
@@ -17,4 +18,3 @@ pub mod Formats
 pub mod CleanTexts
 pub mod FormSpellings
 pub mod FormGrammars
-pub mod Common

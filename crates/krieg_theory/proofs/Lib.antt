@@ -1,3 +1,4 @@
+mod Common
 pub mod Lists
 pub mod Ascending
 pub mod Keys
@@ -11,4 +12,3 @@ pub mod Planned
 pub mod Theorems
 pub mod First
 pub mod Seen
-pub mod Common

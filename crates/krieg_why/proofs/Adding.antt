@@ -5,13 +5,9 @@ use Rattle.std.specs.Map.{lookup}
 use Rattle.std.proofs.lemmas.Bool.{cond-true, cond-false}
 use Rattle.std.proofs.lemmas.List.{append-nil, append_assoc, map-append, length-append, length_push, get_or_push, take_more}
 use Rattle.indexmap.specs.IndexMap.{insert_entry}
-use Rattle.krieg_board.proofs.Common.{Pos, Move, Side, is_same_side}
+use Rattle.krieg_why.proofs.Common.{Pos, Move, Side, is_same_side, is_legal, after, is_ended, Said, are_told, after_told, after_told_if_legal, Dialect, Line, Opens, Heard, has_opening, position_eq, Tale, begun, standing, after_reply, tales_after, stays, Entries, nowhere, game_of, kept, tale_of, tales_of, Numbered, AreKept, with_entry, stands_in, added, add_all, Adds, Link}
 use Rattle.krieg_moves.proofs.MoveLists.{moves_legal}
-use Rattle.krieg_moves.proofs.Common.{is_legal, after, is_ended}
-use Rattle.krieg_words.proofs.Common.{Said, are_told, after_told, after_told_if_legal, Dialect, Line, Opens, Illegal, Done, Heard, Early, Over}
-use Rattle.krieg_belief.proofs.Common.{has_opening}
-use Rattle.krieg_pack.proofs.Common.{position_eq}
-use Rattle.krieg_why.proofs.Common.{Tale, begun, standing, after_reply, tales_after, stays, Entries, nowhere, game_of, kept, tale_of, tales_of, Numbered, AreKept, with_entry, stands_in, added, add_all, Adds, Link}
+use Rattle.krieg_words.specs.declared.line.Line.TheVariants.{Illegal, Done, Early, Over}
 use Rattle.krieg_why.proofs.Kept.{kept_append, games_length, tale_stays, tales_stay, numbered_up, numbered_push, grounded_more}
 
 with_numbered : (n : ℕ) (es : Entries) (q : Pos) (k : ℕ) → k < n → Numbered n es → Numbered n (with_entry es q k)

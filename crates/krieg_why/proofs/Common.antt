@@ -1,6 +1,41 @@
--- The words of this crate that proofs cite, passed on from one place.
+-- The words of specs/, of this crate and of those below it, that its proofs cite: passed on from one place.
+pub use Rattle.krieg_board.specs.Men.{is_same_side, other}
+pub use Rattle.krieg_board.specs.Order.{move_cmp, move_lt}
+pub use Rattle.krieg_board.specs.Pos.{Pos}
+pub use Rattle.krieg_board.specs.declared.men.Move.{Move}
+pub use Rattle.krieg_board.specs.declared.men.Side.{Side}
+pub use Rattle.krieg_board.specs.declared.men.Side.TheVariants.{Black, White}
+unfoldable pub use Rattle.krieg_moves.specs.After.{after}
+unfoldable pub use Rattle.krieg_moves.specs.Legal.{is_legal}
+unfoldable pub use Rattle.krieg_moves.specs.Moves.{is_ended, moves}
+pub use Rattle.krieg_text.specs.Writing.{HasLines, Pieces, Written, put_lines}
+pub use Rattle.krieg_words.specs.Line.{told_line}
+pub use Rattle.krieg_words.specs.ToldMoves.{after_told, after_told_if_legal, are_told}
+pub use Rattle.krieg_words.specs.ToldWords.{told}
+pub use Rattle.krieg_words.specs.Words.{Said}
+unfoldable pub use Rattle.krieg_words.specs.WordsOfMoves.{opening, words}
+pub use Rattle.krieg_words.specs.declared.dialects.Dialect.{Dialect}
+pub use Rattle.krieg_words.specs.declared.line.Line.{Line}
+pub use Rattle.krieg_words.specs.declared.line.Line.TheVariants.{Heard, Opens}
+pub use Rattle.krieg_referee.specs.Games.{judge, judged, last}
+pub use Rattle.krieg_referee.specs.Hearing.{line_for, lines_for, others_line, own_line}
+unfoldable pub use Rattle.krieg_referee.specs.Verdicts.{verdict}
+pub use Rattle.krieg_referee.specs.Verdicts.{is_done, next, position_after}
+pub use Rattle.krieg_referee.specs.declared.verdict.Event.{Event}
+pub use Rattle.krieg_referee.specs.declared.verdict.Verdict.{Verdict}
+pub use Rattle.krieg_sheet.specs.Games.{Consistent, Gives, OpensWith}
+pub use Rattle.krieg_sheet.specs.Places.{IsSheet}
+pub use Rattle.krieg_sheet.specs.Sheets.{SheetState}
+pub use Rattle.krieg_session.specs.SessionText.{event_line}
+pub use Rattle.krieg_theory.specs.Sets.{Ascending, In}
+pub use Rattle.krieg_pack.specs.Members.{IsAscending, IsSetOf}
+pub use Rattle.krieg_pack.specs.Order.{position_cmp, position_eq, position_lt}
+pub use Rattle.krieg_pack.specs.OrderLaws.{position_total}
+pub use Rattle.krieg_pack.specs.SameNumbers.{equal_position, same_position}
+pub use Rattle.krieg_belief.specs.Possible.{IsPossible}
+pub use Rattle.krieg_belief.specs.Steps.{has_opening}
+pub use Rattle.krieg_play.specs.Games.{tries_of, try_of}
 pub use Rattle.krieg_why.specs.Explained.{AreShown, Explains, IsLeast, ShownState, is_shown, last_of, shown_cmp, state_of, their_moves}
-unfoldable pub use Rattle.krieg_why.specs.GamesText.{games_text}
 pub use Rattle.krieg_why.specs.GamesText.{game_lines}
 pub use Rattle.krieg_why.specs.Laws.{ShownAreOnce}
 pub use Rattle.krieg_why.specs.Links.{Adds, AreKept, Entries, Grounded, IsFound, Numbered, add_all, added, entry_at, game_of, kept, longer, nowhere, number_of, numbered_tale, stands_in, stays, tale_of, tales_of, with_entry}

@@ -5,15 +5,11 @@ use Rattle.std.specs.Ordering.{is_eq, ordering_reverse}
 use Rattle.std.specs.declared.cmp.Ordering.{Ordering}
 use Rattle.std.specs.declared.cmp.Ordering.TheVariants.{Less, Equal, Greater}
 use Rattle.std.proofs.lemmas.Cmp.{on_total, then_total, lists_total}
-use Rattle.krieg_board.proofs.Common.{move_cmp, move_lt, Pos, Move}
+use Rattle.krieg_why.proofs.Common.{move_cmp, move_lt, Pos, Move, moves, Ascending, position_cmp, position_eq, position_total, Tale, tale_cmp}
 use Rattle.krieg_board.proofs.MoveOrder.{move_total, move_equal}
 use Rattle.krieg_theory.proofs.Lists.{filter_in}
 use Rattle.krieg_moves.proofs.Ascending.{moves_ascend}
 use Rattle.krieg_pack.proofs.Sorting.{ascending_from}
-use Rattle.krieg_moves.proofs.Common.{moves}
-use Rattle.krieg_theory.proofs.Common.{Ascending}
-use Rattle.krieg_pack.proofs.Common.{position_cmp, position_eq, position_total}
-use Rattle.krieg_why.proofs.Common.{Tale, tale_cmp}
 
 itself_equal : (o : Ordering) → o ≡ ordering_reverse o → o ≡ Equal
 itself_equal Less h = absurd cc

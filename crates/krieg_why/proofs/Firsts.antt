@@ -2,9 +2,7 @@
 use Rattle.std.proofs.Common.{◌≡◌, Bool, true, false, not, cond, List, [], ◌∷◌, ◌++◌, ◌⊎◌, inl, inr, refl, sym, ap, subst, ◌∙◌}
 use Rattle.std.proofs.lemmas.Bool.{cases_Bool, cond-true, cond-false, both_ways}
 use Rattle.std.proofs.lemmas.List.{append-nil, append_assoc}
-use Rattle.krieg_board.proofs.Common.{Pos}
-use Rattle.krieg_pack.proofs.Common.{position_eq, equal_position}
-use Rattle.krieg_why.proofs.Common.{Tale, firsts, elsewhere, stands_in, added, add_all}
+use Rattle.krieg_why.proofs.Common.{Pos, position_eq, Tale, firsts, elsewhere, equal_position, stands_in, added, add_all}
 use Rattle.krieg_why.proofs.Facts.{place_same}
 
 eq_turned : (p q : Pos) (b : Bool) → position_eq p q ≡ b → position_eq q p ≡ b

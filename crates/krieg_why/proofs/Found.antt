@@ -6,16 +6,10 @@ use Rattle.std.specs.Map.{lookup}
 use Rattle.std.proofs.lemmas.Bool.{cond-true, both_ways}
 use Rattle.std.proofs.lemmas.List.{map-append, take_more}
 use Rattle.std.proofs.lemmas.List.Elements.{All-head, All-tail, All-cons, All-nil}
-use Rattle.krieg_board.proofs.Common.{Pos, Side}
-use Rattle.krieg_words.proofs.Common.{Dialect, Line}
-use Rattle.krieg_sheet.proofs.Common.{SheetState, IsSheet}
-use Rattle.krieg_theory.proofs.Common.{In}
+use Rattle.krieg_why.proofs.Common.{Pos, Side, Dialect, Line, SheetState, IsSheet, In, position_eq, IsPossible, AreShown, AreStarts, Tale, stands_of, begun, tell_all, Entries, kept, tale_of, tales_of, number_of, entry_at, IsFound, Numbered, shown_of, Link, equal_position}
 use Rattle.krieg_theory.proofs.Lists.{in_map, map_in}
-use Rattle.krieg_pack.proofs.Common.{position_eq, equal_position}
-use Rattle.krieg_belief.proofs.Common.{IsPossible}
 use Rattle.krieg_belief.proofs.HiddenGames.{AreEntries}
 use Rattle.krieg_belief.proofs.Prefixes.{in_place}
-use Rattle.krieg_why.proofs.Common.{AreShown, AreStarts, Tale, stands_of, begun, tell_all, Entries, kept, tale_of, tales_of, number_of, entry_at, IsFound, Numbered, shown_of, Link}
 use Rattle.krieg_why.proofs.Facts.{place_same}
 use Rattle.krieg_why.proofs.Least.{possible_stands, are_shown}
 

@@ -4,13 +4,8 @@ use Rattle.std.specs.Prelude.{slice_get, option_map}
 use Rattle.std.proofs.lemmas.List.{append-nil, length-map, map-append, take_more}
 use Rattle.std.proofs.lemmas.Option.{slice_get-map, slice_get_within, get_or_from_slice_get}
 use Rattle.std.proofs.lemmas.Grind.{flat_map-append}
-use Rattle.krieg_board.proofs.Common.{Pos, Side, Move}
-use Rattle.krieg_words.proofs.Common.{Line}
-use Rattle.krieg_referee.proofs.Common.{Event}
-use Rattle.krieg_sheet.proofs.Common.{SheetState}
-use Rattle.krieg_text.proofs.Common.{Pieces, Written, HasLines, put_lines}
+use Rattle.krieg_why.proofs.Common.{Pos, Side, Move, Line, Event, SheetState, Pieces, Written, HasLines, put_lines, ShownState, state_of, game_lines, begun, Entries, kept, numbered_tale, tale_of, tales_of, events_by, shown_of, Link, Shown}
 use Rattle.krieg_text.proofs.Writings.{lines_then}
-use Rattle.krieg_why.proofs.Common.{ShownState, state_of, game_lines, begun, Entries, kept, numbered_tale, tale_of, tales_of, events_by, shown_of, Link, Shown}
 
 module _ (s : SheetState) (ps : List Pos) (ls : List Link) (lasts : Entries) where
   -- there are as many games as last positions

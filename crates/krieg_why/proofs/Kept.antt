@@ -3,8 +3,7 @@ use Rattle.std.proofs.Common.{◌≡◌, ℕ, zero, suc, ◌+◌, ◌<◌, ◌�
 use Rattle.std.specs.Prelude.{slice_get}
 use Rattle.std.proofs.lemmas.List.{append_assoc, length-map, get_or_append_left, length_push, get_or_push, reverse-append}
 use Rattle.std.proofs.lemmas.List.Elements.{All-head, All-tail, All-cons, All-nil}
-use Rattle.krieg_board.proofs.Common.{Pos, Move}
-use Rattle.krieg_why.proofs.Common.{Tale, begun, standing, Entries, nowhere, game_of, longer, numbered_tale, kept, tale_of, tales_of, Grounded, Numbered, Link}
+use Rattle.krieg_why.proofs.Common.{Pos, Move, Tale, begun, standing, Entries, nowhere, game_of, longer, numbered_tale, kept, tale_of, tales_of, Grounded, Numbered, Link}
 
 pub kept_append : (gs : List Tale) (ls ms : List Link) → kept gs (ls ++ ms) ≡ kept (kept gs ls) ms
 kept_append gs [] ms = refl

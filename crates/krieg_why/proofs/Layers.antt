@@ -4,13 +4,9 @@ use Rattle.std.specs.Cmp.Lexicographic.{slice_cmp}
 use Rattle.std.specs.Ordering.{is_lt, ordering_then}
 use Rattle.std.specs.declared.cmp.Ordering.TheVariants.{Equal}
 use Rattle.std.proofs.lemmas.Bool.{both_ways, not-true}
-use Rattle.krieg_board.proofs.Common.{is_same_side, move_cmp, move_lt, Pos, Side, Move}
-use Rattle.krieg_moves.proofs.Common.{after, moves}
-use Rattle.krieg_words.proofs.Common.{are_told, Dialect, Line, Opens, Illegal, Done, Heard, Early, Over}
-use Rattle.krieg_theory.proofs.Common.{In, Ascending}
+use Rattle.krieg_why.proofs.Common.{is_same_side, move_cmp, move_lt, Pos, Side, Move, after, moves, are_told, Dialect, Line, Opens, Heard, In, Ascending, position_cmp, position_eq, Tale, tale_cmp, tale_lt, after_reply, standing, tales_after, firsts, tell, equal_position}
+use Rattle.krieg_words.specs.declared.line.Line.TheVariants.{Illegal, Done, Early, Over}
 use Rattle.krieg_theory.proofs.Lists.{in_filter, filter_in, map_in, flat_in}
-use Rattle.krieg_pack.proofs.Common.{position_cmp, position_eq, equal_position}
-use Rattle.krieg_why.proofs.Common.{Tale, tale_cmp, tale_lt, after_reply, standing, tales_after, firsts, tell}
 use Rattle.krieg_why.proofs.Facts.{kept_up, move_itself, position_itself, legal_up, place_same}
 use Rattle.krieg_why.proofs.Orders.{appended, itself, then_assoc, less}
 

@@ -1,3 +1,4 @@
+mod Common
 pub mod Facts
 pub mod Orders
 pub mod Layers
@@ -13,4 +14,3 @@ pub mod ListedStarts
 pub mod Found
 pub mod GivenGames
 pub mod OneAnswer
-pub mod Common

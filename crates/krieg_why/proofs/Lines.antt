@@ -3,9 +3,7 @@ use Rattle.std.proofs.Common.{◌≡◌, ℕ, zero, suc, ◌+◌, ◌<◌, ◌�
 use Rattle.std.specs.Prelude.{slice_get}
 use Rattle.std.proofs.lemmas.List.{append-nil, length-map, take_more, take_all}
 use Rattle.std.proofs.lemmas.Grind.{flat_map-append}
-use Rattle.krieg_board.proofs.Common.{Pos, Side}
-use Rattle.krieg_words.proofs.Common.{Dialect, Line}
-use Rattle.krieg_why.proofs.Common.{Tale, begun, tales_after, firsts, tell, tell_all, Entries, kept, tale_of, tales_of, AreKept, add_all, Adds, Link}
+use Rattle.krieg_why.proofs.Common.{Pos, Side, Dialect, Line, Tale, begun, tales_after, firsts, tell, tell_all, Entries, kept, tale_of, tales_of, AreKept, add_all, Adds, Link}
 use Rattle.krieg_why.proofs.Kept.{tale_stays, numbered_at}
 use Rattle.krieg_why.proofs.Adding.{adds_then}
 use Rattle.krieg_why.proofs.Firsts.{firsts_all}

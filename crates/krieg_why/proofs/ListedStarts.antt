@@ -1,13 +1,9 @@
 -- The listed positions with the opening words are the starts.
 use Rattle.std.proofs.Common.{◌≡◌, true, List, filter, Option, Some, None, refl, sym}
-use Rattle.krieg_board.proofs.Common.{Pos}
-use Rattle.krieg_words.proofs.Common.{Said, opening, told, Dialect}
-use Rattle.krieg_sheet.proofs.Common.{SheetState, OpensWith}
+use Rattle.krieg_why.proofs.Common.{Pos, Said, opening, told, Dialect, SheetState, OpensWith, IsSetOf, may_begin, AreStarts}
 use Rattle.krieg_theory.proofs.Lists.{in_filter, filter_in}
-use Rattle.krieg_pack.proofs.Common.{IsSetOf}
 use Rattle.krieg_pack.proofs.Membership.{contains_in, in_contains}
 use Rattle.krieg_belief.proofs.HiddenGames.{same_words, words_same}
-use Rattle.krieg_why.proofs.Common.{may_begin, AreStarts}
 
 opens_by : (d : Dialect) (o : Option Said) (p : Pos) → may_begin d o p ≡ true → OpensWith d o p
 opens_by d None p h = tt

@@ -6,10 +6,7 @@ use Rattle.std.proofs.lemmas.Bool.{both_ways, false_from_ne_true}
 use Rattle.std.proofs.lemmas.List.{append_assoc, length_push, take_more, take_all}
 use Rattle.std.proofs.lemmas.List.Elements.{All-cons, All-nil}
 use Rattle.indexmap.specs.IndexMap.{insert_entry}
-use Rattle.krieg_board.proofs.Common.{Pos}
-use Rattle.krieg_pack.proofs.Common.{position_eq, position_lt, IsAscending, equal_position}
-use Rattle.krieg_theory.proofs.Common.{In}
-use Rattle.krieg_why.proofs.Common.{Tale, begun, standing, Entries, nowhere, tale_of, tales_of, Numbered, AreKept}
+use Rattle.krieg_why.proofs.Common.{Pos, position_eq, position_lt, IsAscending, In, Tale, begun, standing, equal_position, Entries, nowhere, tale_of, tales_of, Numbered, AreKept}
 use Rattle.krieg_why.proofs.Facts.{position_itself}
 use Rattle.krieg_why.proofs.Adding.{insert_new}
 

@@ -9,17 +9,12 @@ use Rattle.std.specs.declared.cmp.Ordering.TheVariants.{Less, Equal, Greater}
 use Rattle.std.proofs.lemmas.Bool.{both_ways}
 use Rattle.std.proofs.lemmas.Cmp.{on_total, then_total, lists_total}
 use Rattle.std.proofs.lemmas.List.Elements.{All-head, All-tail}
-use Rattle.krieg_board.proofs.Common.{other, is_same_side, move_cmp, Pos, Side, Move}
+use Rattle.krieg_why.proofs.Common.{other, is_same_side, move_cmp, Pos, Side, Move, told_line, Dialect, Line, Event, Verdict, verdict, next, is_done, judge, judged, line_for, lines_for, own_line, others_line, tries_of, SheetState, position_cmp, position_total, same_position, ShownState, last_of, is_shown, their_moves, shown_cmp, Explains, IsLeast, events_by, ShownAreOnce}
 use Rattle.krieg_board.proofs.MenLemmas.{same_side_eq}
 use Rattle.krieg_board.proofs.MoveOrder.{move_total, move_equal}
-use Rattle.krieg_words.proofs.Common.{told_line, Dialect, Line}
 use Rattle.krieg_words.specs.declared.line.Line.TheVariants as line
-use Rattle.krieg_referee.proofs.Common.{Event, Verdict, Over, Early, Illegal, Done, verdict, next, is_done, judge, judged, line_for, lines_for, own_line, others_line}
-use Rattle.krieg_play.proofs.Common.{tries_of}
-use Rattle.krieg_sheet.proofs.Common.{SheetState}
-use Rattle.krieg_pack.proofs.Common.{position_cmp, position_total, same_position}
+use Rattle.krieg_referee.specs.declared.verdict.Verdict.TheVariants.{Over, Early, Illegal, Done}
 use Rattle.krieg_pack.proofs.PositionSets.{same_members}
-use Rattle.krieg_why.proofs.Common.{ShownState, last_of, is_shown, their_moves, shown_cmp, Explains, IsLeast, events_by, ShownAreOnce}
 use Rattle.krieg_why.proofs.Least.{entries_heard}
 use Rattle.krieg_why.proofs.TriedGames.{try_is, others}
 

@@ -4,9 +4,7 @@ use Rattle.std.specs.Cmp.Lexicographic.{slice_cmp}
 use Rattle.std.specs.Ordering.{ordering_then, is_lt}
 use Rattle.std.specs.declared.cmp.Ordering.{Ordering}
 use Rattle.std.specs.declared.cmp.Ordering.TheVariants.{Less, Equal, Greater}
-use Rattle.krieg_board.proofs.Common.{move_cmp, Move}
-use Rattle.krieg_pack.proofs.Common.{position_cmp}
-use Rattle.krieg_why.proofs.Common.{Tale, tale_cmp, tale_lt}
+use Rattle.krieg_why.proofs.Common.{move_cmp, Move, position_cmp, Tale, tale_cmp, tale_lt}
 use Rattle.krieg_why.proofs.Facts.{tale_total, move_itself}
 
 pub then_assoc : (a b c : Ordering) → ordering_then a (ordering_then b c) ≡ ordering_then (ordering_then a b) c

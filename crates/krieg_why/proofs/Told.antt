@@ -5,16 +5,12 @@ use Rattle.std.specs.Ordering.{ordering_then}
 use Rattle.std.specs.declared.cmp.Ordering.TheVariants.{Equal}
 use Rattle.std.proofs.lemmas.Bool.{and_from, and_parts, not-true, cond-false}
 use Rattle.std.proofs.lemmas.List.{append-nil}
-use Rattle.krieg_board.proofs.Common.{is_same_side, move_cmp, Pos, Side, Move}
-use Rattle.krieg_moves.proofs.Common.{after, moves}
-use Rattle.krieg_words.proofs.Common.{are_told, Dialect, Line, Opens, Illegal, Done, Heard, Early, Over}
-use Rattle.krieg_sheet.proofs.Common.{Gives}
-use Rattle.krieg_theory.proofs.Common.{In}
+use Rattle.krieg_why.proofs.Common.{is_same_side, move_cmp, Pos, Side, Move, after, moves, are_told, Dialect, Line, Opens, Heard, Gives, In, Tale, tale_cmp, tale_lt, after_reply, standing, tales_after, tell, tell_all}
+use Rattle.krieg_words.specs.declared.line.Line.TheVariants.{Illegal, Done, Early, Over}
 use Rattle.krieg_theory.proofs.Lists.{in_filter, filter_in, in_map, map_in, in_flat, flat_in}
 use Rattle.krieg_belief.proofs.HiddenGames.{cond_in, in_cond, words_same, same_words, IsEntry, AreEntries}
 use Rattle.krieg_moves.proofs.Listed.{legal_listed, listed_legal}
 use Rattle.krieg_pack.proofs.Membership.{contains_in, in_contains}
-use Rattle.krieg_why.proofs.Common.{Tale, tale_cmp, tale_lt, after_reply, standing, tales_after, tell, tell_all}
 use Rattle.krieg_why.proofs.Facts.{move_itself, position_itself}
 use Rattle.krieg_why.proofs.Orders.{and_moves, Le, le_trans, le_more, lt_le, itself}
 use Rattle.krieg_why.proofs.Layers.{IsLayer, next_layer, adds, all_up, all_long, firsts_least, firsts_in}

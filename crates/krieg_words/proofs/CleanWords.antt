@@ -3,14 +3,11 @@ use Rattle.std.proofs.Common.{◌≡◌, ℕ, ◌<◌, ◌≤◌, ◌^◌, Bool,
 use Rattle.std.specs.Prelude.{codes}
 use Rattle.std.specs.List.{list_all}
 use Rattle.std.proofs.lemmas.Bool.{and_parts, and_from, leb-true, le-leb, ne_eqb}
-use Rattle.krieg_board.proofs.Common.{Move}
-use Rattle.krieg_checks.proofs.Common.{Kinds}
-use Rattle.krieg_text.proofs.Common.{number_text}
-use Rattle.krieg_fen.proofs.Common.{square_text, move_text}
+use Rattle.krieg_words.proofs.Common.{Move, Kinds, number_text, square_text, move_text, End, Goes, Mate, Stalemate, Took, Piece, Dialect, MenTold, Apart, Alike, ChecksTold, ByKind, Bare, TriesTold, Number, Any, Untold, Line, Opens, Illegal, Done, Heard, Early, Over, Said, IsSaid, MOST_TRIES, dialect_rules, Part, text_if, texts, joined_by, took_text, kind_names, checks_text, tries_text, end_text, words_parts, spelled, words_text, line_text, IsLine}
 use Rattle.krieg_text.proofs.Free.{Above, above_less}
 use Rattle.krieg_fen.proofs.CleanTexts.{square_above, move_above}
 use Rattle.krieg_text.proofs.CleanTexts.{number_above}
-use Rattle.krieg_words.proofs.Common.{End, Goes, Mate, Stalemate, Took, Nothing, Pawn, Piece, Dialect, MenTold, Apart, Alike, ChecksTold, ByKind, Bare, TriesTold, Number, Any, Untold, Line, Opens, Illegal, Done, Heard, Early, Over, Said, IsSaid, MOST_TRIES, dialect_rules, Part, text_if, texts, joined_by, took_text, kind_names, checks_text, tries_text, end_text, words_parts, spelled, words_text, line_text, IsLine}
+use Rattle.krieg_words.specs.declared.words.Took.TheVariants.{Nothing, Pawn}
 use Rattle.krieg_words.proofs.PartLaws.{Free}
 
 -- every byte passes

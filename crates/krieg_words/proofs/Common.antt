@@ -1,4 +1,43 @@
--- The words of this crate that proofs cite, passed on from one place.
+-- The words of specs/, of this crate and of those below it, that its proofs cite: passed on from one place.
+unfoldable pub use Rattle.krieg_board.specs.Attacks.{attacks}
+pub use Rattle.krieg_board.specs.Attacks.{apart, can_reach, is_forward}
+pub use Rattle.krieg_board.specs.Board.{Board, is_man, is_of, man_at}
+pub use Rattle.krieg_board.specs.Men.{is_same_kind, is_same_side, other}
+pub use Rattle.krieg_board.specs.Pos.{Pos}
+unfoldable pub use Rattle.krieg_board.specs.Sets.{has}
+pub use Rattle.krieg_board.specs.Sets.{IsLowest}
+unfoldable pub use Rattle.krieg_board.specs.Squares.{squares}
+pub use Rattle.krieg_board.specs.Squares.{file_of, gathered, rank_of}
+pub use Rattle.krieg_board.specs.Validity.{IsValid, count_kind, count_side, is_pawn, is_small}
+pub use Rattle.krieg_board.specs.declared.men.Kind.{Kind}
+pub use Rattle.krieg_board.specs.declared.men.Man.{Man}
+pub use Rattle.krieg_board.specs.declared.men.Move.{Move}
+pub use Rattle.krieg_board.specs.declared.men.Promo.{Promo}
+pub use Rattle.krieg_board.specs.declared.men.Side.{Side}
+pub use Rattle.krieg_board.specs.declared.men.Side.TheVariants.{Black, White}
+unfoldable pub use Rattle.krieg_moves.specs.After.{after}
+pub use Rattle.krieg_moves.specs.After.{is_en_passant, is_marked, passed_square}
+unfoldable pub use Rattle.krieg_moves.specs.Legal.{is_legal}
+pub use Rattle.krieg_moves.specs.Legal.{has_promotion, holds, is_double_step, is_move_of, is_move_of_kind, is_pawn_capture, is_pawn_move, is_step}
+unfoldable pub use Rattle.krieg_moves.specs.Moves.{can_go}
+pub use Rattle.krieg_moves.specs.Wings.{corner}
+pub use Rattle.krieg_moves.specs.declared.wing.Wing.{Wing}
+pub use Rattle.krieg_checks.specs.Kinds.{bits_of}
+pub use Rattle.krieg_checks.specs.declared.kinds.Kinds.{Kinds}
+pub use Rattle.krieg_text.specs.Decimals.{number_between, number_text}
+pub use Rattle.krieg_text.specs.Formats.{Always}
+pub use Rattle.krieg_text.specs.Forms.{version_form}
+pub use Rattle.krieg_text.specs.Languages.{Language, One}
+pub use Rattle.krieg_text.specs.Lines.{AreLines, is_line}
+unfoldable pub use Rattle.krieg_text.specs.Names.{behind}
+pub use Rattle.krieg_text.specs.Names.{cut}
+pub use Rattle.krieg_text.specs.Outcomes.{◌>>=◌}
+pub use Rattle.krieg_text.specs.Reading.{Place, place}
+pub use Rattle.krieg_text.specs.declared.fault.TextFault.{TextFault}
+pub use Rattle.krieg_text.specs.declared.fault.TextKind.TheVariants.{Version}
+pub use Rattle.krieg_text.specs.declared.number.NumberFault.{NumberFault}
+unfoldable pub use Rattle.krieg_fen.specs.MoveText.{move_text}
+pub use Rattle.krieg_fen.specs.MoveText.{IsOnBoard, move_of, square_text}
 pub use Rattle.krieg_words.specs.Dialects.{dialect_of, dialect_rules, dialect_text, unnamed_dialect}
 unfoldable pub use Rattle.krieg_words.specs.Line.{line_text}
 pub use Rattle.krieg_words.specs.Line.{IsLine, LineFits, told_line}
@@ -15,7 +54,7 @@ pub use Rattle.krieg_words.specs.WordNumbers.{end_at, kinds_at, took_at}
 unfoldable pub use Rattle.krieg_words.specs.Words.{words_cmp}
 pub use Rattle.krieg_words.specs.Words.{IsSaid, IsTaken, Said, end_rank, ranks, took_rank, took_square}
 unfoldable pub use Rattle.krieg_words.specs.WordsOfMoves.{opening, words}
-pub use Rattle.krieg_words.specs.WordsOfMoves.{end_of, taken, took_by}
+pub use Rattle.krieg_words.specs.WordsOfMoves.{took_by}
 unfoldable pub use Rattle.krieg_words.specs.WordsReading.{parts_in, words_in}
 pub use Rattle.krieg_words.specs.WordsReading.{checks_in, checks_named, count_in, end_in, kinds_of, name_then, names_in, number_in, pawn_or_piece, read_parts, said_of, silent, square_in, took_in, tries_in}
 unfoldable pub use Rattle.krieg_words.specs.WordsText.{words_text}
@@ -37,4 +76,4 @@ pub use Rattle.krieg_words.specs.declared.words.End.{End}
 pub use Rattle.krieg_words.specs.declared.words.End.TheVariants.{Goes, Mate, Stalemate}
 pub use Rattle.krieg_words.specs.declared.words.TheConstants.{MOST_TRIES}
 pub use Rattle.krieg_words.specs.declared.words.Took.{Took}
-pub use Rattle.krieg_words.specs.declared.words.Took.TheVariants.{Nothing, Pawn, Piece}
+pub use Rattle.krieg_words.specs.declared.words.Took.TheVariants.{Piece}

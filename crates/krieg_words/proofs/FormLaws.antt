@@ -2,13 +2,11 @@
 use Rattle.std.proofs.Common.{◌≡◌, ◌≢◌, ℕ, ◌<◌, ◌≤◌, true, false, not, ◌==◌, cond, List, [], ◌∷◌, ◌++◌, Option, Some, None, Result, Ok, Err, refl, sym, ap, ◌∙◌, arith, zero, suc, eqb-true, lit<, lit≤}
 use Rattle.std.specs.Prelude.{codes}
 use Rattle.std.specs.Str.{bytes_eq}
-use Rattle.krieg_text.proofs.Common.{behind, number_text, number_between, NumberFault}
-use Rattle.krieg_fen.proofs.Common.{square_text}
+use Rattle.krieg_words.proofs.Common.{behind, number_text, number_between, square_text, NumberFault, bits_of, Kinds, End, Goes, Mate, Stalemate, Took, Piece, MenTold, Apart, Alike, ChecksTold, ByKind, Bare, TriesTold, Number, Any, Untold, IsTaken, MOST_TRIES, took_told, checks_told, tries_told, no_kinds, some_kind, joined_by, kind_names, took_text, is_capture, checks_text, is_check, tries_text, are_tries, end_text, has_ended, square_in, pawn_or_piece, took_in, checks_named, checks_in, number_in, count_in, tries_in, end_in, read_parts}
 use Rattle.krieg_text.proofs.NameLemmas.{behind_again}
 use Rattle.krieg_fen.proofs.MoveTexts.{named_spells, named_again}
 use Rattle.krieg_text.proofs.Numbers.{between_spells, between_again}
-use Rattle.krieg_checks.proofs.Common.{bits_of, Kinds}
-use Rattle.krieg_words.proofs.Common.{End, Goes, Mate, Stalemate, Took, Nothing, Pawn, Piece, MenTold, Apart, Alike, ChecksTold, ByKind, Bare, TriesTold, Number, Any, Untold, IsTaken, MOST_TRIES, took_told, checks_told, tries_told, no_kinds, some_kind, joined_by, kind_names, took_text, is_capture, checks_text, is_check, tries_text, are_tries, end_text, has_ended, square_in, pawn_or_piece, took_in, checks_named, checks_in, number_in, count_in, tries_in, end_in, read_parts}
+use Rattle.krieg_words.specs.declared.words.Took.TheVariants.{Nothing, Pawn}
 use Rattle.krieg_words.proofs.OrderLaws.{bits_of_same}
 use Rattle.krieg_words.proofs.Cases.{by_test, by_name, by_front}
 use Rattle.krieg_words.proofs.PartLaws.{IsPart, AreParts, no_parts, parts_then}

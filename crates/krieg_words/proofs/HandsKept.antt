@@ -3,16 +3,16 @@ use Rattle.std.proofs.Common.{◌≡◌, ℕ, Bool, true, false, not, ◌&&◌, 
 use Rattle.std.proofs.Math.Bool.{and-true}
 use Rattle.std.proofs.lemmas.Bool.{eqb-true, ne_eqb}
 use Rattle.std.specs.Prelude.{Option, Some, None}
-use Rattle.krieg_board.proofs.Common.{Side, Man, Move, other, man_at, is_man, Pos, IsValid, is_pawn}
+use Rattle.krieg_words.proofs.Common.{Side, Man, Move, other, man_at, is_man, Pos, IsValid, is_pawn, corner, after, is_en_passant, passed_square, is_legal, holds, Wing, Took, Piece, Dialect, MenTold, dialect_rules, told, as_piece, took_told, words, took_by}
 use Rattle.krieg_board.specs.declared.men.Kind.TheVariants as kind
 use Rattle.krieg_board.proofs.Facts.{facts}
-use Rattle.krieg_moves.proofs.Common.{corner, after, is_en_passant, passed_square, is_legal, holds, Wing}
 use Rattle.krieg_moves.proofs.OwnMen.{own, captured_on}
 use Rattle.krieg_moves.proofs.Hands.{Alike, TheirMove, their_move}
 use Rattle.krieg_moves.proofs.Castling.{rook_stands}
 use Rattle.krieg_words.proofs.Cases.{by_test}
-use Rattle.krieg_words.proofs.Common.{Took, Nothing, Pawn, Piece, Dialect, MenTold, dialect_rules, told, as_piece, took_told, words, taken, took_by}
+use Rattle.krieg_words.specs.declared.words.Took.TheVariants.{Nothing, Pawn}
 use Rattle.krieg_words.specs.declared.dialects.MenTold.TheVariants as men
+use Rattle.krieg_words.specs.WordsOfMoves.{taken}
 
 -- the man on s was captured
 abbrev pub is_taken_on : Took → ℕ → Bool

@@ -1,3 +1,4 @@
+mod Common
 pub mod Cases
 pub mod OrderLaws
 pub mod RangeSums
@@ -20,4 +21,3 @@ pub mod VersionTexts
 pub mod VersionSpellings
 pub mod VersionFormats
 pub mod WordNumbers
-pub mod Common

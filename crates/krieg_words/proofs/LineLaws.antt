@@ -3,14 +3,11 @@ use Rattle.std.proofs.Common.{◌≡◌, ℕ, cond, List, ◌∷◌, ◌++◌, O
 use Rattle.std.specs.Prelude.{codes}
 use Rattle.std.specs.Str.{bytes_eq}
 use Rattle.std.specs.Option.{option_map}
-use Rattle.krieg_board.proofs.Common.{Move}
-use Rattle.krieg_text.proofs.Common.{behind, cut}
-use Rattle.krieg_fen.proofs.Common.{move_text, move_of, IsOnBoard}
+use Rattle.krieg_words.proofs.Common.{Move, behind, cut, move_text, move_of, IsOnBoard, Dialect, Wild16, Line, Opens, Illegal, Done, Heard, Early, Over, Said, IsSaid, Fits, LineFits, line_text, IsLine, words_text, words_in, done_in, judged_in, tried_in, try_in, heard_in, opens_in, line_in}
 use Rattle.krieg_text.proofs.Free.{above_less}
 use Rattle.krieg_fen.proofs.CleanTexts.{move_above}
 use Rattle.krieg_text.proofs.NameLemmas.{behind_again, cut_again, cut_spells}
 use Rattle.krieg_fen.proofs.MoveTexts.{move_spells, move_again}
-use Rattle.krieg_words.proofs.Common.{Dialect, Wild16, Line, Opens, Illegal, Done, Heard, Early, Over, Said, IsSaid, Fits, LineFits, line_text, IsLine, words_text, words_in, done_in, judged_in, tried_in, try_in, heard_in, opens_in, line_in}
 use Rattle.krieg_words.proofs.PartLaws.{Free}
 use Rattle.krieg_words.proofs.Cases.{by_name, by_front}
 use Rattle.krieg_words.proofs.CleanWords.{above_free}

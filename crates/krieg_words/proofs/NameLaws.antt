@@ -4,8 +4,7 @@ use Rattle.std.specs.Prelude.{codes, unwrap_or}
 use Rattle.std.specs.Str.{bytes_eq}
 use Rattle.std.specs.Option.{option_map}
 use Rattle.std.proofs.lemmas.Slice.Eq.{bytes_eq-Decides}
-use Rattle.krieg_checks.proofs.Common.{Kinds}
-use Rattle.krieg_words.proofs.Common.{no_kinds, Part, joined_by, PartsReader, no_more, kind_names, is_check, name_then, kinds_of, names_in, checks_named}
+use Rattle.krieg_words.proofs.Common.{Kinds, no_kinds, Part, joined_by, PartsReader, no_more, kind_names, is_check, name_then, kinds_of, names_in, checks_named}
 use Rattle.krieg_words.proofs.PartLaws.{Free, left, Leaves, AreParts, no_parts, parts_then}
 
 -- one name more in front of others

@@ -9,12 +9,12 @@ use Rattle.std.proofs.lemmas.Bool.Decides.{nat_tests}
 use Rattle.std.proofs.lemmas.Slice.Eq.{bytes_eq-Decides}
 use Rattle.std.proofs.lemmas.Map.Text.{is_eq-slice_cmp}
 use Rattle.std.proofs.lemmas.Cmp.{tied_itself}
-use Rattle.krieg_checks.proofs.Common.{Kinds, bits_of}
+use Rattle.krieg_words.proofs.Common.{Kinds, bits_of, End, Goes, Mate, Stalemate, Took, Piece, Said, end_rank, took_rank, took_square, ranks, words_cmp}
 use Rattle.krieg_checks.specs.contracts.kinds.KindsOrd.TheImpl.{cmp-value as kinds_cmp}
 use Rattle.krieg_words.specs.contracts.words.WordsOrd.TheImpl.{cmp-value as derived_cmp}
 use Rattle.krieg_words.specs.contracts.words.EndOrd.TheImpl.{cmp-value as end_cmp}
 use Rattle.krieg_words.specs.contracts.words.TookOrd.TheImpl.{cmp-value as took_cmp}
-use Rattle.krieg_words.proofs.Common.{End, Goes, Mate, Stalemate, Took, Nothing, Pawn, Piece, Said, end_rank, took_rank, took_square, ranks, words_cmp}
+use Rattle.krieg_words.specs.declared.words.Took.TheVariants.{Nothing, Pawn}
 
 end_cmp_is : (a b : End) → end_cmp.it a b ≡ nat_cmp (end_rank a) (end_rank b)
 end_cmp_is Goes Goes = refl

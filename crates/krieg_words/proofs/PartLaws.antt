@@ -3,9 +3,8 @@ use Rattle.std.proofs.Common.{◌≡◌, ◌≢◌, ℕ, Bool, true, false, not,
 use Rattle.std.specs.Prelude.{unwrap_or}
 use Rattle.std.specs.List.{list_all}
 use Rattle.std.proofs.lemmas.Bool.{and_parts, not-true}
-use Rattle.krieg_text.proofs.Common.{behind, cut}
+use Rattle.krieg_words.proofs.Common.{behind, cut, Part, text_if, texts, joined_by, front, after_gap, past, left_by, PartsReader, no_more, with, part_then}
 use Rattle.krieg_text.proofs.NameLemmas.{behind_again, behind_spells, cut_again, cut_spells}
-use Rattle.krieg_words.proofs.Common.{Part, text_if, texts, joined_by, front, after_gap, past, left_by, PartsReader, no_more, with, part_then}
 
 -- the mark does not occur
 abbrev pub Free : ℕ → List ℕ → Type 0

@@ -3,14 +3,13 @@ use Rattle.std.proofs.Common.{◌≡◌, ℕ, Bool, true, false, not, ◌&&◌, 
 use Rattle.std.proofs.Math.Bool.{and_comm}
 use Rattle.std.proofs.lemmas.Bool.{and_from, and_parts, not-true, or_cases, both_ways, or_right}
 use Rattle.std.specs.Prelude.{Option, Some, None}
-use Rattle.krieg_board.proofs.Common.{Side, White, Black, Kind, Pawn, Man, Move, Promo, other, is_same_side, is_same_kind, file_of, man_at, is_man, is_of, attacks, apart, is_forward, can_reach, Pos, is_pawn}
+use Rattle.krieg_words.proofs.Common.{Side, White, Black, Kind, Man, Move, Promo, other, is_same_side, is_same_kind, file_of, man_at, is_man, is_of, attacks, apart, is_forward, can_reach, Pos, is_pawn, is_marked, is_legal, is_step, is_double_step, is_pawn_capture, is_pawn_move, has_promotion, is_move_of, is_move_of_kind, can_go, is_try}
+use Rattle.krieg_board.specs.declared.men.Kind.TheVariants.{Pawn}
 use Rattle.krieg_board.specs.declared.men.Promo.TheVariants as promo
 use Rattle.krieg_board.proofs.MenLemmas.{is_pawn_tells, same_side_eq}
-use Rattle.krieg_moves.proofs.Common.{is_marked, is_legal, is_step, is_double_step, is_pawn_capture, is_pawn_move, has_promotion, is_move_of, is_move_of_kind, can_go}
 use Rattle.krieg_moves.proofs.LegalMoves.{legal}
 use Rattle.krieg_moves.proofs.Pawns.{step, double_step}
 use Rattle.krieg_moves.proofs.Shapes.{attack_reaches}
-use Rattle.krieg_words.proofs.Common.{is_try}
 
 -- t is one file and one rank forward of f, as that side's pawns capture
 abbrev pub is_aimed : Side → ℕ → ℕ → Bool

@@ -1,10 +1,10 @@
 -- The words of a move and of a start can be said: at most 16 tries, and a capture on a square of the board.
 use Rattle.std.proofs.Common.{◌≡◌, ℕ, ◌<◌, Bool, true, false, cond, Option, Some, None, arith}
-use Rattle.krieg_board.proofs.Common.{Pos, man_at, IsValid, is_pawn, Man, Move}
-use Rattle.krieg_moves.proofs.Common.{after, is_en_passant, passed_square, is_legal}
+use Rattle.krieg_words.proofs.Common.{Pos, man_at, IsValid, is_pawn, Man, Move, after, is_en_passant, passed_square, is_legal, Took, Piece, IsSaid, IsTaken, took_by, opening, words}
 use Rattle.krieg_moves.proofs.LegalMoves.{legal_squares}
 use Rattle.krieg_moves.proofs.KeepsValid.{valid_after}
-use Rattle.krieg_words.proofs.Common.{Took, Pawn, Piece, IsSaid, IsTaken, taken, took_by, opening, words}
+use Rattle.krieg_words.specs.declared.words.Took.TheVariants.{Pawn}
+use Rattle.krieg_words.specs.WordsOfMoves.{taken}
 use Rattle.krieg_words.proofs.TriesBound.{tries_le}
 
 either_taken : (t : Bool) (a b : Took) → IsTaken a → IsTaken b → IsTaken (cond t a b)

@@ -1,7 +1,7 @@
 -- What a dialect tells of words, it can tell again unchanged.
 use Rattle.std.proofs.Common.{◌≡◌, ℕ, cond, ◌==◌, refl, ap, ◌≤◌, lit≤}
-use Rattle.krieg_checks.proofs.Common.{Kinds, bits_of}
-use Rattle.krieg_words.proofs.Common.{Took, Nothing, Pawn, Piece, Dialect, MenTold, Apart, Alike, ChecksTold, ByKind, Bare, TriesTold, Number, Any, Untold, Line, Opens, Done, Heard, Said, IsSaid, IsTaken, MOST_TRIES, dialect_rules, told, took_told, checks_told, tries_told, no_kinds, some_kind, Fits, told_line, LineFits}
+use Rattle.krieg_words.proofs.Common.{Kinds, bits_of, Took, Piece, Dialect, MenTold, Apart, Alike, ChecksTold, ByKind, Bare, TriesTold, Number, Any, Untold, Line, Opens, Done, Heard, Said, IsSaid, IsTaken, MOST_TRIES, dialect_rules, told, took_told, checks_told, tries_told, no_kinds, some_kind, Fits, told_line, LineFits}
+use Rattle.krieg_words.specs.declared.words.Took.TheVariants.{Nothing, Pawn}
 use Rattle.krieg_words.proofs.Cases.{by_test}
 
 took_twice : (men : MenTold) (t : Took) → took_told men (took_told men t) ≡ took_told men t

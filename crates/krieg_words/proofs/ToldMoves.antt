@@ -4,10 +4,7 @@ use Rattle.std.proofs.lemmas.Bool.{and_parts, and_from, cond-true, both_ways, eq
 use Rattle.std.specs.Prelude.{Option, Some, None}
 use Rattle.std.specs.Ordering.{is_eq}
 use Rattle.std.specs.Cmp.{Equal-is}
-use Rattle.krieg_board.proofs.Common.{Pos, Move}
-use Rattle.krieg_moves.proofs.Common.{after, is_legal}
-use Rattle.krieg_checks.proofs.Common.{bits_of}
-use Rattle.krieg_words.proofs.Common.{Dialect, Said, end_rank, took_rank, took_square, words_cmp, words, told, are_told, after_told, after_told_if_legal, is_took_told, is_rest_told}
+use Rattle.krieg_words.proofs.Common.{Pos, Move, after, is_legal, bits_of, Dialect, Said, end_rank, took_rank, took_square, words_cmp, words, told, are_told, after_told, after_told_if_legal, is_took_told, is_rest_told}
 use Rattle.krieg_words.proofs.OrderLaws.{words_cmp_equal, words_cmp_self, bits_of_same, end_same, took_same}
 
 same_told : (d : Dialect) (w : Said) (p : Pos) (m : Move) → are_told d w p m ≡ true → w ≡ told d (words p m)

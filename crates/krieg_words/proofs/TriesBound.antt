@@ -5,9 +5,9 @@ use Rattle.std.specs.Prelude.{Option, count_by}
 use Rattle.std.specs.List.{range_with_len, sum_by}
 use Rattle.std.proofs.lemmas.List.Sums.{sum_by-cons, sum_by-le-sum_by}
 use Rattle.std.proofs.lemmas.Bool.Decides.{nat_tests}
-use Rattle.krieg_board.proofs.Common.{Side, White, Black, Pawn, Man, Pos, squares, file_of, rank_of, Board, man_at, is_man, apart, is_forward, IsValid, is_small, count_kind, count_side}
+use Rattle.krieg_words.proofs.Common.{Side, White, Black, Man, Pos, squares, file_of, rank_of, Board, man_at, is_man, apart, is_forward, IsValid, is_small, count_kind, count_side, MOST_TRIES, is_try, tries_from, tries}
+use Rattle.krieg_board.specs.declared.men.Kind.TheVariants.{Pawn}
 use Rattle.krieg_board.proofs.Facts.{Facts, facts}
-use Rattle.krieg_words.proofs.Common.{MOST_TRIES, is_try, tries_from, tries}
 use Rattle.krieg_words.proofs.PawnCaptures.{is_aimed, is_own_pawn, try_tells}
 use Rattle.krieg_words.proofs.RangeSums.{sum_range_same, sum_range_add, sum_range_one}
 

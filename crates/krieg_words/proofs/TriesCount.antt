@@ -7,12 +7,10 @@ use Rattle.std.proofs.lemmas.Bool.{ne_eqb}
 use Rattle.std.proofs.lemmas.List.{get_or-map, length-map, length-append, length-replicate}
 use Rattle.std.proofs.lemmas.Nat.{zero_from_ones, ones_le_self}
 use Rattle.std.proofs.lemmas.Simd.{ones-mask_l, bit_mask_l, mask_l-lt}
-use Rattle.krieg_board.proofs.Common.{squares, file_of, gathered, has, IsLowest, Pos, IsValid}
+use Rattle.krieg_words.proofs.Common.{squares, file_of, gathered, has, IsLowest, Pos, IsValid, can_go, MOST_TRIES, is_try, tries_from, tries}
 use Rattle.krieg_board.proofs.SetLemmas.{same_sets}
 use Rattle.krieg_board.proofs.Picked.{picked, picked_zero, picked_step, picked_all}
 use Rattle.krieg_board.proofs.SquareTests.{length_squares, get_or_squares}
-use Rattle.krieg_moves.proofs.Common.{can_go}
-use Rattle.krieg_words.proofs.Common.{MOST_TRIES, is_try, tries_from, tries}
 use Rattle.krieg_words.proofs.PawnCaptures.{is_own_pawn, try_own}
 use Rattle.krieg_words.proofs.RangeSums.{sum_range_more}
 use Rattle.krieg_words.proofs.TriesBound.{tries_from_none, tries_le}

@@ -1,12 +1,13 @@
 -- The first lines of a text as a format, which is its own grammar.
 use Rattle.std.proofs.Common.{◌≡◌, ℕ, Bool, true, false, cond, eqb, List, ◌++◌, Ok, arith}
 use Rattle.std.specs.Prelude.{codes}
-use Rattle.krieg_text.proofs.Common.{version_form, Always, Language, One, Nothing, place, taken}
+use Rattle.krieg_words.proofs.Common.{version_form, Always, Language, One, place, Dialect, unnamed_dialect, dialect_line, SpellVersion, dialect_form, dialect_at, version_at}
+use Rattle.krieg_text.specs.Languages.{Nothing}
+use Rattle.krieg_text.specs.Reading.{taken}
 use Rattle.krieg_text.proofs.Formats.{IsFormat, format_of, format_keeps}
 use Rattle.krieg_text.proofs.Grammars.{KeepsTo, line_keeps, pure_keeps, bind_keeps}
 use Rattle.krieg_text.proofs.FormGrammars.{value_form}
 use Rattle.std.proofs.lemmas.Fmt.{decimal_digit}
-use Rattle.krieg_words.proofs.Common.{Dialect, unnamed_dialect, dialect_line, SpellVersion, dialect_form, dialect_at, version_at}
 use Rattle.krieg_words.proofs.VersionSpellings.{line_read, form_read, version_spells, version_reads, local_version}
 
 pub version_format : (name : List ℕ) → IsFormat (version_at name) (λ d ls. SpellVersion name ls d)

@@ -2,12 +2,12 @@
 use Rattle.std.proofs.Common.{◌≡◌, inl, inr, ℕ, zero, suc, ◌+◌, ◌≤◌, Bool, true, false, cond, eqb, eqb-true, List, [], ◌∷◌, ◌++◌, Option, Some, None, Result, Ok, refl, sym, ap, ◌∙◌, arith}
 use Rattle.std.specs.Prelude.{codes}
 use Rattle.std.proofs.lemmas.Fmt.{decimal_digit}
-use Rattle.krieg_text.proofs.Common.{TextFault, Version, number_text, ◌>>=◌, version_form, Place, place, taken}
+use Rattle.krieg_words.proofs.Common.{TextFault, Version, number_text, ◌>>=◌, version_form, Place, place, Dialect, Wild16, Anytry, Plain, dialect_text, dialect_of, dialect_line, second_version, version_lines, SpellVersion, dialect_or_syntax, dialect_behind, dialect_form, dialect_at, version_at}
+use Rattle.krieg_text.specs.Reading.{taken}
 use Rattle.krieg_text.proofs.Locality.{IsLocal, ok_is, local_pure, local_taken, local_cond, local_bind}
 use Rattle.krieg_text.proofs.NameLemmas.{behind_again}
 use Rattle.krieg_text.proofs.FormSpellings.{number_is, number_read}
 use Rattle.krieg_text.proofs.Takings.{steps, TakenAt, taken_at, taken_again, Read}
-use Rattle.krieg_words.proofs.Common.{Dialect, Wild16, Anytry, Plain, dialect_text, dialect_of, dialect_line, second_version, version_lines, SpellVersion, dialect_or_syntax, dialect_behind, dialect_form, dialect_at, version_at}
 use Rattle.krieg_words.proofs.Cases.{by_front}
 use Rattle.krieg_words.proofs.DialectNames.{dialect_spells, dialect_read}
 

@@ -1,9 +1,8 @@
 -- No line of the first lines of a text has a line feed.
 use Rattle.std.proofs.Common.{◌≡◌, true, ℕ, List, refl}
 use Rattle.std.specs.Prelude.{codes}
-use Rattle.krieg_text.proofs.Common.{is_line, AreLines}
+use Rattle.krieg_words.proofs.Common.{is_line, AreLines, Dialect, Wild16, Anytry, Plain, TextVersion, First, Second, dialect_rules, dialect_line, lines_of_version, version_lines}
 use Rattle.krieg_text.proofs.LineTexts.{line_append}
-use Rattle.krieg_words.proofs.Common.{Dialect, Wild16, Anytry, Plain, TextVersion, First, Second, dialect_rules, dialect_line, lines_of_version, version_lines}
 
 dialect_is_line : (d : Dialect) → is_line (dialect_line d) ≡ true
 dialect_is_line Wild16 = refl

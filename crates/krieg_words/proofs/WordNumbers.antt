@@ -6,8 +6,8 @@ use Rattle.std.specs.declared.cmp.Ordering.{Ordering}
 use Rattle.std.specs.declared.cmp.Ordering.TheVariants.{Less, Equal, Greater}
 use Rattle.std.proofs.lemmas.Bool.Decides.{nat_tests}
 use Rattle.std.proofs.lemmas.Nat.{div-mul-add, mod-mul-add}
-use Rattle.krieg_checks.proofs.Common.{bits_of, Kinds}
-use Rattle.krieg_words.proofs.Common.{End, Goes, Mate, Stalemate, Took, Nothing, Pawn, Piece, Said, IsSaid, IsTaken, end_rank, took_rank, took_square, words_cmp, words_number, end_at, took_at, kinds_at, words_at, WORDS_LIMIT}
+use Rattle.krieg_words.proofs.Common.{bits_of, Kinds, End, Goes, Mate, Stalemate, Took, Piece, Said, IsSaid, IsTaken, end_rank, took_rank, took_square, words_cmp, words_number, end_at, took_at, kinds_at, words_at, WORDS_LIMIT}
+use Rattle.krieg_words.specs.declared.words.Took.TheVariants.{Nothing, Pawn}
 
 end_below : (e : End) → end_rank e < 3
 end_below Goes = omega arith

@@ -2,8 +2,7 @@
 use Rattle.std.proofs.Common.{◌≡◌, cond, ℕ, List, [], ◌∷◌, Option, Some, None, refl, sym, ap, ◌∙◌, subst, lit≤}
 use Rattle.std.specs.Prelude.{codes}
 use Rattle.std.specs.Option.{option_map}
-use Rattle.krieg_words.proofs.Common.{Dialect, Wild16, Anytry, Plain, Said, IsSaid, dialect_rules, Fits, texts, words_parts, spelled, words_text, said_of, read_parts, parts_in, silent, words_in}
-use Rattle.krieg_text.proofs.Common.{behind}
+use Rattle.krieg_words.proofs.Common.{Dialect, Wild16, Anytry, Plain, Said, IsSaid, dialect_rules, Fits, texts, words_parts, spelled, words_text, behind, said_of, read_parts, parts_in, silent, words_in}
 use Rattle.krieg_words.proofs.Cases.{by_name}
 use Rattle.krieg_words.proofs.PartLaws.{left}
 use Rattle.krieg_words.proofs.FormLaws.{Told, four_parts}

@@ -2,8 +2,8 @@
 use Rattle.std.proofs.Common.{◌≡◌, ℕ, Bool, true, false, ◌||◌, cond, List, [], ◌∷◌, ◌++◌, refl, sym, ap, ◌∙◌, append_assoc}
 use Rattle.std.specs.Prelude.{codes}
 use Rattle.std.proofs.lemmas.List.{append-nil}
-use Rattle.krieg_checks.proofs.Common.{Kinds}
-use Rattle.krieg_words.proofs.Common.{End, Took, Nothing, Pawn, Piece, Dialect, MenTold, dialect_rules, Part, text_if, texts, joined_by, piece, kind_names, took_text, is_capture, checks_text, is_check, tries_text, are_tries, end_text, has_ended, words_parts, spelled, words_text}
+use Rattle.krieg_words.proofs.Common.{Kinds, End, Took, Piece, Dialect, MenTold, dialect_rules, Part, text_if, texts, joined_by, piece, kind_names, took_text, is_capture, checks_text, is_check, tries_text, are_tries, end_text, has_ended, words_parts, spelled, words_text}
+use Rattle.krieg_words.specs.declared.words.Took.TheVariants.{Nothing, Pawn}
 
 -- texts, each after a separator
 abbrev following : List ℕ → List (List ℕ) → List ℕ

@@ -1,6 +1,5 @@
 use Rattle.std.proofs.Common.{[], ◌∷◌, length, inl, refl}
-use Rattle.krieg_theory.proofs.Common.{toy, toy_start, openings, opening_set}
-use Rattle.krieg_accounts.proofs.Common.{StoredWon, of_two}
+use Rattle.krieg_accounts.proofs.Common.{toy, toy_start, openings, opening_set, StoredWon, of_two}
 use Rattle.krieg_accounts.proofs.ToyTables.{all_of, not_won}
 use Rattle.krieg_accounts.proofs.toy.answering.Goals as goal
 

@@ -1,6 +1,5 @@
 use Rattle.std.proofs.Common.{◌≡◌, ℕ, suc, [], ◌∷◌, inl, inr, Option, Some, None, refl, arith}
-use Rattle.krieg_costs.proofs.Common.{total}
-use Rattle.krieg_accounts.proofs.Common.{lost_within, won_within}
+use Rattle.krieg_accounts.proofs.Common.{total, lost_within, won_within}
 use Rattle.krieg_accounts.proofs.ToyTables.{not_won, two_sound, five_sound, cut_sound}
 use Rattle.krieg_accounts.proofs.toy.standing.Goals as goal
 

@@ -1,8 +1,6 @@
 use Rattle.std.proofs.Common.{◌≡◌, ◌≤◌, ◌<◌, ℕ, List, Err, sym, ap, subst, ◌∙◌, length, take, arith}
 use Rattle.std.specs.Prelude.{IfOk}
-use Rattle.krieg_board.proofs.Common.{Pos}
-use Rattle.krieg_pack.proofs.Common.{set_of}
-use Rattle.krieg_belief.proofs.Common.{run, after_opening, IsPossible, HaveOneHand, AllWithin, IsStop, IsLateStop}
+use Rattle.krieg_belief.proofs.Common.{Pos, set_of, run, after_opening, IsPossible, HaveOneHand, AllWithin, IsStop, IsLateStop}
 use Rattle.krieg_belief.proofs.Prefixes.{begun, possible_all, possible_hand, list_exceeds, opening_exceeds, entry_exceeds, all_within, if_ok, if_err, on_ok}
 use Rattle.krieg_belief.proofs.beliefs.believe.Goals as goal
 

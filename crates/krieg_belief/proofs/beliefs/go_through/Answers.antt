@@ -1,6 +1,5 @@
 use Rattle.std.proofs.Common.{◌≤◌, ℕ, List, Err, ap, subst, length, take, arith}
-use Rattle.krieg_board.proofs.Common.{Pos}
-use Rattle.krieg_belief.proofs.Common.{run}
+use Rattle.krieg_belief.proofs.Common.{Pos, run}
 use Rattle.krieg_belief.proofs.Runs.{run_next, up_to_more, late_stop}
 use Rattle.krieg_belief.proofs.beliefs.go_through.Goals as goal
 

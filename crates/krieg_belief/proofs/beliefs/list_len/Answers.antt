@@ -1,6 +1,5 @@
 use Rattle.std.proofs.Common.{◌≤◌, List, sym, subst, length}
-use Rattle.krieg_board.proofs.Common.{Pos}
-use Rattle.krieg_fen.proofs.Common.{MOST_LISTED}
+use Rattle.krieg_belief.proofs.Common.{Pos, MOST_LISTED}
 use Rattle.krieg_belief.proofs.Prefixes.{sheet_le}
 use Rattle.krieg_belief.proofs.beliefs.list_len.Goals as goal
 

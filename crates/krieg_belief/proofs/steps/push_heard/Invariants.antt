@@ -1,7 +1,6 @@
 use Rattle.std.proofs.Common.{◌≡◌, ◌++◌, take, map}
 use Rattle.std.specs.List.{filter}
-use Rattle.krieg_moves.proofs.Common.{after}
-use Rattle.krieg_words.proofs.Common.{are_told}
+use Rattle.krieg_belief.proofs.Common.{after, are_told}
 use Rattle.krieg_belief.proofs.steps.push_heard.Given as goal
 
 abbrev pub invariant-loop-mv : goal.invariant-loop-mv

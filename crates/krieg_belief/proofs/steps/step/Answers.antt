@@ -1,9 +1,7 @@
 use Rattle.std.proofs.Common.{rules, ◌≡◌, ◌<◌, ◌+◌, ◌++◌, List, take, flat_map, length, subst, sym, ap, ◌∙◌, arith}
 use Rattle.std.specs.Prelude.{IsErr}
-use Rattle.krieg_pack.proofs.Common.{set_of}
+use Rattle.krieg_belief.proofs.Common.{set_of, Pos, nexts, step}
 use Rattle.krieg_pack.proofs.PositionSets.{set_of_front, set_of_grown}
-use Rattle.krieg_board.proofs.Common.{Pos}
-use Rattle.krieg_belief.proofs.Common.{nexts, step}
 use Rattle.krieg_belief.proofs.Runs.{next_more, part_exceeds}
 use Rattle.krieg_belief.proofs.steps.step.Goals as goal
 

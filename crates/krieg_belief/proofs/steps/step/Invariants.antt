@@ -1,6 +1,5 @@
 use Rattle.std.proofs.Common.{◌≡◌, take, flat_map}
-use Rattle.krieg_pack.proofs.Common.{set_of}
-use Rattle.krieg_belief.proofs.Common.{nexts}
+use Rattle.krieg_belief.proofs.Common.{set_of, nexts}
 use Rattle.krieg_belief.proofs.steps.step.Given as goal
 
 abbrev pub invariant-loop-k : goal.invariant-loop-k

@@ -1,4 +1,4 @@
-use Rattle.krieg_board.proofs.Common.{White}
+use Rattle.krieg_board.specs.declared.men.Side.TheVariants.{White}
 use Rattle.krieg_bench.proofs.sets.searches.Goals as goal
 
 pub solve-requires-clause-turn : goal.solve-requires-clause-turn

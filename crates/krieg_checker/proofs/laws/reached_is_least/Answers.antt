@@ -1,4 +1,4 @@
-use Rattle.krieg_game.proofs.Common.{chess, outset}
+use Rattle.krieg_checker.proofs.Common.{chess, outset}
 use Rattle.krieg_game.proofs.ChessLaws.{chess_is_game, outset_is_lawful}
 use Rattle.krieg_checker.proofs.Least.{reached_is_least}
 use Rattle.krieg_checker.proofs.laws.reached_is_least.Goals as goal

@@ -1,6 +1,6 @@
 use Rattle.std.proofs.Common.{◌≡◌, drop}
 use Rattle.std.specs.List.{list_all}
-use Rattle.krieg_board.proofs.Common.{is_same_side}
+use Rattle.krieg_checker.proofs.Common.{is_same_side}
 use Rattle.krieg_checker.proofs.plan_check.are_turns_of.Given as goal
 
 abbrev pub invariant-loop-p : goal.invariant-loop-p

@@ -1,7 +1,6 @@
 use Rattle.std.proofs.Common.{ap, subst, refl, ◌∙◌}
-use Rattle.krieg_pack.proofs.Common.{set_of}
+use Rattle.krieg_checker.proofs.Common.{set_of, In}
 use Rattle.krieg_pack.proofs.PositionSets.{set_in}
-use Rattle.krieg_theory.proofs.Common.{In}
 use Rattle.krieg_checker.proofs.plan_check.check.Goals as goal
 
 pub check_set-requires : goal.check_set-requires

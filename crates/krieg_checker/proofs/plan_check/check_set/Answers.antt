@@ -1,6 +1,5 @@
 use Rattle.std.proofs.Common.{rules, sym, subst, arith}
-use Rattle.krieg_plan.proofs.Common.{plan_of}
-use Rattle.krieg_checker.proofs.Common.{IsVerdict}
+use Rattle.krieg_checker.proofs.Common.{plan_of, IsVerdict}
 use Rattle.krieg_parting.proofs.Charges.{stopped}
 use Rattle.krieg_checker.proofs.Checking.{start_cost, plan_tells, plan_cost}
 use Rattle.krieg_checker.proofs.Verdicts.{is_verdict}

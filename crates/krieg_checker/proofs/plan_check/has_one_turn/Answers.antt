@@ -2,7 +2,7 @@ use Rattle.std.proofs.Common.{ap, sym, ◌∙◌, List}
 use Rattle.std.specs.Prelude.{slice_get}
 use Rattle.std.specs.List.{list_all}
 use Rattle.std.specs.Option.{option_copied}
-use Rattle.krieg_board.proofs.Common.{is_same_side, Pos}
+use Rattle.krieg_checker.proofs.Common.{is_same_side, Pos}
 use Rattle.krieg_checker.proofs.Starting.{one_turn, no_turn}
 use Rattle.krieg_checker.proofs.plan_check.has_one_turn.Goals as goal
 

@@ -1,5 +1,5 @@
 use Rattle.std.proofs.Common.{sym, ap, ◌∙◌}
-use Rattle.krieg_plan.proofs.Common.{first_root_in, plan_of}
+use Rattle.krieg_checker.proofs.Common.{first_root_in, plan_of}
 use Rattle.krieg_checker.specs.Starting as spec
 use Rattle.krieg_checker.proofs.Checking.{no_root}
 use Rattle.krieg_checker.proofs.roots.walk_root.Goals as goal

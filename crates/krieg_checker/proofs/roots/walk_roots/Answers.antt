@@ -1,8 +1,6 @@
 use Rattle.std.proofs.Common.{rules, ◌≡◌, map, ◌∷◌, ◌&&◌, length, sym, ap, ◌∙◌, arith}
 use Rattle.std.specs.Vec.Iter.{into_iter_items}
-use Rattle.krieg_game.proofs.Common.{class_pair}
-use Rattle.krieg_plan.proofs.Common.{plan_of}
-use Rattle.krieg_checker.proofs.Common.{within, worse, heard_of, roots_won, roots_cost}
+use Rattle.krieg_checker.proofs.Common.{class_pair, plan_of, within, worse, heard_of, roots_won, roots_cost}
 use Rattle.krieg_checker.proofs.Checking.{root_more}
 use Rattle.krieg_checker.proofs.roots.walk_roots.Goals as goal
 

@@ -1,8 +1,6 @@
 use Rattle.std.proofs.Common.{◌≡◌, ◌+◌, ◌≤◌, ◌&&◌, ℕ, map, length}
 use Rattle.std.specs.Vec.Iter.{into_iter_items, into_iter_len}
-use Rattle.krieg_game.proofs.Common.{class_pair}
-use Rattle.krieg_plan.proofs.Common.{plan_of}
-use Rattle.krieg_checker.proofs.Common.{within, heard_of, roots_won, roots_cost, MOST_COUNTED}
+use Rattle.krieg_checker.proofs.Common.{class_pair, plan_of, within, heard_of, roots_won, roots_cost, MOST_COUNTED}
 use Rattle.krieg_checker.proofs.roots.walk_roots.Given as goal
 
 -- what was found so far, with what is left, is all

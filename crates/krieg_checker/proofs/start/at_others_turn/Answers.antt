@@ -1,8 +1,5 @@
 use Rattle.std.proofs.Common.{length, refl, ap, subst, arith}
-use Rattle.krieg_moves.proofs.Common.{moves}
-use Rattle.krieg_costs.proofs.Common.{total}
-use Rattle.krieg_game.proofs.Common.{first_outcomes}
-use Rattle.krieg_parting.proofs.Common.{AreFirstMoves}
+use Rattle.krieg_checker.proofs.Common.{moves, total, first_outcomes, AreFirstMoves}
 use Rattle.krieg_checker.proofs.Starting.{other_started}
 use Rattle.krieg_checker.proofs.start.at_others_turn.Goals as goal
 

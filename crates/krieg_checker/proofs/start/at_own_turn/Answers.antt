@@ -1,8 +1,7 @@
 use Rattle.std.proofs.Common.{map, refl, ap, ◌∙◌}
-use Rattle.krieg_game.proofs.Common.{classes_in, opened}
+use Rattle.krieg_checker.proofs.Common.{classes_in, opened, silent}
 use Rattle.krieg_checker.proofs.Starting.{own_started}
 use Rattle.krieg_checker.proofs.start.at_own_turn.Goals as goal
-use Rattle.krieg_words.proofs.Common.{silent}
 
 pub returns : goal.returns
 returns c =

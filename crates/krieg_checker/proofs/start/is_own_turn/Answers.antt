@@ -1,5 +1,5 @@
 use Rattle.std.proofs.Common.{rules, ap, ◌∙◌}
-use Rattle.krieg_board.proofs.Common.{is_same_side}
+use Rattle.krieg_checker.proofs.Common.{is_same_side}
 use Rattle.krieg_plan.proofs.Listed.{get_in}
 use Rattle.krieg_checker.proofs.start.is_own_turn.Goals as goal
 

@@ -1,5 +1,5 @@
 use Rattle.std.proofs.Common.{◌∙◌}
-use Rattle.krieg_parting.proofs.Common.{IsOwnTurn, IsOthersTurn}
+use Rattle.krieg_checker.proofs.Common.{IsOwnTurn, IsOthersTurn}
 use Rattle.krieg_parting.proofs.Charges.{said, free}
 use Rattle.krieg_checker.proofs.Starting.{free_start, move_start}
 use Rattle.krieg_checker.proofs.start.start.Goals as goal

@@ -1,11 +1,7 @@
 use Rattle.std.proofs.Common.{true, refl, ap, subst, ◌∙◌, arith}
-use Rattle.krieg_pack.proofs.Common.{set_of}
+use Rattle.krieg_checker.proofs.Common.{set_of, refused, made, chess, IsMating}
 use Rattle.krieg_pack.proofs.PositionSets.{set_of_ascending}
-use Rattle.krieg_theory.proofs.Common.{refused}
-use Rattle.krieg_costs.proofs.Common.{made}
-use Rattle.krieg_game.proofs.Common.{chess}
 use Rattle.krieg_game.proofs.Splitting.{refused_ascends}
-use Rattle.krieg_parting.proofs.Common.{IsMating}
 use Rattle.krieg_checker.proofs.tried.end.Goals as goal
 
 pub returns : goal.returns

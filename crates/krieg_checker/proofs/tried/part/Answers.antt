@@ -1,7 +1,5 @@
 use Rattle.std.proofs.Common.{true, ap, subst, arith}
-use Rattle.krieg_costs.proofs.Common.{made}
-use Rattle.krieg_game.proofs.Common.{chess}
-use Rattle.krieg_parting.proofs.Common.{IsGathered}
+use Rattle.krieg_checker.proofs.Common.{made, chess, IsGathered}
 use Rattle.krieg_checker.proofs.tried.part.Goals as goal
 
 pub returns : goal.returns

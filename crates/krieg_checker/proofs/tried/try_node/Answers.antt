@@ -1,10 +1,6 @@
 use Rattle.std.proofs.Common.{◌≡◌, [], map, refl, ap, sym, ◌∙◌, arith, vec_len}
-use Rattle.krieg_theory.proofs.Common.{Try, NoEdges}
-use Rattle.krieg_costs.proofs.Common.{made}
-use Rattle.krieg_game.proofs.Common.{chess}
-use Rattle.krieg_plan.proofs.Common.{edges_in, tree_of, edge_of, as_edges, out-Node}
+use Rattle.krieg_checker.proofs.Common.{Try, NoEdges, made, chess, edges_in, tree_of, edge_of, as_edges, out-Node, IsTriedAt, IsEnd, try_in}
 use Rattle.krieg_plan.proofs.NodeTrees.{other_of, tree_out}
-use Rattle.krieg_checker.proofs.Common.{IsTriedAt, IsEnd, try_in}
 use Rattle.krieg_parting.proofs.Charges.{said}
 use Rattle.krieg_checker.proofs.Ending.{none_there, ends_here, end_costs}
 use Rattle.krieg_checker.proofs.Walking.{parts_are, parted_at}

@@ -1,11 +1,8 @@
 use Rattle.std.proofs.Common.{rules, ◌≡◌, map, [], ◌∷◌, ◌&&◌, length, sym, ap, ◌∙◌, arith}
 use Rattle.std.specs.Prelude.{option_map}
 use Rattle.std.specs.Vec.Iter.{into_iter_items}
-use Rattle.krieg_theory.proofs.Common.{Just, Nothing}
-use Rattle.krieg_game.proofs.Common.{class_pair}
-use Rattle.krieg_plan.proofs.Common.{edges_in, tree_of, as_other, out-Node}
+use Rattle.krieg_checker.proofs.Common.{Just, Nothing, class_pair, edges_in, tree_of, as_other, out-Node, within, worse, own_need, classes_won, classes_cost, other_in}
 use Rattle.krieg_plan.proofs.NodeTrees.{other_of}
-use Rattle.krieg_checker.proofs.Common.{within, worse, own_need, classes_won, classes_cost, other_in}
 use Rattle.krieg_parting.proofs.Charges.{stopped}
 use Rattle.krieg_checker.proofs.Walking.{walk_nil, parts_are, over, goes_on, ends, falls, other_falls, other_is_ordered, class_more, no_edge, some_edge}
 use Rattle.krieg_checker.proofs.walk.+walking.Goals as goal

@@ -1,9 +1,6 @@
 use Rattle.std.proofs.Common.{◌≡◌, ◌+◌, ◌*◌, ◌≤◌, ◌&&◌, ℕ, true, map, length}
 use Rattle.std.specs.Vec.Iter.{into_iter_items, into_iter_len}
-use Rattle.krieg_theory.proofs.Common.{size, size_edges}
-use Rattle.krieg_game.proofs.Common.{class_pair}
-use Rattle.krieg_plan.proofs.Common.{edges_in, is_ordered, tree_of}
-use Rattle.krieg_checker.proofs.Common.{within, classes_won, classes_cost, MOST_COUNTED}
+use Rattle.krieg_checker.proofs.Common.{size, size_edges, class_pair, edges_in, is_ordered, tree_of, within, classes_won, classes_cost, MOST_COUNTED}
 use Rattle.krieg_checker.proofs.Walking.{IsWalked}
 use Rattle.krieg_checker.proofs.walk.+walking.Given as goal
 

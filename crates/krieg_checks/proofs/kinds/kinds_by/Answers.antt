@@ -1,8 +1,6 @@
 use Rattle.std.proofs.Common.{◌≡◌, ◌∙◌, ◌&&◌, ℕ, ◌<◌, ◌^◌, refl, true, false}
-use Rattle.krieg_board.proofs.Common.{other, Pos, attacks, man_at, is_of, is_man, is_kind, has, IsValid, King}
-use Rattle.krieg_board.specs.declared.men.Kind.TheVariants.{Knight}
+use Rattle.krieg_checks.proofs.Common.{other, Pos, attacks, man_at, is_of, is_man, is_kind, has, IsValid, Knight, King, CheckKind, File, Rank, Long, Short, Leap, kinds, is_checked}
 use Rattle.krieg_rays.proofs.Kings.{one_king_on}
-use Rattle.krieg_checks.proofs.Common.{CheckKind, File, Rank, Long, Short, Leap, kinds, is_checked}
 use Rattle.krieg_checks.proofs.Givers.{Attack, not_checked, leap_checked, file_checked, rank_checked, long_checked, short_checked}
 use Rattle.krieg_checks.proofs.kinds.kinds_by.Goals as goal
 

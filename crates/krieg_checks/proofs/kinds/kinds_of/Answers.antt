@@ -1,5 +1,5 @@
 use Rattle.std.proofs.Common.{◌∙◌, sym, ap, ◌&&◌}
-use Rattle.krieg_board.proofs.Common.{other, man_at, is_of, is_man, attacks, King}
+use Rattle.krieg_checks.proofs.Common.{other, man_at, is_of, is_man, attacks, King}
 use Rattle.krieg_rays.proofs.Kings.{one_king_on}
 use Rattle.krieg_checks.proofs.kinds.kinds_of.Goals as goal
 

@@ -1,5 +1,5 @@
 use Rattle.std.proofs.Common.{ℕ, Vec, Global, subst, arith}
-use Rattle.krieg_ports.proofs.Common.{AppendsPrefix}
+use Rattle.krieg_cli.proofs.Common.{AppendsPrefix}
 use Rattle.krieg_cli.proofs.Pieces.{on_err, fails_within}
 use Rattle.krieg_cli.proofs.answers.write_pieces.Goals as goal
 

@@ -1,6 +1,6 @@
 use Rattle.std.proofs.Common.{◌≡◌, ◌<◌, length, arith, rules}
 use Rattle.std.specs.Option.{option_copied}
-use Rattle.krieg_text.proofs.Common.{pieces, pieces_left}
+use Rattle.krieg_fen.proofs.Common.{pieces, pieces_left}
 use Rattle.krieg_fen.proofs.FieldCounts.{length_more, length_left}
 use Rattle.krieg_fen.proofs.fen.two_of.Goals as goal
 

@@ -1,8 +1,6 @@
 use Rattle.std.proofs.Common.{rules, ◌≡◌, ◌∷◌, [], ◌++◌, Ok, Err, arith, Vec, Global}
 use Rattle.std.specs.Prelude.{slice_get}
-use Rattle.krieg_board.proofs.Common.{Pos, Position}
-use Rattle.krieg_text.proofs.Common.{taken, GivesOn}
-use Rattle.krieg_fen.proofs.Common.{listed_form}
+use Rattle.krieg_fen.proofs.Common.{Pos, Position, taken, GivesOn, listed_form}
 use Rattle.krieg_fen.proofs.Listing.{listed_ok, listed_gives}
 use Rattle.krieg_text.proofs.ReadingLemmas.{passed_then}
 use Rattle.krieg_fen.proofs.list.list_at.Goals as goal

@@ -1,7 +1,6 @@
 use Rattle.std.proofs.Common.{◌≡◌, ◌-◌, None}
 use Rattle.std.specs.Prelude.{slice_get}
-use Rattle.krieg_text.proofs.Common.{Passed}
-use Rattle.krieg_fen.proofs.Common.{positions_at}
+use Rattle.krieg_fen.proofs.Common.{Passed, positions_at}
 use Rattle.krieg_fen.proofs.Listing.{with_front}
 use Rattle.krieg_fen.proofs.list.list_at.Given as goal
 

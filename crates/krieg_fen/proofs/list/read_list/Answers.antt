@@ -1,6 +1,5 @@
 use Rattle.std.proofs.Common.{◌≡◌, None, sym, ap, subst, ◌∙◌}
-use Rattle.krieg_fen.proofs.Common.{positions_at, Either}
-use Rattle.krieg_text.proofs.Common.{place, reached, Passed, GivesOn}
+use Rattle.krieg_fen.proofs.Common.{positions_at, place, reached, Passed, GivesOn, Either}
 use Rattle.krieg_fen.proofs.ListSpellings.{code_only}
 use Rattle.krieg_fen.proofs.ListGrammars.{code_list_bad}
 use Rattle.krieg_text.proofs.ReadingLemmas.{reached_is}

@@ -1,7 +1,6 @@
 use Rattle.std.proofs.Common.{◌+◌, ◌++◌, [], drop, sym, subst, ap, ◌∙◌, arith, append_assoc}
 use Rattle.std.proofs.lemmas.List.{append-nil}
-use Rattle.krieg_board.proofs.Common.{IsLowest}
-use Rattle.krieg_fen.proofs.Common.{row_text, rank_at}
+use Rattle.krieg_fen.proofs.Common.{IsLowest, row_text, rank_at}
 use Rattle.krieg_fen.proofs.RankTexts.{rank_long}
 use Rattle.krieg_fen.proofs.RankWriting.{row_next, row_end, row_room, men_next}
 use Rattle.krieg_fen.proofs.rank_text.rank_text.Goals as goal

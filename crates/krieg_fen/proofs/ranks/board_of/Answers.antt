@@ -1,7 +1,7 @@
 use Rattle.std.proofs.Common.{◌∙◌, ◌+◌, ◌∷◌, refl, arith, drop, get_or, ap, []}
 use Rattle.std.proofs.lemmas.Bool.{ne_eqb}
 use Rattle.std.proofs.lemmas.List.{drop_all}
-use Rattle.krieg_text.proofs.Common.{pieces}
+use Rattle.krieg_fen.proofs.Common.{pieces}
 use Rattle.krieg_fen.proofs.RankReading.{reads_at, reads_start, reads_byte, reads_stuck, reads_short, reads_wrong, no_rank_below, ranks_missing, reads_down, reads_whole}
 use Rattle.krieg_fen.proofs.ranks.board_of.Goals as goal
 use Rattle.krieg_fen.proofs.ranks.board_of.Goals.{then-b-ne47+in_ok-file, else-b-ne47+then-file-eq8+then-rank-gt0, else-file-eq8-via-then-file-eq8+else-rank-gt0, else-file-eq8-via-else-file-eq8, else-rank-eq0-via-then-rank-eq0+else-file-eq8-2, else-rank-eq0-via-else-rank-eq0}

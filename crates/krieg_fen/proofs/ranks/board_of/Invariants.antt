@@ -1,6 +1,5 @@
 use Rattle.std.proofs.Common.{drop}
-use Rattle.krieg_fen.proofs.Common.{ranks_of}
-use Rattle.krieg_text.proofs.Common.{pieces}
+use Rattle.krieg_fen.proofs.Common.{ranks_of, pieces}
 use Rattle.krieg_fen.proofs.RankReading.{Reads}
 use Rattle.krieg_fen.proofs.ranks.board_of.Given as goal
 

@@ -1,6 +1,5 @@
 use Rattle.std.proofs.Common.{◌≡◌, ℕ, ◌<◌, ◌/◌, ◌%◌, false, length, None, ◌∙◌, ap}
-use Rattle.krieg_board.proofs.Common.{Board, first_fault, White}
-use Rattle.krieg_make.proofs.Common.{made_position, made_board, pair_at, POSITION_COUNT}
+use Rattle.krieg_make.proofs.Common.{Board, first_fault, White, made_position, made_board, pair_at, POSITION_COUNT}
 use Rattle.krieg_make.proofs.ValidPositions.{made_valid}
 use Rattle.krieg_make.proofs.position.made_position.Goals as goal
 

@@ -1,6 +1,5 @@
 use Rattle.std.proofs.Common.{◌≡◌, ◌<◌, ◌+◌, length}
-use Rattle.krieg_board.proofs.Common.{gathered}
-use Rattle.krieg_make.proofs.Common.{pairs_above}
+use Rattle.krieg_make.proofs.Common.{gathered, pairs_above}
 use Rattle.krieg_make.proofs.position.pair_at.Given as goal
 
 abbrev pub invariant-lower : goal.invariant-lower

@@ -1,6 +1,6 @@
 use Rattle.std.proofs.Common.{◌∙◌, sym}
 use Rattle.std.specs.Prelude.{Some}
-use Rattle.krieg_board.proofs.Common.{attacks, man_attacks, has}
+use Rattle.krieg_moves.proofs.Common.{attacks, man_attacks, has}
 use Rattle.krieg_moves.proofs.candidate.attacks.Goals as goal
 
 pub returns : goal.returns

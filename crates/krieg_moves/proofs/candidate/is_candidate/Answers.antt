@@ -1,7 +1,6 @@
 use Rattle.std.proofs.Common.{◌∙◌, ◌&&◌, sym, ap, not}
 use Rattle.std.specs.Prelude.{Some}
-use Rattle.krieg_board.proofs.Common.{is_of}
-use Rattle.krieg_moves.proofs.Common.{is_move_of}
+use Rattle.krieg_moves.proofs.Common.{is_of, is_move_of}
 use Rattle.krieg_moves.proofs.Safety.{candidate_of}
 use Rattle.krieg_moves.proofs.candidate.is_candidate.Goals as goal
 

@@ -1,6 +1,5 @@
 use Rattle.std.proofs.Common.{◌∙◌, ap}
-use Rattle.krieg_board.proofs.Common.{other}
-use Rattle.krieg_moves.proofs.Common.{rights_after}
+use Rattle.krieg_moves.proofs.Common.{other, rights_after}
 use Rattle.krieg_moves.proofs.KeepsValid.{no_fault_parts, size_parts}
 use Rattle.krieg_moves.proofs.change.position_after.Goals as goal
 

@@ -1,6 +1,5 @@
 use Rattle.std.proofs.Common.{◌-◌, ◌+◌, ◌<◌, ◌≡◌, ◌∙◌, ℕ, arith, bit_and, bit_or, length}
-use Rattle.krieg_board.proofs.Common.{man_at, is_of, has}
-use Rattle.krieg_moves.proofs.Common.{moves}
+use Rattle.krieg_moves.proofs.Common.{man_at, is_of, has, moves}
 use Rattle.krieg_moves.proofs.Counting.{few_moves_of, all_counted}
 use Rattle.krieg_moves.proofs.Officers.{counted_in_three}
 use Rattle.krieg_moves.proofs.count.count_by_guard.Goals as goal

@@ -1,5 +1,5 @@
 use Rattle.std.proofs.Common.{◌∙◌, ap, sym, arith}
-use Rattle.krieg_board.proofs.Common.{man_at, is_man, King}
+use Rattle.krieg_moves.proofs.Common.{man_at, is_man, King}
 use Rattle.krieg_moves.proofs.Counting.{counted_from}
 use Rattle.krieg_moves.proofs.count.count_from.Goals as goal
 

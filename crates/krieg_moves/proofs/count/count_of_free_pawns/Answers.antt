@@ -1,11 +1,10 @@
 use Rattle.std.proofs.Common.{◌∙◌, ◌≡◌, ◌+◌, ◌-◌, ◌*◌, ◌&&◌, ◌==◌, ℕ, ◌<◌, not, refl, sym, ap, arith, bit_and}
 use Rattle.std.proofs.lemmas.Nat.{and_le_l}
 use Rattle.std.specs.Prelude.{Option, Some, None, is_some, is_none}
-use Rattle.krieg_board.proofs.Common.{other, man_at, is_of, is_empty, has, rank_of, last_rank, Man}
+use Rattle.krieg_moves.proofs.Common.{other, man_at, is_of, is_empty, has, rank_of, last_rank, Man, is_legal, moves_from, moves_of, ways}
 use Rattle.krieg_board.proofs.SetLemmas.{has_and, has_not}
 use Rattle.std.specs.List.{filter}
 use Rattle.krieg_board.proofs.Picked.{picked}
-use Rattle.krieg_moves.proofs.Common.{is_legal, moves_from, moves_of, ways}
 use Rattle.krieg_moves.proofs.Counting.{counted_ended}
 use Rattle.krieg_moves.proofs.FreePawns.{counted_free_pawns}
 use Rattle.krieg_moves.proofs.count.count_of_free_pawns.Goals as goal

@@ -2,9 +2,7 @@ use Rattle.std.proofs.Common.{◌≡◌, ◌∙◌, ◌==◌, sym, not, arith, t
 use Rattle.std.specs.Prelude.{Some}
 use Rattle.std.proofs.lemmas.Bool.{and_parts, not-true}
 use Rattle.std.specs.List.{filter}
-use Rattle.krieg_board.proofs.Common.{man_at, has}
-use Rattle.krieg_rays.proofs.Common.{is_pinned}
-use Rattle.krieg_moves.proofs.Common.{is_legal, moves_from, moves_of, is_officer_of, is_free_officer}
+use Rattle.krieg_moves.proofs.Common.{man_at, has, is_pinned, is_legal, moves_from, moves_of, is_officer_of, is_free_officer}
 use Rattle.krieg_board.proofs.Picked.{picked}
 use Rattle.krieg_moves.proofs.Counting.{few_picked, counted_taken, counted_ended}
 use Rattle.krieg_moves.proofs.Officers.{free_of_kind}

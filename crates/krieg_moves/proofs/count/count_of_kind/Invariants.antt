@@ -1,8 +1,7 @@
 use Rattle.std.proofs.Common.{◌≡◌, ◌<◌, ◌+◌, ℕ, true, length, bit_and}
 use Rattle.std.specs.List.{filter}
-use Rattle.krieg_board.proofs.Common.{has}
+use Rattle.krieg_moves.proofs.Common.{has, is_legal, moves_from}
 use Rattle.krieg_board.proofs.Picked.{picked}
-use Rattle.krieg_moves.proofs.Common.{is_legal, moves_from}
 use Rattle.krieg_moves.proofs.count.count_of_kind.Given as goal
 
 abbrev pub decreases-loop-rest : goal.decreases-loop-rest

@@ -1,5 +1,5 @@
 use Rattle.std.proofs.Common.{◌∙◌, ap, arith}
-use Rattle.krieg_board.proofs.Common.{is_man, Pawn}
+use Rattle.krieg_moves.proofs.Common.{is_man, Pawn}
 use Rattle.krieg_board.proofs.MenLemmas.{is_man_other_kind}
 use Rattle.krieg_moves.proofs.Counting.{counted_plain}
 use Rattle.krieg_moves.proofs.Going.{no_pawn}

@@ -1,9 +1,8 @@
 use Rattle.std.proofs.Common.{◌∙◌, sym, arith, subst, bit_and}
-use Rattle.krieg_board.proofs.Common.{Board, man_at, is_kind, Show}
+use Rattle.krieg_moves.proofs.Common.{Board, man_at, is_kind, Show, is_legal, moves_from, moves_of}
 use Rattle.krieg_board.specs.declared.men.Kind.TheVariants.{Knight, Bishop, Rook, Queen}
 use Rattle.std.specs.List.{filter}
 use Rattle.krieg_board.proofs.Picked.{picked}
-use Rattle.krieg_moves.proofs.Common.{is_legal, moves_from, moves_of}
 use Rattle.krieg_moves.proofs.Counting.{counted_ended, few_moves_of}
 use Rattle.krieg_moves.proofs.Officers.{counted_by_kind}
 use Rattle.krieg_moves.proofs.count.count_of_officers.Goals as goal

@@ -1,7 +1,6 @@
 use Rattle.std.proofs.Common.{◌≡◌, ◌<◌, ℕ, ◌∙◌, ◌&&◌, ◌||◌, not, ap, ◌-◌, bit_and, bit_or}
-use Rattle.krieg_board.proofs.Common.{man_at, has}
+use Rattle.krieg_moves.proofs.Common.{man_at, has, is_officer_of}
 use Rattle.krieg_board.proofs.SetLemmas.{has_and, has_or, has_not}
-use Rattle.krieg_moves.proofs.Common.{is_officer_of}
 use Rattle.krieg_moves.proofs.Officers.{officer_kinds}
 use Rattle.krieg_moves.proofs.count.free_officers.Goals as goal
 use Rattle.krieg_moves.proofs.count.free_officers.Goals.{After-men_of}

@@ -1,7 +1,7 @@
 use Rattle.std.proofs.Common.{◌∙◌, ◌≡◌, ◌-◌, ◌^◌, ◌<◌, ◌≤◌, ◌⊎◌, ℕ, inl, inr, true, false, ap, sym, refl, arith}
 use Rattle.std.specs.Prelude.{Option, Some, None, is_some}
 use Rattle.std.proofs.lemmas.Bool.{and_parts, not-true, cases_lt, both_ways}
-use Rattle.krieg_board.proofs.Common.{has}
+use Rattle.krieg_moves.proofs.Common.{has}
 use Rattle.krieg_board.proofs.SetLemmas.{has_and, has_not, has_zero}
 use Rattle.krieg_moves.proofs.count.free_pawns.Goals as goal
 

@@ -1,6 +1,6 @@
 use Rattle.std.proofs.Common.{◌∙◌, ◌&&◌, ◌==◌, ap, sym, arith}
 use Rattle.std.proofs.Math.Bool.{and-false}
-use Rattle.krieg_board.proofs.Common.{rank_of, last_rank, has}
+use Rattle.krieg_moves.proofs.Common.{rank_of, last_rank, has}
 use Rattle.krieg_board.proofs.SetLemmas.{has_and, has_zero}
 use Rattle.krieg_moves.proofs.count.promoting.Goals as goal
 

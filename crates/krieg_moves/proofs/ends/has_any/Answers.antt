@@ -1,5 +1,5 @@
 use Rattle.std.proofs.Common.{◌∙◌, sym, arith}
-use Rattle.krieg_board.proofs.Common.{man_at, is_of}
+use Rattle.krieg_moves.proofs.Common.{man_at, is_of}
 use Rattle.krieg_moves.proofs.Listing.{some_move, passed_man, no_move}
 use Rattle.krieg_moves.proofs.ends.has_any.Goals as goal
 

@@ -1,5 +1,5 @@
 use Rattle.std.proofs.Common.{sym, refl}
-use Rattle.krieg_board.proofs.Common.{has}
+use Rattle.krieg_moves.proofs.Common.{has}
 use Rattle.krieg_board.proofs.OneKing.{set_empty}
 use Rattle.krieg_moves.proofs.ends.has_squares.Goals as goal
 

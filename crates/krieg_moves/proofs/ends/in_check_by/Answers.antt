@@ -1,9 +1,8 @@
 use Rattle.std.proofs.Common.{◌∙◌, sym}
-use Rattle.krieg_board.proofs.Common.{is_attacked}
+use Rattle.krieg_moves.proofs.Common.{is_attacked, in_check}
 use Rattle.krieg_board.proofs.Facts.{facts}
 use Rattle.krieg_board.proofs.OneKing.{one_king_attacked}
 use Rattle.krieg_board.proofs.SameTests.{some_square_same}
-use Rattle.krieg_moves.proofs.Common.{in_check}
 use Rattle.krieg_moves.proofs.Kings.{one_king}
 use Rattle.krieg_moves.proofs.ends.in_check_by.Goals as goal
 

@@ -1,8 +1,7 @@
 use Rattle.std.proofs.Common.{◌∙◌, sym, ap, subst, arith, ◌&&◌, ℕ}
 use Rattle.std.proofs.Math.Bool.{and-true}
-use Rattle.krieg_board.proofs.Common.{has, IsLowest}
+use Rattle.krieg_moves.proofs.Common.{has, IsLowest, answers_all}
 use Rattle.krieg_board.proofs.SetLemmas.{has_all}
-use Rattle.krieg_moves.proofs.Common.{answers_all}
 use Rattle.krieg_moves.proofs.AnswerSets.{answers_none, answered_more}
 use Rattle.krieg_moves.proofs.guard.answers_to.Goals as goal
 

@@ -1,6 +1,5 @@
 use Rattle.std.proofs.Common.{ℕ, ◌<◌, ◌≡◌, ◌&&◌}
-use Rattle.krieg_board.proofs.Common.{has}
-use Rattle.krieg_moves.proofs.Common.{answers_all}
+use Rattle.krieg_moves.proofs.Common.{has, answers_all}
 use Rattle.krieg_moves.proofs.guard.answers_to.Given as goal
 
 abbrev pub decreases-loop-rest : goal.decreases-loop-rest

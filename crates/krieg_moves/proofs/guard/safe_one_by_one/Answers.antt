@@ -1,6 +1,6 @@
 use Rattle.std.proofs.Common.{◌∙◌, sym, ap, subst, arith, ◌&&◌, ◌||◌, not, ℕ, set}
 use Rattle.std.specs.Prelude.{None}
-use Rattle.krieg_board.proofs.Common.{is_attacked, has, IsLowest}
+use Rattle.krieg_moves.proofs.Common.{is_attacked, has, IsLowest}
 use Rattle.krieg_board.proofs.SetLemmas.{has_zero}
 use Rattle.krieg_rays.proofs.Taking.{kept_more, kept_all}
 use Rattle.krieg_moves.proofs.guard.safe_one_by_one.Goals as goal

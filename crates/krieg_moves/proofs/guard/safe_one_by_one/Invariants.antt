@@ -1,6 +1,6 @@
 use Rattle.std.proofs.Common.{ℕ, ◌<◌, ◌≡◌, ◌&&◌, ◌||◌, not, set}
 use Rattle.std.specs.Prelude.{None}
-use Rattle.krieg_board.proofs.Common.{is_attacked, has}
+use Rattle.krieg_moves.proofs.Common.{is_attacked, has}
 use Rattle.krieg_moves.proofs.guard.safe_one_by_one.Given as goal
 
 abbrev pub decreases-loop-rest : goal.decreases-loop-rest

@@ -1,5 +1,5 @@
 use Rattle.std.proofs.Common.{◌∙◌, ap, not, ◌&&◌, ◌-◌}
-use Rattle.krieg_board.proofs.Common.{has}
+use Rattle.krieg_moves.proofs.Common.{has}
 use Rattle.krieg_board.proofs.SetLemmas.{has_and, has_not}
 use Rattle.krieg_moves.proofs.guard.safe_squares.Goals as goal
 

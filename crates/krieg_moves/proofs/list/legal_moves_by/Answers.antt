@@ -1,9 +1,8 @@
 use Rattle.std.proofs.Common.{◌∙◌, ◌≡◌, ◌++◌, List, ap, refl, sym, subst, arith, rules}
 use Rattle.std.specs.List.{filter}
 use Rattle.std.specs.List.Sorted.{IsStrictlySortedBy}
-use Rattle.krieg_board.proofs.Common.{man_at, is_of, move_cmp, Move}
+use Rattle.krieg_moves.proofs.Common.{man_at, is_of, move_cmp, Move, is_legal, moves_from, moves}
 use Rattle.krieg_board.proofs.Picked.{picked, picked_taken, picked_ended}
-use Rattle.krieg_moves.proofs.Common.{is_legal, moves_from, moves}
 use Rattle.krieg_moves.proofs.Ascending.{moves_ascend}
 use Rattle.krieg_moves.proofs.Listing.{picked_men, past_whole, on_err}
 use Rattle.krieg_moves.proofs.list.legal_moves_by.Goals as goal

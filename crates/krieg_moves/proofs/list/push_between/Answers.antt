@@ -1,6 +1,6 @@
 use Rattle.std.proofs.Common.{◌∙◌, ◌≡◌, ◌++◌, List, sym, subst, arith, length, ◌<◌}
 use Rattle.std.specs.Prelude.{OnOk, OnErr}
-use Rattle.krieg_board.proofs.Common.{Move}
+use Rattle.krieg_moves.proofs.Common.{Move}
 use Rattle.krieg_moves.proofs.Listing.{listed_promotions, listed_plain}
 use Rattle.krieg_moves.proofs.list.push_between.Goals as goal
 

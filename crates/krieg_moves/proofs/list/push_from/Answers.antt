@@ -1,9 +1,8 @@
 use Rattle.std.proofs.Common.{◌∙◌, ◌≡◌, ◌++◌, ◌==◌, not, ap, sym, refl, arith, rules}
 use Rattle.std.specs.List.{filter}
 use Rattle.std.proofs.lemmas.Bool.{and_parts}
-use Rattle.krieg_board.proofs.Common.{has}
+use Rattle.krieg_moves.proofs.Common.{has, is_legal, moves_between}
 use Rattle.krieg_board.proofs.Picked.{picked, picked_taken, picked_ended}
-use Rattle.krieg_moves.proofs.Common.{is_legal, moves_between}
 use Rattle.krieg_moves.proofs.Listing.{picked_from, past_whole, on_err}
 use Rattle.krieg_moves.proofs.list.push_from.Goals as goal
 

@@ -1,5 +1,5 @@
 use Rattle.std.proofs.Common.{◌∙◌, ap}
-use Rattle.krieg_board.proofs.Common.{other}
+use Rattle.krieg_moves.proofs.Common.{other}
 use Rattle.krieg_moves.proofs.Kings.{one_king, one_king_found}
 use Rattle.krieg_moves.proofs.replies.count_behind.Goals as goal
 

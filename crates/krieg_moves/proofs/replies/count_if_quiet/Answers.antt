@@ -1,11 +1,9 @@
 use Rattle.std.proofs.Common.{◌≡◌, ℕ, ◌<◌, ◌∙◌, Bool, true, false, ◌&&◌, ◌||◌, ◌==◌, ◌-◌, ◌+◌, ◌*◌, not, refl, sym, ap, bit_and, bit_or, arith}
 use Rattle.std.specs.Prelude.{Some, None, is_some, count_ones, slice_set}
 use Rattle.std.proofs.lemmas.Nat.{and_le_l, or_lt}
-use Rattle.krieg_board.proofs.Common.{other, has, rank_of, last_rank, man_at, is_of, is_man, is_kind, is_attacked, Pawn, King, White}
+use Rattle.krieg_moves.proofs.Common.{other, has, rank_of, last_rank, man_at, is_of, is_man, is_kind, is_attacked, Pawn, King, White, goes, ways}
 use Rattle.krieg_board.proofs.MenLemmas.{kind_side}
 use Rattle.krieg_board.proofs.SetLemmas.{has_and, has_or, has_not}
-use Rattle.krieg_rays.proofs.Common.{goes}
-use Rattle.krieg_moves.proofs.Common.{ways}
 use Rattle.krieg_moves.proofs.LoneKings.{to_off}
 use Rattle.krieg_moves.proofs.PawnReplies.{quiet_replies}
 use Rattle.krieg_moves.proofs.replies.count_if_quiet.Goals as goal

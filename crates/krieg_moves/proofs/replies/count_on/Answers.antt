@@ -1,6 +1,5 @@
 use Rattle.std.proofs.Common.{◌∙◌, sym, ap}
-use Rattle.krieg_board.proofs.Common.{other}
-use Rattle.krieg_moves.proofs.Common.{after}
+use Rattle.krieg_moves.proofs.Common.{other, after}
 use Rattle.krieg_moves.proofs.Kings.{one_king, one_king_found}
 use Rattle.krieg_moves.proofs.KeepsValid.{valid_after}
 use Rattle.krieg_moves.proofs.LoneKings.{board_is, side_is}

@@ -1,9 +1,8 @@
 use Rattle.std.proofs.Common.{◌∙◌, ◌&&◌, ◌-◌, not, ap, bit_and, arith}
 use Rattle.std.proofs.lemmas.Nat.{and_le_l}
 use Rattle.std.specs.Prelude.{Some, None, slice_set}
-use Rattle.krieg_board.proofs.Common.{is_attacked, King, White}
+use Rattle.krieg_moves.proofs.Common.{is_attacked, King, White, goes}
 use Rattle.krieg_board.proofs.SetLemmas.{has_and, has_not}
-use Rattle.krieg_rays.proofs.Common.{goes}
 use Rattle.krieg_moves.proofs.LoneKings.{to_off, replies_counted}
 use Rattle.krieg_moves.proofs.replies.count_steps_behind.Goals as goal
 

@@ -1,9 +1,8 @@
 use Rattle.std.proofs.Common.{◌≡◌, ℕ, ◌∙◌, ◌&&◌, ◌||◌, sym, ap, subst, bit_and}
 use Rattle.std.specs.Prelude.{Option, Some, None, IfSome}
-use Rattle.krieg_board.proofs.Common.{man_at, has, Pawn}
+use Rattle.krieg_moves.proofs.Common.{man_at, has, Pawn, HasOnlyPawns}
 use Rattle.krieg_board.proofs.MenLemmas.{kind_side}
 use Rattle.krieg_board.proofs.SetLemmas.{has_and, has_or}
-use Rattle.krieg_moves.proofs.Common.{HasOnlyPawns}
 use Rattle.krieg_moves.proofs.replies.king_with_pawns.Goals as goal
 
 pub returns-then-men-only : goal.returns-then-men-only

@@ -1,8 +1,7 @@
 use Rattle.std.proofs.Common.{◌∙◌, ◌&&◌, ◌||◌, sym, ap, bit_and}
 use Rattle.std.specs.Prelude.{Some, None, slice_set}
-use Rattle.krieg_board.proofs.Common.{other, man_at, is_of, man_attacks}
+use Rattle.krieg_moves.proofs.Common.{other, man_at, is_of, man_attacks, is_answered}
 use Rattle.krieg_board.proofs.SetLemmas.{has_and, has_or}
-use Rattle.krieg_moves.proofs.Common.{is_answered}
 use Rattle.krieg_moves.proofs.Going.{attacks_is}
 use Rattle.krieg_moves.proofs.target.captures.Goals as goal
 

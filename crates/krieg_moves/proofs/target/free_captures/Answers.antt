@@ -1,11 +1,9 @@
 use Rattle.std.proofs.Common.{◌∙◌, ◌<◌, ◌&&◌, ◌||◌, sym, ap, arith, bit_and}
 use Rattle.std.specs.Prelude.{None, slice_set}
 use Rattle.std.proofs.Math.Bool.{or-false}
-use Rattle.krieg_board.proofs.Common.{other, man_at, is_of, attacks, Pawn}
+use Rattle.krieg_moves.proofs.Common.{other, man_at, is_of, attacks, Pawn, goes, is_marked, is_answered, is_legal, plain_move}
 use Rattle.krieg_board.proofs.SetLemmas.{has_and}
-use Rattle.krieg_rays.proofs.Common.{goes}
 use Rattle.krieg_rays.proofs.Attacking.{pawn_from}
-use Rattle.krieg_moves.proofs.Common.{is_marked, is_answered, is_legal, plain_move}
 use Rattle.krieg_moves.proofs.Going.{attacks_is}
 use Rattle.krieg_moves.proofs.PawnGoing.{free_answered}
 use Rattle.krieg_moves.proofs.Shapes.{found_man}

@@ -1,6 +1,6 @@
 use Rattle.std.proofs.Common.{◌∙◌, ◌&&◌, ◌-◌, not, ap}
 use Rattle.std.specs.Prelude.{None, slice_set}
-use Rattle.krieg_board.proofs.Common.{other, is_attacked}
+use Rattle.krieg_moves.proofs.Common.{other, is_attacked}
 use Rattle.krieg_board.proofs.SetLemmas.{has_and, has_not}
 use Rattle.krieg_moves.proofs.target.king_steps.Goals as goal
 

@@ -1,8 +1,7 @@
 use Rattle.std.proofs.Common.{◌∙◌, ◌&&◌, not, ap, bit_and, ◌-◌, arith}
 use Rattle.std.specs.Prelude.{Some, None, slice_set}
-use Rattle.krieg_board.proofs.Common.{other, man_at, is_of, man_attacks}
+use Rattle.krieg_moves.proofs.Common.{other, man_at, is_of, man_attacks, is_answered}
 use Rattle.krieg_board.proofs.SetLemmas.{has_and, has_not}
-use Rattle.krieg_moves.proofs.Common.{is_answered}
 use Rattle.krieg_moves.proofs.Going.{officer_goes}
 use Rattle.krieg_moves.proofs.target.officer_targets.Goals as goal
 

@@ -1,5 +1,5 @@
 use Rattle.std.proofs.Common.{◌∙◌, ◌&&◌}
-use Rattle.krieg_board.proofs.Common.{man_at, is_of, is_kind, Pawn}
+use Rattle.krieg_moves.proofs.Common.{man_at, is_of, is_kind, Pawn}
 use Rattle.krieg_board.proofs.MenLemmas.{kind_side}
 use Rattle.krieg_board.proofs.SetLemmas.{has_and}
 use Rattle.krieg_moves.proofs.target.own_pawns.Goals as goal

@@ -1,6 +1,5 @@
 use Rattle.std.proofs.Common.{◌∙◌, ◌≡◌, ◌&&◌, sym, ap, true}
-use Rattle.krieg_board.proofs.Common.{attacks, has}
-use Rattle.krieg_moves.proofs.Common.{is_legal}
+use Rattle.krieg_moves.proofs.Common.{attacks, has, is_legal}
 use Rattle.krieg_moves.proofs.PawnGoing.{passing_candidate}
 use Rattle.krieg_moves.proofs.target.passes.Goals as goal
 

@@ -1,7 +1,6 @@
 use Rattle.std.proofs.Common.{◌∙◌, ◌&&◌, sym, ap}
-use Rattle.krieg_board.proofs.Common.{attacks}
+use Rattle.krieg_moves.proofs.Common.{attacks, is_marked, is_legal, plain_move}
 use Rattle.krieg_board.proofs.SetLemmas.{has_zero}
-use Rattle.krieg_moves.proofs.Common.{is_marked, is_legal, plain_move}
 use Rattle.krieg_moves.proofs.target.passing.Goals as goal
 
 pub returns-in-None : goal.returns-in-None

@@ -1,6 +1,6 @@
 use Rattle.std.proofs.Common.{◌∙◌, sym, arith}
 use Rattle.std.specs.Prelude.{Some}
-use Rattle.krieg_board.proofs.Common.{man_at, Pawn}
+use Rattle.krieg_moves.proofs.Common.{man_at, Pawn}
 use Rattle.krieg_moves.proofs.PawnGoing.{captures_go}
 use Rattle.krieg_moves.proofs.Shapes.{found_man}
 use Rattle.krieg_moves.proofs.target.pawn_captures.Goals as goal

@@ -1,9 +1,7 @@
 use Rattle.std.proofs.Common.{◌∙◌, ◌&&◌, ◌==◌, ◌-◌, not, sym, ap, arith}
 use Rattle.std.specs.Prelude.{is_some}
-use Rattle.krieg_board.proofs.Common.{rank_of, pawn_rank, man_at}
+use Rattle.krieg_moves.proofs.Common.{rank_of, pawn_rank, man_at, is_ahead, crossed}
 use Rattle.krieg_board.proofs.SetLemmas.{has_and, has_not, has_zero}
-use Rattle.krieg_rays.proofs.Common.{is_ahead}
-use Rattle.krieg_moves.proofs.Common.{crossed}
 use Rattle.krieg_moves.proofs.Steps.{steps_ahead, steps_blocked}
 use Rattle.krieg_moves.proofs.target.pawn_moves.Goals as goal
 

@@ -1,8 +1,7 @@
 use Rattle.std.proofs.Common.{◌∙◌, ◌&&◌, ◌||◌, arith, bit_and}
 use Rattle.std.specs.Prelude.{None, slice_set}
-use Rattle.krieg_board.proofs.Common.{other}
+use Rattle.krieg_moves.proofs.Common.{other, is_answered, is_step, is_double_step, plain_move}
 use Rattle.krieg_board.proofs.SetLemmas.{has_and, has_or}
-use Rattle.krieg_moves.proofs.Common.{is_answered, is_step, is_double_step, plain_move}
 use Rattle.krieg_moves.proofs.PawnGoing.{forward_or_captures}
 use Rattle.krieg_moves.proofs.target.pawn_targets.Goals as goal
 

@@ -1,5 +1,5 @@
 use Rattle.std.proofs.Common.{◌∙◌, ◌≡◌, sym, false}
-use Rattle.krieg_board.proofs.Common.{man_at, is_of}
+use Rattle.krieg_moves.proofs.Common.{man_at, is_of}
 use Rattle.krieg_board.proofs.SetLemmas.{has_zero}
 use Rattle.krieg_moves.proofs.Going.{nothing_goes}
 use Rattle.krieg_moves.proofs.target.targets.Goals as goal

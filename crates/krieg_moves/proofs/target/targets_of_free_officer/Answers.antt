@@ -1,10 +1,9 @@
 use Rattle.std.proofs.Common.{◌∙◌, ◌≡◌, ◌<◌, ◌&&◌, not, sym, ap, bit_and, ◌-◌, arith, true}
 use Rattle.std.specs.Prelude.{Some, None, slice_set}
-use Rattle.krieg_board.proofs.Common.{other, is_same_side, man_at, is_of, man_attacks}
+use Rattle.krieg_moves.proofs.Common.{other, is_same_side, man_at, is_of, man_attacks, is_answered}
 use Rattle.krieg_board.proofs.Facts.{facts}
 use Rattle.krieg_board.proofs.MenLemmas.{same_side_self}
 use Rattle.krieg_board.proofs.SetLemmas.{has_and, has_not}
-use Rattle.krieg_moves.proofs.Common.{is_answered}
 use Rattle.krieg_moves.proofs.Answering.{unpinned_answered}
 use Rattle.krieg_moves.proofs.Going.{officer_goes}
 use Rattle.krieg_moves.proofs.Movers.{not_enemy}

@@ -1,7 +1,6 @@
 use Rattle.std.proofs.Common.{◌∙◌, ◌<◌, ◌&&◌, ◌||◌, arith, bit_and}
-use Rattle.krieg_board.proofs.Common.{man_at, Pawn}
+use Rattle.krieg_moves.proofs.Common.{man_at, Pawn, is_step, is_double_step, plain_move}
 use Rattle.krieg_board.proofs.SetLemmas.{has_and, has_or}
-use Rattle.krieg_moves.proofs.Common.{is_step, is_double_step, plain_move}
 use Rattle.krieg_moves.proofs.PawnGoing.{forward_or_captures, free_answered}
 use Rattle.krieg_moves.proofs.Shapes.{found_man}
 use Rattle.krieg_moves.proofs.target.targets_of_free_pawn.Goals as goal

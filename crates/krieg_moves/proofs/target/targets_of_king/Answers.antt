@@ -1,6 +1,6 @@
 use Rattle.std.proofs.Common.{◌∙◌, sym}
 use Rattle.std.specs.Prelude.{Some}
-use Rattle.krieg_board.proofs.Common.{man_at, King}
+use Rattle.krieg_moves.proofs.Common.{man_at, King}
 use Rattle.krieg_moves.proofs.Shapes.{found_man}
 use Rattle.krieg_moves.proofs.target.targets_of_king.Goals as goal
 

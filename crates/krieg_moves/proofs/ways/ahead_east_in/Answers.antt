@@ -1,6 +1,5 @@
 use Rattle.std.proofs.Common.{◌∙◌, ap, sym}
-use Rattle.krieg_board.proofs.Common.{has}
-use Rattle.krieg_moves.proofs.Common.{ahead_east}
+use Rattle.krieg_moves.proofs.Common.{has, ahead_east}
 use Rattle.krieg_moves.proofs.PawnWays.{white_east, black_east}
 use Rattle.krieg_moves.proofs.ways.ahead_east_in.Goals as goal
 

@@ -1,6 +1,5 @@
 use Rattle.std.proofs.Common.{◌∙◌, ap, sym}
-use Rattle.krieg_board.proofs.Common.{has}
-use Rattle.krieg_moves.proofs.Common.{ahead}
+use Rattle.krieg_moves.proofs.Common.{has, ahead}
 use Rattle.krieg_moves.proofs.PawnWays.{white_ahead, black_ahead}
 use Rattle.krieg_moves.proofs.ways.ahead_in.Goals as goal
 

@@ -1,6 +1,5 @@
 use Rattle.std.proofs.Common.{◌∙◌, ap, sym}
-use Rattle.krieg_board.proofs.Common.{has}
-use Rattle.krieg_moves.proofs.Common.{ahead_west}
+use Rattle.krieg_moves.proofs.Common.{has, ahead_west}
 use Rattle.krieg_moves.proofs.PawnWays.{white_west, black_west}
 use Rattle.krieg_moves.proofs.ways.ahead_west_in.Goals as goal
 

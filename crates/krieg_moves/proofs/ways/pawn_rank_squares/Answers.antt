@@ -1,5 +1,5 @@
 use Rattle.std.proofs.Common.{◌∙◌, ap, sym, ◌==◌}
-use Rattle.krieg_board.proofs.Common.{rank_of, pawn_rank}
+use Rattle.krieg_moves.proofs.Common.{rank_of, pawn_rank}
 use Rattle.krieg_moves.proofs.PawnWays.{second_rank, seventh_rank}
 use Rattle.krieg_moves.proofs.ways.pawn_rank_squares.Goals as goal
 

@@ -1,7 +1,7 @@
 use Rattle.std.proofs.Common.{◌∙◌, ◌&&◌, bit_and}
 use Rattle.krieg_board.proofs.SetLemmas.{has_and}
 use Rattle.krieg_moves.proofs.PawnWays.{two_ahead_has}
-use Rattle.krieg_board.proofs.Common.{has}
+use Rattle.krieg_moves.proofs.Common.{has}
 use Rattle.krieg_moves.proofs.ways.two_ahead_in.Goals as goal
 
 pub returns : goal.returns

@@ -1,6 +1,5 @@
 use Rattle.std.proofs.Common.{◌≡◌, ap, ◌∙◌}
-use Rattle.krieg_board.proofs.Common.{bits_of}
-use Rattle.krieg_pack.proofs.Common.{mark_code, side_code, plane, packed, Inside}
+use Rattle.krieg_pack.proofs.Common.{bits_of, mark_code, side_code, plane, packed, Inside}
 use Rattle.krieg_pack.proofs.Unpacking.{packed_is, packed_view, fields_packed}
 use Rattle.krieg_pack.proofs.packed.pack.Goals as goal
 

@@ -1,6 +1,5 @@
 use Rattle.std.proofs.Common.{◌≡◌, sym, ap, ◌∙◌, length}
-use Rattle.krieg_board.proofs.Common.{Board, Pos, first_fault}
-use Rattle.krieg_pack.proofs.Common.{unpacked}
+use Rattle.krieg_pack.proofs.Common.{Board, Pos, first_fault, unpacked}
 use Rattle.krieg_pack.proofs.Unpacking.{unpacked_is}
 use Rattle.krieg_pack.proofs.packed.unpack.Goals as goal
 

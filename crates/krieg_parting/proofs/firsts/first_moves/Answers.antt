@@ -1,7 +1,5 @@
 use Rattle.std.proofs.Common.{rules, ◌+◌, length, drop, ap, subst, arith, List}
-use Rattle.krieg_board.proofs.Common.{Pos}
-use Rattle.krieg_moves.proofs.Common.{moves}
-use Rattle.krieg_costs.proofs.Common.{total}
+use Rattle.krieg_parting.proofs.Common.{Pos, moves, total}
 use Rattle.krieg_parting.proofs.Charges.{stopped}
 use Rattle.krieg_parting.proofs.Items.{drop_item, drop_end}
 use Rattle.krieg_parting.proofs.Advancing.{IsLeft, left_all, left_more, left_none}

@@ -1,6 +1,5 @@
 use Rattle.std.proofs.Common.{◌≡◌, ◌+◌, ◌≤◌, length, drop}
-use Rattle.krieg_moves.proofs.Common.{moves}
-use Rattle.krieg_costs.proofs.Common.{total}
+use Rattle.krieg_parting.proofs.Common.{moves, total}
 use Rattle.krieg_parting.proofs.Advancing.{IsLeft}
 use Rattle.krieg_parting.proofs.firsts.first_moves.Given as goal
 

@@ -1,6 +1,5 @@
 use Rattle.std.proofs.Common.{rules, ◌+◌, drop, ap, subst, arith, List}
-use Rattle.krieg_board.proofs.Common.{Pos}
-use Rattle.krieg_parting.proofs.Common.{looked_at}
+use Rattle.krieg_parting.proofs.Common.{Pos, looked_at}
 use Rattle.krieg_parting.proofs.Charges.{stopped}
 use Rattle.krieg_parting.proofs.Items.{drop_item, drop_end}
 use Rattle.krieg_parting.proofs.Trying.{IsLeft, left_all, left_more, left_none}

@@ -1,6 +1,5 @@
 use Rattle.std.proofs.Common.{[], ap}
-use Rattle.krieg_words.proofs.Common.{silent}
-use Rattle.krieg_game.proofs.Common.{opened}
+use Rattle.krieg_parting.proofs.Common.{silent, opened}
 use Rattle.krieg_game.proofs.Pools.{holds_one}
 use Rattle.krieg_parting.proofs.opened.with_openings.Goals as goal
 

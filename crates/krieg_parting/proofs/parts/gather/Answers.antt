@@ -1,7 +1,5 @@
 use Rattle.std.proofs.Common.{rules, ◌+◌, drop, ap, subst, arith, List}
-use Rattle.krieg_board.proofs.Common.{Pos}
-use Rattle.krieg_costs.proofs.Common.{made}
-use Rattle.krieg_game.proofs.Common.{chess}
+use Rattle.krieg_parting.proofs.Common.{Pos, made, chess}
 use Rattle.krieg_parting.proofs.Charges.{stopped}
 use Rattle.krieg_parting.proofs.Items.{drop_item, drop_end}
 use Rattle.krieg_parting.proofs.Gathering.{IsLeft, left_all, left_more, left_none}

@@ -1,6 +1,5 @@
 use Rattle.std.proofs.Common.{◌≡◌, ◌+◌, ◌≤◌, drop}
-use Rattle.krieg_costs.proofs.Common.{made}
-use Rattle.krieg_game.proofs.Common.{chess}
+use Rattle.krieg_parting.proofs.Common.{made, chess}
 use Rattle.krieg_parting.proofs.Gathering.{IsLeft}
 use Rattle.krieg_parting.proofs.parts.gather.Given as goal
 

@@ -1,8 +1,6 @@
 use Rattle.std.proofs.Common.{ap, refl, ◌∙◌}
-use Rattle.krieg_pack.proofs.Common.{set_of}
+use Rattle.krieg_parting.proofs.Common.{set_of, refused, all_outcomes, chess}
 use Rattle.krieg_pack.proofs.PositionSets.{set_of_ascending}
-use Rattle.krieg_theory.proofs.Common.{refused, all_outcomes}
-use Rattle.krieg_game.proofs.Common.{chess}
 use Rattle.krieg_game.proofs.Classed.{outcomes_are_classed}
 use Rattle.krieg_game.proofs.Splitting.{refused_ascends}
 use Rattle.krieg_parting.proofs.parts.parts_of.Goals as goal

@@ -1,8 +1,7 @@
 use Rattle.std.proofs.Common.{◌+◌, ◌-◌, max, false, refl, sym, ap, ◌∙◌, arith}
 use Rattle.std.specs.Prelude.{option_map}
 use Rattle.std.proofs.lemmas.Bool.{both_ways}
-use Rattle.krieg_theory.proofs.Common.{depth, depth_other}
-use Rattle.krieg_plan.proofs.Common.{tree_of, as_other}
+use Rattle.krieg_plan.proofs.Common.{depth, depth_other, tree_of, as_other}
 use Rattle.krieg_plan.proofs.DeepNodes.{edges_within, goes_on, ends}
 use Rattle.krieg_plan.proofs.depth.+measuring.Goals as goal
 

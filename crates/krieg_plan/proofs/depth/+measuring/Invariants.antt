@@ -1,6 +1,5 @@
 use Rattle.std.proofs.Common.{◌≡◌, ◌+◌, ◌*◌, ◌≤◌, max, map, drop}
-use Rattle.krieg_theory.proofs.Common.{depth, depth_edges}
-use Rattle.krieg_plan.proofs.Common.{tree_of, edge_of, as_edges}
+use Rattle.krieg_plan.proofs.Common.{depth, depth_edges, tree_of, edge_of, as_edges}
 use Rattle.krieg_plan.proofs.depth.+measuring.Given as goal
 
 abbrev pub decreases-is_within : goal.decreases-is_within

@@ -1,9 +1,7 @@
 use Rattle.std.proofs.Common.{sym, ap, ◌∙◌, rules}
 use Rattle.std.specs.Prelude.{Ok, Err, slice_index_or}
 use Rattle.std.proofs.lemmas.Fn.{always_returns_same}
-use Rattle.krieg_theory.proofs.Common.{Just}
-use Rattle.krieg_game.proofs.Common.{Key, key_cmp}
-use Rattle.krieg_plan.proofs.Common.{NodeTree, tree_of, edge_of}
+use Rattle.krieg_plan.proofs.Common.{Just, Key, key_cmp, NodeTree, tree_of, edge_of}
 use Rattle.krieg_plan.proofs.NodeTrees.{edge_out}
 use Rattle.krieg_plan.proofs.OrderedTrees.{found_edge_ordered}
 use Rattle.krieg_plan.proofs.Lookups.{edge_found}

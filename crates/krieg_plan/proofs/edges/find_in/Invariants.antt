@@ -1,7 +1,5 @@
 use Rattle.std.proofs.Common.{◌≡◌, map, drop}
-use Rattle.krieg_theory.proofs.Common.{first_edge}
-use Rattle.krieg_game.proofs.Common.{key_lt}
-use Rattle.krieg_plan.proofs.Common.{edge_of, as_edges}
+use Rattle.krieg_plan.proofs.Common.{first_edge, key_lt, edge_of, as_edges}
 use Rattle.krieg_plan.proofs.edges.find_in.Given as goal
 
 abbrev pub invariant-loop-e : goal.invariant-loop-e

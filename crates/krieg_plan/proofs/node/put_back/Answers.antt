@@ -1,8 +1,6 @@
 use Rattle.std.proofs.Common.{◌+◌, sym, ap, ◌∙◌}
 use Rattle.std.specs.Prelude.{option_map}
-use Rattle.krieg_theory.proofs.Common.{size_other}
-use Rattle.krieg_game.proofs.Common.{Key}
-use Rattle.krieg_plan.proofs.Common.{NodeTree, tree_of, as_other}
+use Rattle.krieg_plan.proofs.Common.{size_other, Key, NodeTree, tree_of, as_other}
 use Rattle.krieg_plan.proofs.NodeTrees.{edge_rolled}
 use Rattle.krieg_plan.proofs.Dropping.{nodes_below, below_more}
 use Rattle.krieg_plan.proofs.node.put_back.Goals as goal

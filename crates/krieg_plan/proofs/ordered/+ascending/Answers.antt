@@ -1,7 +1,6 @@
 use Rattle.std.proofs.Common.{sym, ap, ◌∙◌, arith}
 use Rattle.std.specs.Prelude.{option_map}
-use Rattle.krieg_theory.proofs.Common.{size, size_other}
-use Rattle.krieg_plan.proofs.Common.{tree_of, as_other, is_ordered, is_ordered_other}
+use Rattle.krieg_plan.proofs.Common.{size, size_other, tree_of, as_other, is_ordered, is_ordered_other}
 use Rattle.krieg_plan.proofs.NodeTrees.{tree_out}
 use Rattle.krieg_plan.proofs.OrderedNodes.{not_own, not_below, left_to_other}
 use Rattle.krieg_plan.proofs.ordered.+ascending.Goals as goal

@@ -1,7 +1,5 @@
 use Rattle.std.proofs.Common.{◌≡◌, ◌-◌, map, drop}
-use Rattle.krieg_theory.proofs.Common.{edge_keys}
-use Rattle.krieg_game.proofs.Common.{key_lt}
-use Rattle.krieg_plan.proofs.Common.{edge_of, as_edges, is_ascending}
+use Rattle.krieg_plan.proofs.Common.{edge_keys, key_lt, edge_of, as_edges, is_ascending}
 use Rattle.krieg_plan.proofs.ordered.edges_ascend.Given as goal
 
 abbrev pub invariant-loop-i : goal.invariant-loop-i

@@ -1,6 +1,5 @@
 use Rattle.std.proofs.Common.{◌≡◌, ◌-◌, map, drop}
-use Rattle.krieg_game.proofs.Common.{root_lt}
-use Rattle.krieg_plan.proofs.Common.{root_of, is_ascending}
+use Rattle.krieg_plan.proofs.Common.{root_lt, root_of, is_ascending}
 use Rattle.krieg_plan.proofs.ordered.roots_ascend.Given as goal
 
 abbrev pub invariant-loop-i : goal.invariant-loop-i

@@ -1,9 +1,7 @@
 use Rattle.std.proofs.Common.{sym, ap, ◌∙◌, rules}
 use Rattle.std.specs.Prelude.{Ok, Err, slice_index_or}
 use Rattle.std.proofs.lemmas.Fn.{always_returns_same}
-use Rattle.krieg_theory.proofs.Common.{Just}
-use Rattle.krieg_game.proofs.Common.{root_cmp}
-use Rattle.krieg_plan.proofs.Common.{tree_of, root_of, plan_of}
+use Rattle.krieg_plan.proofs.Common.{Just, root_cmp, tree_of, root_of, plan_of}
 use Rattle.krieg_plan.proofs.OrderedTrees.{found_root_ordered}
 use Rattle.krieg_plan.proofs.Lookups.{root_found}
 use Rattle.krieg_plan.proofs.roots.find_root.Goals as goal

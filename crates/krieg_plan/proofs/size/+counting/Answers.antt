@@ -1,7 +1,6 @@
 use Rattle.std.proofs.Common.{ap, map, arith}
 use Rattle.std.specs.Prelude.{option_map}
-use Rattle.krieg_theory.proofs.Common.{size, size_other, size_edges}
-use Rattle.krieg_plan.proofs.Common.{tree_of, edge_of, as_other, as_edges}
+use Rattle.krieg_plan.proofs.Common.{size, size_other, size_edges, tree_of, edge_of, as_other, as_edges}
 use Rattle.krieg_plan.proofs.NodeTrees.{tree_out}
 use Rattle.krieg_plan.proofs.size.+counting.Goals as goal
 

@@ -1,6 +1,5 @@
 use Rattle.std.proofs.Common.{◌≡◌, ◌+◌, ◌*◌, ◌≤◌, map, drop}
-use Rattle.krieg_theory.proofs.Common.{size, size_edges}
-use Rattle.krieg_plan.proofs.Common.{tree_of, edge_of, as_edges}
+use Rattle.krieg_plan.proofs.Common.{size, size_edges, tree_of, edge_of, as_edges}
 use Rattle.krieg_plan.proofs.size.+counting.Given as goal
 
 abbrev pub decreases-left_after : goal.decreases-left_after

@@ -1,5 +1,4 @@
-use Rattle.krieg_text.proofs.Common.{lines}
-use Rattle.krieg_planfile.proofs.Common.{heard_state_of}
+use Rattle.krieg_planfile.proofs.Common.{lines, heard_state_of}
 use Rattle.krieg_planfile.proofs.HeardSpellings.{heard_reading}
 use Rattle.krieg_planfile.proofs.heard.read_heard_plan.Goals as goal
 

@@ -1,10 +1,7 @@
 use Rattle.std.proofs.Common.{rules, ◌≡◌, ◌+◌, ◌-◌, ◌∷◌, [], ◌++◌, List, Vec, Global, Some, Ok, Err, map, sym, ap, ◌∙◌, arith}
 use Rattle.std.proofs.lemmas.List.{map-append}
-use Rattle.krieg_text.proofs.Common.{GivesOn}
-use Rattle.krieg_game.proofs.Common.{Key}
-use Rattle.krieg_plan.proofs.Common.{NodeTree, edge_of, edge_step, node_step, Edge, fold_out-Edge}
-use Rattle.krieg_plan.specs.declared.node.Edge.{out-Edge}
-use Rattle.krieg_planfile.proofs.Common.{on_form}
+use Rattle.krieg_planfile.proofs.Common.{GivesOn, Key, NodeTree, edge_of, edge_step, node_step, out-Edge, fold_out-Edge, on_form}
+use Rattle.krieg_plan.specs.declared.node.Edge.{Edge}
 use Rattle.krieg_planfile.specs.NodeReading as spec
 use Rattle.krieg_planfile.proofs.Branches.{with_front, branch_ok, branch_refused}
 use Rattle.krieg_planfile.proofs.nodes.+reading.Goals as goal

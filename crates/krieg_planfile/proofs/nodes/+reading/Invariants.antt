@@ -1,6 +1,5 @@
 use Rattle.std.proofs.Common.{◌≡◌, ◌-◌, ◌+◌, ◌*◌, None, map}
-use Rattle.krieg_plan.proofs.Common.{edge_of}
-use Rattle.krieg_planfile.proofs.Common.{on_form}
+use Rattle.krieg_planfile.proofs.Common.{edge_of, on_form}
 use Rattle.krieg_planfile.specs.NodeReading as spec
 use Rattle.krieg_planfile.proofs.Branches.{with_front}
 use Rattle.krieg_planfile.proofs.nodes.+reading.Given as goal

@@ -1,10 +1,7 @@
 use Rattle.std.proofs.Common.{rules, ℕ, ◌∷◌, [], ◌++◌, map, length, sym, subst}
 use Rattle.std.proofs.lemmas.List.{length-map}
 use Rattle.std.specs.Prelude.{codes}
-use Rattle.krieg_fen.proofs.Common.{listing_lines}
-use Rattle.krieg_text.proofs.Common.{HasLines, alone}
-use Rattle.krieg_plan.proofs.Common.{root_of}
-use Rattle.krieg_planfile.proofs.Common.{state_of, waits, heading, roots_lines, worst_line, count_line, claim_lines}
+use Rattle.krieg_planfile.proofs.Common.{listing_lines, HasLines, alone, root_of, state_of, waits, heading, roots_lines, worst_line, count_line, claim_lines}
 use Rattle.krieg_planfile.proofs.NodeWriting.{puts_then}
 use Rattle.krieg_planfile.proofs.plan_writing.put_plan.Goals as goal
 

@@ -1,9 +1,6 @@
 use Rattle.std.proofs.Common.{rules, ◌≡◌, ◌+◌, ◌-◌, ◌∷◌, [], ◌++◌, List, Vec, Global, Some, Ok, Err, map, ap, ◌∙◌, arith}
 use Rattle.std.proofs.lemmas.List.{map-append}
-use Rattle.krieg_text.proofs.Common.{GivesOn}
-use Rattle.krieg_game.proofs.Common.{RootKey}
-use Rattle.krieg_plan.proofs.Common.{NodeTree, root_of, Root, MOST_ON_PATH}
-use Rattle.krieg_planfile.proofs.Common.{branch_by, branches_by, node_at, root_form}
+use Rattle.krieg_planfile.proofs.Common.{GivesOn, RootKey, NodeTree, root_of, Root, MOST_ON_PATH, branch_by, branches_by, node_at, root_form}
 use Rattle.krieg_planfile.proofs.Branches.{with_front, branch_ok, branch_refused}
 use Rattle.krieg_planfile.proofs.roots.read_roots.Goals as goal
 

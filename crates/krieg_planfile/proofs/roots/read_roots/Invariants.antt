@@ -1,6 +1,5 @@
 use Rattle.std.proofs.Common.{◌≡◌, ◌-◌, None, map}
-use Rattle.krieg_plan.proofs.Common.{root_of, MOST_ON_PATH}
-use Rattle.krieg_planfile.proofs.Common.{branches_by, node_at, root_form}
+use Rattle.krieg_planfile.proofs.Common.{root_of, MOST_ON_PATH, branches_by, node_at, root_form}
 use Rattle.krieg_planfile.proofs.Branches.{with_front}
 use Rattle.krieg_planfile.proofs.roots.read_roots.Given as goal
 

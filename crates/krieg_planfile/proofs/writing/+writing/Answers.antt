@@ -1,8 +1,6 @@
 use Rattle.std.proofs.Common.{rules, ◌≡◌, ◌+◌, ◌<◌, ◌∷◌, [], ◌++◌, map, take, get_or, length, List, sym, ap, subst, ◌∙◌, arith}
 use Rattle.std.proofs.lemmas.Grind.{take_at_read}
-use Rattle.krieg_text.proofs.Common.{Pieces, HasLines, PutsLines}
-use Rattle.krieg_plan.proofs.Common.{tree_of, edge_of, edges_in, out-Node}
-use Rattle.krieg_planfile.proofs.Common.{IsToldKey, other_in, play_line, on_line, node_lines, other_lines, edges_lines, branches_lines}
+use Rattle.krieg_planfile.proofs.Common.{Pieces, HasLines, PutsLines, tree_of, edge_of, edges_in, out-Node, IsToldKey, other_in, play_line, on_line, node_lines, other_lines, edges_lines, branches_lines}
 use Rattle.krieg_planfile.proofs.NodeWriting.{told_at, told_edges_of, size_of_edge, puts_then, has_then, next_lines, edges_are, lines_of_node, all_taken}
 use Rattle.krieg_planfile.proofs.writing.+writing.Goals as goal
 

@@ -1,8 +1,5 @@
 use Rattle.std.proofs.Common.{◌+◌, ◌*◌, map, take}
-use Rattle.krieg_text.proofs.Common.{HasLines}
-use Rattle.krieg_theory.proofs.Common.{size, size_other, size_edges}
-use Rattle.krieg_plan.proofs.Common.{tree_of, edge_of, edges_in, out-Node}
-use Rattle.krieg_planfile.proofs.Common.{other_in, on_line, branches_lines}
+use Rattle.krieg_planfile.proofs.Common.{HasLines, size, size_other, size_edges, tree_of, edge_of, edges_in, out-Node, other_in, on_line, branches_lines}
 use Rattle.krieg_planfile.proofs.writing.+writing.Given as goal
 
 -- the lines of the edges before this one

@@ -1,8 +1,6 @@
 use Rattle.std.proofs.Common.{rules, ◌≡◌, ◌+◌, ◌∷◌, [], ◌++◌, map, take, get_or, List, ap, subst, ◌∙◌}
 use Rattle.std.proofs.lemmas.Grind.{take_at_read}
-use Rattle.krieg_text.proofs.Common.{Pieces, HasLines}
-use Rattle.krieg_plan.proofs.Common.{root_of}
-use Rattle.krieg_planfile.proofs.Common.{node_lines, branches_lines, IsToldRoot, root_line}
+use Rattle.krieg_planfile.proofs.Common.{Pieces, HasLines, root_of, node_lines, branches_lines, IsToldRoot, root_line}
 use Rattle.krieg_planfile.proofs.NodeWriting.{told_at, has_then, next_lines}
 use Rattle.krieg_planfile.proofs.writing.put_roots.Goals as goal
 

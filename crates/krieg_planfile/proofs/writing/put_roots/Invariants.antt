@@ -1,7 +1,5 @@
 use Rattle.std.proofs.Common.{map, take}
-use Rattle.krieg_text.proofs.Common.{HasLines}
-use Rattle.krieg_plan.proofs.Common.{root_of}
-use Rattle.krieg_planfile.proofs.Common.{branches_lines, root_line}
+use Rattle.krieg_planfile.proofs.Common.{HasLines, root_of, branches_lines, root_line}
 use Rattle.krieg_planfile.proofs.writing.put_roots.Given as goal
 
 -- the lines of the roots before this one

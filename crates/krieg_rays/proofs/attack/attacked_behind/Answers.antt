@@ -3,7 +3,7 @@ use Rattle.std.proofs.Math.ListN.{length-set}
 use Rattle.std.proofs.lemmas.List.{set_comm}
 use Rattle.std.proofs.lemmas.Bool.{and_parts}
 use Rattle.std.specs.Prelude.{Some, None, is_some}
-use Rattle.krieg_board.proofs.Common.{has, is_of, is_attacked}
+use Rattle.krieg_rays.proofs.Common.{has, is_of, is_attacked}
 use Rattle.krieg_board.proofs.SetLemmas.{has_or}
 use Rattle.krieg_rays.proofs.Attacking.{left_out, stood}
 use Rattle.krieg_rays.proofs.Behind.{attacked_behind}

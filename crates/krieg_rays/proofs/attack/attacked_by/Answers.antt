@@ -1,5 +1,5 @@
 use Rattle.std.proofs.Common.{◌∙◌, sym, refl}
-use Rattle.krieg_board.proofs.Common.{is_attacked}
+use Rattle.krieg_rays.proofs.Common.{is_attacked}
 use Rattle.krieg_board.proofs.SameTests.{some_square_same}
 use Rattle.krieg_rays.proofs.Attacking.{attack_there}
 use Rattle.krieg_rays.proofs.attack.attacked_by.Goals as goal

@@ -1,7 +1,6 @@
 use Rattle.std.proofs.Common.{sym, ◌∙◌, subst, ℕ}
 use Rattle.std.specs.Prelude.{Some}
-use Rattle.krieg_board.proofs.Common.{IsLowest}
-use Rattle.krieg_rays.proofs.Common.{reaches}
+use Rattle.krieg_rays.proofs.Common.{IsLowest, reaches}
 use Rattle.krieg_rays.proofs.Taking.{taken, none_left, none_found}
 use Rattle.krieg_rays.proofs.attack.attacked_by_each.Goals as goal
 

@@ -1,7 +1,6 @@
 use Rattle.std.proofs.Common.{◌≡◌, ◌<◌, ℕ, ◌&&◌, ◌||◌}
 use Rattle.std.specs.Prelude.{Some}
-use Rattle.krieg_board.proofs.Common.{some_square, has}
-use Rattle.krieg_rays.proofs.Common.{reaches}
+use Rattle.krieg_rays.proofs.Common.{some_square, has, reaches}
 use Rattle.krieg_rays.proofs.attack.attacked_by_each.Given as goal
 
 abbrev pub invariant-loop-rest : goal.invariant-loop-rest

@@ -1,7 +1,7 @@
 use Rattle.std.proofs.Common.{◌∙◌, sym, set, not, ◌==◌, refl}
 use Rattle.std.proofs.lemmas.Bool.{and_parts}
 use Rattle.std.specs.Prelude.{None, is_some}
-use Rattle.krieg_board.proofs.Common.{has, is_of}
+use Rattle.krieg_rays.proofs.Common.{has, is_of}
 use Rattle.krieg_rays.proofs.Attacking.{attack_there, left_out, stood}
 use Rattle.krieg_rays.proofs.attack.attackers_without.Goals as goal
 

@@ -1,5 +1,5 @@
 use Rattle.std.proofs.Common.{sym, ◌&&◌}
-use Rattle.krieg_board.proofs.Common.{man_at, is_of, attacks, is_attacked}
+use Rattle.krieg_rays.proofs.Common.{man_at, is_of, attacks, is_attacked}
 use Rattle.krieg_board.proofs.OneKing.{set_empty}
 use Rattle.krieg_rays.proofs.attack.is_attacked.Goals as goal
 

@@ -1,6 +1,6 @@
 use Rattle.std.proofs.Common.{sym, set, ◌&&◌}
 use Rattle.std.specs.Prelude.{None}
-use Rattle.krieg_board.proofs.Common.{man_at, is_of, attacks, is_attacked}
+use Rattle.krieg_rays.proofs.Common.{man_at, is_of, attacks, is_attacked}
 use Rattle.krieg_board.proofs.OneKing.{set_empty}
 use Rattle.krieg_rays.proofs.attack.is_attacked_without.Goals as goal
 

@@ -1,5 +1,5 @@
 use Rattle.std.proofs.Common.{◌∙◌, ap, not, ◌&&◌, ◌-◌}
-use Rattle.krieg_board.proofs.Common.{has}
+use Rattle.krieg_rays.proofs.Common.{has}
 use Rattle.krieg_board.proofs.SetLemmas.{has_and, has_not}
 use Rattle.krieg_rays.proofs.attack.left_out.Goals as goal
 

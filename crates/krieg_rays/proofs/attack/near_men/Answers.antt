@@ -1,7 +1,6 @@
 use Rattle.std.proofs.Common.{◌∙◌, ap, ◌&&◌, ◌||◌}
 use Rattle.krieg_board.proofs.SetLemmas.{has_and, has_or}
-use Rattle.krieg_board.proofs.Common.{Pawn}
-use Rattle.krieg_rays.proofs.Common.{goes}
+use Rattle.krieg_rays.proofs.Common.{Pawn, goes}
 use Rattle.krieg_rays.proofs.attack.near_men.Goals as goal
 
 pub returns : goal.returns

@@ -1,7 +1,6 @@
 use Rattle.std.proofs.Common.{◌∙◌, sym, ap, ◌&&◌}
-use Rattle.krieg_board.proofs.Common.{has}
+use Rattle.krieg_rays.proofs.Common.{has, is_open}
 use Rattle.krieg_board.proofs.SetLemmas.{has_and, has_zero}
-use Rattle.krieg_rays.proofs.Common.{is_open}
 use Rattle.krieg_rays.proofs.Geometry.{none_diagonal}
 use Rattle.krieg_rays.proofs.lines.diagonal_among.Goals as goal
 

@@ -1,9 +1,8 @@
 use Rattle.std.proofs.Common.{◌≡◌, ℕ, ◌<◌, ◌∙◌, sym, ap, refl, subst, arith, bit_and, ◌&&◌, ◌||◌, ◌==◌}
 use Rattle.std.proofs.lemmas.Nat.{and_le_l}
 use Rattle.std.specs.Prelude.{is_some}
-use Rattle.krieg_board.proofs.Common.{is_between, is_clear, man_at, is_of, has, IsLowest}
+use Rattle.krieg_rays.proofs.Common.{is_between, is_clear, man_at, is_of, has, IsLowest, is_near, is_sniper}
 use Rattle.krieg_board.proofs.SetLemmas.{has_and}
-use Rattle.krieg_rays.proofs.Common.{is_near, is_sniper}
 use Rattle.krieg_rays.proofs.Attacking.{clear_set}
 use Rattle.krieg_rays.proofs.Pinning.{shields, only_shields, some_sniper_pins, lines_attack}
 use Rattle.krieg_rays.proofs.Taking.{taken, none_left, none_found, kept_more, kept_all}

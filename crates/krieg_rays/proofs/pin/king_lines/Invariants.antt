@@ -1,5 +1,5 @@
 use Rattle.std.proofs.Common.{◌≡◌, ◌<◌, ℕ, ◌&&◌, ◌||◌}
-use Rattle.krieg_board.proofs.Common.{is_clear, some_square, has}
+use Rattle.krieg_rays.proofs.Common.{is_clear, some_square, has}
 use Rattle.krieg_rays.proofs.Pinning.{shields}
 use Rattle.krieg_rays.proofs.pin.king_lines.Given as goal
 

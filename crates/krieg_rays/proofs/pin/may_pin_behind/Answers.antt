@@ -1,10 +1,9 @@
 use Rattle.std.proofs.Common.{◌≡◌, ◌∙◌, Bool, true, false, ◌&&◌, ◌||◌, ◌-◌, not, refl, sym, ap, bit_and, bit_or}
 use Rattle.std.proofs.lemmas.Bool.{eqb-true}
-use Rattle.krieg_board.proofs.Common.{man_at, is_man, count_kind, King, has}
+use Rattle.krieg_rays.proofs.Common.{man_at, is_man, count_kind, King, has, is_pinned}
 use Rattle.krieg_board.proofs.SetLemmas.{has_and, has_or, has_not}
 use Rattle.krieg_rays.proofs.Geometry.{straight_lines, diagonal_lines}
 use Rattle.krieg_rays.proofs.PinsBehind.{nobody_pinned}
-use Rattle.krieg_rays.proofs.Common.{is_pinned}
 use Rattle.krieg_rays.proofs.pin.may_pin_behind.Goals as goal
 
 not_false : (x : Bool) → not x ≡ false → x ≡ true

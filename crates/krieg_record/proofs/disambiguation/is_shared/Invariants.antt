@@ -1,6 +1,5 @@
 use Rattle.std.proofs.Common.{◌≡◌, ◌&&◌}
-use Rattle.krieg_board.proofs.Common.{some_square, has}
-use Rattle.krieg_record.proofs.Common.{fits, is_rival}
+use Rattle.krieg_record.proofs.Common.{some_square, has, fits, is_rival}
 use Rattle.krieg_record.proofs.disambiguation.is_shared.Given as goal
 
 -- the rivals of whom it is true are among those that are left

@@ -1,5 +1,5 @@
 use Rattle.std.proofs.Common.{◌∙◌, ap, sym}
-use Rattle.krieg_board.proofs.Common.{man_at, is_kind}
+use Rattle.krieg_record.proofs.Common.{man_at, is_kind}
 use Rattle.krieg_record.proofs.move_traits.men_of_kind.Goals as goal
 
 pub returns-in-Pawn : goal.returns-in-Pawn

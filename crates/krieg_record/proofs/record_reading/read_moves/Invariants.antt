@@ -1,6 +1,5 @@
 use Rattle.std.proofs.Common.{◌≡◌, [], length}
-use Rattle.krieg_text.proofs.Common.{up_to_last}
-use Rattle.krieg_record.proofs.Common.{after_all, step_form}
+use Rattle.krieg_record.proofs.Common.{up_to_last, after_all, step_form}
 use Rattle.krieg_record.proofs.record_reading.read_moves.Given as goal
 
 -- the rest, read after the moves so far, gives the whole, and the position is the one after these moves

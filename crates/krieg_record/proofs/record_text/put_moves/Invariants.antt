@@ -1,6 +1,5 @@
 use Rattle.std.proofs.Common.{◌≡◌, drop}
-use Rattle.krieg_text.proofs.Common.{put_lines}
-use Rattle.krieg_record.proofs.Common.{AreLegal, move_lines}
+use Rattle.krieg_record.proofs.Common.{put_lines, AreLegal, move_lines}
 use Rattle.krieg_record.proofs.record_text.put_moves.Given as goal
 
 -- the text so far with the lines of the other moves is the whole, and each of these is legal where it stands

@@ -1,5 +1,5 @@
 use Rattle.std.proofs.Common.{◌≡◌, ◌+◌, ◌++◌, length, drop}
-use Rattle.krieg_referee.proofs.Common.{judge, last}
+use Rattle.krieg_referee.specs.Games.{judge, last}
 use Rattle.krieg_referee.proofs.game.judge.Given as goal
 
 -- what is judged so far, and what the other tries give from here, is the whole game; and each of them has its place

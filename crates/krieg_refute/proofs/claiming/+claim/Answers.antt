@@ -1,21 +1,14 @@
 use Rattle.std.proofs.Common.{false, ◌≡◌, ◌+◌, ◌-◌, ◌≤◌, List, length, map, take, None, Err, is_some, sym, ap, subst, ◌∙◌, arith, refl}
 use Rattle.std.proofs.lemmas.List.{length-map, take_all}
 use Rattle.std.specs.Prelude.{IfSome}
-use Rattle.krieg_board.proofs.Common.{Pos, Move}
+use Rattle.krieg_refute.proofs.Common.{Pos, Move, Key, Large, position_lt, tries, block_pair, stored, add_all, behind_try, WalksTries, chess, set_at, why_of, reason_of, Class, Refused, pairs_in, Claims, Reasons, Blocks, Asked, entries, ByClass, ByRefused}
 use Rattle.krieg_costs.specs.Refutation as theory
-use Rattle.krieg_game.proofs.Common.{Key, chess}
-use Rattle.krieg_search.proofs.Common.{Large, Asked}
-use Rattle.krieg_pack.proofs.Common.{position_lt}
-use Rattle.krieg_theory.proofs.Common.{In, tries}
+use Rattle.krieg_theory.specs.Sets.{In}
 use Rattle.krieg_theory.proofs.Steps.{refused_lt}
-use Rattle.krieg_costs.proofs.Common.{block_pair, ByClass, ByRefused}
-use Rattle.krieg_accounts.proofs.Common.{stored}
-use Rattle.krieg_claims.proofs.Common.{add_all, behind_try, WalksTries}
 use Rattle.krieg_claims.specs.Written as written
 use Rattle.krieg_game.proofs.ChessLaws.{chess_is_game}
-use Rattle.krieg_table.proofs.Common.{set_at, entries}
 use Rattle.krieg_search.proofs.Building.{adds_nothing, adds_then, still_paid}
-use Rattle.krieg_refute.proofs.Common.{why_of, reason_of, Reason, Class, Refused, pairs_in, Claims, Reasons, Blocks}
+use Rattle.krieg_refute.specs.declared.refutation.Reason.{Reason}
 use Rattle.krieg_refute.proofs.Reasoning.{walked_more, reasons_more}
 use Rattle.krieg_claims.proofs.Walking.{walks_there}
 use Rattle.krieg_search.specs.contracts.notes.AskedPartialEq.TheImpl as derived_eq

@@ -1,11 +1,6 @@
 use Rattle.std.proofs.Common.{◌≡◌, length, map, take, ◌+◌, ◌-◌, ◌*◌, ◌^◌}
-use Rattle.krieg_board.proofs.Common.{Move}
-use Rattle.krieg_costs.proofs.Common.{Reason}
-use Rattle.krieg_claims.proofs.Common.{reason_at, WalksTries}
-use Rattle.krieg_game.proofs.Common.{Key, chess}
-use Rattle.krieg_search.proofs.Common.{AddsSets, Note}
-use Rattle.krieg_refute.proofs.Common.{reason_of, pairs_in, IsClaimed}
-use Rattle.krieg_table.proofs.Common.{set_at}
+use Rattle.krieg_refute.proofs.Common.{Move, reason_at, WalksTries, Key, chess, AddsSets, Note, reason_of, pairs_in, IsClaimed, set_at}
+use Rattle.krieg_costs.specs.Refutation.{Reason}
 use Rattle.krieg_refute.proofs.claiming.+claim.Given as goal
 
 -- first the number of moves counts, then the members; no set has 2 ^ 64

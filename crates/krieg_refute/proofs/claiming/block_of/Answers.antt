@@ -1,13 +1,8 @@
 use Rattle.std.proofs.Common.{◌≡◌, ℕ, ◌^◌, ◌-◌, ◌<◌, suc, sym, subst, ◌∙◌, refl, arith}
-use Rattle.krieg_theory.proofs.Common.{class}
-use Rattle.krieg_costs.proofs.Common.{LostClass, made}
+use Rattle.krieg_refute.proofs.Common.{class, LostClass, made, chess, entries, set_at, Key, IsLostPart, IsLost}
 use Rattle.krieg_claims.proofs.StoredLosses.{loss_paid}
-use Rattle.krieg_game.proofs.Common.{chess, Key}
 use Rattle.krieg_game.proofs.ChessLaws.{chess_is_game}
-use Rattle.krieg_table.proofs.Common.{entries, set_at}
-use Rattle.krieg_search.proofs.Common.{IsLostPart}
 use Rattle.krieg_search.proofs.Building.{adds_nothing, adds_then}
-use Rattle.krieg_refute.proofs.Common.{IsLost}
 use Rattle.krieg_refute.proofs.Blocking.{class_at, refused_at}
 use Rattle.krieg_refute.proofs.claiming.block_of.Goals as goal
 

@@ -1,8 +1,6 @@
 use Rattle.std.proofs.Common.{◌≡◌, map, find, length}
 use Rattle.std.specs.Vec.Iter.{into_iter_items, into_iter_len}
-use Rattle.krieg_game.proofs.Common.{class_pair}
-use Rattle.krieg_search.proofs.Common.{AddsSets}
-use Rattle.krieg_refute.proofs.Common.{is_lost_class}
+use Rattle.krieg_refute.proofs.Common.{class_pair, AddsSets, is_lost_class}
 use Rattle.krieg_refute.proofs.claiming.first_lost.Given as goal
 
 abbrev pub invariant-loop-class : goal.invariant-loop-class

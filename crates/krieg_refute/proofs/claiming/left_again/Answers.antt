@@ -1,10 +1,8 @@
 use Rattle.std.proofs.Common.{ℕ, false, List, ap, subst, sym, ◌∙◌}
 use Rattle.std.specs.List.{list_any}
-use Rattle.krieg_board.proofs.Common.{Pos}
-use Rattle.krieg_parting.proofs.Common.{lives}
+use Rattle.krieg_refute.proofs.Common.{Pos, lives, FailsAtOnce}
 use Rattle.krieg_parting.proofs.LastMoves.{some_lives}
 use Rattle.krieg_split.proofs.LastMoves.{life_fails}
-use Rattle.krieg_search.proofs.Common.{FailsAtOnce}
 use Rattle.krieg_search.proofs.Leaving.{fails_by_life}
 use Rattle.krieg_refute.proofs.claiming.left_again.Goals as goal
 

@@ -1,6 +1,6 @@
 use Rattle.std.proofs.Common.{◌≡◌, drop}
 use Rattle.std.specs.List.{list_any}
-use Rattle.krieg_parting.proofs.Common.{lives}
+use Rattle.krieg_refute.proofs.Common.{lives}
 use Rattle.krieg_refute.proofs.claiming.lives_in_some.Given as goal
 
 abbrev pub invariant-loop-member : goal.invariant-loop-member

@@ -1,15 +1,11 @@
 use Rattle.std.proofs.Common.{◌≡◌, ℕ, ◌+◌, ◌<◌, ◌++◌, ◌∷◌, [], List, length, refl, ap, sym, subst, ◌∙◌, min, arith, rules}
 use Rattle.std.proofs.lemmas.List.{map-append, length-map}
 use Rattle.std.proofs.lemmas.List.Elements.{All-push, All-same}
-use Rattle.krieg_board.proofs.Common.{Pos}
-use Rattle.krieg_theory.proofs.Common.{In}
+use Rattle.krieg_refute.proofs.Common.{Pos, place_of, Stands, AreFew, AreMany, positions_in, reasons_in, chess, set_at, Draft, claim_over, claims_over, Asked, claims_of, most_claims, most_claimed, pairs_in}
+use Rattle.krieg_theory.specs.Sets.{In}
 use Rattle.krieg_theory.proofs.Lists.{in_map}
 use Rattle.krieg_claims.specs.Written as written
-use Rattle.krieg_claims.proofs.Common.{place_of, Stands, AreFew, AreMany, positions_in, reasons_in}
-use Rattle.krieg_game.proofs.Common.{chess}
-use Rattle.krieg_table.proofs.Common.{set_at}
-use Rattle.krieg_refute.proofs.Common.{Claim, Draft, claim_over, claims_over, claims_of, most_claims, most_claimed, pairs_in}
-use Rattle.krieg_search.proofs.Common.{Asked}
+use Rattle.krieg_refute.specs.declared.refutation.Claim.{Claim}
 use Rattle.krieg_refute.proofs.Pushing.{claims_are, pairs_more, all_numbered, stand, place_is, too_many, still_few}
 use Rattle.krieg_refute.proofs.claiming.push.Goals as goal
 

@@ -1,12 +1,8 @@
 use Rattle.std.proofs.Common.{◌≡◌, true, false, List, None, Some, sym, ap, subst, ◌∙◌}
-use Rattle.krieg_board.proofs.Common.{Pos}
-use Rattle.krieg_theory.proofs.Common.{legal_in_some, tries}
+use Rattle.krieg_refute.proofs.Common.{Pos, legal_in_some, tries, chess, entries, set_at, IsBlock, Note}
 use Rattle.krieg_accounts.proofs.Tables.{result_can}
 use Rattle.krieg_accounts.proofs.TryWalk.{legal_at}
-use Rattle.krieg_game.proofs.Common.{chess}
 use Rattle.krieg_game.proofs.ChessLaws.{chess_is_game}
-use Rattle.krieg_table.proofs.Common.{entries, set_at}
-use Rattle.krieg_search.proofs.Common.{IsBlock, Note}
 use Rattle.krieg_search.proofs.Building.{adds_nothing, adds_then}
 use Rattle.krieg_search.proofs.Searching.{more_itself}
 use Rattle.krieg_search.proofs.Noted.{no_notes, one_noted, all_noted}

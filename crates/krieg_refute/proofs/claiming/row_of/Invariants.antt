@@ -1,6 +1,5 @@
 use Rattle.std.proofs.Common.{false}
-use Rattle.krieg_table.proofs.Common.{set_at}
-use Rattle.krieg_search.proofs.Common.{AddsSets}
+use Rattle.krieg_refute.proofs.Common.{set_at, AddsSets}
 use Rattle.krieg_search.proofs.Noted.{IsRowTo}
 use Rattle.krieg_refute.proofs.claiming.row_of.Given as goal
 

@@ -3,15 +3,9 @@ use Rattle.std.specs.declared.alloc.Global.{Global}
 use Rattle.std.specs.Prelude.{All, IfSome}
 use Rattle.std.specs.List.{list_all}
 use Rattle.std.proofs.lemmas.List.Folds.{list_all-map}
-use Rattle.krieg_board.proofs.Common.{Pos, Move}
-use Rattle.krieg_words.proofs.Common.{Dialect}
-use Rattle.krieg_theory.proofs.Common.{tries}
-use Rattle.krieg_costs.proofs.Common.{Claim, Reason, total, made}
-use Rattle.krieg_game.proofs.Common.{Key, chess}
-use Rattle.krieg_parting.proofs.Common.{PartStop}
-use Rattle.krieg_split.proofs.Common.{Charged, tally_of, AreTallies, Tally}
+use Rattle.krieg_refute.proofs.Common.{Pos, Move, Dialect, tries, Key, PartStop, Charged, total, made, chess, tally_of, AreTallies, Tally, claims_of, reason_of, try_holds}
+use Rattle.krieg_costs.specs.Refutation.{Claim, Reason}
 use Rattle.krieg_parting.proofs.Charges.{said}
-use Rattle.krieg_refute.proofs.Common.{claims_of, reason_of, try_holds}
 use Rattle.krieg_refute.proofs.LastTries.{members_paid, are_tallies, total_tallied}
 use Rattle.krieg_refute.proofs.denial.all_tries_hold.Goals as goal
 

@@ -1,6 +1,5 @@
 use Rattle.std.proofs.Common.{List, subst, sym, ◌∙◌}
-use Rattle.krieg_board.proofs.Common.{Pos}
-use Rattle.krieg_pack.proofs.Common.{IsAscending, IsSetOf}
+use Rattle.krieg_refute.proofs.Common.{Pos, IsAscending, IsSetOf}
 use Rattle.krieg_pack.proofs.PositionSets.{same_list}
 use Rattle.krieg_refute.proofs.denial.are_all_members.Goals as goal
 

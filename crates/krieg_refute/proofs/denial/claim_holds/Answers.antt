@@ -1,11 +1,8 @@
 use Rattle.std.proofs.Common.{◌≡◌, ◌+◌, ◌-◌, ◌&&◌, not, ap, ◌∙◌, List, map, subst}
 use Rattle.std.specs.List.{list_all, list_any}
-use Rattle.krieg_board.proofs.Common.{Move, move_lt}
-use Rattle.krieg_theory.proofs.Common.{same}
-use Rattle.krieg_costs.proofs.Common.{total, made}
+use Rattle.krieg_refute.proofs.Common.{Move, same, total, made, Key, chess, move_lt, claim_of, claims_of, reason_of, try_holds}
 use Rattle.krieg_costs.specs.Refutation.{Reason as Why}
-use Rattle.krieg_game.proofs.Common.{Key, chess}
-use Rattle.krieg_refute.proofs.Common.{Reason, claim_of, claims_of, reason_of, try_holds}
+use Rattle.krieg_refute.specs.declared.refutation.Reason.{Reason}
 use Rattle.krieg_refute.proofs.ClaimTests.{claim_found, nil_by}
 use Rattle.krieg_refute.proofs.denial.claim_holds.Goals as goal
 

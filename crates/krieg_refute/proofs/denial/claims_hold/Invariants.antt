@@ -1,7 +1,6 @@
 use Rattle.std.proofs.Common.{◌≡◌, ◌+◌, ◌≤◌, ◌&&◌, [], take, drop}
 use Rattle.krieg_costs.specs.Refutation as theory
-use Rattle.krieg_game.proofs.Common.{chess}
-use Rattle.krieg_refute.proofs.Common.{claims_of, claims_price}
+use Rattle.krieg_refute.proofs.Common.{chess, claims_of, claims_price}
 use Rattle.krieg_refute.proofs.denial.claims_hold.Given as goal
 
 abbrev pub invariant-loop-place : goal.invariant-loop-place

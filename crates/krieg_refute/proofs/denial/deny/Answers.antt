@@ -1,7 +1,7 @@
 use Rattle.std.proofs.Common.{◌≡◌, [], List, subst}
 use Rattle.krieg_costs.specs.Refutation as theory
-use Rattle.krieg_game.proofs.Common.{chess}
-use Rattle.krieg_refute.proofs.Common.{Claim, claims_of}
+use Rattle.krieg_refute.proofs.Common.{chess, claims_of}
+use Rattle.krieg_refute.specs.declared.refutation.Claim.{Claim}
 use Rattle.krieg_refute.proofs.Excluding.{excluded}
 use Rattle.krieg_refute.proofs.denial.deny.Goals as goal
 

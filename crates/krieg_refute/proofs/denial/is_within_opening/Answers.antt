@@ -1,9 +1,7 @@
 use Rattle.std.proofs.Common.{◌≡◌, not, ◌&&◌, List, [], ◌∷◌, None, Some, inl, refl, sym, ap, ◌∙◌}
 use Rattle.std.specs.List.{list_all, slice_get}
-use Rattle.krieg_board.proofs.Common.{Pos}
-use Rattle.krieg_words.proofs.Common.{opening, told}
-use Rattle.krieg_theory.proofs.Common.{In}
-use Rattle.krieg_refute.proofs.Common.{opens_with, within_opening}
+use Rattle.krieg_refute.proofs.Common.{Pos, opening, told, opens_with, within_opening}
+use Rattle.krieg_theory.specs.Sets.{In}
 use Rattle.krieg_refute.proofs.ClaimTests.{nil_by}
 use Rattle.krieg_refute.proofs.OpeningSets.{none_within, some_within}
 use Rattle.krieg_refute.proofs.denial.is_within_opening.Goals as goal

@@ -1,10 +1,9 @@
 use Rattle.std.proofs.Common.{◌≡◌, ap, ◌∙◌, List, subst, sym, arith, Option, Some, IfOk}
-use Rattle.krieg_board.proofs.Common.{is_same_side, Pos}
-use Rattle.krieg_theory.proofs.Common.{In}
+use Rattle.krieg_refute.proofs.Common.{is_same_side, Pos, chess, outset, claim_of, claims_of}
+use Rattle.krieg_theory.specs.Sets.{In}
 use Rattle.krieg_theory.proofs.Lists.{all_at}
 use Rattle.krieg_costs.specs.Refutation as theory
-use Rattle.krieg_game.proofs.Common.{chess, outset}
-use Rattle.krieg_refute.proofs.Common.{Claim, claim_of, claims_of}
+use Rattle.krieg_refute.specs.declared.refutation.Claim.{Claim}
 use Rattle.krieg_refute.proofs.ClaimTests.{last_at}
 use Rattle.krieg_refute.proofs.denial.last_denies.Goals as goal
 

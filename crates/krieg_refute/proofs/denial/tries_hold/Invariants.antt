@@ -1,8 +1,6 @@
 use Rattle.std.proofs.Common.{◌≡◌, ◌+◌, ◌≤◌, ◌-◌, ◌&&◌, map, drop}
 use Rattle.std.specs.List.{list_all}
-use Rattle.krieg_costs.proofs.Common.{total, made}
-use Rattle.krieg_game.proofs.Common.{chess}
-use Rattle.krieg_refute.proofs.Common.{claims_of, reason_of, try_holds}
+use Rattle.krieg_refute.proofs.Common.{total, made, chess, claims_of, reason_of, try_holds}
 use Rattle.krieg_refute.proofs.denial.tries_hold.Given as goal
 
 abbrev pub invariant-loop-mv : goal.invariant-loop-mv

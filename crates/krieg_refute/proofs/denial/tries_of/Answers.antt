@@ -1,7 +1,5 @@
 use Rattle.std.proofs.Common.{map, ap, ◌∙◌}
-use Rattle.krieg_theory.proofs.Common.{tries}
-use Rattle.krieg_game.proofs.Common.{chess}
-use Rattle.krieg_split.proofs.Common.{Tally}
+use Rattle.krieg_refute.proofs.Common.{tries, chess, Tally}
 use Rattle.krieg_refute.proofs.LastTries.{moves_tallied}
 use Rattle.krieg_refute.proofs.denial.tries_of.Goals as goal
 

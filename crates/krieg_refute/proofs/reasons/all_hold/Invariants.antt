@@ -1,8 +1,6 @@
 use Rattle.std.proofs.Common.{◌≡◌, List, map, drop}
 use Rattle.std.specs.List.{list_all}
-use Rattle.krieg_board.proofs.Common.{Pos}
-use Rattle.krieg_words.proofs.Common.{Dialect}
-use Rattle.krieg_refute.proofs.Common.{IsTried, claims_of, reason_of, holds_if_own}
+use Rattle.krieg_refute.proofs.Common.{Pos, Dialect, IsTried, claims_of, reason_of, holds_if_own}
 use Rattle.krieg_refute.proofs.reasons.all_hold.Given as goal
 
 abbrev pub invariant-loop-r : goal.invariant-loop-r

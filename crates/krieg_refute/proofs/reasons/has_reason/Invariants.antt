@@ -1,8 +1,6 @@
 use Rattle.std.proofs.Common.{◌≡◌, map, drop}
 use Rattle.std.specs.List.{list_any}
-use Rattle.krieg_theory.proofs.Common.{same}
-use Rattle.krieg_board.proofs.Common.{move_lt}
-use Rattle.krieg_refute.proofs.Common.{reason_of}
+use Rattle.krieg_refute.proofs.Common.{same, move_lt, reason_of}
 use Rattle.krieg_refute.proofs.reasons.has_reason.Given as goal
 
 abbrev pub invariant-loop-r : goal.invariant-loop-r

@@ -1,6 +1,5 @@
 use Rattle.std.proofs.Common.{◌≡◌, map, drop}
-use Rattle.krieg_game.proofs.Common.{class_pair}
-use Rattle.krieg_refute.proofs.Common.{class_in}
+use Rattle.krieg_refute.proofs.Common.{class_pair, class_in}
 use Rattle.krieg_refute.proofs.reasons.heard.Given as goal
 
 abbrev pub invariant-loop-c : goal.invariant-loop-c

@@ -1,7 +1,6 @@
 use Rattle.std.proofs.Common.{ap, ◌∙◌, map}
 use Rattle.krieg_costs.specs.Refutation as theory
-use Rattle.krieg_game.proofs.Common.{chess, class_pair}
-use Rattle.krieg_refute.proofs.Common.{why_of, claims_of, class_in}
+use Rattle.krieg_refute.proofs.Common.{chess, class_pair, why_of, claims_of, class_in}
 use Rattle.krieg_refute.proofs.Holding.{class_holds}
 use Rattle.krieg_refute.proofs.reasons.holds_by_parts.Goals as goal
 

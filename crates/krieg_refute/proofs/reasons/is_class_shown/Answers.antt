@@ -1,9 +1,6 @@
 use Rattle.std.proofs.Common.{ap, ◌∙◌, List, sym}
-use Rattle.krieg_board.proofs.Common.{Pos}
-use Rattle.krieg_pack.proofs.Common.{set_of}
+use Rattle.krieg_refute.proofs.Common.{Pos, set_of, chess, claims_of}
 use Rattle.krieg_costs.specs.Refutation as theory
-use Rattle.krieg_game.proofs.Common.{chess}
-use Rattle.krieg_refute.proofs.Common.{claims_of}
 use Rattle.krieg_refute.proofs.Holding.{no_set}
 use Rattle.krieg_refute.proofs.reasons.is_class_shown.Goals as goal
 

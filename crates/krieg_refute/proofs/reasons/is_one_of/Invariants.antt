@@ -1,7 +1,6 @@
 use Rattle.std.proofs.Common.{◌≡◌, drop}
 use Rattle.std.specs.List.{list_any}
-use Rattle.krieg_theory.proofs.Common.{same}
-use Rattle.krieg_board.proofs.Common.{move_lt}
+use Rattle.krieg_refute.proofs.Common.{same, move_lt}
 use Rattle.krieg_refute.proofs.reasons.is_one_of.Given as goal
 
 abbrev pub invariant-loop-m : goal.invariant-loop-m

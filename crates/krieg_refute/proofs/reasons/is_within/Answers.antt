@@ -1,5 +1,5 @@
 use Rattle.std.proofs.Common.{◌≡◌, true, sym, subst, ◌∙◌}
-use Rattle.krieg_pack.proofs.Common.{position_lt}
+use Rattle.krieg_refute.proofs.Common.{position_lt}
 use Rattle.krieg_costs.specs.Refutation as theory
 use Rattle.krieg_refute.proofs.LastTries.{within_itself}
 use Rattle.krieg_refute.proofs.reasons.is_within.Goals as goal

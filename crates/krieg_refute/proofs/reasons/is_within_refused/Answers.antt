@@ -1,8 +1,6 @@
 use Rattle.std.proofs.Common.{◌≡◌, true, false, ◌&&◌, sym, ap, ◌∙◌}
 use Rattle.std.specs.List.{list_all}
-use Rattle.krieg_pack.proofs.Common.{position_lt}
-use Rattle.krieg_costs.proofs.Common.{is_within}
-use Rattle.krieg_parting.proofs.Common.{refuses}
+use Rattle.krieg_refute.proofs.Common.{position_lt, is_within, refuses}
 use Rattle.krieg_refute.proofs.LastTries.{within_refused}
 use Rattle.krieg_refute.proofs.reasons.is_within_refused.Goals as goal
 

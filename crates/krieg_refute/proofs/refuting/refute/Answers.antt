@@ -1,9 +1,8 @@
 use Rattle.std.proofs.Common.{false, ◌≡◌, ℕ, Err, subst, ◌∙◌, arith}
 use Rattle.std.proofs.lemmas.Bool.{both_ways}
-use Rattle.krieg_search.proofs.Common.{IsAccount, IsDecided}
+use Rattle.krieg_refute.proofs.Common.{IsAccount, IsDecided, side_of}
 use Rattle.krieg_search.proofs.OpenedSets.{none_over}
 use Rattle.krieg_search.proofs.Accounting.{taken_between}
-use Rattle.krieg_refute.proofs.Common.{side_of}
 use Rattle.krieg_refute.proofs.FirstLost.{first_some, first_within, first_members, first_stored, is_denial, claims_stopped, claims_stopped_taken, search_stopped, search_stopped_taken, is_mated}
 use Rattle.krieg_refute.proofs.Sides.{one_side}
 use Rattle.krieg_refute.proofs.refuting.refute.Goals as goal

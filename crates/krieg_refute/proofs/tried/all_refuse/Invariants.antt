@@ -1,6 +1,6 @@
 use Rattle.std.proofs.Common.{◌≡◌, drop}
 use Rattle.std.specs.List.{list_all}
-use Rattle.krieg_parting.proofs.Common.{refuses}
+use Rattle.krieg_refute.proofs.Common.{refuses}
 use Rattle.krieg_refute.proofs.tried.all_refuse.Given as goal
 
 abbrev pub invariant-loop-member : goal.invariant-loop-member

@@ -1,8 +1,7 @@
 use Rattle.std.proofs.Common.{ap, refl, sym, ◌∙◌, arith}
 use Rattle.krieg_parting.proofs.Charges.{stopped}
 use Rattle.krieg_parting.proofs.LastMoves.{looked_is_made, some_lives}
-use Rattle.krieg_split.proofs.Common.{Tally}
-use Rattle.krieg_refute.proofs.Common.{IsTried}
+use Rattle.krieg_refute.proofs.Common.{Tally, IsTried}
 use Rattle.krieg_refute.proofs.tried.last_try.Goals as goal
 
 pub returns-in_err-take-2 : goal.returns-in_err-take-2

@@ -1,7 +1,6 @@
 use Rattle.std.proofs.Common.{◌≡◌, ◌&&◌, drop}
 use Rattle.std.specs.List.{list_any}
-use Rattle.krieg_moves.proofs.Common.{is_legal}
-use Rattle.krieg_game.proofs.Common.{stalemates}
+use Rattle.krieg_refute.proofs.Common.{is_legal, stalemates}
 use Rattle.krieg_refute.proofs.tried.stalemates_in_some.Given as goal
 
 abbrev pub invariant-loop-member : goal.invariant-loop-member

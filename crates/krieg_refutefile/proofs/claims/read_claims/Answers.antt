@@ -1,9 +1,7 @@
 use Rattle.std.proofs.Common.{rules, ◌≡◌, ◌∷◌, [], ◌++◌, Ok, Err, map, arith, Vec, Global, ◌∙◌, ap}
-use Rattle.krieg_text.proofs.Common.{GivesOn}
+use Rattle.krieg_refutefile.proofs.Common.{GivesOn, Claim, totals_of, claim_at, with_claim, claim_state_of}
 use Rattle.krieg_text.proofs.Writings.{map_last}
 use Rattle.krieg_format.proofs.Repeats.{item_ok, item_gives}
-use Rattle.krieg_refute.proofs.Common.{Claim}
-use Rattle.krieg_refutefile.proofs.Common.{totals_of, claim_at, with_claim, claim_state_of}
 use Rattle.krieg_refutefile.proofs.Loops.{claim_positions, claim_reasons}
 use Rattle.krieg_refutefile.proofs.claims.read_claims.Goals as goal
 

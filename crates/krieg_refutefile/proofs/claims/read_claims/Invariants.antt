@@ -1,7 +1,6 @@
 use Rattle.std.proofs.Common.{◌≡◌, ◌-◌, map}
-use Rattle.krieg_format.proofs.Common.{repeated}
+use Rattle.krieg_refutefile.proofs.Common.{repeated, totals_of, claim_at, claims_at, with_claim, claim_state_of}
 use Rattle.krieg_format.proofs.Repeats.{with_front}
-use Rattle.krieg_refutefile.proofs.Common.{totals_of, claim_at, claims_at, with_claim, claim_state_of}
 use Rattle.krieg_refutefile.proofs.claims.read_claims.Given as goal
 
 -- the rest, read after the claims that are there, gives the whole

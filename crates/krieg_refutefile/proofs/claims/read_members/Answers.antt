@@ -1,8 +1,6 @@
 use Rattle.std.proofs.Common.{rules, ◌≡◌, ◌∷◌, [], ◌++◌, Some, Ok, Err, arith, Vec, Global}
-use Rattle.krieg_board.proofs.Common.{Pos}
-use Rattle.krieg_text.proofs.Common.{GivesOn}
+use Rattle.krieg_refutefile.proofs.Common.{Pos, GivesOn, member_at, last_in}
 use Rattle.krieg_format.proofs.Repeats.{item_gives}
-use Rattle.krieg_refutefile.proofs.Common.{member_at, last_in}
 use Rattle.krieg_refutefile.proofs.Loops.{set_ok}
 use Rattle.krieg_refutefile.proofs.claims.read_members.Goals as goal
 

@@ -1,7 +1,6 @@
 use Rattle.std.proofs.Common.{◌≡◌, ◌-◌, Some}
-use Rattle.krieg_format.proofs.Common.{repeated}
+use Rattle.krieg_refutefile.proofs.Common.{repeated, member_at, set_at, last_in}
 use Rattle.krieg_format.proofs.Repeats.{with_front}
-use Rattle.krieg_refutefile.proofs.Common.{member_at, set_at, last_in}
 use Rattle.krieg_refutefile.proofs.claims.read_members.Given as goal
 
 -- the rest, read after the positions that are there, gives the whole

@@ -1,8 +1,6 @@
 use Rattle.std.proofs.Common.{rules, ◌≡◌, ◌∷◌, [], ◌++◌, Some, Ok, Err, arith, Vec, Global}
-use Rattle.krieg_refute.proofs.Common.{Reason}
-use Rattle.krieg_text.proofs.Common.{GivesOn}
+use Rattle.krieg_refutefile.proofs.Common.{Reason, GivesOn, reason_at, last_move}
 use Rattle.krieg_format.proofs.Repeats.{item_gives}
-use Rattle.krieg_refutefile.proofs.Common.{reason_at, last_move}
 use Rattle.krieg_refutefile.proofs.Loops.{reason_ok}
 use Rattle.krieg_refutefile.proofs.claims.read_reasons.Goals as goal
 

@@ -1,7 +1,6 @@
 use Rattle.std.proofs.Common.{◌≡◌, ◌-◌, Some}
-use Rattle.krieg_format.proofs.Common.{repeated}
+use Rattle.krieg_refutefile.proofs.Common.{repeated, reason_at, reasons_at, last_move}
 use Rattle.krieg_format.proofs.Repeats.{with_front}
-use Rattle.krieg_refutefile.proofs.Common.{reason_at, reasons_at, last_move}
 use Rattle.krieg_refutefile.proofs.claims.read_reasons.Given as goal
 
 -- the rest, read after the reasons that are there, gives the whole

@@ -1,9 +1,7 @@
 use Rattle.std.proofs.Common.{rules, ◌≡◌, ◌∷◌, [], ◌++◌, Some, Ok, Err, arith, Vec, Global}
 use Rattle.std.specs.Prelude.{unwrap_or}
-use Rattle.krieg_board.proofs.Common.{Pos}
-use Rattle.krieg_text.proofs.Common.{GivesOn}
+use Rattle.krieg_refutefile.proofs.Common.{Pos, GivesOn, listed_at}
 use Rattle.krieg_format.proofs.Repeats.{item_ok, item_gives}
-use Rattle.krieg_refutefile.proofs.Common.{listed_at}
 use Rattle.krieg_refutefile.proofs.reading.read_list.Goals as goal
 
 pub returns-in-Err : goal.returns-in-Err

@@ -1,8 +1,7 @@
 use Rattle.std.proofs.Common.{◌≡◌, ◌-◌, Some}
 use Rattle.std.specs.Prelude.{unwrap_or}
-use Rattle.krieg_format.proofs.Common.{repeated}
+use Rattle.krieg_refutefile.proofs.Common.{repeated, listed_at, list_at}
 use Rattle.krieg_format.proofs.Repeats.{with_front}
-use Rattle.krieg_refutefile.proofs.Common.{listed_at, list_at}
 use Rattle.krieg_refutefile.proofs.reading.read_list.Given as goal
 
 -- the rest, read after the positions that are there, gives the whole

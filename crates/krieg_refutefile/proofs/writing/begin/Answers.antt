@@ -1,6 +1,5 @@
 use Rattle.std.proofs.Common.{subst}
-use Rattle.krieg_text.proofs.Common.{Wrote}
-use Rattle.krieg_refutefile.proofs.Common.{head_lines}
+use Rattle.krieg_refutefile.proofs.Common.{Wrote, head_lines}
 use Rattle.krieg_refutefile.proofs.InPieces.{added}
 use Rattle.krieg_refutefile.proofs.writing.begin.Goals as goal
 

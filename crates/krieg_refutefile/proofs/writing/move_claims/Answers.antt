@@ -1,10 +1,8 @@
 use Rattle.std.proofs.Common.{rules, ℕ, suc, List, sym, ap, subst, ◌∙◌, arith}
 use Rattle.std.specs.List.{All, flat_map}
 use Rattle.std.specs.Vec.Iter.{into_iter_items}
-use Rattle.krieg_text.proofs.Common.{put_lines}
+use Rattle.krieg_refutefile.proofs.Common.{put_lines, Claim, AreTold, claim_lines, claim_state_of}
 use Rattle.krieg_text.proofs.Writings.{lines_then}
-use Rattle.krieg_refute.proofs.Common.{Claim}
-use Rattle.krieg_refutefile.proofs.Common.{AreTold, claim_lines, claim_state_of}
 use Rattle.krieg_refutefile.proofs.writing.move_claims.Goals as goal
 
 pub loop-claim-preserved : goal.loop-claim-preserved

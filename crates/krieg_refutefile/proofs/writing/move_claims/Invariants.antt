@@ -1,8 +1,7 @@
 use Rattle.std.proofs.Common.{◌≡◌, length}
 use Rattle.std.specs.List.{All, flat_map}
 use Rattle.std.specs.Vec.Iter.{into_iter_items, into_iter_len}
-use Rattle.krieg_text.proofs.Common.{put_lines}
-use Rattle.krieg_refutefile.proofs.Common.{AreTold, claim_lines, claim_state_of}
+use Rattle.krieg_refutefile.proofs.Common.{put_lines, AreTold, claim_lines, claim_state_of}
 use Rattle.krieg_refutefile.proofs.writing.move_claims.Given as goal
 
 -- the lines of the claims before this one: with those of the others they are all

@@ -1,7 +1,6 @@
 use Rattle.std.proofs.Common.{◌≡◌, take}
 use Rattle.std.specs.List.{flat_map}
-use Rattle.krieg_text.proofs.Common.{put_lines}
-use Rattle.krieg_refutefile.proofs.Common.{claim_lines, claim_state_of}
+use Rattle.krieg_refutefile.proofs.Common.{put_lines, claim_lines, claim_state_of}
 use Rattle.krieg_refutefile.proofs.writing.put_claims.Given as goal
 
 -- the lines of the claims before this one

@@ -1,6 +1,5 @@
 use Rattle.std.proofs.Common.{◌≡◌, map, take}
-use Rattle.krieg_fen.proofs.Common.{position_line}
-use Rattle.krieg_text.proofs.Common.{put_lines}
+use Rattle.krieg_refutefile.proofs.Common.{position_line, put_lines}
 use Rattle.krieg_refutefile.proofs.writing.put_members.Given as goal
 
 -- the lines of the positions before this one

@@ -1,6 +1,5 @@
 use Rattle.std.proofs.Common.{[], ◌∷◌, subst}
-use Rattle.krieg_text.proofs.Common.{Wrote}
-use Rattle.krieg_refutefile.proofs.Common.{reason_line}
+use Rattle.krieg_refutefile.proofs.Common.{Wrote, reason_line}
 use Rattle.krieg_refutefile.proofs.InPieces.{added}
 use Rattle.krieg_refutefile.proofs.writing.put_reason_line.Goals as goal
 

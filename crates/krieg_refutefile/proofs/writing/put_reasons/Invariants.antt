@@ -1,6 +1,5 @@
 use Rattle.std.proofs.Common.{◌≡◌, map, take}
-use Rattle.krieg_text.proofs.Common.{put_lines}
-use Rattle.krieg_refutefile.proofs.Common.{reason_line}
+use Rattle.krieg_refutefile.proofs.Common.{put_lines, reason_line}
 use Rattle.krieg_refutefile.proofs.writing.put_reasons.Given as goal
 
 -- the lines of the reasons before this one

@@ -1,5 +1,5 @@
 use Rattle.std.proofs.Common.{◌∙◌, ap}
-use Rattle.krieg_words.proofs.Common.{told_line, Opens}
+use Rattle.krieg_robot.proofs.Common.{told_line, Opens}
 use Rattle.krieg_robot.proofs.Beginning.{breaks}
 use Rattle.krieg_robot.proofs.leading.lead_game.Goals as goal
 

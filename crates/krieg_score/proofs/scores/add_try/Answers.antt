@@ -1,6 +1,6 @@
 use Rattle.std.proofs.Common.{◌∙◌, ◌++◌, ◌∷◌, [], sym, ap, append_assoc}
-use Rattle.krieg_referee.proofs.Common.{judge}
-use Rattle.krieg_score.proofs.Common.{done_moves}
+use Rattle.krieg_referee.specs.Games.{judge}
+use Rattle.krieg_score.specs.Scores.{done_moves}
 use Rattle.krieg_score.proofs.DoneMoves.{done_more}
 use Rattle.krieg_score.proofs.scores.add_try.Goals as goal
 

@@ -1,6 +1,6 @@
 use Rattle.std.proofs.Common.{◌≡◌, ◌++◌, drop}
-use Rattle.krieg_referee.proofs.Common.{judge}
-use Rattle.krieg_score.proofs.Common.{done_moves}
+use Rattle.krieg_referee.specs.Games.{judge}
+use Rattle.krieg_score.specs.Scores.{done_moves}
 use Rattle.krieg_score.proofs.scores.scored.Given as goal
 
 -- the moves so far, and those that are done from here, are all

@@ -1,6 +1,6 @@
 use Rattle.std.proofs.Common.{◌≡◌, ◌++◌, drop}
-use Rattle.krieg_record.proofs.Common.{AreLegal}
-use Rattle.krieg_score.proofs.Common.{tries_of}
+use Rattle.krieg_record.specs.Records.{AreLegal}
+use Rattle.krieg_score.specs.Scores.{tries_of}
 use Rattle.krieg_score.proofs.scores.session_of.Given as goal
 
 -- the tries so far, and those of the other moves, are all; and each of these is legal where it stands

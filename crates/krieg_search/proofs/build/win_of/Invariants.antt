@@ -1,8 +1,5 @@
 use Rattle.std.proofs.Common.{◌≡◌, ◌≤◌, ◌<◌, ℕ, None}
-use Rattle.krieg_pack.proofs.Common.{position_lt}
-use Rattle.krieg_accounts.proofs.Common.{stored}
-use Rattle.krieg_table.proofs.Common.{set_at, entries}
-use Rattle.krieg_search.proofs.Common.{winning_try}
+use Rattle.krieg_search.proofs.Common.{position_lt, stored, set_at, entries, winning_try}
 use Rattle.krieg_search.proofs.build.win_of.Given as goal
 
 abbrev pub invariant-loop-fewer : goal.invariant-loop-fewer

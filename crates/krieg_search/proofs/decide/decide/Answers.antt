@@ -1,8 +1,6 @@
 use Rattle.std.proofs.Common.{Bool, Err, refl, sym, subst, ◌∙◌, List, Option, Vec}
 use Rattle.std.specs.declared.alloc.Global.{Global}
-use Rattle.krieg_accounts.proofs.Common.{CoversSets}
-use Rattle.krieg_game.proofs.Common.{chess}
-use Rattle.krieg_search.proofs.Common.{Opening, Found, AreCounted, IsSearched, Stretches, TellsSets, AreNumbered, IsOpened, sets_in, AreNotes}
+use Rattle.krieg_search.proofs.Common.{CoversSets, chess, Opening, Found, AreCounted, IsSearched, Stretches, TellsSets, AreNumbered, IsOpened, sets_in, AreNotes}
 use Rattle.krieg_search.proofs.Noted.{none_kept}
 use Rattle.krieg_search.proofs.Deciding.{empty_counted, are_opened, openings_stopped, over, opened_ready, search_stopped, not_won, all_are_won}
 use Rattle.krieg_search.proofs.decide.decide.Goals as goal

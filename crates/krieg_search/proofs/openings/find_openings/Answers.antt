@@ -1,9 +1,5 @@
 use Rattle.std.proofs.Common.{◌≡◌, ◌+◌, sym, ap, subst, ◌∙◌, arith, List}
-use Rattle.krieg_board.proofs.Common.{Pos}
-use Rattle.krieg_costs.proofs.Common.{first_made}
-use Rattle.krieg_game.proofs.Common.{RootKey, chess, outset}
-use Rattle.krieg_split.proofs.Common.{IsOwnTurn, IsOthersTurn, first_cost, Firsts}
-use Rattle.krieg_search.proofs.Common.{AreAdded, IsOpened}
+use Rattle.krieg_search.proofs.Common.{Pos, first_made, RootKey, chess, outset, IsOwnTurn, IsOthersTurn, first_cost, Firsts, AreAdded, IsOpened}
 use Rattle.krieg_search.proofs.OpenedSets.{none_over, none_made, stopped_first}
 use Rattle.krieg_search.proofs.openings.find_openings.Goals as goal
 

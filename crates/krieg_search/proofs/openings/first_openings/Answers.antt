@@ -1,6 +1,6 @@
 use Rattle.std.proofs.Common.{ap, length, arith}
 use Rattle.std.specs.Vec.Iter.{into_iter_items}
-use Rattle.krieg_split.proofs.Common.{first_set}
+use Rattle.krieg_search.proofs.Common.{first_set}
 use Rattle.krieg_search.proofs.Checking.{no_items}
 use Rattle.krieg_search.proofs.OpenedSets.{no_opening, one_opening, all_openings}
 use Rattle.krieg_search.proofs.openings.first_openings.Goals as goal

@@ -1,6 +1,6 @@
 use Rattle.std.proofs.Common.{◌≡◌, length, map}
 use Rattle.std.specs.Vec.Iter.{into_iter_items, into_iter_len}
-use Rattle.krieg_split.proofs.Common.{first_set}
+use Rattle.krieg_search.proofs.Common.{first_set}
 use Rattle.krieg_search.proofs.OpenedSets.{IsOpening}
 use Rattle.krieg_search.proofs.openings.first_openings.Given as goal
 

@@ -1,11 +1,7 @@
 use Rattle.std.proofs.Common.{◌≡◌, ◌<◌, ◌≤◌, ◌+◌, inr, ◌⊎◌, max, sym, ap, subst, ◌∙◌, arith, [], ◌∷◌, ◌++◌, map, length}
 use Rattle.std.specs.Vec.Iter.{into_iter_items}
 use Rattle.std.proofs.lemmas.List.{map-append}
-use Rattle.krieg_theory.proofs.Common.{In, size, depth, size_other, depth_other, least, canon}
-use Rattle.krieg_game.proofs.Common.{chess}
-use Rattle.krieg_plan.proofs.Common.{tree_of, root_of, Root, MOST_ON_PATH}
-use Rattle.krieg_table.proofs.Common.{set_at}
-use Rattle.krieg_search.proofs.Common.{opening_in}
+use Rattle.krieg_search.proofs.Common.{In, size, depth, size_other, depth_other, least, canon, chess, tree_of, root_of, Root, MOST_ON_PATH, set_at, opening_in}
 use Rattle.krieg_search.proofs.Checking.{no_items}
 use Rattle.krieg_search.proofs.Building.{adds_nothing, too_large, still_paid}
 use Rattle.krieg_search.proofs.Rooting.{greater_is, IsRooting, no_root, all_roots, root_large, one_root, root_within, root_same, root_won, root_node, root_least}

@@ -1,8 +1,6 @@
 use Rattle.std.proofs.Common.{◌≡◌, length, map}
 use Rattle.std.specs.Vec.Iter.{into_iter_items, into_iter_len}
-use Rattle.krieg_theory.proofs.Common.{In}
-use Rattle.krieg_plan.proofs.Common.{root_of, MOST_ON_PATH}
-use Rattle.krieg_search.proofs.Common.{Opening, opening_in}
+use Rattle.krieg_search.proofs.Common.{In, root_of, MOST_ON_PATH, Opening, opening_in}
 use Rattle.krieg_search.proofs.Rooting.{IsRooting}
 use Rattle.krieg_search.proofs.roots.build_roots.Given as goal
 

@@ -1,9 +1,7 @@
 use Rattle.std.proofs.Common.{map, ap, sym, subst, ◌∙◌}
 use Rattle.std.specs.Prelude.{All, IfSome}
 use Rattle.std.proofs.lemmas.Result.{IfOk-weaker}
-use Rattle.krieg_words.proofs.Common.{Wild16}
-use Rattle.krieg_split.proofs.Common.{AreTallies}
-use Rattle.krieg_search.proofs.Common.{move_of, IsTold, Counted}
+use Rattle.krieg_search.proofs.Common.{Wild16, AreTallies, move_of, IsTold, Counted}
 use Rattle.krieg_search.proofs.Telling.{plain_moves, plain_told, counted_moves, counted_told}
 use Rattle.krieg_search.proofs.tried.tries_for.Goals as goal
 

@@ -1,6 +1,6 @@
 use Rattle.std.proofs.Common.{◌≡◌, inl, List, sym, ap, ◌∙◌}
 use Rattle.std.specs.List.{list_all}
-use Rattle.krieg_board.proofs.Common.{is_same_side, Pos}
+use Rattle.krieg_search.proofs.Common.{is_same_side, Pos}
 use Rattle.krieg_search.proofs.Turning.{one_turn, first_turn, no_member}
 use Rattle.krieg_search.proofs.turn.has_one_turn.Goals as goal
 

@@ -1,7 +1,8 @@
 -- The bytes so far were of the line that is passed over.
 use Rattle.std.proofs.Common.{◌≤◌, true}
 use Rattle.std.specs.Io.KnownBytes.{Keeps}
-use Rattle.krieg_seats.proofs.Common.{lines_left, GivesCount}
+use Rattle.krieg_seats.specs.Saying.{lines_left}
+use Rattle.krieg_seats.specs.LineReading.{GivesCount}
 use Rattle.krieg_seats.proofs.saying.pass_line.Given as goal
 
 abbrev pub invariant-loop : goal.invariant-loop

@@ -1,7 +1,7 @@
 -- The bytes so far are the front of a line, and stand in the buffer.
 use Rattle.std.proofs.Common.{◌≡◌, ◌-◌, ◌≤◌, true, length, take}
 use Rattle.std.specs.Io.KnownBytes.{Consumes}
-use Rattle.krieg_text.proofs.Common.{is_line}
+use Rattle.krieg_text.specs.Lines.{is_line}
 use Rattle.krieg_seats.proofs.saying.read_line.Given as goal
 
 abbrev pub invariant-bytes : goal.invariant-bytes

@@ -1,6 +1,5 @@
 use Rattle.std.proofs.Common.{◌≡◌, [], length}
-use Rattle.krieg_text.proofs.Common.{up_to_last}
-use Rattle.krieg_session.proofs.Common.{event_form}
+use Rattle.krieg_session.proofs.Common.{up_to_last, event_form}
 use Rattle.krieg_session.proofs.reading.read_events.Given as goal
 
 -- the rest, read after the tries so far, gives the whole

@@ -1,8 +1,6 @@
 use Rattle.std.proofs.Common.{◌≡◌, map, take}
 use Rattle.std.specs.List.{flat_map}
-use Rattle.krieg_text.proofs.Common.{HasLines}
-use Rattle.krieg_referee.proofs.Common.{judge, last}
-use Rattle.krieg_session.proofs.Common.{both_lines, marked_line}
+use Rattle.krieg_session.proofs.Common.{HasLines, judge, last, both_lines, marked_line}
 use Rattle.krieg_session.proofs.telling.put_all_tries.Given as goal
 
 abbrev pub invariant-loop-event : goal.invariant-loop-event

@@ -1,7 +1,5 @@
 use Rattle.std.proofs.Common.{◌≡◌, take}
-use Rattle.krieg_text.proofs.Common.{HasLines}
-use Rattle.krieg_referee.proofs.Common.{judge, last}
-use Rattle.krieg_session.proofs.Common.{heard_lines}
+use Rattle.krieg_session.proofs.Common.{HasLines, judge, last, heard_lines}
 use Rattle.krieg_session.proofs.telling.put_tries.Given as goal
 
 abbrev pub invariant-loop-event : goal.invariant-loop-event

@@ -1,6 +1,5 @@
 use Rattle.std.proofs.Common.{map, take}
-use Rattle.krieg_text.proofs.Common.{HasLines}
-use Rattle.krieg_session.proofs.Common.{event_line}
+use Rattle.krieg_session.proofs.Common.{HasLines, event_line}
 use Rattle.krieg_session.proofs.writing.put_session.Given as goal
 
 abbrev pub invariant-loop-event : goal.invariant-loop-event

@@ -1,5 +1,5 @@
 use Rattle.std.proofs.Common.{◌≡◌, true, ◌<◌, length, rules, arith}
-use Rattle.krieg_board.proofs.Common.{same_hand}
+use Rattle.krieg_sheet.proofs.Common.{same_hand}
 use Rattle.krieg_sheet.proofs.Hands.{hand_same, valid_more, valid_end}
 use Rattle.krieg_sheet.proofs.list.other_hand.Goals as goal
 

@@ -1,7 +1,6 @@
 use Rattle.std.proofs.Common.{◌≡◌, ◌+◌, drop, take}
 use Rattle.std.specs.List.{All}
-use Rattle.krieg_board.proofs.Common.{IsValid}
-use Rattle.krieg_sheet.proofs.Common.{other_hand}
+use Rattle.krieg_sheet.proofs.Common.{IsValid, other_hand}
 use Rattle.krieg_sheet.proofs.list.other_hand.Given as goal
 
 -- the rest, looked at from here, gives what the whole gives

@@ -1,6 +1,5 @@
 use Rattle.std.proofs.Common.{map, take}
-use Rattle.krieg_text.proofs.Common.{HasLines}
-use Rattle.krieg_sheet.proofs.Common.{entry_line}
+use Rattle.krieg_sheet.proofs.Common.{HasLines, entry_line}
 use Rattle.krieg_sheet.proofs.writing.put_sheet.Given as goal
 
 abbrev pub invariant-loop-line : goal.invariant-loop-line

@@ -1,6 +1,5 @@
 use Rattle.std.proofs.Common.{refl, subst}
-use Rattle.krieg_game.proofs.Common.{first_outcomes}
-use Rattle.krieg_parting.proofs.Common.{AreFirstMoves}
+use Rattle.krieg_split.proofs.Common.{first_outcomes, AreFirstMoves}
 use Rattle.krieg_split.proofs.FirstMoves.{firsts, opening_sets_are}
 use Rattle.krieg_split.proofs.firsts.first_replies.Goals as goal
 

@@ -1,6 +1,5 @@
 use Rattle.std.proofs.Common.{map, length, ap, arith}
-use Rattle.krieg_game.proofs.Common.{class_pair}
-use Rattle.krieg_split.proofs.Common.{first_pair}
+use Rattle.krieg_split.proofs.Common.{class_pair, first_pair}
 use Rattle.krieg_split.proofs.Renaming.{named_more}
 use Rattle.krieg_split.proofs.firsts.firsts_of.Goals as goal
 

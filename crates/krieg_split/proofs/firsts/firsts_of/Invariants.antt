@@ -1,7 +1,6 @@
 use Rattle.std.proofs.Common.{◌≡◌, ◌++◌, map, length}
 use Rattle.std.specs.Vec.Iter.{into_iter_items, into_iter_len}
-use Rattle.krieg_game.proofs.Common.{class_pair}
-use Rattle.krieg_split.proofs.Common.{first_pair}
+use Rattle.krieg_split.proofs.Common.{class_pair, first_pair}
 use Rattle.krieg_split.proofs.firsts.firsts_of.Given as goal
 
 abbrev pub invariant-loop-class : goal.invariant-loop-class

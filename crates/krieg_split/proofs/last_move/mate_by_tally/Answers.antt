@@ -1,9 +1,6 @@
 use Rattle.std.proofs.Common.{◌≡◌, ◌+◌, false, ap, subst, ◌∙◌, arith}
-use Rattle.krieg_costs.proofs.Common.{made}
-use Rattle.krieg_game.proofs.Common.{chess}
-use Rattle.krieg_parting.proofs.Common.{AreTried}
+use Rattle.krieg_split.proofs.Common.{made, chess, AreTried, Tally}
 use Rattle.krieg_parting.proofs.LastMoves.{looked_is_made, mating}
-use Rattle.krieg_split.proofs.Common.{Tally}
 use Rattle.krieg_split.proofs.Charges.{unpaid}
 use Rattle.krieg_split.proofs.LastMoves.{last_move}
 use Rattle.krieg_split.proofs.last_move.mate_by_tally.Goals as goal

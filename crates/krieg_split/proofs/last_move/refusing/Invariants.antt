@@ -1,5 +1,5 @@
 use Rattle.std.proofs.Common.{◌≡◌, filter, take}
-use Rattle.krieg_parting.proofs.Common.{refuses}
+use Rattle.krieg_split.proofs.Common.{refuses}
 use Rattle.krieg_split.proofs.last_move.refusing.Given as goal
 
 abbrev pub invariant-loop-member : goal.invariant-loop-member

@@ -1,7 +1,5 @@
 use Rattle.std.proofs.Common.{false, ap, subst, ◌∙◌, arith}
-use Rattle.krieg_costs.proofs.Common.{made}
-use Rattle.krieg_game.proofs.Common.{chess}
-use Rattle.krieg_parting.proofs.Common.{IsMating}
+use Rattle.krieg_split.proofs.Common.{made, chess, IsMating}
 use Rattle.krieg_split.proofs.Charges.{unpaid}
 use Rattle.krieg_split.proofs.LastMoves.{last_move}
 use Rattle.krieg_split.proofs.last_move.split_to_mate.Goals as goal

@@ -1,10 +1,8 @@
 use Rattle.std.proofs.Common.{ap, map, ◌∙◌}
 use Rattle.std.proofs.lemmas.Result.{IfOk-weaker}
-use Rattle.krieg_game.proofs.Common.{opened, classes_in}
-use Rattle.krieg_split.proofs.Common.{heard_first}
+use Rattle.krieg_split.proofs.Common.{opened, classes_in, heard_first, silent}
 use Rattle.krieg_split.proofs.Renaming.{opening_sets_are}
 use Rattle.krieg_split.proofs.opening_sets.openings.Goals as goal
-use Rattle.krieg_words.proofs.Common.{silent}
 
 pub returns-clause-sets : goal.returns-clause-sets
 returns-clause-sets c =

@@ -1,6 +1,5 @@
 use Rattle.std.proofs.Common.{ap, ◌∙◌, arith}
-use Rattle.krieg_costs.proofs.Common.{made}
-use Rattle.krieg_game.proofs.Common.{chess}
+use Rattle.krieg_split.proofs.Common.{made, chess}
 use Rattle.krieg_split.proofs.Charges.{unpaid}
 use Rattle.krieg_split.proofs.parts.pay_split.Goals as goal
 

@@ -1,5 +1,5 @@
 use Rattle.std.proofs.Common.{true, subst}
-use Rattle.krieg_parting.proofs.Common.{IsGathered}
+use Rattle.krieg_split.proofs.Common.{IsGathered}
 use Rattle.krieg_split.proofs.parts.split.Goals as goal
 
 pub returns-clause-parts : goal.returns-clause-parts

@@ -2,8 +2,7 @@ use Rattle.std.proofs.Common.{◌≡◌, ◌<◌, ◌^◌, ◌++◌, List, map, 
 use Rattle.std.proofs.Math.ListN.{set}
 use Rattle.std.proofs.lemmas.Bool.{both_ways}
 use Rattle.std.proofs.lemmas.List.{take_all, drop_all, append-nil}
-use Rattle.krieg_board.proofs.Common.{Move}
-use Rattle.krieg_split.proofs.Common.{tally_with, Tally}
+use Rattle.krieg_split.proofs.Common.{Move, tally_with, Tally}
 use Rattle.krieg_split.proofs.Tallying.{listed_is_legal, item_is, one_counted, one_passed}
 use Rattle.krieg_split.proofs.tallies.add_member.Goals as goal
 use Rattle.krieg_split.proofs.tallies.add_member.Goals.{then-stands_at, else-stands_at}

@@ -1,11 +1,7 @@
 use Rattle.std.proofs.Common.{◌≡◌, ◌≤◌, List, filter, [], map, length, take, drop, ap, ◌∙◌, arith}
 use Rattle.std.proofs.lemmas.List.{take_all, take-append-le, length-map, length-take}
-use Rattle.krieg_board.proofs.Common.{Pos}
-use Rattle.krieg_moves.proofs.Common.{is_legal}
+use Rattle.krieg_split.proofs.Common.{Pos, is_legal, Wild16, chess, tally_of, Listed, Tally}
 use Rattle.krieg_theory.specs.Split as theory
-use Rattle.krieg_words.proofs.Common.{Wild16}
-use Rattle.krieg_game.proofs.Common.{chess}
-use Rattle.krieg_split.proofs.Common.{tally_of, Listed, Tally}
 use Rattle.krieg_split.proofs.Tallying.{listed_at, tallied_more, tallied_moves, moves_of_tries, room_for_more}
 use Rattle.krieg_split.proofs.tallies.tally_tries.Goals as goal
 

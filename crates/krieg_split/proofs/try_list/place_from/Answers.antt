@@ -1,6 +1,6 @@
 use Rattle.std.proofs.Common.{◌≡◌, false, sym, subst, ◌∙◌, arith}
 use Rattle.std.proofs.lemmas.Option.{slice_get_within, get_or_from_slice_get}
-use Rattle.krieg_board.proofs.Common.{move_lt}
+use Rattle.krieg_split.proofs.Common.{move_lt}
 use Rattle.krieg_split.proofs.TryLists.{before_more, derived_lt}
 use Rattle.krieg_split.proofs.try_list.place_from.Goals as goal
 

@@ -1,8 +1,7 @@
 use Rattle.std.proofs.Common.{◌≡◌, List, false, Some, take, ap, subst, ◌∙◌, arith}
 use Rattle.std.specs.List.{slice_get}
 use Rattle.std.proofs.lemmas.Bool.{both_ways}
-use Rattle.krieg_board.proofs.Common.{move_lt, Move}
-use Rattle.krieg_split.proofs.Common.{AllBefore}
+use Rattle.krieg_split.proofs.Common.{move_lt, Move, AllBefore}
 use Rattle.krieg_split.proofs.TryLists.{there, inserted}
 use Rattle.krieg_split.proofs.try_list.put_from.Goals as goal
 

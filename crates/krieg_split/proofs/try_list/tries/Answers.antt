@@ -1,9 +1,6 @@
 use Rattle.std.proofs.Common.{◌++◌, flat_map, ap, sym, subst, ◌∙◌, ◌≡◌, arith}
 use Rattle.std.proofs.lemmas.List.{take_all}
-use Rattle.krieg_board.proofs.Common.{move_lt}
-use Rattle.krieg_moves.proofs.Common.{moves}
-use Rattle.krieg_theory.proofs.Common.{Ascending}
-use Rattle.krieg_split.proofs.Common.{move_set}
+use Rattle.krieg_split.proofs.Common.{move_lt, moves, Ascending, move_set}
 use Rattle.krieg_split.proofs.TryLists.{set_of_set, moves_ascend, set_more, moves_are_tries}
 use Rattle.krieg_split.proofs.try_list.tries.Goals as goal
 

@@ -1,9 +1,6 @@
 use Rattle.std.proofs.Common.{◌≡◌, ◌≤◌, ◌++◌, map, length, flat_map, refl, ap, sym, subst, ◌∙◌}
 use Rattle.std.proofs.lemmas.List.{take_all, length-map}
-use Rattle.krieg_board.proofs.Common.{move_lt}
-use Rattle.krieg_moves.proofs.Common.{moves}
-use Rattle.krieg_theory.proofs.Common.{Ascending}
-use Rattle.krieg_split.proofs.Common.{move_set, Listed}
+use Rattle.krieg_split.proofs.Common.{move_lt, moves, Ascending, move_set, Listed}
 use Rattle.krieg_split.proofs.TryLists.{set_of_set, moves_ascend, set_more, moves_are_tries}
 use Rattle.krieg_split.proofs.Tallying.{listed_at}
 use Rattle.krieg_split.proofs.try_list.tries_of.Goals as goal

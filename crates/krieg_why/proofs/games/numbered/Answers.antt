@@ -1,7 +1,6 @@
 use Rattle.std.proofs.Common.{rules, ◌≡◌, ◌++◌, ◌∷◌, [], ℕ, Some}
 use Rattle.std.specs.Map.{lookup}
-use Rattle.krieg_pack.proofs.Common.{position_eq}
-use Rattle.krieg_why.proofs.Common.{entry_at}
+use Rattle.krieg_why.proofs.Common.{position_eq, entry_at}
 use Rattle.krieg_why.proofs.Found.{entry_is, none_found, each_more}
 use Rattle.krieg_why.proofs.games.numbered.Goals as goal
 use Rattle.krieg_why.proofs.games.numbered.Goals.{in-Some+in_ok-push, in_default}

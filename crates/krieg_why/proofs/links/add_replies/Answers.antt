@@ -1,6 +1,5 @@
 use Rattle.std.proofs.Common.{rules, ◌+◌, length, ◌∷◌, [], List, Bool, sym, subst, map, filter, take, arith}
-use Rattle.krieg_words.proofs.Common.{are_told}
-use Rattle.krieg_why.proofs.Common.{Adds, tale_of, kept, Tale, after_reply, begun}
+use Rattle.krieg_why.proofs.Common.{are_told, Adds, tale_of, kept, Tale, after_reply, begun}
 use Rattle.krieg_why.proofs.Adding.{adds_then, reply_new, reply_there, reply_none, replies_more}
 use Rattle.krieg_why.proofs.links.add_replies.Goals as goal
 use Rattle.krieg_why.proofs.links.add_replies.Goals.{in-Some+in_ok-add+then-branch+in_ok-push, in-Some+in_ok-add+else-branch, in_default}

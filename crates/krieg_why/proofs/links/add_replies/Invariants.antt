@@ -1,6 +1,5 @@
 use Rattle.std.proofs.Common.{map, take, filter}
-use Rattle.krieg_words.proofs.Common.{are_told}
-use Rattle.krieg_why.proofs.Common.{Adds, tale_of, kept, after_reply, begun}
+use Rattle.krieg_why.proofs.Common.{are_told, Adds, tale_of, kept, after_reply, begun}
 use Rattle.krieg_why.proofs.links.add_replies.Given as goal
 
 abbrev pub invariant-loop-mv : goal.invariant-loop-mv

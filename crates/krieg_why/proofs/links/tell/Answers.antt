@@ -1,10 +1,9 @@
 use Rattle.std.proofs.Common.{rules, ◌≡◌, ◌≤◌, List, Some, length, ap, subst, arith, map}
 use Rattle.std.proofs.lemmas.List.{length-append}
 use Rattle.std.specs.Prelude.{slice_get}
-use Rattle.krieg_why.proofs.Common.{Link, Adds, tale_of, kept, tales_after, begun}
+use Rattle.krieg_why.proofs.Common.{Link, Pos, Adds, tale_of, kept, tales_after, begun}
 use Rattle.krieg_why.proofs.Kept.{numbered_at}
 use Rattle.krieg_why.proofs.Lines.{none_past, tell_more, tell_end}
-use Rattle.krieg_board.proofs.Common.{Pos}
 use Rattle.krieg_why.proofs.links.tell.Goals as goal
 use Rattle.krieg_why.proofs.links.tell.Goals.{in-Some+in_ok-add_next, in_default}
 

@@ -1,7 +1,6 @@
 use Rattle.std.proofs.Common.{◌≡◌, filter, take, subst, ◌∙◌}
 use Rattle.std.proofs.lemmas.List.{take_all}
-use Rattle.krieg_pack.proofs.Common.{IsSetOf}
-use Rattle.krieg_why.proofs.Common.{may_begin}
+use Rattle.krieg_why.proofs.Common.{IsSetOf, may_begin}
 use Rattle.krieg_why.proofs.ListedStarts.{are_starts}
 use Rattle.krieg_why.proofs.starts.starts_of.Goals as goal
 

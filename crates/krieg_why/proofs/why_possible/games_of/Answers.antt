@@ -1,6 +1,5 @@
 use Rattle.std.proofs.Common.{◌+◌, List, length, map, sym, subst}
-use Rattle.krieg_sheet.proofs.Common.{SheetState}
-use Rattle.krieg_why.proofs.Common.{AreShown, begun, tales_of, Link}
+use Rattle.krieg_why.proofs.Common.{SheetState, AreShown, begun, tales_of, Link}
 use Rattle.krieg_why.proofs.Found.{all_found, numbers_below, answer, as_told}
 use Rattle.krieg_why.proofs.why_possible.games_of.Goals as goal
 

@@ -1,6 +1,5 @@
 use Rattle.std.proofs.Common.{map, take, flat_map}
-use Rattle.krieg_text.proofs.Common.{HasLines}
-use Rattle.krieg_why.proofs.Common.{state_of, game_lines}
+use Rattle.krieg_why.proofs.Common.{HasLines, state_of, game_lines}
 use Rattle.krieg_why.proofs.writing.put_each.Given as goal
 
 abbrev pub invariant-loop-game : goal.invariant-loop-game

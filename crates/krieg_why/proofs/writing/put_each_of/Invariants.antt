@@ -1,6 +1,5 @@
 use Rattle.std.proofs.Common.{take, flat_map}
-use Rattle.krieg_text.proofs.Common.{HasLines}
-use Rattle.krieg_why.proofs.Common.{game_lines}
+use Rattle.krieg_why.proofs.Common.{HasLines, game_lines}
 use Rattle.krieg_why.proofs.writing.put_each_of.Given as goal
 
 abbrev pub invariant-loop-i : goal.invariant-loop-i

@@ -1,6 +1,6 @@
 use Rattle.std.proofs.Common.{◌∙◌, not, ◌==◌, sym, arith, count_ones}
 use Rattle.std.proofs.lemmas.Bool.{and_parts}
-use Rattle.krieg_board.proofs.Common.{has}
+use Rattle.krieg_words.proofs.Common.{has}
 use Rattle.krieg_words.proofs.TriesCount.{tries_are, tries_of_pawn, counted_step, counted_below, counted_end}
 use Rattle.krieg_words.proofs.TriesBound.{tries_le}
 use Rattle.krieg_words.proofs.pawn_tries.count_tries.Goals as goal

@@ -1,6 +1,5 @@
 use Rattle.std.proofs.Common.{◌≡◌, ◌+◌, ◌<◌, ℕ, true}
-use Rattle.krieg_board.proofs.Common.{has}
-use Rattle.krieg_words.proofs.Common.{tries_from, tries}
+use Rattle.krieg_words.proofs.Common.{has, tries_from, tries}
 use Rattle.krieg_words.proofs.PawnCaptures.{is_own_pawn}
 use Rattle.krieg_words.proofs.TriesCount.{sum_over}
 use Rattle.krieg_words.proofs.pawn_tries.count_tries.Given as goal

@@ -1,7 +1,6 @@
 use Rattle.std.proofs.Common.{◌∙◌, not, ◌==◌, sym, ap, arith}
 use Rattle.std.proofs.lemmas.Bool.{and_parts, eq-eqb}
-use Rattle.krieg_board.proofs.Common.{has}
-use Rattle.krieg_words.proofs.Common.{tries}
+use Rattle.krieg_words.proofs.Common.{has, tries}
 use Rattle.krieg_words.proofs.TriesCount.{tries_are, tries_of_pawn, passed_pawn, some_tries, sum_over_none}
 use Rattle.krieg_words.proofs.pawn_tries.has_tries.Goals as goal
 

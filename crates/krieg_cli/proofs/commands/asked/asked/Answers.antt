@@ -1,5 +1,5 @@
 use Rattle.std.proofs.Common.{rules, ◌≡◌, [], subst}
-use Rattle.krieg_belief.proofs.Common.{IsPossible}
+use Rattle.krieg_cli.proofs.Common.{IsPossible}
 use Rattle.krieg_cli.proofs.commands.asked.asked.Goals as goal
 
 pub returns-then-is_empty-clause-set : goal.returns-then-is_empty-clause-set

@@ -1,6 +1,6 @@
 use Rattle.std.proofs.Common.{◌∷◌, [], ◌++◌, sym, ap, subst, ◌∙◌}
 use Rattle.std.specs.List.{All}
-use Rattle.krieg_board.proofs.Common.{IsValid}
+use Rattle.krieg_cli.proofs.Common.{IsValid}
 use Rattle.krieg_cli.proofs.BestFiles.{all_more, take_more}
 use Rattle.krieg_cli.proofs.commands.asked.listed.Goals as goal
 

@@ -1,6 +1,6 @@
 use Rattle.std.proofs.Common.{◌≡◌, take}
 use Rattle.std.specs.List.{All}
-use Rattle.krieg_board.proofs.Common.{IsValid}
+use Rattle.krieg_cli.proofs.Common.{IsValid}
 use Rattle.krieg_cli.proofs.commands.asked.listed.Given as goal
 
 -- the members so far

@@ -1,6 +1,6 @@
 use Rattle.std.proofs.Common.{Vec, Global, ℕ, Err, sym, ap, subst, ◌∙◌}
 use Rattle.std.proofs.lemmas.Result.{err_from_is_err_and}
-use Rattle.krieg_refutefile.proofs.Common.{state_of}
+use Rattle.krieg_refutefile.specs.Refutations.{state_of}
 use Rattle.krieg_cli.proofs.Common.{Decides, Judged}
 use Rattle.krieg_cli.proofs.Denying.{stop_told, holds_told, fails_told}
 use Rattle.krieg_cli.proofs.commands.deny.judged.Goals as goal

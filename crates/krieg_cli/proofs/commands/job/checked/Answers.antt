@@ -1,9 +1,6 @@
 use Rattle.std.proofs.Common.{List, Err, sym, ap, subst, ◌∙◌}
 use Rattle.std.proofs.lemmas.Result.{err_from_is_err_and}
-use Rattle.krieg_board.proofs.Common.{Pos, White}
-use Rattle.krieg_words.proofs.Common.{Wild16}
-use Rattle.krieg_plan.proofs.Common.{plan_of, IsOneTurn}
-use Rattle.krieg_cli.proofs.Common.{Decides, file_of, Plans, found_lines}
+use Rattle.krieg_cli.proofs.Common.{Pos, White, Wild16, plan_of, IsOneTurn, Decides, file_of, Plans, found_lines}
 use Rattle.krieg_cli.proofs.Jobs.{one_turn_among, plan_found, check_stopped}
 use Rattle.krieg_cli.proofs.commands.job.checked.Goals as goal
 

@@ -1,8 +1,6 @@
 use Rattle.std.proofs.Common.{ℕ, List, Err, sym, ap, subst, ◌∙◌}
 use Rattle.std.proofs.lemmas.Result.{err_from_is_err_and}
-use Rattle.krieg_board.proofs.Common.{White, MOST_UNITS}
-use Rattle.krieg_words.proofs.Common.{Wild16}
-use Rattle.krieg_cli.proofs.Common.{Decides, Plans, found_lines, JOB_MOVES}
+use Rattle.krieg_cli.proofs.Common.{White, MOST_UNITS, Wild16, Decides, Plans, found_lines, JOB_MOVES}
 use Rattle.krieg_cli.proofs.BestFiles.{one_turn_of}
 use Rattle.krieg_cli.proofs.Jobs.{search_stopped}
 use Rattle.krieg_cli.proofs.Searching.{stop_told}

@@ -1,8 +1,7 @@
 use Rattle.std.proofs.Common.{subst}
-use Rattle.krieg_belief.proofs.Common.{IsStop}
+use Rattle.krieg_cli.proofs.Common.{IsStop, MOST_LISTED}
 use Rattle.krieg_cli.proofs.Jobs.{few_listed}
 use Rattle.krieg_cli.proofs.commands.job.possible.Goals as goal
-use Rattle.krieg_fen.proofs.Common.{MOST_LISTED}
 
 pub unreachable-requires : goal.unreachable-requires
 unreachable-requires c =

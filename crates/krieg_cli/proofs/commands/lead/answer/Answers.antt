@@ -1,5 +1,5 @@
 use Rattle.std.proofs.Common.{ℕ, Vec, Global}
-use Rattle.krieg_planfile.proofs.Common.{state_of}
+use Rattle.krieg_planfile.specs.PlanFiles.{state_of}
 use Rattle.krieg_cli.proofs.Benches.{seats_led}
 use Rattle.krieg_cli.proofs.Checking.{one_turn}
 use Rattle.krieg_cli.proofs.commands.lead.answer.Goals as goal

@@ -1,6 +1,6 @@
 -- The tries so far.
 use Rattle.std.proofs.Common.{◌≡◌, take}
-use Rattle.krieg_play.proofs.Common.{events_of}
+use Rattle.krieg_cli.proofs.Common.{events_of}
 use Rattle.krieg_cli.proofs.commands.recorded.events.Given as goal
 
 abbrev pub invariant-loop-judged : goal.invariant-loop-judged

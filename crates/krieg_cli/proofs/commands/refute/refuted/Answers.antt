@@ -1,6 +1,5 @@
 use Rattle.std.proofs.Common.{sym, subst, ◌∙◌, arith}
-use Rattle.krieg_board.proofs.Common.{Side}
-use Rattle.krieg_cli.proofs.Common.{has_no_turn, CanBeListed, Claimed}
+use Rattle.krieg_cli.proofs.Common.{Side, has_no_turn, CanBeListed, Claimed}
 use Rattle.krieg_cli.proofs.Asking.{given, asked}
 use Rattle.krieg_cli.proofs.Refuting.{is_to_move, later}
 use Rattle.krieg_cli.proofs.Searching.{few_possible}

@@ -1,9 +1,7 @@
 use Rattle.std.proofs.Common.{List, ℕ, Ok, Err, sym, ap, subst, ◌∙◌}
 use Rattle.std.proofs.lemmas.Result.{err_from_is_err_and}
-use Rattle.krieg_board.proofs.Common.{Side}
-use Rattle.krieg_refute.proofs.Common.{side_of, IsDenial, IsDenied, IsTaken}
-use Rattle.krieg_refutefile.proofs.Common.{CanBeWritten}
-use Rattle.krieg_cli.proofs.Common.{Decides, Claimed}
+use Rattle.krieg_cli.proofs.Common.{Side, side_of, IsDenial, IsDenied, IsTaken, Decides, Claimed}
+use Rattle.krieg_refutefile.specs.Writable.{CanBeWritten}
 use Rattle.krieg_cli.proofs.Refuting.{one_side_of, side_is, stop_told, exists_told, file_is, text_told, can_be_written, claims_told}
 use Rattle.krieg_cli.proofs.commands.refute.searched.Goals as goal
 

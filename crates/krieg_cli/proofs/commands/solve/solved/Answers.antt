@@ -1,5 +1,5 @@
 use Rattle.std.proofs.Common.{sym, ◌∙◌, arith}
-use Rattle.krieg_sheet.proofs.Common.{is_over}
+use Rattle.krieg_sheet.specs.Turns.{is_over}
 use Rattle.krieg_cli.proofs.Common.{SearchedBy}
 use Rattle.krieg_cli.proofs.Asking.{given, asked}
 use Rattle.krieg_cli.proofs.Searching.{few_possible, later}

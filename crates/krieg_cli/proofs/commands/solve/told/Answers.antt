@@ -1,10 +1,7 @@
 use Rattle.std.proofs.Common.{List, Ok, sym, subst}
 use Rattle.std.specs.List.{All}
-use Rattle.krieg_board.proofs.Common.{Pos, IsValid}
-use Rattle.krieg_plan.proofs.Common.{plan_of, MOST_NODES}
-use Rattle.krieg_planfile.proofs.Common.{CanBeWritten}
-use Rattle.krieg_search.proofs.Common.{IsAnswer}
-use Rattle.krieg_cli.proofs.Common.{file_of}
+use Rattle.krieg_cli.proofs.Common.{Pos, IsValid, plan_of, MOST_NODES, IsAnswer, file_of}
+use Rattle.krieg_planfile.specs.PlanFiles.{CanBeWritten}
 use Rattle.krieg_cli.proofs.BestFiles.{can_be_written}
 use Rattle.krieg_cli.proofs.commands.solve.told.Goals as goal
 

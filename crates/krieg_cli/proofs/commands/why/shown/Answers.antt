@@ -1,7 +1,6 @@
 use Rattle.std.proofs.Common.{rules, ℕ, ◌<◌, ◌≤◌, length, List, ◌++◌, sym, ap, ◌∙◌}
-use Rattle.krieg_why.proofs.Common.{games_text}
+use Rattle.krieg_cli.proofs.Common.{games_text, MOST_INPUT}
 use Rattle.krieg_cli.proofs.Showing.{none_shown, too_long, answered}
-use Rattle.krieg_cli.proofs.Common.{MOST_INPUT}
 use Rattle.krieg_cli.proofs.commands.why.shown.Goals as goal
 
 pub returns-then-is_empty : goal.returns-then-is_empty

@@ -1,6 +1,6 @@
 use Rattle.std.proofs.Common.{ap, arith}
 use Rattle.std.proofs.lemmas.Grind.{common_steps}
-use Rattle.krieg_referee.proofs.Common.{GameState}
+use Rattle.krieg_cli.proofs.Common.{GameState}
 use Rattle.krieg_play.proofs.Opening.{unbegun, sides_kept, played_by, refused_by}
 use Rattle.krieg_cli.proofs.live.game.play.Goals as goal
 

@@ -1,5 +1,5 @@
 use Rattle.std.proofs.Common.{ap, ◌∙◌, arith, rules}
-use Rattle.krieg_words.proofs.Common.{Opens}
+use Rattle.krieg_cli.proofs.Common.{Opens}
 use Rattle.krieg_play.proofs.Opening.{fresh_by, opens_and_plays, opens_not}
 use Rattle.krieg_cli.proofs.live.game.play_game.Goals as goal
 

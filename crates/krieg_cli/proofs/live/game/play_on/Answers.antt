@@ -1,5 +1,5 @@
 use Rattle.std.proofs.Common.{Ok, Err, None, refl, arith, rules}
-use Rattle.krieg_referee.proofs.Common.{Ended, Left, AsksUsed}
+use Rattle.krieg_cli.proofs.Common.{Ended, Left, AsksUsed}
 use Rattle.krieg_play.proofs.Stopping.{stops_ended, stops_used, stops_left_at, stops_fault, goes_on, passes_then, passes_as, ended, not_ended}
 use Rattle.krieg_cli.proofs.live.game.play_on.Goals as goal
 

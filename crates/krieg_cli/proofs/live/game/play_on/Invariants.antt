@@ -1,7 +1,6 @@
 -- What was under way when the loop began is under way; each turn uses an ask or a seat.
 use Rattle.std.proofs.Common.{◌+◌, ◌≤◌, vec_len, Ok, None}
-use Rattle.krieg_play.proofs.Common.{IsReady, Passes}
-use Rattle.krieg_cli.proofs.Common.{bench_sides}
+use Rattle.krieg_cli.proofs.Common.{IsReady, Passes, bench_sides}
 use Rattle.krieg_cli.proofs.live.game.play_on.Given as goal
 
 abbrev pub invariant-turns : goal.invariant-turns

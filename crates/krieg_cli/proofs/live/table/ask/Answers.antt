@@ -1,5 +1,5 @@
 use Rattle.std.proofs.Common.{refl}
-use Rattle.krieg_play.proofs.Common.{lines_to}
+use Rattle.krieg_cli.proofs.Common.{lines_to}
 use Rattle.krieg_play.proofs.BothSides.{asks_white, asks_black}
 use Rattle.krieg_cli.proofs.live.table.ask.Goals as goal
 

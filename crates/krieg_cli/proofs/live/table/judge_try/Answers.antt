@@ -1,5 +1,5 @@
 use Rattle.std.proofs.Common.{ap, arith, rules}
-use Rattle.krieg_referee.proofs.Common.{Verdict}
+use Rattle.krieg_cli.proofs.Common.{Verdict}
 use Rattle.krieg_play.proofs.Judging.{is_judged, judges_ok, judges_err}
 use Rattle.krieg_cli.proofs.live.table.judge_try.Goals as goal
 

@@ -1,5 +1,5 @@
 use Rattle.std.proofs.Common.{refl, arith, rules, option_to_list}
-use Rattle.krieg_play.proofs.Common.{lines_to, by_side}
+use Rattle.krieg_cli.proofs.Common.{lines_to, by_side}
 use Rattle.krieg_play.proofs.BothSides.{white_untold, black_untold, both_told}
 use Rattle.krieg_cli.proofs.live.table.tell_both.Goals as goal
 

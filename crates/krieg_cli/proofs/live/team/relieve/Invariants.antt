@@ -1,6 +1,6 @@
 -- The seats that were relieved so far are one or more, and another sits.
 use Rattle.std.proofs.Common.{◌<◌, vec_len}
-use Rattle.krieg_play.proofs.Common.{team_of, IsGone, lines_to, IsReady, Relieves}
+use Rattle.krieg_cli.proofs.Common.{team_of, IsGone, lines_to, IsReady, Relieves}
 use Rattle.krieg_cli.proofs.live.team.relieve.Given as goal
 
 abbrev pub invariant-loop-seats : goal.invariant-loop-seats

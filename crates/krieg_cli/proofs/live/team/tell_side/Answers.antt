@@ -1,5 +1,5 @@
 use Rattle.std.proofs.Common.{rules, Ok, Err}
-use Rattle.krieg_seats.proofs.Common.{NoMemory}
+use Rattle.krieg_seats.specs.declared.seat.SeatFault.TheVariants.{NoMemory}
 use Rattle.krieg_play.proofs.SideCalls.{tells, tells_as, tells_failed}
 use Rattle.krieg_cli.proofs.live.team.tell_side.Goals as goal
 

@@ -1,5 +1,5 @@
 use Rattle.std.proofs.Common.{◌≡◌, take}
-use Rattle.krieg_referee.proofs.Common.{lines_for}
+use Rattle.krieg_cli.proofs.Common.{lines_for}
 use Rattle.krieg_play.proofs.Tellings.{hearing}
 use Rattle.krieg_cli.proofs.live.telling.tell_log.Given as goal
 

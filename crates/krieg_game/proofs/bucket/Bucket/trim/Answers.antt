@@ -1,6 +1,6 @@
 use Rattle.std.proofs.Common.{◌∙◌, refl}
 use Rattle.std.proofs.lemmas.List.Filters.{dedup_is}
-use Rattle.krieg_pack.proofs.Common.{position_eq}
+use Rattle.krieg_game.proofs.Common.{position_eq}
 use Rattle.krieg_pack.proofs.PositionSets.{sorted_positions}
 use Rattle.krieg_game.proofs.bucket.Bucket.trim.Goals as goal
 

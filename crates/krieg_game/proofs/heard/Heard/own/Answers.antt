@@ -1,5 +1,5 @@
 use Rattle.std.proofs.Common.{sym, subst, ◌∙◌}
-use Rattle.krieg_words.proofs.Common.{IsSaid}
+use Rattle.krieg_game.proofs.Common.{IsSaid}
 use Rattle.krieg_game.proofs.PackedKeys.{stand}
 use Rattle.krieg_game.proofs.heard.Heard.own.Goals as goal
 

@@ -1,6 +1,5 @@
 use Rattle.std.proofs.Common.{◌∙◌, ap}
-use Rattle.krieg_words.proofs.Common.{told}
-use Rattle.krieg_game.proofs.Common.{KeyedPosition, outcome}
+use Rattle.krieg_game.proofs.Common.{told, KeyedPosition, outcome}
 use Rattle.krieg_game.proofs.Pools.{holds_one}
 use Rattle.krieg_game.proofs.pool.Pool.add.Goals as goal
 

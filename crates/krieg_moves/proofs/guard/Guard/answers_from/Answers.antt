@@ -1,7 +1,6 @@
 use Rattle.std.proofs.Common.{◌∙◌, ◌≡◌, sym, false}
 use Rattle.krieg_board.proofs.Facts.{facts}
-use Rattle.krieg_board.proofs.Common.{man_at}
-use Rattle.krieg_rays.proofs.Common.{is_pinned}
+use Rattle.krieg_moves.proofs.Common.{man_at, is_pinned}
 use Rattle.krieg_moves.proofs.Answering.{unpinned_answered}
 use Rattle.krieg_moves.proofs.Movers.{not_enemy}
 use Rattle.krieg_moves.proofs.guard.Guard.answers_from.Goals as goal

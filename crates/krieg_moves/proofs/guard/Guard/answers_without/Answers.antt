@@ -1,7 +1,6 @@
 use Rattle.std.proofs.Common.{◌∙◌, ap, set}
 use Rattle.std.specs.Prelude.{None}
-use Rattle.krieg_board.proofs.Common.{other}
-use Rattle.krieg_moves.proofs.Common.{is_answered}
+use Rattle.krieg_moves.proofs.Common.{other, is_answered}
 use Rattle.krieg_moves.proofs.AnswerSets.{answered_by_set}
 use Rattle.krieg_moves.proofs.guard.Guard.answers_without.Goals as goal
 

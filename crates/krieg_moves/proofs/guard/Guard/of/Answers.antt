@@ -1,6 +1,5 @@
 use Rattle.std.proofs.Common.{◌∙◌, ◌≡◌, ℕ, ◌<◌, sym, ◌&&◌}
-use Rattle.krieg_board.proofs.Common.{other, attacks, man_at, is_of, is_man, has, King}
-use Rattle.krieg_rays.proofs.Common.{is_pinned}
+use Rattle.krieg_moves.proofs.Common.{other, attacks, man_at, is_of, is_man, has, King, is_pinned}
 use Rattle.krieg_moves.proofs.AnswerSets.{answered_by_set}
 use Rattle.krieg_moves.proofs.Kings.{one_king, one_king_found}
 use Rattle.krieg_moves.proofs.guard.Guard.of.Goals as goal

@@ -1,8 +1,6 @@
 use Rattle.std.proofs.Common.{◌≡◌, List, true, sym, subst, ◌∙◌}
 use Rattle.std.specs.Prelude.{is_ok}
-use Rattle.krieg_board.proofs.Common.{Pos}
-use Rattle.krieg_theory.proofs.Common.{In}
-use Rattle.krieg_pack.proofs.Common.{IsAscending}
+use Rattle.krieg_pack.proofs.Common.{Pos, In, IsAscending}
 use Rattle.krieg_pack.proofs.PositionSets.{found_position}
 use Rattle.krieg_pack.proofs.belief.Belief.holds.Goals as goal
 

@@ -1,8 +1,7 @@
 use Rattle.std.proofs.Common.{◌≡◌, ◌∙◌, sym, ap, subst, cond}
 use Rattle.std.specs.declared.cmp.Ordering.TheVariants.{Less, Greater}
 use Rattle.std.proofs.lemmas.Bool.{cond-true, cond-false}
-use Rattle.krieg_board.proofs.Common.{IsLowest}
-use Rattle.krieg_pack.proofs.Common.{position_cmp}
+use Rattle.krieg_pack.proofs.Common.{IsLowest, position_cmp}
 use Rattle.krieg_pack.proofs.PackedOrder.{smaller_decides, state_decides}
 use Rattle.krieg_pack.proofs.packed.Packed.compare.Goals as goal
 use Rattle.krieg_pack.proofs.packed.Packed.compare.Goals.{After-has-is_smaller}

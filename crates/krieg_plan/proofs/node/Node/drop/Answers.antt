@@ -1,9 +1,7 @@
 use Rattle.std.proofs.Common.{◌+◌, ◌++◌, refl, sym, ap, ◌∙◌}
 use Rattle.std.specs.Prelude.{option_map}
 use Rattle.std.specs.Option.{option_to_list}
-use Rattle.krieg_theory.proofs.Common.{size_other}
-use Rattle.krieg_game.proofs.Common.{Key}
-use Rattle.krieg_plan.proofs.Common.{NodeTree, tree_of, as_other}
+use Rattle.krieg_plan.proofs.Common.{size_other, Key, NodeTree, tree_of, as_other}
 use Rattle.krieg_plan.proofs.NodeTrees.{edge_out}
 use Rattle.krieg_plan.proofs.Dropping.{nodes_below, lighter}
 use Rattle.krieg_plan.proofs.node.Node.drop.Goals as goal

@@ -1,7 +1,6 @@
 use Rattle.std.proofs.Common.{rules, ◌≡◌, ◌⊎◌, inl, inr, ◌<◌, length, ◌++◌, [], take, drop, sym, ap, ◌∙◌, arith, length-drop}
 use Rattle.std.proofs.lemmas.List.{append-nil}
-use Rattle.krieg_text.proofs.Common.{lines, Place, place}
-use Rattle.krieg_refutefile.proofs.Common.{lines_back}
+use Rattle.krieg_refutefile.proofs.Common.{lines, Place, place, lines_back}
 use Rattle.krieg_refutefile.proofs.OwnedLines.{have_lines, take_front}
 use Rattle.krieg_refutefile.proofs.owned_cursor.OwnedCursor.alone.Goals as goal
 

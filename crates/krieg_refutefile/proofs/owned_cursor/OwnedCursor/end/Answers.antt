@@ -1,7 +1,6 @@
 use Rattle.std.proofs.Common.{rules, ◌<◌, length, drop, ◌++◌, ap, ◌∙◌, arith, length-drop}
-use Rattle.krieg_text.proofs.Common.{lines, Place, ended}
+use Rattle.krieg_refutefile.proofs.Common.{lines, Place, ended, lines_back}
 use Rattle.krieg_text.proofs.ReadingLemmas.{ended_some}
-use Rattle.krieg_refutefile.proofs.Common.{lines_back}
 use Rattle.krieg_refutefile.proofs.OwnedLines.{left_some}
 use Rattle.krieg_refutefile.proofs.owned_cursor.OwnedCursor.end.Goals as goal
 

@@ -1,6 +1,5 @@
 use Rattle.std.proofs.Common.{◌≡◌, ◌⊎◌, ◌<◌, length, ◌++◌, []}
-use Rattle.krieg_text.proofs.Common.{lines}
-use Rattle.krieg_refutefile.proofs.Common.{lines_back, HaveBytes}
+use Rattle.krieg_refutefile.proofs.Common.{lines, lines_back, HaveBytes}
 use Rattle.krieg_refutefile.proofs.owned_cursor.OwnedCursor.new.Given as goal
 
 -- the text that is left and the pieces that were cut off have its lines

@@ -3,16 +3,10 @@ use Rattle.std.specs.Prelude.{option_map}
 use Rattle.std.specs.Vec.Iter.{into_iter_items}
 use Rattle.std.proofs.lemmas.Bool.{cond-false}
 use Rattle.std.proofs.lemmas.List.{map-append}
-use Rattle.krieg_board.proofs.Common.{Pos}
-use Rattle.krieg_theory.proofs.Common.{In, is_nil, Try, Just, Nothing, size, size_other, depth, depth_other, canon}
-use Rattle.krieg_costs.proofs.Common.{made}
-use Rattle.krieg_accounts.proofs.Common.{refused_canon}
-use Rattle.krieg_game.proofs.Common.{chess, class_pair}
-use Rattle.krieg_split.proofs.Common.{IsParted}
-use Rattle.krieg_table.proofs.Common.{set_at}
-use Rattle.krieg_plan.proofs.Common.{tree_of, edge_of, as_other, Node, Edge, Edge-F, roll-Edge}
+use Rattle.krieg_search.proofs.Common.{Pos, In, is_nil, Just, Nothing, size, size_other, depth, depth_other, canon, made, refused_canon, chess, class_pair, IsParted, set_at, tree_of, edge_of, as_other, Node, Edge-F, roll-Edge, sets_of, edges_for}
+use Rattle.krieg_theory.specs.Tree.{Try}
+use Rattle.krieg_plan.specs.declared.node.Edge.{Edge}
 use Rattle.krieg_plan.proofs.NodeTrees.{edge_rolled}
-use Rattle.krieg_search.proofs.Common.{sets_of, edges_for}
 use Rattle.krieg_search.proofs.Trying.{some_is}
 use Rattle.krieg_search.proofs.Checking.{no_items}
 use Rattle.krieg_search.proofs.Building.{adds_nothing, adds_then, adds_number, still_won, won_at, too_large, still_paid, won_node, no_nodes, no_path, paid_by, classes_won, refused_is_won, node_is, edges_large, other_large, node_fits}

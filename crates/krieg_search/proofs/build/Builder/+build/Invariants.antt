@@ -1,10 +1,6 @@
 use Rattle.std.proofs.Common.{◌≡◌, length, map, List, ◌+◌, ◌*◌}
 use Rattle.std.specs.Vec.Iter.{into_iter_items, into_iter_len}
-use Rattle.krieg_board.proofs.Common.{Pos}
-use Rattle.krieg_theory.proofs.Common.{In}
-use Rattle.krieg_game.proofs.Common.{class_pair}
-use Rattle.krieg_plan.proofs.Common.{edge_of}
-use Rattle.krieg_search.proofs.Common.{sets_of}
+use Rattle.krieg_search.proofs.Common.{Pos, In, class_pair, edge_of, sets_of}
 use Rattle.krieg_search.proofs.Edging.{IsEdging}
 use Rattle.krieg_search.proofs.build.Builder.+build.Given as goal
 

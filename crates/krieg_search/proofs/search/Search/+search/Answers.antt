@@ -1,12 +1,8 @@
 use Rattle.std.proofs.Common.{◌≡◌, ◌≤◌, length, map, find, List, Some, None, refl, sym, subst, ap, ◌∙◌, arith}
 use Rattle.std.proofs.lemmas.List.{length-map}
 use Rattle.std.specs.Vec.Iter.{into_iter_items}
-use Rattle.krieg_board.proofs.Common.{Pos}
+use Rattle.krieg_search.proofs.Common.{Pos, can, chess, class_pair, set_at, Wins, Loses, move_of, sets_of, items_of}
 use Rattle.krieg_theory.specs.Split.{tries as tries_of}
-use Rattle.krieg_theory.proofs.Common.{can}
-use Rattle.krieg_game.proofs.Common.{chess, class_pair}
-use Rattle.krieg_table.proofs.Common.{set_at, Wins, Loses}
-use Rattle.krieg_search.proofs.Common.{move_of, sets_of, items_of}
 use Rattle.krieg_search.proofs.Searching.{ready_from, searched_number, stopped}
 use Rattle.krieg_search.proofs.Noted.{more_notes, no_notes, one_noted, all_noted}
 use Rattle.krieg_search.proofs.Blocked.{is_lost, first_here, first_later}

@@ -1,9 +1,7 @@
 use Rattle.std.proofs.Common.{◌≡◌, ◌-◌, length, map, find, ◌+◌, ◌*◌, ◌^◌}
 use Rattle.std.specs.Prelude.{IfSome}
 use Rattle.std.specs.Vec.Iter.{into_iter_items, into_iter_len}
-use Rattle.krieg_game.proofs.Common.{class_pair}
-use Rattle.krieg_table.proofs.Common.{set_at}
-use Rattle.krieg_search.proofs.Common.{move_of, IsAtWork, sets_of, items_of}
+use Rattle.krieg_search.proofs.Common.{class_pair, set_at, move_of, IsAtWork, sets_of, items_of}
 use Rattle.krieg_search.proofs.Noted.{IsRowTo}
 use Rattle.krieg_search.proofs.Blocked.{is_lost}
 use Rattle.krieg_search.proofs.Tries.{IsTrying}

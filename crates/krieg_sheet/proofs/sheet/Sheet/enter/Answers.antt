@@ -1,6 +1,5 @@
 use Rattle.std.proofs.Common.{◌≡◌, true, sym, subst}
-use Rattle.krieg_words.proofs.Common.{LineFits}
-use Rattle.krieg_sheet.proofs.Common.{SheetState, is_in_place, IsTold}
+use Rattle.krieg_sheet.proofs.Common.{LineFits, SheetState, is_in_place, IsTold}
 use Rattle.krieg_sheet.proofs.Entering.{kept_more}
 use Rattle.krieg_sheet.proofs.sheet.Sheet.enter.Goals as goal
 

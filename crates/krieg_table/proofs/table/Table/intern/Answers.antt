@@ -1,6 +1,5 @@
 use Rattle.std.proofs.Common.{rules, ap, sym, subst, ◌∙◌, arith}
-use Rattle.krieg_theory.proofs.Common.{In}
-use Rattle.krieg_table.proofs.Common.{Interned, sets, number_of}
+use Rattle.krieg_table.proofs.Common.{In, Interned, sets, number_of}
 use Rattle.krieg_table.proofs.Calls.{inserted, placed, absent, table_from, interned_from, on_err}
 use Rattle.krieg_table.proofs.Interning.{number_at_most}
 use Rattle.krieg_table.proofs.table.Table.intern.Goals as goal

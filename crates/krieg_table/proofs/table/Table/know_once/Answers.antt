@@ -1,7 +1,5 @@
 use Rattle.std.proofs.Common.{subst}
-use Rattle.krieg_costs.proofs.Common.{IsOnce}
-use Rattle.krieg_accounts.proofs.Common.{pairs}
-use Rattle.krieg_table.proofs.Common.{Interned, sets, entries}
+use Rattle.krieg_table.proofs.Common.{IsOnce, pairs, Interned, sets, entries}
 use Rattle.krieg_table.proofs.Onces.{pairs_once}
 use Rattle.krieg_table.proofs.table.Table.know_once.Goals as goal
 

@@ -1,7 +1,5 @@
 use Rattle.std.proofs.Common.{◌≡◌, ◌<◌, length, ap, sym, subst, ◌∙◌, option_map}
-use Rattle.krieg_pack.proofs.Common.{position_lt}
-use Rattle.krieg_accounts.proofs.Common.{stored}
-use Rattle.krieg_table.proofs.Common.{Results, known_for, Interned, set_at, try_of, entries}
+use Rattle.krieg_table.proofs.Common.{position_lt, stored, Results, known_for, Interned, set_at, try_of, entries}
 use Rattle.krieg_table.proofs.Calls.{results_at}
 use Rattle.krieg_table.proofs.Noting.{known_is}
 use Rattle.krieg_table.proofs.table.Table.result.Goals as goal

@@ -1,8 +1,7 @@
 use Rattle.std.proofs.Common.{rules, ◌≡◌, ◌<◌, ℕ, List, Some, length, map, refl, sym, ap, subst, ◌∙◌}
 use Rattle.std.specs.Prelude.{slice_get}
 use Rattle.std.proofs.lemmas.Option.{slice_get_read}
-use Rattle.krieg_board.proofs.Common.{Pos}
-use Rattle.krieg_why.proofs.Common.{ShownState, tales_of, shown_of}
+use Rattle.krieg_why.proofs.Common.{Pos, ShownState, tales_of, shown_of}
 use Rattle.krieg_why.proofs.GivenGames.{as_many, given, game_is}
 use Rattle.krieg_why.proofs.games.Games.get.Goals as goal
 
