@@ -191,3 +191,19 @@ def reached(files, todo):
     return seen, lost
 
 
+# What was added once, and the words by which a file of a crate names it: a file that names one of its kind is one that the next one touches.
+ADDITIONS = {
+    "dialect": r"\b[Aa]nytry\b",
+    "command": r"\bBelieve\b|\bbelieve_of\b|\bmod believe\b|\bbelieve\b(?=\.|::answer)",
+    "reason": r"\bByStalemate\b|\bWhy::Stale\b",
+}
+
+
+def naming(kind, crate):
+    """The files of a crate, its wrong bodies and what passes words on left out, that name what was added."""
+    word, found = re.compile(ADDITIONS[kind]), []
+    for part in ("specs", "src", "proofs", "data"):
+        for path in sorted((TOP / "crates" / crate / part).rglob("*")):
+            if path.is_file() and path.name != "Common.antt" and word.search(path.read_text(errors="replace")):
+                found.append(path.relative_to(TOP / "crates" / crate))
+    return found
