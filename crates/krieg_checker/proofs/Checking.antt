@@ -2,7 +2,7 @@
 use Rattle.std.proofs.Common.{◌≡◌, ℕ, ◌+◌, ◌≤◌, Bool, true, false, not, ◌&&◌, cond, List, ◌∷◌, map, Option, None, refl, sym, ap, ◌∙◌, arith}
 use Rattle.std.specs.List.{list_all, list_any}
 use Rattle.std.proofs.Math.Bool.{and_assoc}
-use Rattle.krieg_checker.proofs.Common.{Pos, Side, Dialect, set_of, position_lt, as_set, Nothing, is_over, openings, opening_set, wins_root, mates, total, RootKey, chess, outset, class_pair, PlanTrees, first_root_in, first_cost, check_cost, other_cost, within, Tells, worse, all_won_other, heard_of, roots_won, roots_cost, IsStarted, Started, MOST_COUNTED}
+use Rattle.krieg_checker.proofs.Common.{Pos, Side, Dialect, set_of, position_lt, as_set, Nothing, is_over, openings, opening_set, wins_root, mates, total, RootKey, chess, outset, class_pair, PlanTrees, first_root_in, first_cost, check_cost, other_cost, within, Tells, worse, all_won_other, heard_of, roots_won, roots_cost, IsFirstTurn, FirstTurn, MOST_COUNTED}
 use Rattle.krieg_pack.proofs.PositionSets.{position_order, set_of_set}
 use Rattle.krieg_costs.proofs.Totals.{total_agree}
 use Rattle.krieg_game.proofs.KeyLaws.{root_order}
@@ -34,7 +34,7 @@ module _ (d : Dialect) (who : Side) (plan : PlanTrees) where
   pub start_cost : (S : List Pos) → first_cost (chess d) (outset d who) (set_of S) ≤ check_cost (chess d) (outset d who) plan S
   start_cost S = omega (arith, first_same S)
 
-  module _ (S : List Pos) (r : Started) (st : IsStarted d who (set_of S) r) where
+  module _ (S : List Pos) (r : FirstTurn) (st : IsFirstTurn d who (set_of S) r) where
     abbrev B : List Pos
     B = as_set position_lt S
 

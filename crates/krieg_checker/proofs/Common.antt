@@ -25,31 +25,31 @@ pub use Rattle.krieg_game.specs.Classes.{class_pair, classes_in}
 pub use Rattle.krieg_game.specs.Keys.{Key, RootKey, key_lt}
 unfoldable pub use Rattle.krieg_game.specs.Outset.{starts, waits}
 pub use Rattle.krieg_game.specs.Outset.{outset}
-pub use Rattle.krieg_plan.specs.Listed.{IsOneTurn}
+pub use Rattle.krieg_plan.specs.OneTurn.{IsOneTurn}
 pub use Rattle.krieg_plan.specs.Nodes.{as_edges, as_other, edge_of, tree_of}
-pub use Rattle.krieg_plan.specs.Ordered.{is_ordered, is_ordered_other}
+pub use Rattle.krieg_plan.specs.Order.{is_ordered, is_ordered_other}
 pub use Rattle.krieg_plan.specs.Plans.{plan_of}
 pub use Rattle.krieg_plan.specs.Trees.{NodeTree, PlanTrees, edges_in, first_root_in}
 pub use Rattle.krieg_plan.specs.declared.node.Edge.TheViews.{out-Node}
 pub use Rattle.krieg_plan.specs.declared.node.Node.{Node}
 pub use Rattle.krieg_plan.specs.declared.plan.PlanFile.{PlanFile}
-pub use Rattle.krieg_parting.specs.Charged.{Charged}
+pub use Rattle.krieg_parting.specs.Charges.{Charges}
 pub use Rattle.krieg_parting.specs.FirstMoves.{AreFirstMoves}
 pub use Rattle.krieg_parting.specs.Gathering.{IsGathered}
 pub use Rattle.krieg_parting.specs.Mating.{IsMating}
-pub use Rattle.krieg_parting.specs.Parted.{IsParted}
+pub use Rattle.krieg_parting.specs.Parts.{IsParted}
 pub use Rattle.krieg_parting.specs.Turns.{IsOthersTurn, IsOwnTurn}
 pub use Rattle.krieg_parting.specs.declared.parts.Parted.{Parted}
 pub use Rattle.krieg_parting.specs.declared.stop.PartStop.{PartStop}
 pub use Rattle.krieg_checker.specs.CheckCost.{check_cost, first_cost, pair_cost}
-pub use Rattle.krieg_checker.specs.Found.{Tells, all_won, all_won_other, one_more, own_need, within, worse}
+pub use Rattle.krieg_checker.specs.Needs.{Tells, all_won, all_won_other, one_more, own_need, within, worse}
 pub use Rattle.krieg_checker.specs.Laws.{ReachedIsLeast, ReachedIsOnce}
-pub use Rattle.krieg_checker.specs.Reached.{From, IsClosed, No, On, Pair, Path, Step, first_pairs, next_at, next_pairs, pair_at, reached, reached_at, reached_from, reached_other}
-pub use Rattle.krieg_checker.specs.Starting.{IsStarted, heard_of, roots_cost, roots_won}
-pub use Rattle.krieg_checker.specs.Tried.{IsEnd, IsTriedAt}
+pub use Rattle.krieg_checker.specs.Reach.{From, IsClosed, No, On, Pair, Path, Step, first_pairs, next_at, next_pairs, pair_at, reached, reached_at, reached_from, reached_other}
+pub use Rattle.krieg_checker.specs.Starting.{IsFirstTurn, heard_of, roots_cost, roots_won}
+pub use Rattle.krieg_checker.specs.NodeTries.{IsEnd, IsNodeTry}
 pub use Rattle.krieg_checker.specs.Verdict.{IsVerdict, verdict}
-pub use Rattle.krieg_checker.specs.Walked.{classes_cost, classes_won, edge_cost, node_cost, other_cost, other_in, try_in}
-pub use Rattle.krieg_checker.specs.declared.plan_check.Checked.TheVariants.{Fails, Mates}
-pub use Rattle.krieg_checker.specs.declared.start.Started.{Started}
-pub use Rattle.krieg_checker.specs.declared.tried.Tried.{Tried}
+pub use Rattle.krieg_checker.specs.Walk.{classes_cost, classes_won, edge_cost, node_cost, other_cost, other_in, try_in}
+pub use Rattle.krieg_checker.specs.declared.plan_check.PlanVerdict.TheVariants.{Fails, Mates}
+pub use Rattle.krieg_checker.specs.declared.start.FirstTurn.{FirstTurn}
+pub use Rattle.krieg_checker.specs.declared.node_try.NodeTry.{NodeTry}
 pub use Rattle.krieg_checker.specs.declared.walk.TheConstants.{MOST_COUNTED}

@@ -2,7 +2,7 @@
 use Rattle.std.proofs.Common.{◌≡◌, ℕ, ◌≤◌, Bool, true, false, cond, ◌&&◌, ◌==◌, List, [], ◌∷◌, ◌⊎◌, inl, inr, length, map, Option, Some, None, refl, sym, ap, subst, ◌∙◌, arith}
 use Rattle.std.specs.List.{list_all}
 use Rattle.std.proofs.lemmas.Bool.{both_ways, false_from_ne_true, le-leb, leb-true, eqb-true}
-use Rattle.krieg_checker.proofs.Common.{Pos, Move, Dialect, In, is_nil, Try, Maybe, NoEdges, stale_in_some, keys, class, made, lives_in_some, Key, class_pair, chess, NodeTree, within, Tells, own_need, all_won_other, IsTriedAt, IsEnd, other_cost, try_in, classes_won, classes_cost, Tried, MOST_COUNTED}
+use Rattle.krieg_checker.proofs.Common.{Pos, Move, Dialect, In, is_nil, Try, Maybe, NoEdges, stale_in_some, keys, class, made, lives_in_some, Key, class_pair, chess, NodeTree, within, Tells, own_need, all_won_other, IsNodeTry, IsEnd, other_cost, try_in, classes_won, classes_cost, NodeTry, MOST_COUNTED}
 use Rattle.krieg_pack.proofs.PositionSets.{position_order}
 use Rattle.krieg_costs.proofs.Reached.{class_some}
 use Rattle.krieg_costs.proofs.Blocks.{lives_how, lives_by_key}
@@ -52,7 +52,7 @@ module _ (d : Dialect) where
       go None h = absurd (both_ways _ refl (sym h))
       go (Some w) h = let l = leb-true w 0 (sym h) in let z : w ≡ 0 = omega (arith, l) in ap (λ w. own_need false (Some w)) z
 
-  ends : (t : Move) (other : Maybe Move Key) (B : List Pos) (v : Tried) → IsEnd d B t v → IsTriedAt d (Try t other NoEdges) B v
+  ends : (t : Move) (other : Maybe Move Key) (B : List Pos) (v : NodeTry) → IsEnd d B t v → IsNodeTry d (Try t other NoEdges) B v
   ends t other B v a = record {
     refused_part = a.refused_part;
     won_part = λ some c hc k small.
@@ -70,8 +70,8 @@ module _ (d : Dialect) where
       needed c hc = sym (need_is B t c v.fails (λ k small. sym (ap (λ cs. classes_won d NoEdges (map class_pair cs) k) a.classes_part) ∙ hc k small) a.fails_part)
 
   module _ (here : NodeTree) (t : Move) (other : Maybe Move Key) (is : here ≡ Try t other NoEdges) (B : List Pos) where
-    pub ends_here : (v : Tried) → IsEnd d B t v → IsTriedAt d here B v
-    ends_here v a = subst (λ x. IsTriedAt d x B v) (sym is) (ends t other B v a)
+    pub ends_here : (v : NodeTry) → IsEnd d B t v → IsNodeTry d here B v
+    ends_here v a = subst (λ x. IsNodeTry d x B v) (sym is) (ends t other B v a)
 
     pub end_costs : made (chess d) B (try_in here) ≡ made (chess d) B t
     end_costs = ap (λ x. made (chess d) B (try_in x)) is

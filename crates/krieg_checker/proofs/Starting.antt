@@ -2,7 +2,7 @@
 use Rattle.std.proofs.Common.{◌≡◌, ℕ, Bool, true, false, not, cond, ◌||◌, List, [], ◌∷◌, map, length, inl, inr, refl, sym, ap, subst, ◌∙◌}
 use Rattle.std.specs.Prelude.{◌↔◌, IsTrue, slice_get, Some, None}
 use Rattle.std.specs.List.{list_any, list_all}
-use Rattle.krieg_checker.proofs.Common.{Pos, moves, is_ended, Dialect, silent, is_same_side, Side, White, Black, position_lt, IsAscending, set_of, In, as_set, is_nil, is_over, total, class_pair, classes_in, outset, waits, starts, IsOwnTurn, IsOthersTurn, first_cost, chess, first_outcomes, opened, IsOneTurn, IsStarted, heard_of, Started}
+use Rattle.krieg_checker.proofs.Common.{Pos, moves, is_ended, Dialect, silent, is_same_side, Side, White, Black, position_lt, IsAscending, set_of, In, as_set, is_nil, is_over, total, class_pair, classes_in, outset, waits, starts, IsOwnTurn, IsOthersTurn, first_cost, chess, first_outcomes, opened, IsOneTurn, IsFirstTurn, heard_of, FirstTurn}
 use Rattle.krieg_theory.proofs.Lists.{all_at, all_from}
 use Rattle.krieg_pack.proofs.PositionSets.{position_order, set_of_ascending}
 use Rattle.krieg_theory.proofs.Ascending.{as_set_in}
@@ -34,7 +34,7 @@ module _ (d : Dialect) (who : Side) (S : List Pos) where
     pub free_start : first_cost (chess d) (outset d who) S ≡ 0
     free_start = total_agree costs (λ p. 0) (as_set position_lt S) (λ p i. own_cost p (turn p (as_set_in position_lt position_order p S i))) ∙ total_none (as_set position_lt S)
 
-    pub own_started : (r : Started) → r.own ≡ true → r.over ≡ false → map class_pair r.classes.items ≡ classes_in (map (opened d silent) S) → IsStarted d who S r
+    pub own_started : (r : FirstTurn) → r.own ≡ true → r.over ≡ false → map class_pair r.classes.items ≡ classes_in (map (opened d silent) S) → IsFirstTurn d who S r
     own_started r own over classes = record {
       over_part = over ∙ sym (any_same (is_over (chess d) (outset d who)) (λ p. false) S (λ p i. ap is_nil (own_start d who p (turn p i))) ∙ any_none S);
       classes_part = (λ i. map (heard_of (own i)) (classes i)) ∙ openings_are_classed d who S silent turn;
@@ -50,7 +50,7 @@ module _ (d : Dialect) (who : Side) (S : List Pos) where
     unfolding set_of
     move_start up = total_agree costs (λ p. length (moves p)) (as_set position_lt S) (λ p i. other_cost p (turn p (as_set_in position_lt position_order p S i))) ∙ ap (total (λ p. length (moves p))) (set_of_ascending S up)
 
-    pub other_started : (r : Started) → r.own ≡ false → r.over ≡ list_any is_ended S → map class_pair r.classes.items ≡ classes_in (first_outcomes d S) → IsStarted d who S r
+    pub other_started : (r : FirstTurn) → r.own ≡ false → r.over ≡ list_any is_ended S → map class_pair r.classes.items ≡ classes_in (first_outcomes d S) → IsFirstTurn d who S r
     other_started r own over classes = record {
       over_part = over ∙ sym (some_over d who S turn);
       classes_part = (λ i. map (heard_of (own i)) (classes i)) ∙ first_moves_are_classed d who S turn;

@@ -3,7 +3,7 @@ use Rattle.std.proofs.Common.{◌≡◌, ℕ, suc, ◌+◌, ◌≤◌, Bool, tru
 use Rattle.std.specs.List.{list_all}
 use Rattle.std.proofs.lemmas.Bool.{le-leb}
 use Rattle.std.proofs.Math.Bool.{and_assoc}
-use Rattle.krieg_checker.proofs.Common.{Pos, Move, is_nil, same, Tree, Try, Maybe, Nothing, Just, Edges, NoEdges, Edge, first_edge, size, size_other, size_edges, wins_at, refused, keys, class, Game, Dialect, total, made, Key, key_lt, chess, NodeTree, edges_in, Node, out-Node, tree_of, PartStop, Parted, Charged, IsParted, is_ordered, is_ordered_other, within, Tells, worse, own_need, all_won, all_won_other, class_pair, IsTriedAt, node_cost, other_cost, edge_cost, try_in, other_in, classes_won, classes_cost, Tried, MOST_COUNTED}
+use Rattle.krieg_checker.proofs.Common.{Pos, Move, is_nil, same, Tree, Try, Maybe, Nothing, Just, Edges, NoEdges, Edge, first_edge, size, size_other, size_edges, wins_at, refused, keys, class, Game, Dialect, total, made, Key, key_lt, chess, NodeTree, edges_in, Node, out-Node, tree_of, PartStop, Parted, Charges, IsParted, is_ordered, is_ordered_other, within, Tells, worse, own_need, all_won, all_won_other, class_pair, IsNodeTry, node_cost, other_cost, edge_cost, try_in, other_in, classes_won, classes_cost, NodeTry, MOST_COUNTED}
 use Rattle.krieg_pack.proofs.PositionSets.{position_order}
 use Rattle.krieg_plan.proofs.NodeTrees.{other_of, tree_out}
 use Rattle.krieg_game.proofs.KeyLaws.{key_order}
@@ -67,7 +67,7 @@ module _ (d : Dialect) (here : NodeTree) (t : Move) (other : Maybe Move Key) (es
       ∙ ap (λ b. all_won_other (chess d) other (refused (chess d) B t) k && within (own_need b c) k) (sym p.stale_part)
       ∙ ap (λ xs. all_won_other (chess d) other xs k && within (own_need r.stale c) k) (sym p.refused_part)
 
-  parted_tried : (v : Tried) → v.refused ≡ r.refused → v.fails ≡ r.stale → v.classes.items ≡ r.classes.items → IsTriedAt d (Try t other es) B v
+  parted_tried : (v : NodeTry) → v.refused ≡ r.refused → v.fails ≡ r.stale → v.classes.items ≡ r.classes.items → IsNodeTry d (Try t other es) B v
   parted_tried v same fails classes = record {
     refused_part = same ∙ p.refused_part;
     won_part = λ some c hc k small.
@@ -78,11 +78,11 @@ module _ (d : Dialect) (here : NodeTree) (t : Move) (other : Maybe Move Key) (es
         ∙ ap (λ k. made (chess d) B t + (other_cost (chess d) other v.refused + k)) (sym classes_cost_is ∙ ap (λ cs. classes_cost d es (map class_pair cs)) (sym classes));
   }
 
-  pub parted_at : (v : Tried) → v.refused ≡ r.refused → v.fails ≡ r.stale → v.classes.items ≡ r.classes.items → IsTriedAt d here B v
-  parted_at v same fails classes = subst (λ x. IsTriedAt d x B v) (sym is) (parted_tried v same fails classes)
+  pub parted_at : (v : NodeTry) → v.refused ≡ r.refused → v.fails ≡ r.stale → v.classes.items ≡ r.classes.items → IsNodeTry d here B v
+  parted_at v same fails classes = subst (λ x. IsNodeTry d x B v) (sym is) (parted_tried v same fails classes)
 
 -- what is left of a node is its refused part, once its classes are walked
-module _ (d : Dialect) (here : NodeTree) (B : List Pos) (r : Tried) (p : IsTriedAt d here B r) where
+module _ (d : Dialect) (here : NodeTree) (B : List Pos) (r : NodeTry) (p : IsNodeTry d here B r) where
   regroup : (a x b : Bool) → (a && (x && b)) ≡ ((a && b) && x)
   regroup true true b = and_true b
   regroup true false true = refl
@@ -164,6 +164,6 @@ pub no_edge : (d : Dialect) (es : Edges Move Key) (key : Key) (B : List Pos) (r 
 no_edge d es key B r units is h = (at_edge d es key B Nothing r is h, omega (arith, edge_costs d es key B Nothing is))
 
 pub some_edge : (d : Dialect) (es : Edges Move Key) (key : Key) (B : List Pos) (n : NodeTree) (r : Result (Option ℕ) PartStop) (old new : ℕ) → first_edge key_lt es key ≡ Just n →
-    Charged r (λ x. Tells x (all_won (chess d) n B)) (node_cost (chess d) n B) old new →
-    Charged r (λ x. Tells x (λ k. list_all (λ p. wins_at (chess d) es key p k) B)) (edge_cost (chess d) es key B) old new
+    Charges r (λ x. Tells x (all_won (chess d) n B)) (node_cost (chess d) n B) old new →
+    Charges r (λ x. Tells x (λ k. list_all (λ p. wins_at (chess d) es key p k) B)) (edge_cost (chess d) es key B) old new
 some_edge d es key B n r old new is h = said r _ _ _ _ _ _ (λ x t. at_edge d es key B (Just n) x is t) (edge_costs d es key B (Just n) is) h

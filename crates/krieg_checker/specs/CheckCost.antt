@@ -6,7 +6,7 @@ use Rattle.krieg_theory.specs.Game.{Game}
 use Rattle.krieg_theory.specs.Split.{given}
 use Rattle.krieg_theory.specs.Plans.{Outset, Plan}
 use Rattle.krieg_costs.specs.Sums.{total}
-use Rattle.krieg_checker.specs.Reached.{Pair, reached_from}
+use Rattle.krieg_checker.specs.Reach.{Pair, reached_from}
 
 module _ (G : Game) (O : Outset G) where
   -- the try of a node

@@ -4,7 +4,7 @@ use Rattle.krieg_theory.specs.Sets.{In}
 use Rattle.krieg_theory.specs.Game.{Game}
 use Rattle.krieg_theory.specs.Plans.{Outset, Plan}
 use Rattle.krieg_costs.specs.Sums.{IsOnce}
-use Rattle.krieg_checker.specs.Reached.{Pair, IsClosed, reached_from}
+use Rattle.krieg_checker.specs.Reach.{Pair, IsClosed, reached_from}
 
 module _ (G : Game) (O : Outset G) where
   -- no pair is counted twice, however many games lead to it

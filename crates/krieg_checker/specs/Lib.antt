@@ -1,9 +1,9 @@
-pub mod Reached
+pub mod Reach
 pub mod CheckCost
 pub mod Laws
 pub mod Charged
-pub mod Found
-pub mod Walked
-pub mod Tried
+pub mod Needs
+pub mod Walk
+pub mod NodeTries
 pub mod Starting
 pub mod Verdict

@@ -13,9 +13,9 @@ use Rattle.krieg_game.specs.Outset.{outset}
 use Rattle.krieg_game.specs.Classes.{class_pair}
 use Rattle.krieg_game.specs.ClassLaws.{opening_sets}
 use Rattle.krieg_plan.specs.Trees.{PlanTrees, first_root_in}
-use Rattle.krieg_checker.specs.Found.{all_won_other}
-use Rattle.krieg_checker.specs.Walked.{other_cost}
-use Rattle.krieg_checker.specs.declared.start.Started.{Started}
+use Rattle.krieg_checker.specs.Needs.{all_won_other}
+use Rattle.krieg_checker.specs.Walk.{other_cost}
+use Rattle.krieg_checker.specs.declared.start.FirstTurn.{FirstTurn}
 
 -- what is heard before the first own turn: no move where the own turn comes first
 abbrev pub heard : Bool → Said → Option Said
@@ -26,7 +26,7 @@ abbrev pub heard_of : Bool → Key × List Pos → RootKey × List Pos
 heard_of own c = ((c.0.0, heard own c.0.1), c.1)
 
 -- each opening that occurs, with its set, and whether some listed position is over
-pub record IsStarted (d : Dialect) (who : Side) (S : List Pos) (r : Started) : Type 0 where
+pub record IsFirstTurn (d : Dialect) (who : Side) (S : List Pos) (r : FirstTurn) : Type 0 where
   pub over_part : r.over ≡ list_any (is_over (chess d) (outset d who)) S
   pub classes_part : map (heard_of r.own) (map class_pair r.classes.items) ≡ opening_sets d who S
 

@@ -2,12 +2,12 @@
 //!
 //! `check` walks the plan with the set of positions that reaches each node, from each root on, and says whether the
 //! plan mates every listed position within the number that its file claims, and in how many moves at worst. What
-//! it takes is counted in units, exactly: which pairs of a node and a position are reached (`Reached` in `specs/`),
+//! it takes is counted in units, exactly: which pairs of a node and a position are reached (`Reach` in `specs/`),
 //! and what each of them takes (`CheckCost`). `Verdict` says what the answers mean, by the theory of plans.
 //! `laws` has what is proved of the pairs: that they are the least set that is closed, and that none is counted twice;
 //! `toy` has small examples.
 //!
-//! `start` has what comes before the first own turn, and `tried` what the try of a node makes of a set: what
+//! `start` has what comes before the first own turn, and `node_try` what the try of a node makes of a set: what
 //! `krieg_parting` gathers, and where no edge follows what it counts. `roots` and `walk` go through the plan. They are
 //! internal.
 //!
@@ -27,12 +27,12 @@
 #![tactic(auto)]
 
 pub mod laws;
+mod node_try;
 mod plan_check;
 mod roots;
 mod start;
 pub mod toy;
-mod tried;
 mod walk;
 
 pub use krieg_parting::PartStop as CheckStop;
-pub use plan_check::{Checked, check, check_owned, has_one_turn};
+pub use plan_check::{PlanVerdict, check, check_owned, has_one_turn};

@@ -1,8 +1,8 @@
 ghost use Rattle.std.specs.Prelude.{◌≡◌, ◌↔◌, IsTrue};
 ghost use Rattle.std.specs.List.{list_all};
 ghost use Rattle.krieg_board.specs.Men.{is_same_side};
-ghost use Rattle.krieg_parting.specs.Charged.{Charged};
-ghost use Rattle.krieg_plan.specs.Listed.{IsOneTurn};
+ghost use Rattle.krieg_parting.specs.Charges.{Charges};
+ghost use Rattle.krieg_plan.specs.OneTurn.{IsOneTurn};
 ghost use Rattle.krieg_plan.specs.declared.plan.PlanFile.{PlanFile};
 ghost use Rattle.krieg_checker.specs.Verdict as spec;
 ghost use Rattle.krieg_checker.specs.Verdict.{IsVerdict, AreParts, check_cost};
@@ -18,7 +18,7 @@ use std::alloc::Global;
 
 /// What a check finds.
 #[derive(Clone, Copy, Debug, PartialEq, Eq)]
-pub enum Checked {
+pub enum PlanVerdict {
     /// The plan mates every listed position, and this is its worst case.
     Mates(u16),
     /// It does not mate every listed position within the number that the file claims.
@@ -26,12 +26,12 @@ pub enum Checked {
 }
 
 /// The answer by what was found, against the number that the file claims.
-fn verdict(worst: u16, over: bool, need: Option<u16>) -> Checked
+fn verdict(worst: u16, over: bool, need: Option<u16>) -> PlanVerdict
     ensures { result ≡ spec.verdict worst over need }
 {
     match need {
-        Some(w) if !over && w <= worst => Checked::Mates(w),
-        _ => Checked::Fails,
+        Some(w) if !over && w <= worst => PlanVerdict::Mates(w),
+        _ => PlanVerdict::Fails,
     }
 }
 
@@ -67,10 +67,10 @@ fn check_set(
     worst: u16,
     plan: &Plan,
     units: &mut Units,
-) -> Result<Checked, PartStop>
+) -> Result<PlanVerdict, PartStop>
     requires { IsOneTurn set }
     ensures { (f : PlanFile) → AreParts f d side set worst plan.now
-        → Charged result (IsVerdict f) (check_cost f) units.old units.new }
+        → Charges result (IsVerdict f) (check_cost f) units.old units.new }
 {
     let started = start(alloc, d, side, set, units)?;
     let need = walk_roots(alloc, d, plan, started.own, started.classes, units)?;
@@ -84,18 +84,18 @@ fn check_set(
 /// however many games lead to it, and all are counted where the plan fails too. `Spent` comes only where fewer units
 /// are left, and an answer takes exactly these. After an `Err` some of them may be gone,
 /// and none are new.
-pub fn check(alloc: Global, f: &PlanFile, units: &mut Units) -> Result<Checked, PartStop>
+pub fn check(alloc: Global, f: &PlanFile, units: &mut Units) -> Result<PlanVerdict, PartStop>
     requires { IsOneTurn f.now.list.items }
-    ensures { Charged result (IsVerdict f.now) (check_cost f.now) units.old units.new }
+    ensures { Charges result (IsVerdict f.now) (check_cost f.now) units.old units.new }
 {
     let set = Belief::from_positions(alloc, f.list.as_slice())?;
     check_set(alloc, f.dialect, f.side, set, f.worst, &f.plan, units)
 }
 
 /// The same of a file that is let go: its list goes once it is a set, so that no more than one of both is kept.
-pub fn check_owned(alloc: Global, f: PlanFile, units: &mut Units) -> Result<Checked, PartStop>
+pub fn check_owned(alloc: Global, f: PlanFile, units: &mut Units) -> Result<PlanVerdict, PartStop>
     requires { IsOneTurn f.list.items }
-    ensures { Charged result (IsVerdict f) (check_cost f) units.old units.new }
+    ensures { Charges result (IsVerdict f) (check_cost f) units.old units.new }
 {
     let PlanFile {
         dialect,

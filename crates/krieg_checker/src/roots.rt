@@ -3,11 +3,11 @@ ghost use Rattle.krieg_game.specs.Chess.{chess};
 ghost use Rattle.krieg_game.specs.Classes.{class_pair};
 ghost use Rattle.krieg_plan.specs.Trees.{first_root_in};
 ghost use Rattle.krieg_plan.specs.Plans.{plan_of};
-ghost use Rattle.krieg_parting.specs.Charged.{Charged};
-ghost use Rattle.krieg_checker.specs.Found.{Tells, all_won_other};
+ghost use Rattle.krieg_parting.specs.Charges.{Charges};
+ghost use Rattle.krieg_checker.specs.Needs.{Tells, all_won_other};
 ghost use Rattle.krieg_checker.specs.Starting as spec;
 ghost use Rattle.krieg_checker.specs.Starting.{heard_of, roots_won, roots_cost};
-ghost use Rattle.krieg_checker.specs.Walked.{other_cost};
+ghost use Rattle.krieg_checker.specs.Walk.{other_cost};
 
 use crate::walk::{missing, walk, worse};
 use krieg_board::Units;
@@ -33,7 +33,7 @@ fn walk_root(
     class: Class,
     units: &mut Units,
 ) -> Result<Option<u16>, PartStop>
-    ensures { Charged result (λ r. Tells r
+    ensures { Charges result (λ r. Tells r
         (all_won_other (chess d) (first_root_in (plan_of plan.now)
         (heard_of own (class_pair class)).0) class.belief))
         (other_cost (chess d) (first_root_in (plan_of plan.now) (heard_of own (class_pair class)).0)
@@ -54,7 +54,7 @@ pub(crate) fn walk_roots(
     classes: Vec<Class>,
     units: &mut Units,
 ) -> Result<Option<u16>, PartStop>
-    ensures { Charged result (λ r. Tells r
+    ensures { Charges result (λ r. Tells r
         (roots_won d (plan_of plan.now) (map (heard_of own) (map class_pair classes.items))))
         (roots_cost d (plan_of plan.now) (map (heard_of own) (map class_pair classes.items)))
         units.old units.new }

@@ -7,11 +7,11 @@ ghost use Rattle.krieg_theory.specs.Sets.{In};
 ghost use Rattle.krieg_costs.specs.Sums.{total};
 ghost use Rattle.krieg_game.specs.Chess.{chess};
 ghost use Rattle.krieg_game.specs.Outset.{outset};
-ghost use Rattle.krieg_parting.specs.Charged.{Charged};
+ghost use Rattle.krieg_parting.specs.Charges.{Charges};
 ghost use Rattle.krieg_parting.specs.Turns.{IsOwnTurn, IsOthersTurn};
 ghost use Rattle.krieg_checker.specs.CheckCost.{first_cost};
-ghost use Rattle.krieg_plan.specs.Listed.{IsOneTurn};
-ghost use Rattle.krieg_checker.specs.Starting.{IsStarted};
+ghost use Rattle.krieg_plan.specs.OneTurn.{IsOneTurn};
+ghost use Rattle.krieg_checker.specs.Starting.{IsFirstTurn};
 
 use krieg_board::{Side, Units};
 use krieg_game::Class;
@@ -22,7 +22,7 @@ use std::alloc::Global;
 
 /// What is possible at the first own turn.
 #[derive(Drop)]
-pub(crate) struct Started {
+pub(crate) struct FirstTurn {
     /// Whether the player is to move first.
     pub own: bool,
     /// Whether in some position nothing can start.
@@ -41,13 +41,13 @@ fn is_own_turn(b: &Belief, who: Side) -> bool
 }
 
 /// What comes first where the player is to move: nothing but the opening words.
-fn at_own_turn(alloc: Global, d: Dialect, b: Belief) -> Result<Started, PartStop>
-    ensures { Charged result (λ r. (who : Side) → IsOwnTurn who b → IsStarted d who b r) 0 0 0 }
+fn at_own_turn(alloc: Global, d: Dialect, b: Belief) -> Result<FirstTurn, PartStop>
+    ensures { Charges result (λ r. (who : Side) → IsOwnTurn who b → IsFirstTurn d who b r) 0 0 0 }
 {
     let pool = with_openings(alloc, d, b.members())?;
     drop(b);
     let classes = pool.into_classes(alloc)?;
-    Ok(Started {
+    Ok(FirstTurn {
         own: true,
         over: false,
         classes,
@@ -60,14 +60,14 @@ fn at_others_turn(
     d: Dialect,
     b: Belief,
     units: &mut Units,
-) -> Result<Started, PartStop>
-    ensures { Charged result (λ r. (who : Side) → IsOthersTurn who b → IsStarted d who b r)
+) -> Result<FirstTurn, PartStop>
+    ensures { Charges result (λ r. (who : Side) → IsOthersTurn who b → IsFirstTurn d who b r)
         (total (λ p. length (list.moves p)) b) units.old units.new }
 {
     let FirstMoves { ended, pool } = first_moves(alloc, d, b.members(), units)?;
     drop(b);
     let classes = pool.into_classes(alloc)?;
-    Ok(Started {
+    Ok(FirstTurn {
         own: false,
         over: ended,
         classes,
@@ -82,9 +82,9 @@ pub(crate) fn start(
     who: Side,
     b: Belief,
     units: &mut Units,
-) -> Result<Started, PartStop>
+) -> Result<FirstTurn, PartStop>
     requires { IsOneTurn b }
-    ensures { Charged result (IsStarted d who b)
+    ensures { Charges result (IsFirstTurn d who b)
         (first_cost (chess d) (outset d who) b) units.old units.new }
 {
     let _members = b.len();

@@ -10,7 +10,7 @@
 ghost use Rattle.std.specs.Prelude.{◌≡◌, List, [], ◌∷◌};
 ghost use Rattle.krieg_theory.specs.Tree.{Try, Nothing, Just, NoEdges, Edge};
 ghost use Rattle.krieg_theory.specs.Toy.{toy, toy_start};
-ghost use Rattle.krieg_checker.specs.Reached.{From, No, On, reached_from};
+ghost use Rattle.krieg_checker.specs.Reach.{From, No, On, reached_from};
 ghost use Rattle.krieg_checker.specs.CheckCost.{check_cost};
 
 /// What checks take.

@@ -4,14 +4,14 @@ ghost use Rattle.krieg_theory.specs.Wins.{wins_at};
 ghost use Rattle.krieg_game.specs.Chess.{chess};
 ghost use Rattle.krieg_game.specs.Classes.{class_pair};
 ghost use Rattle.krieg_plan.specs.Trees.{edges_in};
-ghost use Rattle.krieg_plan.specs.Ordered.{is_ordered};
+ghost use Rattle.krieg_plan.specs.Order.{is_ordered};
 ghost use Rattle.krieg_plan.specs.Nodes.{tree_of};
-ghost use Rattle.krieg_parting.specs.Charged.{Charged};
-ghost use Rattle.krieg_checker.specs.Found as found;
-ghost use Rattle.krieg_checker.specs.Found.{Tells, all_won};
-ghost use Rattle.krieg_checker.specs.Walked.{node_cost, edge_cost, classes_won, classes_cost};
+ghost use Rattle.krieg_parting.specs.Charges.{Charges};
+ghost use Rattle.krieg_checker.specs.Needs as found;
+ghost use Rattle.krieg_checker.specs.Needs.{Tells, all_won};
+ghost use Rattle.krieg_checker.specs.Walk.{node_cost, edge_cost, classes_won, classes_cost};
 
-use crate::tried::{Tried, try_node};
+use crate::node_try::{NodeTry, try_node};
 use krieg_board::Units;
 use krieg_game::Class;
 use krieg_pack::Belief;
@@ -64,7 +64,7 @@ pub(crate) fn walk(
     units: &mut Units,
 ) -> Result<Option<u16>, PartStop>
     requires { is_ordered (tree_of n.now) ≡ true }
-    ensures { Charged result (λ r. Tells r (all_won (chess d) (tree_of n.now) b))
+    ensures { Charges result (λ r. Tells r (all_won (chess d) (tree_of n.now) b))
         (node_cost (chess d) (tree_of n.now) b) units.old units.new }
 {
     let mut need = Some(0);
@@ -74,7 +74,7 @@ pub(crate) fn walk(
         if set.is_empty() {
             return Ok(need);
         }
-        let Tried {
+        let NodeTry {
             refused,
             fails,
             classes,
@@ -101,7 +101,7 @@ fn walk_classes(
     units: &mut Units,
 ) -> Result<Option<u16>, PartStop>
     requires { is_ordered (tree_of n.now) ≡ true }
-    ensures { Charged result (λ r. Tells r
+    ensures { Charges result (λ r. Tells r
         (classes_won d (edges_in (tree_of n.now)) (map class_pair classes.items)))
         (classes_cost d (edges_in (tree_of n.now)) (map class_pair classes.items))
         units.old units.new }
@@ -123,7 +123,7 @@ fn walk_class(
     units: &mut Units,
 ) -> Result<Option<u16>, PartStop>
     requires { is_ordered (tree_of n.now) ≡ true }
-    ensures { Charged result (λ r. Tells r
+    ensures { Charges result (λ r. Tells r
         (λ k. list_all (λ p. wins_at (chess d) (edges_in (tree_of n.now)) (class_pair class).0 p k)
         (class_pair class).1)) (edge_cost (chess d) (edges_in (tree_of n.now)) (class_pair class).0
         (class_pair class).1) units.old units.new }

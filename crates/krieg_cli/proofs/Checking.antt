@@ -6,8 +6,8 @@ use Rattle.krieg_cli.proofs.Common.{same_hand, Pos, Side, In, PlanFile, AreAlike
 use Rattle.krieg_moves.proofs.Hands.{same_hand_alike}
 use Rattle.krieg_planfile.specs.PlanFiles.{state_of}
 use Rattle.krieg_checker.specs.Verdict.{check_cost as cost_of}
-use Rattle.krieg_checker.specs.declared.plan_check.Checked.{Checked as Found}
-use Rattle.krieg_checker.specs.declared.plan_check.Checked.TheVariants.{Mates}
+use Rattle.krieg_checker.specs.declared.plan_check.PlanVerdict.{PlanVerdict as Found}
+use Rattle.krieg_checker.specs.declared.plan_check.PlanVerdict.TheVariants.{Mates}
 use Rattle.krieg_cli.specs.Check.{Checked}
 
 -- the same side is to move in each position of one hand

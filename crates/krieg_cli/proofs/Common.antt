@@ -83,7 +83,7 @@ pub use Rattle.krieg_game.specs.Laws.{ComesAbout}
 unfoldable pub use Rattle.krieg_game.specs.Outset.{starts}
 pub use Rattle.krieg_game.specs.Outset.{outset}
 pub use Rattle.krieg_game.specs.OutsetLaws.{ComesFirst}
-pub use Rattle.krieg_plan.specs.Listed.{IsOneTurn}
+pub use Rattle.krieg_plan.specs.OneTurn.{IsOneTurn}
 pub use Rattle.krieg_plan.specs.Plans.{plan_of}
 pub use Rattle.krieg_plan.specs.Trees.{NodeTree, PlanTrees, plan_size}
 pub use Rattle.krieg_plan.specs.declared.limits.TheConstants.{MOST_NODES}
@@ -93,18 +93,18 @@ pub use Rattle.krieg_planfile.specs.NodeText.{AreTold, IsToldIn, IsToldKey, IsTo
 pub use Rattle.krieg_planfile.specs.PlanFiles.{AreAlike, AreRootsOf, AreToldRoots, IsToldRoot, PlanState, waits}
 unfoldable pub use Rattle.krieg_planfile.specs.PlanReading.{plan_at}
 pub use Rattle.krieg_parting.specs.declared.stop.PartStop.{PartStop}
-pub use Rattle.krieg_checker.specs.Charged.{Charged}
+pub use Rattle.krieg_parting.specs.Charges.{Charges}
 pub use Rattle.krieg_checker.specs.Verdict.{IsVerdict}
-pub use Rattle.krieg_checker.specs.declared.plan_check.Checked.TheVariants.{Fails}
-pub use Rattle.krieg_split.specs.Turns.{IsOthersTurn, IsOwnTurn}
+pub use Rattle.krieg_checker.specs.declared.plan_check.PlanVerdict.TheVariants.{Fails}
+pub use Rattle.krieg_parting.specs.Turns.{IsOthersTurn, IsOwnTurn}
 pub use Rattle.krieg_split.specs.Units.{IsPaid}
-pub use Rattle.krieg_search.specs.Decided.{IsBetween}
-pub use Rattle.krieg_search.specs.Planned.{IsFit}
-pub use Rattle.krieg_search.specs.Solved.{IsAnswer, IsBest, IsCharged, IsChargedAtMost}
+pub use Rattle.krieg_search.specs.Decision.{IsBetween}
+pub use Rattle.krieg_search.specs.BuiltPlan.{IsFit}
+pub use Rattle.krieg_search.specs.Solutions.{IsAnswer, IsBest, IsCharged, IsChargedAtMost}
 pub use Rattle.krieg_search.specs.declared.best_plan.Answer.{Answer}
 pub use Rattle.krieg_search.specs.declared.stop.SearchStop.{SearchStop}
 pub use Rattle.krieg_refute.specs.Refutations.{claims_price, most_claimed, most_claims, refutes}
-pub use Rattle.krieg_refute.specs.Refuted.{IsDenial, IsDenied, IsMated, IsOneSide, IsTaken, side_of}
+pub use Rattle.krieg_refute.specs.RefuteAnswers.{IsDenial, IsDenied, IsMated, IsOneSide, IsTaken, side_of}
 pub use Rattle.krieg_refute.specs.declared.refutation.Refutation.{Refutation}
 pub use Rattle.krieg_refute.specs.declared.refuting.Denied.TheVariants.{Denial, Exists}
 unfoldable pub use Rattle.krieg_refutefile.specs.RefutationFormat.{refutation_at}

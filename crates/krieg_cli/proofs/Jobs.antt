@@ -2,13 +2,13 @@
 use Rattle.std.proofs.Common.{◌≡◌, inl, inr, ℕ, zero, suc, ◌+◌, ◌≤◌, List, [], ◌∷◌, length, None, Ok, Err, ap, subst, ◌∙◌, arith}
 use Rattle.std.specs.Prelude.{false, ◌<◌}
 use Rattle.std.proofs.lemmas.Bool.{both_ways}
-use Rattle.krieg_cli.proofs.Common.{Pos, Side, White, MOST_UNITS, Dialect, Wild16, put_lines, MOST_LISTED, judge, made_list, made_sheet, made_session, set_of, position_lt, SheetState, new_sheet, IsSheet, IsPossible, HaveOneHand, IsFirstExcess, mates, IsWorst, chess, outset, PlanTrees, plan_size, PlanFile, MOST_NODES, PlanState, Charged, IsOneTurn, IsVerdict, Fails, IsBest, IsFit, SearchStop, of_search, of_part, Decides, file_of, least_units, IsTooLarge, Searched, check_cost, tally_of, IsFound, mates_line, checked_line, found_lines, summary_lines, summary_text, Plans, Summarizes, Finding, Plan, Tally, JOB_MOVES}
+use Rattle.krieg_cli.proofs.Common.{Pos, Side, White, MOST_UNITS, Dialect, Wild16, put_lines, MOST_LISTED, judge, made_list, made_sheet, made_session, set_of, position_lt, SheetState, new_sheet, IsSheet, IsPossible, HaveOneHand, IsFirstExcess, mates, IsWorst, chess, outset, PlanTrees, plan_size, PlanFile, MOST_NODES, PlanState, Charges, IsOneTurn, IsVerdict, Fails, IsBest, IsFit, SearchStop, of_search, of_part, Decides, file_of, least_units, IsTooLarge, Searched, check_cost, tally_of, IsFound, mates_line, checked_line, found_lines, summary_lines, summary_text, Plans, Summarizes, Finding, Plan, Tally, JOB_MOVES}
 use Rattle.krieg_pack.proofs.Counts.{as_set_le}
 use Rattle.krieg_belief.proofs.Prefixes.{behind_entries, all_within, excess_not_within, sheet_le}
 use Rattle.krieg_planfile.specs.PlanFiles.{state_of}
 use Rattle.krieg_checker.specs.Verdict.{check_cost as cost_of}
-use Rattle.krieg_checker.specs.declared.plan_check.Checked.{Checked}
-use Rattle.krieg_checker.specs.declared.plan_check.Checked.TheVariants.{Mates}
+use Rattle.krieg_checker.specs.declared.plan_check.PlanVerdict.{PlanVerdict}
+use Rattle.krieg_checker.specs.declared.plan_check.PlanVerdict.TheVariants.{Mates}
 use Rattle.krieg_parting.specs.declared.stop.PartStop.{PartStop as CheckStop}
 use Rattle.krieg_parting.specs.declared.stop.PartStop.TheVariants as check
 use Rattle.krieg_search.specs.declared.stop.SearchStop.TheVariants as search
@@ -60,7 +60,7 @@ module _ (S : List Pos) where
 
     module _ (f : PlanFile) (is : state_of f ≡ best_of) where
       -- the check finds the number that the search claims
-      pub plan_found : (nodes checked start left : ℕ) (r : Checked) → least_units Wild16 White S JOB_MOVES ≤ MOST_UNITS → nodes ≡ plan_size plan → start ≡ MOST_UNITS → IsVerdict f r × (left + cost_of f ≡ start) → r ≡ Mates checked →
+      pub plan_found : (nodes checked start left : ℕ) (r : PlanVerdict) → least_units Wild16 White S JOB_MOVES ≤ MOST_UNITS → nodes ≡ plan_size plan → start ≡ MOST_UNITS → IsVerdict f r × (left + cost_of f ≡ start) → r ≡ Mates checked →
           Plans S (Ok (found_lines (Plan worst nodes checked)))
       plan_found nodes checked start left r paid size had all mated =
           let judged = subst (λ f. Finds f checked) is ((all.0.mates_in checked).0 mated) in
@@ -73,12 +73,12 @@ module _ (S : List Pos) where
             inl (best_of, is_found, enough, ap (λ n. mates_line worst n ∷ checked_line checked ∷ []) size ∙ ap (λ w. mates_line worst (plan_size plan) ∷ checked_line w ∷ []) same),
           )
 
-      pub never_fails : (r : Checked) → IsVerdict f r → r ≡ Fails → ⊥
+      pub never_fails : (r : PlanVerdict) → IsVerdict f r → r ≡ Fails → ⊥
       never_fails r verdict fails =
           both_ways _ (subst (λ f. mates (chess f.dialect) (outset f.dialect f.side) f.plan f.list f.worst ≡ false) is (verdict.fails.0 fails)) best.worst_case.mates_within
 
       -- a check that stops
-      pub check_stopped : (start left : ℕ) (stop : CheckStop) → start ≡ MOST_UNITS → Charged (Err stop) (IsVerdict f) (cost_of f) start left → Decides found_lines (Err (of_part stop)) (Plans S)
+      pub check_stopped : (start left : ℕ) (stop : CheckStop) → start ≡ MOST_UNITS → Charges (Err stop) (IsVerdict f) (cost_of f) start left → Decides found_lines (Err (of_part stop)) (Plans S)
       check_stopped start left check.Spent had less =
           inr (best_of, is_found, subst (λ f. MOST_UNITS < check_cost f) is (omega (arith, less, had)))
       check_stopped start left check.NoMemory had h = tt

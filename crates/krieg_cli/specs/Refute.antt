@@ -6,7 +6,7 @@ use Rattle.krieg_board.specs.declared.men.Side.{Side}
 use Rattle.krieg_fen.specs.declared.forms.TheConstants.{MOST_LISTED}
 use Rattle.krieg_theory.specs.Sets.{is_nil}
 use Rattle.krieg_belief.specs.Possible.{HaveOneHand}
-use Rattle.krieg_split.specs.Turns.{IsOwnTurn}
+use Rattle.krieg_parting.specs.Turns.{IsOwnTurn}
 use Rattle.krieg_text.specs.Lines.{lines}
 use Rattle.krieg_text.specs.Reading.{whole}
 use Rattle.krieg_words.specs.declared.dialects.Dialect.{Dialect}

@@ -8,7 +8,7 @@ use crate::stop::Stop;
 use crate::terms::{count_of, halves, move_of, small_of};
 use krieg_board::MOST_MOVES;
 use krieg_pack::Belief;
-use krieg_table::{Known, Table};
+use krieg_table::{SetResult, Table};
 
 /// The number of the set, in a table that is not large.
 fn say_interned(table: &mut Table, b: Belief, answer: &mut Answer) -> Result<(), Stop> {
@@ -24,8 +24,8 @@ fn say_known(table: &Table, id: u32, moves: u8, answer: &mut Answer) -> Result<(
         return Err(Stop::Unread);
     }
     match table.result(id, moves) {
-        Some(Known::Wins(mv)) => say_moves(&[mv], answer),
-        Some(Known::Loses) => answer.put(b"loses"),
+        Some(SetResult::Wins(mv)) => say_moves(&[mv], answer),
+        Some(SetResult::Loses) => answer.put(b"loses"),
         None => Ok(()),
     }
 }
@@ -34,8 +34,8 @@ fn say_known(table: &Table, id: u32, moves: u8, answer: &mut Answer) -> Result<(
 fn say_noted(table: &mut Table, id: u32, text: &str, answer: &mut Answer) -> Result<(), Stop> {
     let (moves, what) = halves(text, " ")?;
     let known = match what {
-        "loses" => Known::Loses,
-        _ => Known::Wins(move_of(what)?),
+        "loses" => SetResult::Loses,
+        _ => SetResult::Wins(move_of(what)?),
     };
     let moves = small_of(moves)?;
     if (id as usize) >= table.len() || moves == 0 || moves > MOST_MOVES {

@@ -22,14 +22,14 @@ pub use Rattle.krieg_game.specs.ClassLaws.{first_outcomes, opened}
 unfoldable pub use Rattle.krieg_game.specs.Classes.{outcome_set}
 unfoldable pub use Rattle.krieg_game.specs.Outset.{starts, waits}
 pub use Rattle.krieg_game.specs.Outset.{first_move, outset}
-pub use Rattle.krieg_parting.specs.Charged.{Charged}
+pub use Rattle.krieg_parting.specs.Charges.{Charges}
 pub use Rattle.krieg_parting.specs.FirstMoves.{AreFirstMoves, IsAdvanced}
 pub use Rattle.krieg_parting.specs.Gathering.{IsAdded, IsGathered}
 pub use Rattle.krieg_parting.specs.Mating.{AreTried, IsMating, IsTried, lives, looked_at, refuses, replies}
 pub use Rattle.krieg_parting.specs.Turns.{IsOthersTurn}
-pub use Rattle.krieg_parting.specs.Wanted.{is_wanted}
+pub use Rattle.krieg_parting.specs.Wants.{is_wanted}
 pub use Rattle.krieg_parting.specs.declared.firsts.FirstMoves.{FirstMoves}
 pub use Rattle.krieg_parting.specs.declared.last_move.Mating.{Mating}
-pub use Rattle.krieg_parting.specs.declared.parts.Gathered.{Gathered}
+pub use Rattle.krieg_parting.specs.declared.parts.UnsortedParts.{UnsortedParts}
 pub use Rattle.krieg_parting.specs.declared.stop.PartStop.{PartStop}
 pub use Rattle.krieg_parting.specs.declared.stop.PartStop.TheVariants.{NoMemory, Spent}

@@ -1,7 +1,7 @@
-pub mod Parted
-pub mod Wanted
+pub mod Parts
+pub mod Wants
 pub mod Gathering
 pub mod Mating
 pub mod FirstMoves
 pub mod Turns
-pub mod Charged
+pub mod Charges

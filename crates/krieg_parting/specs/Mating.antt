@@ -11,7 +11,7 @@ use Rattle.krieg_theory.specs.Split.{refused}
 use Rattle.krieg_costs.specs.Sums.{total}
 use Rattle.krieg_costs.specs.Block.{lives_in_some}
 use Rattle.krieg_game.specs.Chess.{chess}
-use Rattle.krieg_parting.specs.Wanted.{is_wanted}
+use Rattle.krieg_parting.specs.Wants.{is_wanted}
 use Rattle.krieg_parting.specs.declared.last_move.Mating.{Mating}
 
 -- the try is legal and does not mate

@@ -1,7 +1,7 @@
 ghost use Rattle.std.specs.Prelude.{◌≡◌, length};
 ghost use Rattle.krieg_moves.specs.Moves as list;
 ghost use Rattle.krieg_costs.specs.Sums.{total};
-ghost use Rattle.krieg_parting.specs.Charged.{Charged};
+ghost use Rattle.krieg_parting.specs.Charges.{Charges};
 ghost use Rattle.krieg_parting.specs.FirstMoves.{IsAdvanced, AreFirstMoves};
 
 use crate::stop::{PartStop, take};
@@ -30,7 +30,7 @@ fn add_first_moves(
     found: &mut FirstMoves,
     units: &mut Units,
 ) -> Result<(), PartStop>
-    ensures { Charged result (λ _. IsAdvanced d found.old found.new member.now)
+    ensures { Charges result (λ _. IsAdvanced d found.old found.new member.now)
         (length (list.moves member.now)) units.old units.new }
 {
     let p = unpack(member);
@@ -50,7 +50,7 @@ pub fn first_moves(
     members: &[Packed],
     units: &mut Units,
 ) -> Result<FirstMoves, PartStop>
-    ensures { Charged result (AreFirstMoves d members.now)
+    ensures { Charges result (AreFirstMoves d members.now)
         (total (λ p. length (list.moves p)) members.now) units.old units.new }
 {
     let mut found = FirstMoves {

@@ -6,7 +6,7 @@ ghost use Rattle.krieg_moves.specs.declared.count.TheConstants.{MOST_LEGAL_MOVES
 ghost use Rattle.krieg_words.specs.declared.dialects.Dialect.{Dialect};
 ghost use Rattle.krieg_costs.specs.Cost.{made};
 ghost use Rattle.krieg_game.specs.Chess.{chess};
-ghost use Rattle.krieg_parting.specs.Charged.{Charged};
+ghost use Rattle.krieg_parting.specs.Charges.{Charges};
 ghost use Rattle.krieg_parting.specs.Mating as spec;
 ghost use Rattle.krieg_parting.specs.Mating.{IsTried, AreTried, IsMating, looked_at};
 
@@ -36,7 +36,7 @@ fn try_legal(
     requires legal { rule.is_legal p.now mv.now ≡ true }
     requires replies { replies ≡ length (list.moves (change.after p.now mv.now)) }
     requires few { replies ≤ MOST_LEGAL_MOVES }
-    ensures { Charged result (λ _. IsTried true found.old found.new p.now mv.now)
+    ensures { Charges result (λ _. IsTried true found.old found.new p.now mv.now)
         (suc (spec.replies mv.now p.now)) units.old units.new }
 {
     take(units, 1 + replies as u64)?;
@@ -52,7 +52,7 @@ fn try_in(
     found: &mut Mating,
     units: &mut Units,
 ) -> Result<(), PartStop>
-    ensures { Charged result (λ _. IsTried always found.old found.new member.now mv.now)
+    ensures { Charges result (λ _. IsTried always found.old found.new member.now mv.now)
         (suc (spec.replies mv.now member.now)) units.old units.new }
 {
     let p = unpack(member);
@@ -74,7 +74,7 @@ fn try_in_all(
     always: bool,
     units: &mut Units,
 ) -> Result<Mating, PartStop>
-    ensures { Charged result (AreTried always members.now mv.now)
+    ensures { Charges result (AreTried always members.now mv.now)
         (looked_at members.now mv.now) units.old units.new }
 {
     let mut found = Mating {
@@ -99,7 +99,7 @@ pub fn try_to_mate(
     always: bool,
     units: &mut Units,
 ) -> Result<Mating, PartStop>
-    ensures { (d : Dialect) → Charged result (IsMating d always members.now mv.now)
+    ensures { (d : Dialect) → Charges result (IsMating d always members.now mv.now)
         (made (chess d) members.now mv.now) units.old units.new }
 {
     try_in_all(alloc, members, mv, always, units)

@@ -6,9 +6,9 @@
 //! `with_openings` has the members with what is told of them at the start. What is made is counted in units, exactly:
 //! they are taken before anything is stored, and before repeats are dropped.
 //!
-//! The rules are the definitions of `specs/`: what the parts are, by the theory of plans (`Parted`), and the same member
+//! The rules are the definitions of `specs/`: what the parts are, by the theory of plans (`Parts`), and the same member
 //! by member (`Gathering`); a try that must mate (`Mating`); first moves (`FirstMoves`) and turns (`Turns`); and
-//! units (`Charged`).
+//! units (`Charges`).
 //!
 //! What comes of a try is gathered in a `Pool`, with a bucket for each thing that may be heard. Repeats are dropped whenever
 //! it has grown to twice what was left of it, or to four times where hardly any came before.
@@ -30,5 +30,5 @@ mod stop;
 pub use firsts::{FirstMoves, first_moves};
 pub use last_move::{Mating, try_to_mate};
 pub use opened::with_openings;
-pub use parts::{Gathered, Parted, gather, parts_of};
+pub use parts::{Parted, UnsortedParts, gather, parts_of};
 pub use stop::{PartStop, take};

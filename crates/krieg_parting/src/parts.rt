@@ -6,10 +6,10 @@ ghost use Rattle.krieg_words.specs.WordsOfMoves.{words};
 ghost use Rattle.krieg_theory.specs.Split.{given};
 ghost use Rattle.krieg_costs.specs.Cost.{made};
 ghost use Rattle.krieg_game.specs.Chess.{chess};
-ghost use Rattle.krieg_parting.specs.Charged.{Charged};
+ghost use Rattle.krieg_parting.specs.Charges.{Charges};
 ghost use Rattle.krieg_parting.specs.Gathering.{IsAdded, IsGathered};
 ghost use Rattle.krieg_parting.specs.Mating.{replies};
-ghost use Rattle.krieg_parting.specs.Parted.{IsPartedOf};
+ghost use Rattle.krieg_parting.specs.Parts.{IsPartedOf};
 
 use crate::stop::{PartStop, take};
 use krieg_board::{Move, NoMemory, Position, Units};
@@ -32,7 +32,7 @@ pub struct Parted {
 
 /// The same, before it is sorted.
 #[derive(Drop)]
-pub struct Gathered {
+pub struct UnsortedParts {
     pub refused: Vec<Packed>,
     pub stale: bool,
     pub pool: Pool,
@@ -47,14 +47,14 @@ fn add_legal(
     mv: &Move,
     made: &Made,
     always: bool,
-    parts: &mut Gathered,
+    parts: &mut UnsortedParts,
     units: &mut Units,
 ) -> Result<(), PartStop>
     requires legal { rule.is_legal p.now mv.now ≡ true }
     requires words { made.now.words ≡ words p.now mv.now }
     requires position { made.now.position ≡ after p.now mv.now }
     requires guard { IsGuard made.now.position made.now.guard }
-    ensures { Charged result (λ _. IsAdded d always parts.old parts.new p.now mv.now)
+    ensures { Charges result (λ _. IsAdded d always parts.old parts.new p.now mv.now)
         (suc (length (given (chess d) mv.now p.now))) units.old units.new }
 {
     let replies = legal_moves_by(alloc, &made.position, &made.guard)?;
@@ -87,10 +87,10 @@ fn add_member(
     member: &Packed,
     mv: &Move,
     always: bool,
-    parts: &mut Gathered,
+    parts: &mut UnsortedParts,
     units: &mut Units,
 ) -> Result<(), PartStop>
-    ensures { Charged result (λ _. IsAdded d always parts.old parts.new member.now mv.now)
+    ensures { Charges result (λ _. IsAdded d always parts.old parts.new member.now mv.now)
         (suc (length (given (chess d) mv.now member.now))) units.old units.new }
 {
     let p = unpack(member);
@@ -114,11 +114,11 @@ pub fn gather(
     mv: &Move,
     always: bool,
     units: &mut Units,
-) -> Result<Gathered, PartStop>
-    ensures { Charged result (IsGathered d always members.now mv.now)
+) -> Result<UnsortedParts, PartStop>
+    ensures { Charges result (IsGathered d always members.now mv.now)
         (made (chess d) members.now mv.now) units.old units.new }
 {
-    let mut parts = Gathered {
+    let mut parts = UnsortedParts {
         refused: Vec::new(alloc),
         stale: false,
         pool: Pool::new(alloc),
@@ -130,10 +130,10 @@ pub fn gather(
 }
 
 /// The parts of what was gathered, which is sorted in its place.
-pub fn parts_of(alloc: Global, parts: Gathered) -> Result<Parted, NoMemory>
+pub fn parts_of(alloc: Global, parts: UnsortedParts) -> Result<Parted, NoMemory>
     ensures { IfOk result (IsPartedOf parts) }
 {
-    let Gathered {
+    let UnsortedParts {
         refused,
         stale,
         pool,

@@ -1,5 +1,5 @@
 ghost use Rattle.std.specs.Prelude.{◌≡◌, ⊤};
-ghost use Rattle.krieg_parting.specs.Charged.{Charged};
+ghost use Rattle.krieg_parting.specs.Charges.{Charges};
 ghost use Rattle.krieg_parting.specs.declared.stop.PartStop.TheVariants.{NoMemory as OutOfMemory};
 
 use krieg_board::{NoMemory, Units};
@@ -40,7 +40,7 @@ impl<T: Drop> From<AllocFailed<T>> for PartStop {
 
 /// Takes so many units, or none.
 pub fn take(units: &mut Units, n: u64) -> Result<(), PartStop>
-    ensures { Charged result (λ _. ⊤) n units.old units.new }
+    ensures { Charges result (λ _. ⊤) n units.old units.new }
 {
     match units.take(n) {
         Ok(()) => Ok(()),

@@ -12,7 +12,7 @@ pub use Rattle.krieg_game.specs.Chess.{chess}
 pub use Rattle.krieg_game.specs.Keys.{Key, RootKey, key_cmp, key_lt, root_cmp, root_lt}
 pub use Rattle.krieg_game.specs.Outset.{outset}
 pub use Rattle.krieg_plan.specs.Nodes.{as_edges, as_other, edge_of, edge_step, node_step, tree_of}
-pub use Rattle.krieg_plan.specs.Ordered.{are_ordered, are_ordered_roots, is_ascending, is_ordered, is_ordered_other, is_ordered_plan}
+pub use Rattle.krieg_plan.specs.Order.{are_ordered, are_ordered_roots, is_ascending, is_ordered, is_ordered_other, is_ordered_plan}
 pub use Rattle.krieg_plan.specs.Plans.{plan_of}
 pub use Rattle.krieg_plan.specs.Roots.{root_of}
 pub use Rattle.krieg_plan.specs.Trees.{NodeTree, PlanTrees, edges_in, first_edge_in, first_root_in, plan_depth, plan_size}

@@ -1,7 +1,7 @@
 pub mod PlanMeasures
 pub mod Trees
-pub mod Ordered
+pub mod Order
 pub mod Nodes
 pub mod Roots
 pub mod Plans
-pub mod Listed
+pub mod OneTurn

@@ -3,7 +3,7 @@ ghost use Rattle.krieg_theory.specs.Sets.{same};
 ghost use Rattle.krieg_theory.specs.Tree.{Nothing, Just, first_edge};
 ghost use Rattle.krieg_game.specs.Keys.{key_cmp, key_lt};
 ghost use Rattle.krieg_plan.specs.Trees.{first_edge_in};
-ghost use Rattle.krieg_plan.specs.Ordered.{is_ordered};
+ghost use Rattle.krieg_plan.specs.Order.{is_ordered};
 ghost use Rattle.krieg_plan.specs.Nodes.{tree_of, edge_of, as_edges};
 
 use crate::node::{Edge, Node};

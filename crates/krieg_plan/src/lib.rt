@@ -9,7 +9,7 @@
 //! and `roots` find the node under a key. `ordered` says whether keys ascend, `size` and `depth` how many nodes
 //! there are, and `limits` how many there may be. The rules are the definitions of `specs/`: what is found, and
 //! what plans mean (`Trees`, `Nodes`, `Roots`, `Plans`), their size and depth over any game (`PlanMeasures`), and
-//! when keys ascend (`Ordered`). `Node::make` takes memory, and no other call does. A drop takes no stack to speak
+//! when keys ascend (`Order`). `Node::make` takes memory, and no other call does. A drop takes no stack to speak
 //! of; `size_within`, `depth_within`, `is_ordered` and `is_ordered_plan` take some for each edge on a path.
 #![tactic(auto)]
 

@@ -1,7 +1,7 @@
 ghost use Rattle.std.specs.Prelude.{◌≡◌, map};
 ghost use Rattle.krieg_theory.specs.Canonical.{edge_keys};
 ghost use Rattle.krieg_game.specs.Keys.{key_lt, root_lt};
-ghost use Rattle.krieg_plan.specs.Ordered as spec;
+ghost use Rattle.krieg_plan.specs.Order as spec;
 ghost use Rattle.krieg_plan.specs.Nodes.{tree_of, edge_of, as_edges};
 ghost use Rattle.krieg_plan.specs.Roots.{root_of};
 

@@ -1,5 +1,5 @@
 ghost use Rattle.std.specs.Prelude.{◌≡◌, true, map};
-ghost use Rattle.krieg_plan.specs.Ordered.{is_ordered_plan};
+ghost use Rattle.krieg_plan.specs.Order.{is_ordered_plan};
 ghost use Rattle.krieg_plan.specs.Roots.{root_of};
 
 use crate::node::Node;

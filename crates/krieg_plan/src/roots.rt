@@ -2,7 +2,7 @@ ghost use Rattle.std.specs.Prelude.{◌≡◌, true, IfSome, MatchOption, map};
 ghost use Rattle.krieg_theory.specs.Tree.{Nothing, Just};
 ghost use Rattle.krieg_game.specs.Keys.{heard_cmp, root_cmp};
 ghost use Rattle.krieg_plan.specs.Trees.{first_root_in};
-ghost use Rattle.krieg_plan.specs.Ordered.{is_ordered, is_ordered_plan};
+ghost use Rattle.krieg_plan.specs.Order.{is_ordered, is_ordered_plan};
 ghost use Rattle.krieg_plan.specs.Nodes.{tree_of};
 ghost use Rattle.krieg_plan.specs.Roots.{root_of};
 ghost use Rattle.krieg_plan.specs.Plans.{plan_of};

@@ -68,7 +68,7 @@ pub use Rattle.krieg_theory.specs.Canonical.{edge_keys}
 pub use Rattle.krieg_theory.specs.Tree.{Edges, Just, Maybe, NoEdges, Try, depth, depth_edges, depth_other, size, size_edges, size_other}
 pub use Rattle.krieg_game.specs.Keys.{Key, RootKey, key_lt, root_lt}
 pub use Rattle.krieg_plan.specs.Nodes.{as_edges, as_other, edge_of, edge_step, node_step, tree_of}
-pub use Rattle.krieg_plan.specs.Ordered.{are_ordered, are_ordered_roots, is_ascending, is_ordered, is_ordered_other, is_ordered_plan}
+pub use Rattle.krieg_plan.specs.Order.{are_ordered, are_ordered_roots, is_ascending, is_ordered, is_ordered_other, is_ordered_plan}
 pub use Rattle.krieg_plan.specs.Roots.{root_of}
 pub use Rattle.krieg_plan.specs.Trees.{NodeTree, PlanTrees, edges_in, plan_depth, plan_size}
 pub use Rattle.krieg_plan.specs.declared.limits.TheConstants.{MOST_NODES, MOST_ON_PATH}

@@ -10,7 +10,7 @@ use Rattle.krieg_fen.specs.declared.forms.TheConstants.{MOST_LISTED}
 use Rattle.krieg_words.specs.declared.dialects.Dialect.{Dialect}
 use Rattle.krieg_game.specs.Keys.{RootKey}
 use Rattle.krieg_plan.specs.Trees.{PlanTrees, plan_size, plan_depth}
-use Rattle.krieg_plan.specs.Ordered.{is_ordered_plan}
+use Rattle.krieg_plan.specs.Order.{is_ordered_plan}
 use Rattle.krieg_plan.specs.Plans.{plan_of}
 use Rattle.krieg_plan.specs.declared.plan.PlanFile.{PlanFile}
 use Rattle.krieg_plan.specs.declared.limits.TheConstants.{MOST_NODES, MOST_ON_PATH}

@@ -3,7 +3,7 @@ use Rattle.std.proofs.Common.{◌≡◌, ℕ, zero, suc, ◌-◌, ◌<◌, Bool,
 use Rattle.std.specs.Prelude.{◌==◌, IfSome, option_map, if◌then◌else◌}
 use Rattle.std.proofs.lemmas.Bool.{eqb-true, false_from_ne_true}
 use Rattle.std.proofs.lemmas.List.Elements.{All-head, All-tail, All-weaker}
-use Rattle.krieg_refute.proofs.Common.{Pos, Move, Dialect, position_lt, refused, legal_in_some, keys, class, Block, Lives, Stale, LostClass, LostRefused, NoBlock, block, pair_of, block_pair, behind, ByLife, ByStalemate, ByClass, ByRefused, StoredLost, stored, claimed, add_all, is_loss, positions_in, reasons_in, AreFew, behind_try, Stands, Key, chess, class_pair, Interned, entries, Left, Leaves, IsReady, AddsSets, Asked, Claimed, Why, Draft, claims_over, AreWithin, why_of, claims_of, most_claims, most_claimed, IsBlockedBy, IsLost, is_lost_class, at_once_reason, pairs_in, IsClaimed, Claims, Blocks}
+use Rattle.krieg_refute.proofs.Common.{Pos, Move, Dialect, position_lt, refused, legal_in_some, keys, class, Block, Lives, Stale, LostClass, LostRefused, NoBlock, block, pair_of, block_pair, behind, ByLife, ByStalemate, ByClass, ByRefused, StoredLost, stored, claimed, add_all, is_loss, positions_in, reasons_in, AreFew, behind_try, Stands, Key, chess, class_pair, SetRows, entries, Remainder, Leaves, IsReady, AddsSets, Question, ClaimList, Why, Draft, claims_over, AreWithin, why_of, claims_of, most_claims, most_claimed, IsBlockedBy, IsLost, is_lost_class, at_once_reason, pairs_in, IsClaimList, Claims, Blocks}
 use Rattle.krieg_theory.specs.Sets.{In}
 use Rattle.krieg_costs.specs.Refutation.{Reason}
 use Rattle.krieg_costs.proofs.Blocks.{BlockSays, block_says}
@@ -24,7 +24,7 @@ is_one zero = refl
 is_one (suc i) = false_from_ne_true (suc (suc i) == 1) (λ e. let q = eqb-true (suc (suc i)) 1 e in omega arith) ∙ sym (false_from_ne_true (suc i == 0) (λ e. let q = eqb-true (suc i) 0 e in omega arith))
 
 module _ (d : Dialect) where
-  module _ (T : Interned) (B : List Pos) (t : Move) (i : ℕ) (ready : IsReady d false T) (lost : IsLost T B (suc i)) (legal : legal_in_some (chess d) B t ≡ true) where
+  module _ (T : SetRows) (B : List Pos) (t : Move) (i : ℕ) (ready : IsReady d false T) (lost : IsLost T B (suc i)) (legal : legal_in_some (chess d) B t ≡ true) where
     says : (b : Block Key) → block (chess d) (suc i) B t ≡ b → BlockSays (chess d) (chess_is_game d) i B t b
     says b e = subst (BlockSays (chess d) (chess_is_game d) i B t) e (block_says (chess d) (chess_is_game d) i B t)
 
@@ -51,7 +51,7 @@ module _ (d : Dialect) where
       number = omega arith;
     }
 
-    module _ (l : Left) (a : Leaves d B t (suc i) l) where
+    module _ (l : Remainder) (a : Leaves d B t (suc i) l) where
       found : find (is_lost_class T i) (map class_pair l.classes.items) ≡ option_map {T = Key} {U = Key × List Pos} (λ key. (key, class (chess d) B t key)) (find (λ key. is_loss (stored position_lt (entries T) (class (chess d) B t key, i))) (keys (chess d) B t))
       found = ap (find (is_lost_class T i)) a.classes_part ∙ find_map (λ (c : Key × List Pos). is_loss (stored position_lt (entries T) (c.1, i))) (λ key. (key, class (chess d) B t key)) (keys (chess d) B t)
 
@@ -80,7 +80,7 @@ module _ (d : Dialect) where
     at_once_is f qs = ap (λ (b : Bool). if b then ByLife else ByStalemate) (is_one i) ∙ sym (at_once (chess d) (chess_is_game d) (entries T) ready.sound B i lost t legal qs f)
 
   -- the same at any number
-  module _ (T : Interned) (B B' : List Pos) (t : Move) (j : ℕ) (some : 0 < j) (is : B' ≡ B) (ready : IsReady d false T) (lost : IsLost T B j) (legal : legal_in_some (chess d) B t ≡ true) where
+  module _ (T : SetRows) (B B' : List Pos) (t : Move) (j : ℕ) (some : 0 < j) (is : B' ≡ B) (ready : IsReady d false T) (lost : IsLost T B j) (legal : legal_in_some (chess d) B t ≡ true) where
     before : suc (j - 1) ≡ j
     before = omega arith
 
@@ -88,12 +88,12 @@ module _ (d : Dialect) where
     before_lost = subst (IsLost T B) (sym before) lost
 
     -- what a split tells of the block
-    pub class_at : (l : Left) → Leaves d B' t j l → (key : Key) (C : List Pos) → find (is_lost_class T (j - 1)) (map class_pair l.classes.items) ≡ Some (key, C) → (block (chess d) j B t ≡ LostClass key) × (class (chess d) B t key ≡ C)
+    pub class_at : (l : Remainder) → Leaves d B' t j l → (key : Key) (C : List Pos) → find (is_lost_class T (j - 1)) (map class_pair l.classes.items) ≡ Some (key, C) → (block (chess d) j B t ≡ LostClass key) × (class (chess d) B t key ≡ C)
     class_at l a key C e =
         subst (λ (k : ℕ). (block (chess d) k B t ≡ LostClass key) × (class (chess d) B t key ≡ C)) before
         (class_found T B t (j - 1) ready before_lost legal l (subst (λ (k : ℕ). Leaves d B t k l) (sym before) (subst (λ (X : List Pos). Leaves d X t j l) is a)) key C e)
 
-    pub refused_at : (l : Left) → Leaves d B' t j l → find (is_lost_class T (j - 1)) (map class_pair l.classes.items) ≡ None → block (chess d) j B t ≡ LostRefused
+    pub refused_at : (l : Remainder) → Leaves d B' t j l → find (is_lost_class T (j - 1)) (map class_pair l.classes.items) ≡ None → block (chess d) j B t ≡ LostRefused
     refused_at l a e =
         subst (λ (k : ℕ). block (chess d) k B t ≡ LostRefused) before
         (refused_found T B t (j - 1) ready before_lost legal l (subst (λ (k : ℕ). Leaves d B t k l) (sym before) (subst (λ (X : List Pos). Leaves d X t j l) is a)) e)
@@ -111,7 +111,7 @@ module _ (d : Dialect) where
         (subst (λ (k : ℕ). IsBlockedBy d T B t (j - 1) k (refused (chess d) B t, k) ByRefused) before
         (by_refused T B t (j - 1) ready before_lost legal (subst (λ (k : ℕ). block (chess d) k B t ≡ LostRefused) (sym before) e)))
 
-    pub fails_blocks : (w : Claimed) (y : Why) → block_pair (chess d) j B t ≡ None → IsClaimed d T w → why_of y ≡ at_once_reason j → Blocks d (Ok y) B j t T T w w
+    pub fails_blocks : (w : ClaimList) (y : Why) → block_pair (chess d) j B t ≡ None → IsClaimList d T w → why_of y ≡ at_once_reason j → Blocks d (Ok y) B j t T T w w
     fails_blocks w y none c e =
         let f = subst (λ (k : ℕ). block_pair (chess d) k B t ≡ None) (sym before) none in
         let qs = pairs_in T w.places.keys in (
@@ -123,16 +123,16 @@ module _ (d : Dialect) where
         )
 
   -- what is claimed stays claimed where sets come to the table
-  pub same_pairs : (T T' : Interned) (keys : List Asked) → AddsSets T T' → ((a : Asked) → In a keys → a.set < length T) → pairs_in T' keys ≡ pairs_in T keys
+  pub same_pairs : (T T' : SetRows) (keys : List Question) → AddsSets T T' → ((a : Question) → In a keys → a.set < length T) → pairs_in T' keys ≡ pairs_in T keys
   same_pairs T T' [] s n = refl
   same_pairs T T' (a ∷ keys) s n = let e = s.more.same a.set (n a (inl refl)) in let r = same_pairs T T' keys s (λ x i. n x (inr i)) in λ i. (e i, a.moves) ∷ r i
 
-  same_drafts : (T T' : Interned) (ws : List Draft) → AddsSets T T' → AreWithin T ws → claims_over T' ws ≡ claims_over T ws
+  same_drafts : (T T' : SetRows) (ws : List Draft) → AddsSets T T' → AreWithin T ws → claims_over T' ws ≡ claims_over T ws
   same_drafts T T' [] s n = refl
   same_drafts T T' (w ∷ ws) s n =
       let e = s.more.same w.set (All-head (λ (x : Draft). x.set < length T) w ws n) in let r = same_drafts T T' ws s (All-tail (λ (x : Draft). x.set < length T) w ws n) in λ i. record { moves = w.moves; set = e i; reasons = w.reasons } ∷ r i
 
-  pub still_claimed : (T T' : Interned) (w : Claimed) → AddsSets T T' → IsClaimed d T w → IsClaimed d T' w
+  pub still_claimed : (T T' : SetRows) (w : ClaimList) → AddsSets T T' → IsClaimList d T w → IsClaimList d T' w
   still_claimed T T' w s c =
       let e = same_pairs T T' w.places.keys s c.numbered in
       let f = same_drafts T T' w.claims.items s c.within in
@@ -148,7 +148,7 @@ module _ (d : Dialect) where
       }
 
   -- the pair of the block is claimed, or is too many
-  module _ (T0 T1 T2 : Interned) (w0 w1 : Claimed) (B X : List Pos) (t : Move) (j k : ℕ) (r : ℕ → Reason Key) (b : IsBlockedBy d T0 B t (j - 1) j (X, k) r) (sets : AddsSets T0 T1) (c : IsClaimed d T0 w0) where
+  module _ (T0 T1 T2 : SetRows) (w0 w1 : ClaimList) (B X : List Pos) (t : Move) (j k : ℕ) (r : ℕ → Reason Key) (b : IsBlockedBy d T0 B t (j - 1) j (X, k) r) (sets : AddsSets T0 T1) (c : IsClaimList d T0 w0) where
     same : add_all (chess d) (pairs_in T1 w0.places.keys) (claimed (chess d) k X) ≡ add_all (chess d) (pairs_in T0 w0.places.keys) (behind_try (chess d) (j - 1) B t)
     same = let e = same_pairs T0 T1 w0.places.keys sets c.numbered in let f = sym b.adds in λ i. add_all (chess d) (e i) (f i)
 

@@ -3,7 +3,7 @@ use Rattle.std.proofs.Common.{◌≡◌, ℕ, suc, ◌+◌, ◌-◌, ◌<◌, fa
 use Rattle.std.specs.Result.{IsErrAnd}
 use Rattle.std.proofs.lemmas.List.{drop_more, take-append-drop}
 use Rattle.std.proofs.lemmas.Grind.{flat_map-append}
-use Rattle.krieg_refute.proofs.Common.{Pos, Move, Dialect, is_nil, tries, can, claimed, add_all, AreMany, behind_try, Walks, WalksTries, chess, Interned, AddsSets, SearchStop, Spent, Large, NoMemory, block_pair, Key, Asked, Claimed, most_claims, most_claimed, pairs_in, IsNext, IsPushed, Claims}
+use Rattle.krieg_refute.proofs.Common.{Pos, Move, Dialect, is_nil, tries, can, claimed, add_all, AreMany, behind_try, Walks, WalksTries, chess, SetRows, AddsSets, SearchStop, Spent, Large, NoMemory, block_pair, Key, Question, ClaimList, most_claims, most_claimed, pairs_in, IsNext, IsPushed, Claims}
 use Rattle.krieg_theory.specs.Sets.{In}
 use Rattle.krieg_claims.specs.Written as written
 use Rattle.krieg_claims.proofs.Adding.{all_append}
@@ -53,7 +53,7 @@ module _ (d : Dialect) where
       (subst AreTooMany (ap (λ (R : List (List Pos × ℕ)). add_all (chess d) R (f t)) w ∙ sym (all_append (chess d) (chess_is_game d) qs (flat_map f (take k ts)) (f t))) h))
 
   -- a set whose claim is pushed behind those of its tries is claimed
-  pub pushed : (T0 T1 : Interned) (B B1 : List Pos) (j : ℕ) (w0 w1 w2 : Claimed) (r : Result ℕ SearchStop) → B1 ≡ B → 0 < j → is_nil B ≡ false → can (chess d) j B ≡ false → (In (B, j) (pairs_in T0 w0.places.keys) → ⊥)
+  pub pushed : (T0 T1 : SetRows) (B B1 : List Pos) (j : ℕ) (w0 w1 w2 : ClaimList) (r : Result ℕ SearchStop) → B1 ≡ B → 0 < j → is_nil B ≡ false → can (chess d) j B ≡ false → (In (B, j) (pairs_in T0 w0.places.keys) → ⊥)
       → AddsSets T0 T1 → WalksTries (chess d) (pairs_in T0 w0.places.keys) (pairs_in T1 w1.places.keys) B (j - 1) (tries (chess d) B) → IsPushed d T1 B1 j w1 w2 r → Claims d r B j T0 T1 w0 w2
   pushed T0 T1 B B1 j w0 w1 w2 r is some members lost new sets walked p = go r (subst (λ (X : List Pos). IsPushed d T1 X j w1 w2 r) is p)
     where
@@ -78,7 +78,7 @@ module _ (d : Dialect) where
       go (Err NoMemory) q = tt
 
   -- a set all of whose tries are walked may be claimed next
-  pub next_is : (T1 : Interned) (keys : List Asked) (qs : List (List Pos × ℕ)) (B B1 : List Pos) (j : ℕ) (ts : List Move) (rs : List (Move × Reason Key)) → B1 ≡ B → 0 < j → is_nil B ≡ false → can (chess d) j B ≡ false → (In (B, j) qs → ⊥) → ts ≡ tries (chess d) B
+  pub next_is : (T1 : SetRows) (keys : List Question) (qs : List (List Pos × ℕ)) (B B1 : List Pos) (j : ℕ) (ts : List Move) (rs : List (Move × Reason Key)) → B1 ≡ B → 0 < j → is_nil B ≡ false → can (chess d) j B ≡ false → (In (B, j) qs → ⊥) → ts ≡ tries (chess d) B
       → WalksTries (chess d) qs (pairs_in T1 keys) B (j - 1) ts → rs ≡ map {B = Move × Reason Key} (λ t. (t, written.reason_at (chess d) (pairs_in T1 keys) j B t)) ts → IsNext d T1 keys B1 j rs
   next_is T1 keys qs B B1 j ts rs is some members lost new are w h = subst (λ (X : List Pos). IsNext d T1 keys X j rs) (sym is) (record {
     lost = record { some = members; number = some; lost = lost };

@@ -40,34 +40,34 @@ pub use Rattle.krieg_parting.specs.Mating.{lives, refuses}
 pub use Rattle.krieg_parting.specs.declared.parts.Parted.{Parted}
 pub use Rattle.krieg_parting.specs.declared.stop.PartStop.{PartStop}
 unfoldable pub use Rattle.krieg_table.specs.Entries.{entries}
-pub use Rattle.krieg_table.specs.Interned.{Interned, set_at, sets}
+pub use Rattle.krieg_table.specs.SetRows.{SetRows, set_at, sets}
 pub use Rattle.krieg_table.specs.Table.{IsMore}
-pub use Rattle.krieg_split.specs.Parted.{IsParted}
+pub use Rattle.krieg_split.specs.Parts.{IsParted}
 pub use Rattle.krieg_split.specs.Tallies.{AreTallies, tally_of}
-pub use Rattle.krieg_split.specs.Turns.{IsOthersTurn, IsOwnTurn}
-pub use Rattle.krieg_split.specs.Units.{Charged}
+pub use Rattle.krieg_parting.specs.Turns.{IsOthersTurn, IsOwnTurn}
+pub use Rattle.krieg_split.specs.Units.{Charges}
 pub use Rattle.krieg_split.specs.declared.tallies.Tally.{Tally}
-pub use Rattle.krieg_search.specs.Decided.{IsAccount, IsDecided, sets_in}
-pub use Rattle.krieg_search.specs.Leaving.{FailsAtOnce, Leaves}
+pub use Rattle.krieg_search.specs.Decision.{IsAccount, IsDecision, sets_in}
+pub use Rattle.krieg_search.specs.Remainders.{FailsAtOnce, Leaves}
 pub use Rattle.krieg_search.specs.Notes.{IsBlock, IsLostPart, IsRow}
-pub use Rattle.krieg_search.specs.Opened.{AddsSets, opening_in}
-pub use Rattle.krieg_search.specs.Searched.{IsReady}
-pub use Rattle.krieg_search.specs.declared.decide.Found.{Found}
-pub use Rattle.krieg_search.specs.declared.left.Left.{Left}
-pub use Rattle.krieg_search.specs.declared.notes.Asked.{Asked}
+pub use Rattle.krieg_search.specs.Openings.{AddsSets, opening_in}
+pub use Rattle.krieg_search.specs.Stretches.{IsReady}
+pub use Rattle.krieg_search.specs.declared.decide.Findings.{Findings}
+pub use Rattle.krieg_search.specs.declared.remainder.Remainder.{Remainder}
+pub use Rattle.krieg_search.specs.declared.notes.Question.{Question}
 pub use Rattle.krieg_search.specs.declared.notes.Note.{Note}
 pub use Rattle.krieg_search.specs.declared.openings.Opening.{Opening}
 pub use Rattle.krieg_search.specs.declared.stop.SearchStop.{SearchStop}
 pub use Rattle.krieg_search.specs.declared.stop.SearchStop.TheVariants.{Large, NoMemory, Spent}
 pub use Rattle.krieg_refute.specs.Blocking.{IsBlockedBy}
-pub use Rattle.krieg_refute.specs.Claiming.{AreClaims, Blocks, Claims, IsClaimed, IsLost, IsNext, IsPushed, Reasons, at_once_reason, is_lost_class, is_lost_opening, pairs_in}
+pub use Rattle.krieg_refute.specs.Claiming.{AreClaims, Blocks, Claims, IsClaimList, IsLost, IsNext, IsPushed, Reasons, at_once_reason, is_lost_class, is_lost_opening, pairs_in}
 pub use Rattle.krieg_refute.specs.Drafts.{AreWithin, HaveSets, claim_over, claims_over, set_in}
-pub use Rattle.krieg_refute.specs.Excluded.{NoneMates}
+pub use Rattle.krieg_refute.specs.Exclusion.{NoneMates}
 pub use Rattle.krieg_refute.specs.Reasons.{class_in, holds_if_own, opens_with, try_holds, within_opening}
 pub use Rattle.krieg_refute.specs.Refutations.{claim_of, claims_of, claims_price, is_own_turn, most_claimed, most_claims, reason_of, why_of}
-pub use Rattle.krieg_refute.specs.Refuted.{IsDenial, IsDenied, IsMated, IsOneSide, IsTaken, side_of}
-unfoldable pub use Rattle.krieg_refute.specs.Tried.{IsTried}
-pub use Rattle.krieg_refute.specs.declared.claiming.Claimed.{Claimed}
+pub use Rattle.krieg_refute.specs.RefuteAnswers.{IsDenial, IsDenied, IsMated, IsOneSide, IsTaken, side_of}
+unfoldable pub use Rattle.krieg_refute.specs.TryResults.{IsTryResult}
+pub use Rattle.krieg_refute.specs.declared.claiming.ClaimList.{ClaimList}
 pub use Rattle.krieg_refute.specs.declared.claims.Draft.{Draft}
 pub use Rattle.krieg_refute.specs.declared.claims.Slot.{Slot}
 pub use Rattle.krieg_refute.specs.declared.claims.Slot.TheVariants.{Here}

@@ -3,7 +3,7 @@ use Rattle.std.proofs.Common.{◌≡◌, ℕ, ◌<◌, Bool, true, false, not, L
 use Rattle.std.specs.Prelude.{IfSome, option_map}
 use Rattle.std.specs.Result.{IsErrAnd}
 use Rattle.std.proofs.lemmas.Bool.{both_ways, not_from_false, false_from_ne_true, true_from_ne_false}
-use Rattle.krieg_refute.proofs.Common.{Pos, Side, Dialect, position_lt, is_nil, can, is_over, openings, opening_set, can_plan, first_lost, stored, claims, claims_from, denial, is_loss, AreMany, RootKey, chess, outset, Interned, set_at, entries, Opening, Found, SearchStop, opening_in, sets_in, IsDecided, Denied, claims_of, most_claims, most_claimed, IsLost, is_lost_opening, AreClaims, IsDenial, IsMated, IsDenied, IsTaken}
+use Rattle.krieg_refute.proofs.Common.{Pos, Side, Dialect, position_lt, is_nil, can, is_over, openings, opening_set, can_plan, first_lost, stored, claims, claims_from, denial, is_loss, AreMany, RootKey, chess, outset, SetRows, set_at, entries, Opening, Findings, SearchStop, opening_in, sets_in, IsDecision, Denied, claims_of, most_claims, most_claimed, IsLost, is_lost_opening, AreClaims, IsDenial, IsMated, IsDenied, IsTaken}
 use Rattle.krieg_theory.specs.Sets.{In}
 use Rattle.krieg_theory.proofs.Lists.{any_none}
 use Rattle.krieg_theory.proofs.Planned.{can_plan_from, mates_shows}
@@ -17,7 +17,7 @@ use Rattle.krieg_claims.proofs.StoredLosses.{find_agree}
 use Rattle.krieg_costs.specs.Refutation as theory
 use Rattle.krieg_game.proofs.ChessLaws.{chess_is_game, outset_is_lawful}
 use Rattle.krieg_search.specs.declared.stop.SearchStop.TheVariants as search
-use Rattle.krieg_search.specs.Decided as decided
+use Rattle.krieg_search.specs.Decision as decided
 use Rattle.krieg_refute.specs.declared.refutation.Claim.{Claim}
 
 is_stored : (o : Option (Option (Rattle.krieg_board.specs.declared.men.Move.Move))) → is_loss o ≡ true → o ≡ Some None
@@ -26,7 +26,7 @@ is_stored (Some None) e = refl
 is_stored (Some (Some m)) e = absurd (both_ways false refl e)
 
 module _ (d : Dialect) (who : Side) (S : List Pos) (n : ℕ) where
-  pub record HasFirst (T : Interned) (os : List Opening) : Type 0 where
+  pub record HasFirst (T : SetRows) (os : List Opening) : Type 0 where
     pub key : RootKey
     pub opening : Opening
     pub inside : In opening os
@@ -36,7 +36,7 @@ module _ (d : Dialect) (who : Side) (S : List Pos) (n : ℕ) where
     pub set : set_at T opening.set ≡ opening_set (chess d) (outset d who) S key
     pub lost : IsLost T (set_at T opening.set) n
 
-  module _ (w : Found) (had : ℕ) (a : decided.IsLost d who S n false w had) (some : 0 < n) where
+  module _ (w : Findings) (had : ℕ) (a : decided.IsLost d who S n false w had) (some : 0 < n) where
     no : List Pos → Bool
     no C = not (can (chess d) n C)
 
@@ -140,20 +140,20 @@ module _ (d : Dialect) (who : Side) (S : List Pos) (n : ℕ) where
           go search.NoMemory v = refl
 
   -- the search was stopped
-  pub search_stopped : (P : SearchStop → Type 0) (r : Result Denied SearchStop) (stop : SearchStop) (had has : ℕ) → ((x : SearchStop) → P x → stop ≡ x) → IsErrAnd r P → IsDecided d who S n false (Err stop) had has → IsDenied d who S n r
+  pub search_stopped : (P : SearchStop → Type 0) (r : Result Denied SearchStop) (stop : SearchStop) (had has : ℕ) → ((x : SearchStop) → P x → stop ≡ x) → IsErrAnd r P → IsDecision d who S n false (Err stop) had has → IsDenied d who S n r
   search_stopped P (Ok x) stop had has same fails v = absurd fails
   search_stopped P (Err x) stop had has same fails v = subst (λ (y : SearchStop). IsDenied d who S n (Err y)) (same x fails) (go stop v)
     where
-      go : (stop : SearchStop) → IsDecided d who S n false (Err stop) had has → IsDenied d who S n (Err stop)
+      go : (stop : SearchStop) → IsDecision d who S n false (Err stop) had has → IsDenied d who S n (Err stop)
       go search.Spent v = tt
       go search.Large v = absurd v
       go search.NoMemory v = tt
 
-  pub search_stopped_taken : (P : SearchStop → Type 0) (r : Result Denied SearchStop) (stop : SearchStop) (had has u : ℕ) → ((x : SearchStop) → P x → stop ≡ x) → IsErrAnd r P → had ≡ u → IsDecided d who S n false (Err stop) had has → IsTaken d who S n r u u
+  pub search_stopped_taken : (P : SearchStop → Type 0) (r : Result Denied SearchStop) (stop : SearchStop) (had has u : ℕ) → ((x : SearchStop) → P x → stop ≡ x) → IsErrAnd r P → had ≡ u → IsDecision d who S n false (Err stop) had has → IsTaken d who S n r u u
   search_stopped_taken P (Ok x) stop had has u same fails e v = absurd fails
   search_stopped_taken P (Err x) stop had has u same fails e v = subst (λ (y : SearchStop). IsTaken d who S n (Err y) u u) (same x fails) (go stop v)
     where
-      go : (stop : SearchStop) → IsDecided d who S n false (Err stop) had has → IsTaken d who S n (Err stop) u u
+      go : (stop : SearchStop) → IsDecision d who S n false (Err stop) had has → IsTaken d who S n (Err stop) u u
       go search.Spent v = ((omega arith), refl)
       go search.Large v = absurd v
       go search.NoMemory v = refl

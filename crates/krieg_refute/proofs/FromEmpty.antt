@@ -2,17 +2,17 @@
 use Rattle.std.proofs.Common.{◌≡◌, ℕ, List, [], Vec, Global, Result, Ok, Err, sym, ap, subst, ◌∙◌, arith, length, ◌<◌}
 use Rattle.std.proofs.lemmas.List.Elements.{All-nil, All-same}
 use Rattle.std.specs.Result.{IsErrAnd}
-use Rattle.krieg_refute.proofs.Common.{Pos, Dialect, claimed, add_all, positions_in, reasons_in, AreFew, AreMany, Stands, chess, Interned, SearchStop, Claimed, Draft, claims_over, claims_of, most_claims, most_claimed, pairs_in, IsClaimed, Claims, AreClaims}
+use Rattle.krieg_refute.proofs.Common.{Pos, Dialect, claimed, add_all, positions_in, reasons_in, AreFew, AreMany, Stands, chess, SetRows, SearchStop, ClaimList, Draft, claims_over, claims_of, most_claims, most_claimed, pairs_in, IsClaimList, Claims, AreClaims}
 use Rattle.krieg_theory.specs.Sets.{In}
 use Rattle.krieg_claims.specs.Written as written
 use Rattle.krieg_refute.specs.declared.refutation.Claim.{Claim}
 use Rattle.krieg_refute.proofs.Carrying.{carried}
 
-module _ (d : Dialect) (T : Interned) (w : Claimed) (ws : w.claims.items ≡ []) (ks : w.places.keys ≡ []) where
+module _ (d : Dialect) (T : SetRows) (w : ClaimList) (ws : w.claims.items ≡ []) (ks : w.places.keys ≡ []) where
   nothing : pairs_in T w.places.keys ≡ []
   nothing = ap (pairs_in T) ks
 
-  pub none_claimed : w.positions ≡ 0 → w.reasons ≡ 0 → IsClaimed d T w
+  pub none_claimed : w.positions ≡ 0 → w.reasons ≡ 0 → IsClaimList d T w
   none_claimed p r = record {
     numbered = λ a i. absurd (subst (In a) ks i);
     stands = subst (Stands (chess d) []) (sym nothing) tt;
@@ -26,7 +26,7 @@ module _ (d : Dialect) (T : Interned) (w : Claimed) (ws : w.claims.items ≡ [])
       none : claims_over T w.claims.items ≡ []
       none = ap (claims_over T) ws
 
-  module _ (T' : Interned) (w' : Claimed) (B : List Pos) (j : ℕ) where
+  module _ (T' : SetRows) (w' : ClaimList) (B : List Pos) (j : ℕ) where
     pub all_claims : (place : ℕ) → Claims d (Ok place) B j T T' w w' → (claims_of d (claims_over T' w'.claims.items) ≡ written.claims (chess d) j B) × AreFew (chess d) most_claims most_claimed (claims_of d (claims_over T' w'.claims.items))
     all_claims place v = (
       v.1.are ∙ ap (written.claims_of (chess d)) (v.2.all ∙ ap (λ (qs : List (List Pos × ℕ)). add_all (chess d) qs (claimed (chess d) j B)) nothing),

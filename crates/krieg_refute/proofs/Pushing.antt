@@ -2,7 +2,7 @@
 use Rattle.std.proofs.Common.{◌≡◌, ℕ, suc, ◌+◌, ◌<◌, ◌≤◌, min, leb, Bool, true, false, ◌⊎◌, List, [], ◌∷◌, ◌++◌, length, sym, ap, subst, inl, inr, ◌∙◌, arith, length-append}
 use Rattle.std.proofs.lemmas.Bool.{cases_Bool, cond-true, cond-false, both_ways, false_from_ne_true, leb-true, leb-false}
 use Rattle.std.proofs.lemmas.List.{map-append, length-map}
-use Rattle.krieg_refute.proofs.Common.{Pos, Dialect, same_pair, index_of, place_of, positions_in, reasons_in, AreFew, AreMany, Stands, chess, Interned, set_at, Asked, reason_of, claim_of, claims_of, most_claims, most_claimed, pairs_in, IsNext}
+use Rattle.krieg_refute.proofs.Common.{Pos, Dialect, same_pair, index_of, place_of, positions_in, reasons_in, AreFew, AreMany, Stands, chess, SetRows, set_at, Question, reason_of, claim_of, claims_of, most_claims, most_claimed, pairs_in, IsNext}
 use Rattle.krieg_theory.specs.Sets.{In}
 use Rattle.krieg_theory.proofs.Lists.{append_in}
 use Rattle.krieg_costs.specs.Refutation as theory
@@ -22,14 +22,14 @@ module _ (d : Dialect) where
       cond-false (same_pair (chess d) p q) 0 (suc (index_of (chess d) (qs ++ q ∷ []) q)) (false_from_ne_true _ (λ e. n (inl (same_pair_eq (chess d) (chess_is_game d) p q e))))
       ∙ ap suc (index_new qs q (λ i. n (inr i)))
 
-  module _ (T : Interned) (keys : List Asked) (cs : List Claim) (c : Claim) (a : Asked) (within : a.set < length T) (numbered : (k : Asked) → In k keys → k.set < length T)
+  module _ (T : SetRows) (keys : List Question) (cs : List Claim) (c : Claim) (a : Question) (within : a.set < length T) (numbered : (k : Question) → In k keys → k.set < length T)
       (stands : Stands (chess d) [] (pairs_in T keys)) (are : claims_of d cs ≡ written.claims_of (chess d) (pairs_in T keys))
       (next : IsNext d T keys (set_at T a.set) a.moves (claim_of d c).reasons) (set : c.set ≡ set_at T a.set) (moves : c.moves ≡ a.moves) where
     pair : List Pos × ℕ
     pair = (set_at T a.set, a.moves)
 
     pub pairs_more : pairs_in T (keys ++ a ∷ []) ≡ pairs_in T keys ++ (set_at T a.set, a.moves) ∷ []
-    pairs_more = map-append {B = List Pos × ℕ} (λ (k : Asked). (set_at T k.set, k.moves)) keys (a ∷ [])
+    pairs_more = map-append {B = List Pos × ℕ} (λ (k : Question). (set_at T k.set, k.moves)) keys (a ∷ [])
 
     claim_is : claim_of d c ≡ written.claim_of (chess d) (pairs_in T keys) (set_at T a.set, a.moves)
     claim_is = let r = next.reasons in λ i. record { number = moves i; set = set i; reasons = r i }
@@ -43,25 +43,25 @@ module _ (d : Dialect) where
     pub stand : Stands (chess d) [] (pairs_in T keys ++ (set_at T a.set, a.moves) ∷ [])
     stand = stands_more (chess d) (chess_is_game d) [] (pairs_in T keys) (set_at T a.set, a.moves) stands next.lost next.blocks
 
-    pub all_numbered : (k : Asked) → In k (keys ++ a ∷ []) → k.set < length T
+    pub all_numbered : (k : Question) → In k (keys ++ a ∷ []) → k.set < length T
     all_numbered k i = go (append_in keys (a ∷ []) k i)
       where
         go : In k keys ⊎ In k (a ∷ []) → k.set < length T
         go (inl m) = numbered k m
-        go (inr (inl e)) = subst (λ (x : Asked). x.set < length T) e within
+        go (inr (inl e)) = subst (λ (x : Question). x.set < length T) e within
         go (inr (inr m)) = absurd m
 
     counted : length cs ≡ length keys
     counted =
         sym (length-map cs (claim_of d)) ∙ ap length are
         ∙ length-map (pairs_in T keys) (written.claim_of (chess d) (pairs_in T keys))
-        ∙ length-map {B = List Pos × ℕ} keys (λ (k : Asked). (set_at T k.set, k.moves))
+        ∙ length-map {B = List Pos × ℕ} keys (λ (k : Question). (set_at T k.set, k.moves))
 
     pub place_is : (n : ℕ) → n ≡ length (cs ++ c ∷ []) → n ≡ place_of (chess d) (pairs_in T keys ++ (set_at T a.set, a.moves) ∷ []) (set_at T a.set, a.moves)
     place_is n e =
         let x = length-append cs (c ∷ []) in
         let y = index_new (pairs_in T keys) (set_at T a.set, a.moves) next.fresh in
-        let z = length-map {B = List Pos × ℕ} keys (λ (k : Asked). (set_at T k.set, k.moves)) in
+        let z = length-map {B = List Pos × ℕ} keys (λ (k : Question). (set_at T k.set, k.moves)) in
         let w = counted in
         omega arith
 

@@ -2,7 +2,7 @@
 use Rattle.std.proofs.Common.{◌≡◌, ℕ, ◌<◌, ◌-◌, false, true, List, ◌∷◌, length, map, get_or, Result, Ok, Err, Vec, sym, ap, subst, ◌∙◌, arith}
 use Rattle.std.specs.declared.alloc.Global.{Global}
 use Rattle.std.proofs.lemmas.List.{length-map, get_or-map}
-use Rattle.krieg_refute.proofs.Common.{Pos, Move, Dialect, legal_in_some, add_all, WalksTries, chess, Interned, set_at, IsMore, Asked, Note, SearchStop, Spent, Large, NoMemory, IsBlock, IsRow, AddsSets, Claimed, pairs_in, IsClaimed, Reasons}
+use Rattle.krieg_refute.proofs.Common.{Pos, Move, Dialect, legal_in_some, add_all, WalksTries, chess, SetRows, set_at, IsMore, Question, Note, SearchStop, Spent, Large, NoMemory, IsBlock, IsRow, AddsSets, ClaimList, pairs_in, IsClaimList, Reasons}
 use Rattle.krieg_accounts.proofs.TryWalk.{legal_at}
 use Rattle.krieg_game.proofs.ChessLaws.{chess_is_game}
 use Rattle.krieg_search.proofs.Building.{adds_then}
@@ -22,7 +22,7 @@ note_at ns k n within at =
 
 module _ (d : Dialect) where
   -- a try of a row, where sets have come to the table since
-  module _ (T T' : Interned) (a : Asked) (ns : List Note) (r : IsRow d false T a ns) (k : ℕ) (n : Note) (within : k < length ns) (at : n ≡ get_or ns k n) (m : IsMore T T') where
+  module _ (T T' : SetRows) (a : Question) (ns : List Note) (r : IsRow d false T a ns) (k : ℕ) (n : Note) (within : k < length ns) (at : n ≡ get_or ns k n) (m : IsMore T T') where
     pub noted_legal : legal_in_some (chess d) (set_at T' a.set) n.mv ≡ true
     noted_legal =
         let p = note_at ns k n within at in
@@ -35,7 +35,7 @@ module _ (d : Dialect) where
         (more_block d false T T' (set_at T a.set) a.moves n.mv n.block m (subst (λ (x : Note). IsBlock d false T (set_at T a.set) a.moves x.mv x.block) (sym at) (r.blocks k n within)))
 
   -- reasons that are found behind a row of which only sets came
-  pub reasons_behind : (r : Result (Vec Reason' Global) SearchStop) (B B' : List Pos) (j : ℕ) (ts ts' : List Move) (T0 T1 T2 : Interned) (w0 w1 : Claimed) → B' ≡ B → ts' ≡ ts → AddsSets T0 T1 → IsClaimed d T0 w0
+  pub reasons_behind : (r : Result (Vec Reason' Global) SearchStop) (B B' : List Pos) (j : ℕ) (ts ts' : List Move) (T0 T1 T2 : SetRows) (w0 w1 : ClaimList) → B' ≡ B → ts' ≡ ts → AddsSets T0 T1 → IsClaimList d T0 w0
       → Reasons d r B' j ts' T1 T2 w0 w1 → Reasons d r B j ts T0 T2 w0 w1
   reasons_behind r B B' j ts ts' T0 T1 T2 w0 w1 same are sets c h =
       go r (subst (λ (X : List Pos). Reasons d r X j ts T1 T2 w0 w1) same (subst (λ (us : List Move). Reasons d r B' j us T1 T2 w0 w1) are h))

@@ -1,7 +1,7 @@
 pub mod Refutations
-pub mod Excluded
-pub mod Refuted
-pub mod Tried
+pub mod Exclusion
+pub mod RefuteAnswers
+pub mod TryResults
 pub mod Reasons
 pub mod Drafts
 pub mod Claiming

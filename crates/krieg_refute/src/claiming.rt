@@ -9,16 +9,16 @@ ghost use Rattle.krieg_game.specs.Chess.{chess};
 ghost use Rattle.krieg_game.specs.Classes.{class_pair};
 ghost use Rattle.krieg_pack.specs.Order.{position_lt};
 ghost use Rattle.krieg_accounts.specs.Stored.{stored};
-ghost use Rattle.krieg_table.specs.Interned.{set_at};
+ghost use Rattle.krieg_table.specs.SetRows.{set_at};
 ghost use Rattle.krieg_table.specs.Entries.{entries};
 ghost use Rattle.krieg_claims.specs.Losses.{is_loss};
-ghost use Rattle.krieg_search.specs.Built.{IsPaidFor};
-ghost use Rattle.krieg_search.specs.Leaving.{IsLeft};
+ghost use Rattle.krieg_search.specs.Building.{IsPaidFor};
+ghost use Rattle.krieg_search.specs.Remainders.{IsRemainder};
 ghost use Rattle.krieg_search.specs.Notes.{IsBlock, IsRow, AreNotes};
 ghost use Rattle.krieg_refute.specs.Blocking.{HasBlock, HasRow};
-ghost use Rattle.krieg_refute.specs.Claiming.{at_once_reason, IsLost, IsFirstLost, IsClaimed, IsNext, IsPushed, Claims, Reasons, Blocks};
+ghost use Rattle.krieg_refute.specs.Claiming.{at_once_reason, IsLost, IsFirstLost, IsClaimList, IsNext, IsPushed, Claims, Reasons, Blocks};
 ghost use Rattle.krieg_refute.specs.Refutations.{why_of, reason_of, most_claims, most_claimed};
-ghost use Rattle.krieg_search.specs.Searched.{AreCounted};
+ghost use Rattle.krieg_search.specs.Stretches.{AreCounted};
 
 use crate::claims::Draft;
 use crate::refutation::{MOST_CLAIMED, MOST_CLAIMS, Reason, Why};
@@ -28,18 +28,20 @@ use krieg_game::Class;
 use krieg_moves::{after_if_legal, is_mate};
 use krieg_pack::{Belief, Packed, unpack};
 use krieg_parting::PartStop;
-use krieg_search::{Asked, Block, Heard, Left, Note, Notes, SearchStop, left_by, number_of};
+use krieg_search::{
+    Block, Note, Notes, PackedKey, Question, Remainder, SearchStop, left_by, number_of,
+};
 use krieg_split::tries;
-use krieg_table::{Known, Table};
+use krieg_table::{SetResult, Table};
 use krieg_words::{Dialect, Words};
 use std::alloc::Global;
 
 /// The claims that are written so far, each behind those that it cites.
 #[derive(Drop)]
-pub(crate) struct Claimed {
+pub(crate) struct ClaimList {
     pub claims: Vec<Draft>,
     /// What the claims speak of, in their order.
-    pub places: IndexSet<Asked>,
+    pub places: IndexSet<Question>,
     /// How many positions the claims have in all.
     pub positions: usize,
     /// How many reasons they have in all.
@@ -61,8 +63,8 @@ pub(crate) fn is_lost(table: &Table, set: u32, moves: u8) -> bool
         (set_at table.now set, moves)) }
 {
     match table.result(set, moves) {
-        Some(Known::Loses) => true,
-        Some(Known::Wins(_)) => false,
+        Some(SetResult::Loses) => true,
+        Some(SetResult::Wins(_)) => false,
         None => false,
     }
 }
@@ -89,10 +91,10 @@ fn left_again(
     b: &Belief,
     mv: Move,
     moves: u8,
-) -> Result<Option<Left>, NoMemory>
+) -> Result<Option<Remainder>, NoMemory>
     requires some { 0 < moves }
     requires paid { made (chess d) b.now mv < 2 ^ 64 }
-    ensures { IfOk result (IsLeft d false b.now mv moves) }
+    ensures { IfOk result (IsRemainder d false b.now mv moves) }
 {
     if moves == 1 && lives_in_some(b.members(), &mv) {
         return Ok(None);
@@ -122,17 +124,23 @@ fn block_of(
     requires legal { legal_in_some (chess d) (set_at table.old set) mv ≡ true }
     ensures { IfOk result (HasBlock d table.old table.new (set_at table.old set) mv moves) }
 {
-    let Some(Left { classes, refused }) = left_again(alloc, d, table.belief(set), mv, moves)? else {
+    let Some(Remainder { classes, refused }) = left_again(alloc, d, table.belief(set), mv, moves)?
+    else {
         return Ok(Block::AtOnce);
     };
     if let Some(class) = first_lost(table, classes, moves - 1)? {
-        return Ok(Block::Class(Heard::new(&class.own, &class.reply), class.set));
+        return Ok(Block::Class(PackedKey::new(&class.own, &class.reply), class.set));
     }
     Ok(Block::Refused(number_of(table, refused)?))
 }
 
 /// Each try that makes sense in the set, in order, with what blocks it.
-fn row_of(alloc: Global, d: Dialect, table: &mut Table, asked: Asked) -> Result<Vec<Note>, NoMemory>
+fn row_of(
+    alloc: Global,
+    d: Dialect,
+    table: &mut Table,
+    asked: Question,
+) -> Result<Vec<Note>, NoMemory>
     requires some { 0 < asked.moves }
     requires within { asked.set < length table.old }
     requires paid { IsPaidFor d false table.old }
@@ -191,7 +199,7 @@ fn are_few(claims: usize, positions: usize, reasons: usize) -> bool
 }
 
 /// Adds what a claim speaks of, which is new.
-fn add_place(places: &mut IndexSet<Asked>, asked: Asked) -> Result<(), NoMemory>
+fn add_place(places: &mut IndexSet<Question>, asked: Question) -> Result<(), NoMemory>
     requires { In asked places.old.keys → ⊥ }
     ensures { OnOk result (places.new.keys ≡ places.old.keys ++ asked ∷ []) }
 {
@@ -203,13 +211,13 @@ fn add_place(places: &mut IndexSet<Asked>, asked: Asked) -> Result<(), NoMemory>
 fn push(
     d: Dialect,
     table: &Table,
-    claimed: &mut Claimed,
+    claimed: &mut ClaimList,
     set: u32,
     moves: u8,
     reasons: Vec<Reason>,
 ) -> Result<u16, SearchStop>
     requires within { set < length table.now }
-    requires claimed { IsClaimed d table.now claimed.old }
+    requires claimed { IsClaimList d table.now claimed.old }
     requires next { IsNext d table.now claimed.old.places.keys (set_at table.now set) moves
         (map reason_of reasons.items) }
     ensures { IsPushed d table.now (set_at table.now set) moves claimed.old claimed.new result }
@@ -224,7 +232,7 @@ fn push(
         set,
         reasons,
     })?;
-    add_place(&mut claimed.places, Asked { set, moves })?;
+    add_place(&mut claimed.places, Question { set, moves })?;
     claimed.positions = positions;
     claimed.reasons = count;
     Ok(claimed.claims.len() as u16)
@@ -238,8 +246,8 @@ pub(crate) fn claim(
     d: Dialect,
     notes: &Notes,
     table: &mut Table,
-    claimed: &mut Claimed,
-    asked: Asked,
+    claimed: &mut ClaimList,
+    asked: Question,
 ) -> Result<u16, SearchStop>
     requires some { 0 < asked.moves }
     requires within { asked.set < length table.old }
@@ -247,7 +255,7 @@ pub(crate) fn claim(
     requires paid { IsPaidFor d false table.old }
     requires noted { AreNotes d false table.old notes.now }
     requires lost { IsLost table.old (set_at table.old asked.set) asked.moves }
-    requires claimed { IsClaimed d table.old claimed.old }
+    requires claimed { IsClaimList d table.old claimed.old }
     ensures { Claims d result (set_at table.old asked.set) asked.moves table.old table.new
         claimed.old claimed.new }
 {
@@ -267,15 +275,15 @@ fn reasons_of(
     d: Dialect,
     notes: &Notes,
     table: &mut Table,
-    claimed: &mut Claimed,
-    asked: Asked,
+    claimed: &mut ClaimList,
+    asked: Question,
 ) -> Result<Vec<Reason>, SearchStop>
     requires some { 0 < asked.moves }
     requires within { asked.set < length table.old }
     requires paid { IsPaidFor d false table.old }
     requires noted { AreNotes d false table.old notes.now }
     requires lost { IsLost table.old (set_at table.old asked.set) asked.moves }
-    requires claimed { IsClaimed d table.old claimed.old }
+    requires claimed { IsClaimList d table.old claimed.old }
     ensures { Reasons d result (set_at table.old asked.set) asked.moves
         (theory.tries (chess d) (set_at table.old asked.set)) table.old table.new
         claimed.old claimed.new }
@@ -294,8 +302,8 @@ fn reasons_for(
     d: Dialect,
     notes: &Notes,
     table: &mut Table,
-    claimed: &mut Claimed,
-    asked: Asked,
+    claimed: &mut ClaimList,
+    asked: Question,
     row: &[Note],
 ) -> Result<Vec<Reason>, SearchStop>
     requires some { 0 < asked.moves }
@@ -303,7 +311,7 @@ fn reasons_for(
     requires paid { IsPaidFor d false table.old }
     requires noted { AreNotes d false table.old notes.now }
     requires lost { IsLost table.old (set_at table.old asked.set) asked.moves }
-    requires claimed { IsClaimed d table.old claimed.old }
+    requires claimed { IsClaimList d table.old claimed.old }
     requires row { IsRow d false table.old asked row.now }
     ensures { Reasons d result (set_at table.old asked.set) asked.moves
         (theory.tries (chess d) (set_at table.old asked.set)) table.old table.new
@@ -324,8 +332,8 @@ fn why(
     d: Dialect,
     notes: &Notes,
     table: &mut Table,
-    claimed: &mut Claimed,
-    asked: Asked,
+    claimed: &mut ClaimList,
+    asked: Question,
     note: &Note,
 ) -> Result<Why, SearchStop>
     requires some { 0 < asked.moves }
@@ -333,7 +341,7 @@ fn why(
     requires paid { IsPaidFor d false table.old }
     requires noted { AreNotes d false table.old notes.now }
     requires lost { IsLost table.old (set_at table.old asked.set) asked.moves }
-    requires claimed { IsClaimed d table.old claimed.old }
+    requires claimed { IsClaimList d table.old claimed.old }
     requires legal { legal_in_some (chess d) (set_at table.old asked.set) note.now.mv ≡ true }
     requires blocked { IsBlock d false table.old (set_at table.old asked.set) asked.moves
         note.now.mv note.now.block }
@@ -344,7 +352,7 @@ fn why(
     match note.block {
         Block::AtOnce => Ok(at_once(moves)),
         Block::Class(heard, set) => {
-            let less = Asked {
+            let less = Question {
                 set,
                 moves: moves - 1,
             };
@@ -352,7 +360,7 @@ fn why(
             Ok(Why::Class(heard, place))
         }
         Block::Refused(set) => {
-            let place = claim(alloc, d, notes, table, claimed, Asked { set, moves })?;
+            let place = claim(alloc, d, notes, table, claimed, Question { set, moves })?;
             Ok(Why::Refused(place))
         }
     }

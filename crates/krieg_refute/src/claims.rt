@@ -1,5 +1,5 @@
 ghost use Rattle.std.specs.Prelude.{◌≡◌, true, Some, IfOk, length, map, is_some};
-ghost use Rattle.krieg_table.specs.Interned.{sets};
+ghost use Rattle.krieg_table.specs.SetRows.{sets};
 ghost use Rattle.krieg_refute.specs.Drafts.{claims_over, AreWithin, set_in};
 ghost use Rattle.krieg_refute.specs.declared.claims.Slot.TheVariants as Slot;
 

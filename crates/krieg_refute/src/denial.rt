@@ -12,15 +12,15 @@ ghost use Rattle.krieg_theory.specs.Split as sets;
 ghost use Rattle.krieg_game.specs.Chess.{chess};
 ghost use Rattle.krieg_game.specs.Outset.{outset};
 ghost use Rattle.krieg_split.specs.Tallies.{tally_of, AreTallies};
-ghost use Rattle.krieg_split.specs.Units.{Charged, IsPaid};
-ghost use Rattle.krieg_split.specs.Turns.{IsOwnTurn};
+ghost use Rattle.krieg_split.specs.Units.{Charges, IsPaid};
+ghost use Rattle.krieg_parting.specs.Turns.{IsOwnTurn};
 ghost use Rattle.krieg_refute.specs.Refutations.{refutes, is_own_turn, claims_price, claims_of, claim_of, reason_of};
-ghost use Rattle.krieg_refute.specs.Excluded.{NoneMates};
+ghost use Rattle.krieg_refute.specs.Exclusion.{NoneMates};
 ghost use Rattle.krieg_refute.specs.Reasons.{try_holds as try_spec, opens_with, within_opening};
 
 use crate::reasons::{are_for, is_within, reasons_hold};
 use crate::refutation::{Claim, Refutation};
-use crate::tried::{Tried, last_try};
+use crate::try_result::{TryResult, last_try};
 use krieg_board::{Move, NoMemory, Side, Units};
 use krieg_pack::{Belief, Packed, unpack};
 use krieg_parting::PartStop;
@@ -29,7 +29,7 @@ use krieg_words::{Dialect, Words, compare, opening, told};
 use std::alloc::Global;
 
 /// Whether the claim has a reason for the try and each one for it holds, by one split.
-#[tactic(auto, unfolding(crate::specs::Tried::IsTried))]
+#[tactic(auto, unfolding(crate::specs::TryResults::IsTryResult))]
 fn try_holds(
     alloc: Global,
     d: Dialect,
@@ -38,13 +38,13 @@ fn try_holds(
     mv: &Move,
     units: &mut Units,
 ) -> Result<bool, PartStop>
-    ensures { Charged result (λ yes. yes
+    ensures { Charges result (λ yes. yes
         ≡ try_spec d (claims_of d before.now) (claim.now.moves - 1) claim.now.set mv.now
         (map reason_of claim.now.reasons.items))
         (made (chess d) claim.now.set mv.now) units.old units.new }
 {
     let fewer = claim.moves.saturating_sub(1);
-    let tried = Tried::Parts(split(alloc, d, &claim.set, *mv, units)?);
+    let tried = TryResult::Parts(split(alloc, d, &claim.set, *mv, units)?);
     Ok(reasons_hold(alloc, before, fewer, mv, &tried, claim.reasons.as_slice()))
 }
 
@@ -58,7 +58,7 @@ fn last_try_holds(
     units: &mut Units,
 ) -> Result<bool, PartStop>
     requires { tally.now ≡ tally_of claim.now.set tally.now.mv }
-    ensures { Charged result (λ yes. yes
+    ensures { Charges result (λ yes. yes
         ≡ try_spec d (claims_of d before.now) 0 claim.now.set tally.now.mv
         (map reason_of claim.now.reasons.items))
         (made (chess d) claim.now.set tally.now.mv) units.old units.new }
@@ -90,7 +90,7 @@ fn tries_hold(
     moves: &[Move],
     units: &mut Units,
 ) -> Result<bool, PartStop>
-    ensures { Charged result (λ yes. yes
+    ensures { Charges result (λ yes. yes
         ≡ list_all (λ t. try_spec d (claims_of d before.now) (claim.now.moves - 1) claim.now.set t
         (map reason_of claim.now.reasons.items)) moves.now)
         (total (made (chess d) claim.now.set) moves.now) units.old units.new }
@@ -113,7 +113,7 @@ fn last_tries_hold(
     units: &mut Units,
 ) -> Result<bool, PartStop>
     requires { All (λ y. y ≡ tally_of claim.now.set y.mv) tallies.now }
-    ensures { Charged result (λ yes. yes
+    ensures { Charges result (λ yes. yes
         ≡ list_all (λ y. try_spec d (claims_of d before.now) 0 claim.now.set y.mv
         (map reason_of claim.now.reasons.items)) tallies.now)
         (total (λ y. made (chess d) claim.now.set y.mv) tallies.now) units.old units.new }
@@ -172,7 +172,7 @@ fn all_tries_hold(
 ) -> Result<bool, PartStop>
     requires moves { (d : Dialect) → moves.now ≡ sets.tries (chess d) claim.now.set }
     requires tallies { IfSome tallies (λ ys. AreTallies claim.now.set claim.now.set ys.items) }
-    ensures { Charged result (λ yes. yes
+    ensures { Charges result (λ yes. yes
         ≡ list_all (λ t. try_spec d (claims_of d before.now) (claim.now.moves - 1) claim.now.set t
         (map reason_of claim.now.reasons.items)) moves.now)
         (total (made (chess d) claim.now.set) moves.now) units.old units.new }
@@ -200,7 +200,7 @@ fn claim_holds(
     claim: &Claim,
     units: &mut Units,
 ) -> Result<bool, PartStop>
-    ensures { Charged result (λ yes. yes
+    ensures { Charges result (λ yes. yes
         ≡ theory.claim_holds (chess d) (claims_of d before.now) (claim_of d claim.now))
         (price (chess d) claim.now.set) units.old units.new }
 {
@@ -218,7 +218,7 @@ fn claims_hold(
     claims: &[Claim],
     units: &mut Units,
 ) -> Result<bool, PartStop>
-    ensures { Charged result (λ yes. yes ≡ theory.claims_hold (chess d) [] (claims_of d claims.now))
+    ensures { Charges result (λ yes. yes ≡ theory.claims_hold (chess d) [] (claims_of d claims.now))
         (claims_price d claims.now) units.old units.new }
 {
     let mut all = true;

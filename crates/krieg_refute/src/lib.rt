@@ -6,7 +6,7 @@
 //! what is possible after something that may be heard, or denies the members that refuse the try.
 //!
 //! What makes a refutation hold stands in `Refutations` of `specs/`, in the terms of krieg_costs, and what `refute` answers
-//! and takes in `Refuted`; which claims it writes says krieg_claims. `Tried`, `Reasons`, `Drafts`, `Claiming` and `Blocking`
+//! and takes in `RefuteAnswers`; which claims it writes says krieg_claims. `TryResults`, `Reasons`, `Drafts`, `Claiming` and `Blocking`
 //! are parts of the work.
 //!
 //! `refute` searches by krieg_search and reads its table, in which each lost set has what blocks its tries, and nothing is
@@ -35,10 +35,10 @@ mod denial;
 mod reasons;
 mod refutation;
 mod refuting;
-mod tried;
+mod try_result;
 
 pub use denial::deny;
 pub use krieg_parting::PartStop as DenyStop;
-pub use krieg_search::{Heard, SearchStop as RefuteStop};
+pub use krieg_search::{PackedKey, SearchStop as RefuteStop};
 pub use refutation::{Claim, MOST_CLAIMED, MOST_CLAIMS, Reason, Refutation, Why};
 pub use refuting::{Denied, refute};

@@ -12,14 +12,14 @@ ghost use Rattle.krieg_game.specs.Chess.{chess};
 ghost use Rattle.krieg_board.specs.Order.{move_lt};
 ghost use Rattle.krieg_game.specs.Keys.{Key, key_lt};
 ghost use Rattle.krieg_game.specs.Classes.{class_pair};
-ghost use Rattle.krieg_split.specs.Parted.{IsParted};
+ghost use Rattle.krieg_split.specs.Parts.{IsParted};
 ghost use Rattle.krieg_refute.specs.Refutations.{claims_of, claim_of, why_of, reason_of};
 ghost use Rattle.krieg_refute.specs.Reasons.{class_in, try_holds};
 ghost use Rattle.krieg_refute.specs.Reasons as spec;
-ghost use Rattle.krieg_refute.specs.Tried.{IsLast, IsTried};
+ghost use Rattle.krieg_refute.specs.TryResults.{IsLast, IsTryResult};
 
 use crate::refutation::{Claim, Reason, Why};
-use crate::tried::{LastTry, Tried, all_refuse, stalemates_in_some};
+use crate::try_result::{LastTry, TryResult, all_refuse, stalemates_in_some};
 use krieg_board::Move;
 use krieg_game::Class;
 use krieg_pack::{Belief, Packed, unpack};
@@ -180,15 +180,15 @@ fn holds_at_last(before: &[Claim], last: &LastTry, why: &Why) -> bool
 }
 
 /// Whether the reason holds at a number of moves, one more than `fewer`, by what the try makes of the set.
-#[tactic(auto, unfolding(crate::specs::Tried::IsTried))]
-fn holds(alloc: Global, before: &[Claim], fewer: u8, tried: &Tried, why: &Why) -> bool
+#[tactic(auto, unfolding(crate::specs::TryResults::IsTryResult))]
+fn holds(alloc: Global, before: &[Claim], fewer: u8, tried: &TryResult, why: &Why) -> bool
     requires { fewer < 255 }
-    ensures { (d : Dialect) (B : List Pos) (t : Try) → IsTried d fewer B t tried.now
+    ensures { (d : Dialect) (B : List Pos) (t : Try) → IsTryResult d fewer B t tried.now
         → result ≡ theory.holds (chess d) (claims_of d before.now) fewer B t (why_of why.now) }
 {
     match tried {
-        Tried::Parts(parted) => holds_by_parts(alloc, before, fewer, parted, why),
-        Tried::Last(last) => holds_at_last(before, last, why),
+        TryResult::Parts(parted) => holds_by_parts(alloc, before, fewer, parted, why),
+        TryResult::Last(last) => holds_at_last(before, last, why),
     }
 }
 
@@ -212,11 +212,11 @@ fn holds_if_own(
     before: &[Claim],
     fewer: u8,
     mv: &Move,
-    tried: &Tried,
+    tried: &TryResult,
     r: &Reason,
 ) -> bool
     requires { fewer < 255 }
-    ensures { (d : Dialect) (B : List Pos) → IsTried d fewer B mv.now tried.now
+    ensures { (d : Dialect) (B : List Pos) → IsTryResult d fewer B mv.now tried.now
         → result ≡ spec.holds_if_own d (claims_of d before.now) fewer B mv.now (reason_of r.now) }
 {
     !is_for(r, mv) || holds(alloc, before, fewer, tried, &r.why)
@@ -240,11 +240,11 @@ fn all_hold(
     before: &[Claim],
     fewer: u8,
     mv: &Move,
-    tried: &Tried,
+    tried: &TryResult,
     reasons: &[Reason],
 ) -> bool
     requires { fewer < 255 }
-    ensures { (d : Dialect) (B : List Pos) → IsTried d fewer B mv.now tried.now
+    ensures { (d : Dialect) (B : List Pos) → IsTryResult d fewer B mv.now tried.now
         → result ≡ list_all (spec.holds_if_own d (claims_of d before.now) fewer B mv.now)
         (map reason_of reasons.now) }
 {
@@ -262,11 +262,11 @@ pub(crate) fn reasons_hold(
     before: &[Claim],
     fewer: u8,
     mv: &Move,
-    tried: &Tried,
+    tried: &TryResult,
     reasons: &[Reason],
 ) -> bool
     requires { fewer < 255 }
-    ensures { (d : Dialect) (B : List Pos) → IsTried d fewer B mv.now tried.now
+    ensures { (d : Dialect) (B : List Pos) → IsTryResult d fewer B mv.now tried.now
         → result ≡ try_holds d (claims_of d before.now) fewer B mv.now (map reason_of reasons.now) }
 {
     has_reason(mv, reasons) && all_hold(alloc, before, fewer, mv, tried, reasons)

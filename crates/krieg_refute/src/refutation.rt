@@ -1,6 +1,6 @@
 use krieg_board::{Move, Side};
 use krieg_pack::{Belief, Packed};
-use krieg_search::Heard;
+use krieg_search::PackedKey;
 use krieg_words::Dialect;
 
 /// The most claims that are written.
@@ -17,7 +17,7 @@ pub enum Why {
     /// It stalemates in some member.
     Stale,
     /// These words may be heard of it and of a reply, and the cited claim denies what is possible then, with one move less.
-    Class(Heard, u16),
+    Class(PackedKey, u16),
     /// The cited claim denies the members that refuse it, with the same number of moves.
     Refused(u16),
 }

@@ -1,21 +1,21 @@
 ghost use Rattle.std.specs.Prelude.{◌≡◌, ◌<◌, ◌≤◌, false, true, find, is_some, length, IfSome};
 ghost use Rattle.krieg_theory.specs.Sets.{is_nil};
-ghost use Rattle.krieg_table.specs.Interned.{set_at};
-ghost use Rattle.krieg_search.specs.Built.{IsPaidFor};
-ghost use Rattle.krieg_search.specs.Opened.{AreNumbered};
+ghost use Rattle.krieg_table.specs.SetRows.{set_at};
+ghost use Rattle.krieg_search.specs.Building.{IsPaidFor};
+ghost use Rattle.krieg_search.specs.Openings.{AreNumbered};
 ghost use Rattle.krieg_search.specs.Notes.{AreNotes};
-ghost use Rattle.krieg_refute.specs.Refuted as side;
-ghost use Rattle.krieg_refute.specs.Refuted.{IsOneSide, IsDenied, IsTaken};
+ghost use Rattle.krieg_refute.specs.RefuteAnswers as side;
+ghost use Rattle.krieg_refute.specs.RefuteAnswers.{IsOneSide, IsDenied, IsTaken};
 ghost use Rattle.krieg_refute.specs.Claiming.{IsLost, is_lost_opening, AreClaims};
 
-use crate::claiming::{Claimed, claim, is_lost};
+use crate::claiming::{ClaimList, claim, is_lost};
 use crate::claims::claims_of;
 use crate::refutation::Claim;
 use indexmap::IndexSet;
 use krieg_board::{MOST_MOVES, Side, Units};
 use krieg_pack::Belief;
-use krieg_search::decide::{Decided, Found, decide};
-use krieg_search::{Asked, Notes, Opening, SearchStop, Way};
+use krieg_search::decide::{Decision, Findings, decide};
+use krieg_search::{Notes, Opening, Question, SearchStop, Way};
 use krieg_table::Table;
 use krieg_words::Dialect;
 use std::alloc::Global;
@@ -73,7 +73,7 @@ fn claims_for(
     requires lost { IsLost table (set_at table set) moves }
     ensures { AreClaims d (set_at table set) moves result }
 {
-    let mut claimed = Claimed {
+    let mut claimed = ClaimList {
         claims: Vec::new(alloc),
         places: IndexSet::new(alloc),
         positions: 0,
@@ -85,7 +85,7 @@ fn claims_for(
         &notes,
         &mut table,
         &mut claimed,
-        Asked { set, moves },
+        Question { set, moves },
     )?;
     drop(notes);
     drop(claimed.places);
@@ -126,9 +126,9 @@ pub fn refute(
         cut: false,
     };
     match decide(way, MOST_NOTED, who, b, moves, &mut left)? {
-        Decided::Over => unreachable!(),
-        Decided::Lost(found) => {
-            let Found {
+        Decision::Over => unreachable!(),
+        Decision::Lost(found) => {
+            let Findings {
                 table,
                 openings,
                 notes,
@@ -138,7 +138,7 @@ pub fn refute(
             *units = left;
             Ok(Denied::Denial(claims))
         }
-        Decided::Won(_found) => {
+        Decision::Won(_found) => {
             *units = left;
             Ok(Denied::Exists)
         }

@@ -6,7 +6,7 @@ ghost use Rattle.krieg_refutefile.specs.LineForms as spec;
 use krieg_board::{MOST_MOVES, Move};
 use krieg_fen::read_move;
 use krieg_planfile::key_in;
-use krieg_refute::{Heard, MOST_CLAIMED, MOST_CLAIMS, Reason, Why};
+use krieg_refute::{MOST_CLAIMED, MOST_CLAIMS, PackedKey, Reason, Why};
 use krieg_text::{NumberFault, TextKind, behind, cut, is_name, read_number_between};
 use krieg_words::{Dialect, Words};
 
@@ -78,7 +78,7 @@ fn class_with(key: Option<(Words, Words)>, place: Result<u64, TextKind>) -> Resu
 {
     match key {
         None => Err(TextKind::Syntax),
-        Some((own, reply)) => Ok(Why::Class(Heard::new(&own, &reply), place? as u16)),
+        Some((own, reply)) => Ok(Why::Class(PackedKey::new(&own, &reply), place? as u16)),
     }
 }
 

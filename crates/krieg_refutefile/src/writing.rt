@@ -17,7 +17,7 @@ use crate::pieces::Pieces;
 use krieg_board::{NoMemory, Side};
 use krieg_fen::{Ranks, put_move, put_next, put_side_line};
 use krieg_pack::{Belief, Packed, unpack};
-use krieg_refute::{Claim, Heard, Reason, Refutation, Why};
+use krieg_refute::{Claim, PackedKey, Reason, Refutation, Why};
 use krieg_text::{Text, put_number};
 use krieg_words::{Dialect, dialect_name, put_words_in};
 use std::alloc::Global;
@@ -52,7 +52,7 @@ fn put_sizes(moves: u8, positions: usize, text: &mut Text) -> Result<(), NoMemor
 }
 
 /// Adds what a reason says of the claim that denies a class.
-fn put_class(d: Dialect, heard: &Heard, place: u16, text: &mut Text) -> Result<(), NoMemory>
+fn put_class(d: Dialect, heard: &PackedKey, place: u16, text: &mut Text) -> Result<(), NoMemory>
     requires own { Fits d heard.now.0 }
     requires reply { Fits d heard.now.1 }
     ensures { PutsPieces result text.old text.new (spec.why_pieces d (Class heard.now place)) }

@@ -40,7 +40,7 @@ pub use Rattle.krieg_game.specs.Chess.{chess}
 pub use Rattle.krieg_game.specs.Keys.{Key}
 pub use Rattle.krieg_game.specs.Laws.{is_answered}
 pub use Rattle.krieg_game.specs.OutsetLaws.{mates_from}
-pub use Rattle.krieg_plan.specs.Listed.{IsOneTurn}
+pub use Rattle.krieg_plan.specs.OneTurn.{IsOneTurn}
 pub use Rattle.krieg_plan.specs.Nodes.{as_other, tree_of}
 pub use Rattle.krieg_plan.specs.Plans.{plan_of}
 pub use Rattle.krieg_plan.specs.Trees.{NodeTree, PlanTrees, first_edge_in, first_root_in}

@@ -8,7 +8,7 @@ use Rattle.krieg_theory.specs.Sets.{In}
 use Rattle.krieg_theory.specs.Plans.{mates}
 use Rattle.krieg_game.specs.Chess.{chess}
 use Rattle.krieg_game.specs.Outset.{outset}
-use Rattle.krieg_plan.specs.Listed.{IsOneTurn}
+use Rattle.krieg_plan.specs.OneTurn.{IsOneTurn}
 use Rattle.krieg_plan.specs.Plans.{plan_of}
 use Rattle.krieg_plan.specs.declared.plan.PlanFile.{PlanFile}
 use Rattle.krieg_robot.specs.Leading.{IsLed, IsWon}

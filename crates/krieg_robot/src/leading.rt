@@ -1,7 +1,7 @@
 // A game that a plan leads, from its opening words until it stops.
 ghost use Rattle.std.specs.Prelude.{◌≡◌, ◌≤◌, [], IfOk, IfErr, vec_len};
 ghost use Rattle.krieg_seats.specs.Accounts.{new_account};
-ghost use Rattle.krieg_plan.specs.Listed.{IsOneTurn};
+ghost use Rattle.krieg_plan.specs.OneTurn.{IsOneTurn};
 ghost use Rattle.krieg_robot.specs.Leading.{LedFrom, BrokenFrom, IsWon};
 ghost use Rattle.krieg_robot.specs.Laws.{Mates};
 ghost use Rattle.krieg_robot.specs.Turns.{LeadsOn, ComesTo};

@@ -2,7 +2,7 @@
 -- where no try was cut at least the floor, since its results answer.
 use Rattle.std.proofs.Common.{◌≡◌, ℕ, ◌+◌, ◌<◌, ◌≤◌, Bool, true, false, List, Result, Ok, Err, refl, subst, arith}
 use Rattle.std.specs.Result.{IsErrAnd}
-use Rattle.krieg_search.proofs.Common.{Pos, Side, Dialect, tries, begins, once, made, price, cost_of, reach_of, fresh, floor_price, pairs, chess, outset, Answer, SearchStop, Large, IsAccount, IsBetween, IsDecided, IsCharged, HasAccount, IsChargedAtMost, Takes, AccountIsBetween}
+use Rattle.krieg_search.proofs.Common.{Pos, Side, Dialect, tries, begins, once, made, price, cost_of, reach_of, fresh, floor_price, pairs, chess, outset, Answer, SearchStop, Large, IsAccount, IsBetween, IsDecision, IsCharged, HasAccount, IsChargedAtMost, Takes, AccountIsBetween}
 use Rattle.krieg_costs.proofs.Costs.{fresh_is_at_most_cost}
 use Rattle.krieg_costs.proofs.Pairs.{in_once}
 use Rattle.krieg_costs.proofs.Totals.{total_up_to, total_within}
@@ -58,11 +58,11 @@ module _ (d : Dialect) (who : Side) (S : List Pos) (n : ℕ) where
   charged_at_most (Err NoMemory) had has k = k
 
   -- the search was stopped
-  pub stopped_takes : (cut : Bool) (P : SearchStop → Type 0) (r : Result Answer SearchStop) (e : SearchStop) (had has u : ℕ) → ((x : SearchStop) → P x → e ≡ x) → IsErrAnd r P → had ≡ u → IsDecided d who S n cut (Err e) had has → Takes d who S n cut r u u
+  pub stopped_takes : (cut : Bool) (P : SearchStop → Type 0) (r : Result Answer SearchStop) (e : SearchStop) (had has u : ℕ) → ((x : SearchStop) → P x → e ≡ x) → IsErrAnd r P → had ≡ u → IsDecision d who S n cut (Err e) had has → Takes d who S n cut r u u
   stopped_takes cut P (Ok x) e had has u same fails start k = absurd fails
-  stopped_takes cut P (Err x) e had has u same fails start k = go x (subst (λ (y : SearchStop). IsDecided d who S n cut (Err y) had has) (same x fails) k)
+  stopped_takes cut P (Err x) e had has u same fails start k = go x (subst (λ (y : SearchStop). IsDecision d who S n cut (Err y) had has) (same x fails) k)
     where
-      go : (y : SearchStop) → IsDecided d who S n cut (Err y) had has → Takes d who S n cut (Err y) u u
+      go : (y : SearchStop) → IsDecision d who S n cut (Err y) had has → Takes d who S n cut (Err y) u u
       go Spent v = ((omega arith), refl)
       go Large v = absurd v
       go NoMemory v = refl

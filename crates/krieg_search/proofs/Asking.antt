@@ -1,10 +1,10 @@
 -- The sets of openings, one after another.
 use Rattle.std.proofs.Common.{Bool, ◌≡◌, ℕ, ◌+◌, suc, ◌<◌, true, false, List, ◌∷◌, length, drop, get_or, refl, subst, arith}
-use Rattle.krieg_search.proofs.Common.{Pos, Dialect, CoversSet, CoversSets, chess, Interned, set_at, Opening, IsSearched, TellsSet, TellsSets, AreNumbered, sets_in}
+use Rattle.krieg_search.proofs.Common.{Pos, Dialect, CoversSet, CoversSets, chess, SetRows, set_at, Opening, IsSearched, TellsSet, TellsSets, AreNumbered, sets_in}
 use Rattle.krieg_search.proofs.Checking.{IsChecking, at_item, item_in, next_covers, set_lost, set_won}
 
 -- the next opening is asked for
-module _ (d : Dialect) (cut : Bool) {T0 T1 : Interned} (os : List Opening) (k : ℕ) (x : Opening) {j u0 u1 : ℕ} (l : k < length os) (e : x ≡ get_or os k x) (n : AreNumbered T0 os) (a : IsChecking d cut T0 T1 (sets_in T0 os) (sets_in T0 (drop k os)) j u0 u1) where
+module _ (d : Dialect) (cut : Bool) {T0 T1 : SetRows} (os : List Opening) (k : ℕ) (x : Opening) {j u0 u1 : ℕ} (l : k < length os) (e : x ≡ get_or os k x) (n : AreNumbered T0 os) (a : IsChecking d cut T0 T1 (sets_in T0 os) (sets_in T0 (drop k os)) j u0 u1) where
   ahead : IsChecking d cut T0 T1 (sets_in T0 os) (set_at T0 x.set ∷ sets_in T0 (drop (suc k) os)) j u0 u1
   ahead = subst (λ (ys : List Opening). IsChecking d cut T0 T1 (sets_in T0 os) (sets_in T0 ys) j u0 u1) (at_item os k x l e) a
 
@@ -18,7 +18,7 @@ module _ (d : Dialect) (cut : Bool) {T0 T1 : Interned} (os : List Opening) (k : 
   pub opening_covers : (R : List (List Pos × ℕ)) → CoversSets (chess d) (sets_in T0 os) j R → CoversSet (chess d) (set_at T1 x.set) j R
   opening_covers = next_covers d cut ahead same refl a.searched
 
-  module _ {T2 : Interned} {u2 : ℕ} (s : IsSearched d cut (CoversSet (chess d) (set_at T1 x.set) j) 0 T1 T2 u1 u2) where
+  module _ {T2 : SetRows} {u2 : ℕ} (s : IsSearched d cut (CoversSet (chess d) (set_at T1 x.set) j) 0 T1 T2 u1 u2) where
     pub opening_lost : TellsSet d T2 (set_at T1 x.set) j false → TellsSets d T2 (sets_in T0 os) j false × IsSearched d cut (CoversSets (chess d) (sets_in T0 os) j) 0 T0 T2 u0 u2
     opening_lost w = set_lost d cut ahead same refl a.searched s w
 

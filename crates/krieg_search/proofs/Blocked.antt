@@ -2,7 +2,7 @@
 use Rattle.std.proofs.Common.{◌≡◌, ℕ, suc, Bool, true, false, not, ◌&&◌, ◌||◌, ◌⊎◌, List, ◌∷◌, map, find, Option, Some, None, refl, sym, ap, inl, inr, ◌∙◌}
 use Rattle.std.specs.Prelude.{◌==◌, option_map, if◌then◌else◌}
 use Rattle.std.proofs.lemmas.Bool.{cases_Bool, cond-true, cond-false, eqb-true, not_from_true, not_from_false}
-use Rattle.krieg_search.proofs.Common.{Pos, Move, Dialect, is_nil, refused, stale_in_some, keys, class, can, Lives, Stale, LostRefused, NoBlock, lives_in_some, by_class, block, Key, chess, class_pair, Left, Leaves}
+use Rattle.krieg_search.proofs.Common.{Pos, Move, Dialect, is_nil, refused, stale_in_some, keys, class, can, Lives, Stale, LostRefused, NoBlock, lives_in_some, by_class, block, Key, chess, class_pair, Remainder, Leaves}
 use Rattle.krieg_costs.specs.Block.{LostClass}
 use Rattle.krieg_accounts.proofs.TryEnds.{find_map}
 use Rattle.krieg_game.specs.declared.classes.Class.{Class}
@@ -31,7 +31,7 @@ module _ (d : Dialect) where
     pub first_later : can (chess d) j c.belief ≡ true → find (is_lost j) (map class_pair cs) ≡ find (is_lost j) (map class_pair rest)
     first_later h = e ∙ cond-false (is_lost j (class_pair c)) (Some (class_pair c)) (find (is_lost j) (map class_pair rest)) (not_from_true _ h)
 
-  module _ (B : List Pos) (t : Move) (i : ℕ) (l : Left) (a : Leaves d B t (suc i) l) where
+  module _ (B : List Pos) (t : Move) (i : ℕ) (l : Remainder) (a : Leaves d B t (suc i) l) where
     pub alive : ((i == 0) && lives_in_some (chess d) B t) ≡ false
     alive = go (cases_Bool (i == 0))
       where

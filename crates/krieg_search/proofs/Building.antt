@@ -2,7 +2,7 @@
 use Rattle.std.proofs.Common.{Bool, ◌≡◌, ℕ, suc, ◌+◌, ◌-◌, ◌≤◌, ◌<◌, ◌^◌, true, false, ◌⊎◌, inl, inr, List, [], ◌∷◌, map, Some, Result, Ok, Err, max, refl, sym, ap, subst, ◌∙◌, arith}
 use Rattle.std.specs.Result.{IsErrAnd}
 use Rattle.std.proofs.Math.Nat.{le-max_left, le-max_right}
-use Rattle.krieg_search.proofs.Common.{Pos, Move, Dialect, In, is_nil, Maybe, Just, Edges, size, size_other, size_edges, depth, depth_other, depth_edges, refused, keys, class, can, edge_with, edges_of, canon, made, known, IsSound, charged, refused_canon, Key, chess, class_pair, IsParted, Parted, NodeTree, Interned, entries, SearchStop, Large, AreCounted, IsNumbered, IsReady, sets_of, AddsSets, WonBy, Builds, IsPaidFor, edges_for}
+use Rattle.krieg_search.proofs.Common.{Pos, Move, Dialect, In, is_nil, Maybe, Just, Edges, size, size_other, size_edges, depth, depth_other, depth_edges, refused, keys, class, can, edge_with, edges_of, canon, made, known, IsSound, charged, refused_canon, Key, chess, class_pair, IsParted, Parted, NodeTree, SetRows, entries, SearchStop, Large, AreCounted, IsNumbered, IsReady, sets_of, AddsSets, WonBy, Builds, IsPaidFor, edges_for}
 use Rattle.krieg_theory.specs.Tree.{Try}
 use Rattle.krieg_theory.proofs.Lists.{map_in}
 use Rattle.krieg_theory.proofs.Built.{canon_wins}
@@ -15,24 +15,24 @@ use Rattle.krieg_search.proofs.Leaving.{sets_are}
 use Rattle.krieg_search.proofs.Searching.{more_itself, more_then}
 
 -- only sets come
-pub adds_nothing : (T : Interned) → AreCounted T → AddsSets T T
+pub adds_nothing : (T : SetRows) → AreCounted T → AddsSets T T
 adds_nothing T c = record { counted = c; more = more_itself T; noted = refl }
 
-pub adds_then : (T0 T1 T2 : Interned) → AddsSets T0 T1 → AddsSets T1 T2 → AddsSets T0 T2
+pub adds_then : (T0 T1 T2 : SetRows) → AddsSets T0 T1 → AddsSets T1 T2 → AddsSets T0 T2
 adds_then T0 T1 T2 a b = record { counted = b.counted; more = more_then T0 T1 T2 a.more b.more; noted = b.noted ∙ a.noted }
 
-pub adds_number : (T0 T1 : Interned) (B : List Pos) (set : ℕ) → IsNumbered T0 T1 B set → AddsSets T0 T1
+pub adds_number : (T0 T1 : SetRows) (B : List Pos) (set : ℕ) → IsNumbered T0 T1 B set → AddsSets T0 T1
 adds_number T0 T1 B set n = record { counted = n.counted; more = n.interned.more; noted = n.interned.noted }
 
-pub still_won : (T T' : Interned) (X : List Pos) (j : ℕ) → AddsSets T T' → WonBy T X j → WonBy T' X j
+pub still_won : (T T' : SetRows) (X : List Pos) (j : ℕ) → AddsSets T T' → WonBy T X j → WonBy T' X j
 still_won T T' X j a w = (w.0, w.1, w.2, w.3, subst (λ E. Rattle.krieg_accounts.specs.Stored.stored Rattle.krieg_pack.specs.Order.position_lt E (X, w.0) ≡ Some (Some w.3)) (sym a.noted) w.4)
 
 -- the same in another set, which is equal
-pub won_at : (T : Interned) (X Y : List Pos) (j : ℕ) → Y ≡ X → WonBy T X j → WonBy T Y j
+pub won_at : (T : SetRows) (X Y : List Pos) (j : ℕ) → Y ≡ X → WonBy T X j → WonBy T Y j
 won_at T X Y j e w = subst (λ (Z : List Pos). WonBy T Z j) (sym e) w
 
 -- a step was too large: so is the whole
-pub too_large : {A B : Type 0} (P : SearchStop → Type 0) (r : Result B SearchStop) (e : SearchStop) (holds : A → Type 0) (wanted : B → Type 0) (nodes nodes' deepest deepest' : ℕ) (T0 T1 T2 T3 : Interned) (had had' has has' deep deep' : ℕ)
+pub too_large : {A B : Type 0} (P : SearchStop → Type 0) (r : Result B SearchStop) (e : SearchStop) (holds : A → Type 0) (wanted : B → Type 0) (nodes nodes' deepest deepest' : ℕ) (T0 T1 T2 T3 : SetRows) (had had' has has' deep deep' : ℕ)
     → ((x : SearchStop) → P x → e ≡ x) → IsErrAnd r P → ((had < nodes) ⊎ (deep < deepest) → (had' < nodes') ⊎ (deep' < deepest')) → Builds (Err e) holds nodes deepest T0 T1 had has deep → Builds r wanted nodes' deepest' T2 T3 had' has' deep'
 too_large P (Ok x) e holds wanted nodes nodes' deepest deepest' T0 T1 T2 T3 had had' has has' deep deep' same fails f k = absurd fails
 too_large {A = A} {B = B} P (Err x) e holds wanted nodes nodes' deepest deepest' T0 T1 T2 T3 had had' has has' deep deep' same fails f k =
@@ -50,24 +50,24 @@ pub depth_some : (n : NodeTree) → 0 < depth n
 depth_some (Try t o es) = omega arith
 
 module _ (d : Dialect) where
-  pub still_paid : {cut : Bool} (T T' : Interned) → AddsSets T T' → IsPaidFor d cut T → IsPaidFor d cut T'
+  pub still_paid : {cut : Bool} (T T' : SetRows) → AddsSets T T' → IsPaidFor d cut T → IsPaidFor d cut T'
   still_paid {cut = cut} T T' a p = record {
     ready = record { counted = a.counted; sound = subst (λ E. IsSound (chess d) cut E) (sym a.noted) p.ready.sound };
     paid = subst (λ E. charged (chess d) E < 2 ^ 64) (sym a.noted) p.paid;
   }
 
   -- a set that is stored as won has a canonical node
-  pub won_can : (T : Interned) (X : List Pos) (j : ℕ) → IsReady d true T → WonBy T X j → can (chess d) j X ≡ true
+  pub won_can : (T : SetRows) (X : List Pos) (j : ℕ) → IsReady d true T → WonBy T X j → can (chess d) j X ≡ true
   won_can T X j r w = can_upto (chess d) (chess_is_game d) w.0 j X w.2 (result_can (chess d) (chess_is_game d) true (entries T) r.sound X w.0 (Some w.3) w.4)
 
-  pub won_node : (T : Interned) (X : List Pos) (j : ℕ) → IsReady d true T → WonBy T X j → (n : NodeTree) × (canon (chess d) j X ≡ Just n)
+  pub won_node : (T : SetRows) (X : List Pos) (j : ℕ) → IsReady d true T → WonBy T X j → (n : NodeTree) × (canon (chess d) j X ≡ Just n)
   won_node T X j r w = let c = canon_wins (chess d) (chess_is_game d) j X (won_can T X j r w) in (c.0, c.1)
 
   -- so it takes some node, and some path
-  pub no_nodes : (T : Interned) (X : List Pos) (j left deep : ℕ) → IsReady d true T → WonBy T X j → left ≡ 0 → (left < size_other (canon (chess d) j X)) ⊎ (deep < depth_other (canon (chess d) j X))
+  pub no_nodes : (T : SetRows) (X : List Pos) (j left deep : ℕ) → IsReady d true T → WonBy T X j → left ≡ 0 → (left < size_other (canon (chess d) j X)) ⊎ (deep < depth_other (canon (chess d) j X))
   no_nodes T X j left deep r w e = let n = won_node T X j r w in let s = size_some n.0 in let q = ap size_other n.1 in inl (omega arith)
 
-  pub no_path : (T : Interned) (X : List Pos) (j left deep : ℕ) → IsReady d true T → WonBy T X j → deep ≡ 0 → (left < size_other (canon (chess d) j X)) ⊎ (deep < depth_other (canon (chess d) j X))
+  pub no_path : (T : SetRows) (X : List Pos) (j left deep : ℕ) → IsReady d true T → WonBy T X j → deep ≡ 0 → (left < size_other (canon (chess d) j X)) ⊎ (deep < depth_other (canon (chess d) j X))
   no_path T X j left deep r w e = let n = won_node T X j r w in let s = depth_some n.0 in let q = ap depth_other n.1 in inr (omega arith)
 
   list_is : (B : List Pos) (m : Move) (j : ℕ) (ks : List Key) → edges_for d j (map (λ key. (key, class (chess d) B m key)) ks) ≡ edges_of (chess d) ks (λ key. canon (chess d) j (class (chess d) B m key))
@@ -75,7 +75,7 @@ module _ (d : Dialect) where
   list_is B m j (k ∷ ks) = ap (edge_with (chess d) k (canon (chess d) j (class (chess d) B m k))) (list_is B m j ks)
 
   -- how the set is won that is built, and what its try makes of it
-  module _ (T : Interned) (B : List Pos) (j number : ℕ) (m : Move) (paid : IsPaidFor d true T) (some : 0 < number) (within : number ≤ j) (stored : known (chess d) (entries T) (B, number) ≡ Some (Some m)) where
+  module _ (T : SetRows) (B : List Pos) (j number : ℕ) (m : Move) (paid : IsPaidFor d true T) (some : 0 < number) (within : number ≤ j) (stored : known (chess d) (entries T) (B, number) ≡ Some (Some m)) where
     before : suc (number - 1) ≡ number
     before = omega arith
 

@@ -1,6 +1,6 @@
 -- Some sets, one after another.
 use Rattle.std.proofs.Common.{Bool, ◌≡◌, ℕ, zero, suc, ◌+◌, ◌≤◌, ◌<◌, true, false, List, [], ◌∷◌, length, drop, drop-cons, get_or, Some, refl, sym, ap, subst, ◌∙◌, arith}
-use Rattle.krieg_search.proofs.Common.{Pos, Dialect, In, known, CoversSet, CoversSets, chess, Interned, entries, IsReady, IsSearched, TellsSet, TellsSets}
+use Rattle.krieg_search.proofs.Common.{Pos, Dialect, In, known, CoversSet, CoversSets, chess, SetRows, entries, IsReady, IsSearched, TellsSet, TellsSets}
 use Rattle.krieg_accounts.proofs.Covering.{covers_set}
 use Rattle.krieg_accounts.proofs.SetWalk.{WonTo, one_fails, lost_here, won_more, all_can, all_won}
 use Rattle.krieg_accounts.proofs.Stretches.{Kept}
@@ -38,17 +38,17 @@ no_rest (x ∷ xs) (suc k) l = no_rest xs k (omega arith)
 
 module _ (d : Dialect) (cut : Bool) where
   -- Of the sets in their order some are ahead, and the k before them are won.
-  pub record IsChecking (T0 T : Interned) (Cs ahead : List (List Pos)) (j u0 u : ℕ) : Type 0 where
+  pub record IsChecking (T0 T : SetRows) (Cs ahead : List (List Pos)) (j u0 u : ℕ) : Type 0 where
     pub k : ℕ
     pub at : drop k Cs ≡ ahead
     pub won : WonTo (chess d) (entries T) Cs j k
     pub searched : IsSearched d cut (CoversSets (chess d) Cs j) 0 T0 T u0 u
 
-  pub none_checked : (T : Interned) (Cs : List (List Pos)) (j u : ℕ) → IsReady d cut T → IsChecking T T Cs Cs j u u
+  pub none_checked : (T : SetRows) (Cs : List (List Pos)) (j u : ℕ) → IsReady d cut T → IsChecking T T Cs Cs j u u
   none_checked T Cs j u r = record { k = 0; at = refl; won = λ C i. absurd i; searched = searched_nothing d cut (CoversSets (chess d) Cs j) T u r }
 
   -- none is ahead
-  pub all_checked : {T0 T : Interned} {Cs : List (List Pos)} {j u0 u : ℕ} → IsChecking T0 T Cs [] j u0 u → TellsSets d T Cs j true × IsSearched d cut (CoversSets (chess d) Cs j) 0 T0 T u0 u
+  pub all_checked : {T0 T : SetRows} {Cs : List (List Pos)} {j u0 u : ℕ} → IsChecking T0 T Cs [] j u0 u → TellsSets d T Cs j true × IsSearched d cut (CoversSets (chess d) Cs j) 0 T0 T u0 u
   all_checked {T = T} {Cs = Cs} {j = j} a =
       let l = drop_none Cs a.k a.at in (
         record {
@@ -59,7 +59,7 @@ module _ (d : Dialect) (cut : Bool) where
       )
 
   -- the next set is looked at, which may have got its number just now
-  module _ {T0 T1 T2 : Interned} {Cs : List (List Pos)} {C : List Pos} {rest : List (List Pos)} {X : List Pos} {j u0 u1 : ℕ} (a : IsChecking T0 T1 Cs (C ∷ rest) j u0 u1) (same : X ≡ C) (noted : entries T2 ≡ entries T1) (before : IsSearched d cut (CoversSets (chess d) Cs j) 0 T0 T2 u0 u1) where
+  module _ {T0 T1 T2 : SetRows} {Cs : List (List Pos)} {C : List Pos} {rest : List (List Pos)} {X : List Pos} {j u0 u1 : ℕ} (a : IsChecking T0 T1 Cs (C ∷ rest) j u0 u1) (same : X ≡ C) (noted : entries T2 ≡ entries T1) (before : IsSearched d cut (CoversSets (chess d) Cs j) 0 T0 T2 u0 u1) where
     place : (a.k < length Cs) × (get_or Cs a.k [] ≡ C) × (drop (suc a.k) Cs ≡ rest)
     place = at_drop Cs a.k [] C rest a.at
 
@@ -69,7 +69,7 @@ module _ (d : Dialect) (cut : Bool) where
     pub next_covers : (R : List (List Pos × ℕ)) → CoversSets (chess d) Cs j R → CoversSet (chess d) X j R
     next_covers = covers_set (chess d) Cs X j inside
 
-    module _ {T3 : Interned} {u3 : ℕ} (s : IsSearched d cut (CoversSet (chess d) X j) 0 T2 T3 u1 u3) where
+    module _ {T3 : SetRows} {u3 : ℕ} (s : IsSearched d cut (CoversSet (chess d) X j) 0 T2 T3 u1 u3) where
       after : IsSearched d cut (CoversSets (chess d) Cs j) 0 T0 T3 u0 u3
       after = searched_then d cut (CoversSets (chess d) Cs j) (CoversSet (chess d) X j) 0 0 0 T0 T2 T3 u0 u1 u3 next_covers before refl s
 

@@ -39,7 +39,7 @@ unfoldable pub use Rattle.krieg_game.specs.Outset.{starts, waits}
 pub use Rattle.krieg_game.specs.Outset.{outset}
 pub use Rattle.krieg_sight.specs.Seen.{flees}
 pub use Rattle.krieg_plan.specs.Nodes.{as_edges, as_other, edge_of, tree_of}
-pub use Rattle.krieg_plan.specs.Ordered.{are_ordered, are_ordered_roots, is_ascending, is_ordered, is_ordered_other, is_ordered_plan}
+pub use Rattle.krieg_plan.specs.Order.{are_ordered, are_ordered_roots, is_ascending, is_ordered, is_ordered_other, is_ordered_plan}
 pub use Rattle.krieg_plan.specs.Plans.{plan_of}
 pub use Rattle.krieg_plan.specs.Roots.{root_of}
 pub use Rattle.krieg_plan.specs.Trees.{NodeTree, PlanTrees, plan_depth, plan_size}
@@ -52,43 +52,43 @@ pub use Rattle.krieg_parting.specs.declared.parts.Parted.{Parted}
 pub use Rattle.krieg_parting.specs.declared.stop.PartStop.{PartStop}
 unfoldable pub use Rattle.krieg_table.specs.Entries.{entries}
 pub use Rattle.krieg_table.specs.Entries.{try_of}
-pub use Rattle.krieg_table.specs.Interned.{Interned, set_at, sets}
+pub use Rattle.krieg_table.specs.SetRows.{SetRows, set_at, sets}
 pub use Rattle.krieg_table.specs.Table.{IsMore, IsNoted}
-pub use Rattle.krieg_table.specs.declared.known.Known.{Known}
-pub use Rattle.krieg_table.specs.declared.known.Known.TheVariants.{Loses, Wins}
+pub use Rattle.krieg_table.specs.declared.set_result.SetResult.{SetResult}
+pub use Rattle.krieg_table.specs.declared.set_result.SetResult.TheVariants.{Loses, Wins}
 pub use Rattle.krieg_split.specs.Firsts.{first_cost, first_set}
 pub use Rattle.krieg_split.specs.LastMove.{AllMate, SomeLives}
 pub use Rattle.krieg_split.specs.Openings.{opened_set}
-pub use Rattle.krieg_split.specs.Parted.{IsParted}
+pub use Rattle.krieg_split.specs.Parts.{IsParted}
 pub use Rattle.krieg_split.specs.Tallies.{AreTallies, tally_of}
-pub use Rattle.krieg_split.specs.Turns.{IsOthersTurn, IsOwnTurn}
-pub use Rattle.krieg_split.specs.Units.{Charged, IsPaid}
+pub use Rattle.krieg_parting.specs.Turns.{IsOthersTurn, IsOwnTurn}
+pub use Rattle.krieg_split.specs.Units.{Charges, IsPaid}
 pub use Rattle.krieg_split.specs.declared.firsts.Firsts.{Firsts}
-pub use Rattle.krieg_search.specs.Blocked.{TellsBlock, TellsFirst}
-pub use Rattle.krieg_search.specs.Built.{Builds, IsPaidFor, WonBy, edges_for, roots_for, winning_try, with_root}
-pub use Rattle.krieg_search.specs.Decided.{IsAccount, IsBetween, IsDecided, IsFound, IsLost, IsWon, sets_in}
+pub use Rattle.krieg_search.specs.Blocks.{TellsBlock, TellsFirst}
+pub use Rattle.krieg_search.specs.Building.{Builds, IsPaidFor, WonBy, edges_for, roots_for, winning_try, with_root}
+pub use Rattle.krieg_search.specs.Decision.{IsAccount, IsBetween, IsDecision, IsFound, IsLost, IsWon, sets_in}
 pub use Rattle.krieg_search.specs.Laws.{AccountIsBetween}
-pub use Rattle.krieg_search.specs.Leaving.{FailsAtOnce, IsLeft, Leaves}
-pub use Rattle.krieg_search.specs.Notes.{AreNotes, IsBlock, IsLostPart, IsRow, Noted, Rows, items_of, notes_in, same_asked}
-pub use Rattle.krieg_search.specs.Opened.{AddsSets, AreAdded, AreNumbered, IsAdded, IsOpened, opening_in}
-pub use Rattle.krieg_search.specs.PackedHeard.{IsPacked, bytes_of, number_of, unpacked}
-pub use Rattle.krieg_search.specs.Planned.{IsPlan, IsPlanned, IsUnfit}
-pub use Rattle.krieg_search.specs.Searched.{AreCounted, IsAtWork, IsNumbered, IsReady, IsSearched, Stretches, TellsSet, TellsSets, TellsTry, sets_of}
-pub use Rattle.krieg_search.specs.Solved.{HasAccount, IsAnswer, IsBest, IsCharged, IsChargedAtMost, IsLarge, NoneMates, Takes}
+pub use Rattle.krieg_search.specs.Remainders.{FailsAtOnce, IsRemainder, Leaves}
+pub use Rattle.krieg_search.specs.Notes.{AreNotes, IsBlock, IsLostPart, IsRow, NoteState, Rows, items_of, notes_in, same_asked}
+pub use Rattle.krieg_search.specs.Openings.{AddsSets, AreAdded, AreNumbered, IsAdded, IsOpened, opening_in}
+pub use Rattle.krieg_search.specs.PackedKey.{IsPacked, bytes_of, number_of, unpacked}
+pub use Rattle.krieg_search.specs.BuiltPlan.{IsPlan, IsPlanned, IsUnfit}
+pub use Rattle.krieg_search.specs.Stretches.{AreCounted, IsAtWork, IsNumbered, IsReady, IsSearched, Stretches, TellsSet, TellsSets, TellsTry, sets_of}
+pub use Rattle.krieg_search.specs.Solutions.{HasAccount, IsAnswer, IsBest, IsCharged, IsChargedAtMost, IsLarge, NoneMates, Takes}
 pub use Rattle.krieg_search.specs.Stops.{stop_of}
-pub use Rattle.krieg_search.specs.Tried.{IsTold, move_of}
+pub use Rattle.krieg_search.specs.Tries.{IsTold, move_of}
 pub use Rattle.krieg_search.specs.declared.best_plan.Answer.{Answer}
 pub use Rattle.krieg_search.specs.declared.best_plan.Answer.TheVariants.{Mates, None}
 pub use Rattle.krieg_search.specs.declared.build.Win.{Win}
-pub use Rattle.krieg_search.specs.declared.decide.Decided.{Decided}
-pub use Rattle.krieg_search.specs.declared.decide.Decided.TheVariants.{Over}
-pub use Rattle.krieg_search.specs.declared.decide.Found.{Found}
-pub use Rattle.krieg_search.specs.declared.left.Left.{Left}
-pub use Rattle.krieg_search.specs.declared.notes.Asked.{Asked}
+pub use Rattle.krieg_search.specs.declared.decide.Decision.{Decision}
+pub use Rattle.krieg_search.specs.declared.decide.Decision.TheVariants.{Over}
+pub use Rattle.krieg_search.specs.declared.decide.Findings.{Findings}
+pub use Rattle.krieg_search.specs.declared.remainder.Remainder.{Remainder}
+pub use Rattle.krieg_search.specs.declared.notes.Question.{Question}
 pub use Rattle.krieg_search.specs.declared.notes.Block.{Block}
 pub use Rattle.krieg_search.specs.declared.notes.Block.TheVariants.{AtOnce, Refused}
 pub use Rattle.krieg_search.specs.declared.notes.Note.{Note}
 pub use Rattle.krieg_search.specs.declared.openings.Opening.{Opening}
 pub use Rattle.krieg_search.specs.declared.stop.SearchStop.{SearchStop}
 pub use Rattle.krieg_search.specs.declared.stop.SearchStop.TheVariants.{Large}
-pub use Rattle.krieg_search.specs.declared.tried.Try.TheVariants.{Counted, Plain}
+pub use Rattle.krieg_search.specs.declared.try_list.Try.TheVariants.{Counted, Plain}

@@ -6,7 +6,7 @@ use Rattle.std.specs.List.{list_all, list_any}
 use Rattle.std.specs.Result.{IsErrAnd}
 use Rattle.std.proofs.lemmas.Bool.{both_ways}
 use Rattle.std.proofs.lemmas.Simd.{map-map}
-use Rattle.krieg_search.proofs.Common.{Pos, Move, Side, Dialect, In, can, openings, opening_set, is_over, can_plan, IsOnce, once, first_made, reach_of, fresh, position_lt, stored, pairs, known, IsSound, charged, IsStretch, FallsShort, CoversSets, AnswersSets, opening_sets, AnswersPlan, RootKey, chess, outset, PartStop, Charged, Interned, entries, IsMore, Opening, Found, Decided, Over, SearchStop, Large, stop_of, AreCounted, IsReady, IsSearched, Stretches, TellsSets, opening_in, AreNumbered, AreAdded, IsOpened, WonBy, AreNotes, sets_in, IsAccount, IsFound, IsLost, IsWon, IsDecided}
+use Rattle.krieg_search.proofs.Common.{Pos, Move, Side, Dialect, In, can, openings, opening_set, is_over, can_plan, IsOnce, once, first_made, reach_of, fresh, position_lt, stored, pairs, known, IsSound, charged, IsStretch, FallsShort, CoversSets, AnswersSets, opening_sets, AnswersPlan, RootKey, chess, outset, PartStop, Charges, SetRows, entries, IsMore, Opening, Findings, Decision, Over, SearchStop, Large, stop_of, AreCounted, IsReady, IsSearched, Stretches, TellsSets, opening_in, AreNumbered, AreAdded, IsOpened, WonBy, AreNotes, sets_in, IsAccount, IsFound, IsLost, IsWon, IsDecision}
 use Rattle.krieg_theory.proofs.Lists.{all_at}
 use Rattle.krieg_costs.proofs.Pairs.{once_in}
 use Rattle.krieg_accounts.proofs.Canonical.{by_least}
@@ -29,7 +29,7 @@ pub empty_counted : AreCounted []
 empty_counted k = omega arith
 
 -- the sets of openings, whatever was stored since
-pub same_sets : (T T' : Interned) (os : List Opening) → IsMore T T' → AreNumbered T os → sets_in T' os ≡ sets_in T os
+pub same_sets : (T T' : SetRows) (os : List Opening) → IsMore T T' → AreNumbered T os → sets_in T' os ≡ sets_in T os
 same_sets T T' os m n =
     sym (map-map (λ (c : RootKey × List Pos). c.1) (opening_in T') os)
     ∙ ap (map (λ (c : RootKey × List Pos). c.1)) (same_openings T T' os m n)
@@ -40,21 +40,21 @@ module _ (d : Dialect) (cut : Bool) (who : Side) (S : List Pos) (n : ℕ) where
   first_within = omega arith
 
   -- the openings were stopped
-  pub openings_stopped : {A : Type 0} (P : SearchStop → Type 0) (r : Result Decided SearchStop) (stop : PartStop) (holds : A → Type 0) (u0 u1 : ℕ)
-      → ((x : SearchStop) → P x → stop_of stop ≡ x) → IsErrAnd r P → Charged {A = A} (Err stop) holds (first_made (chess d) (outset d who) S) u0 u1 → IsDecided d who S n cut r u0 u0
+  pub openings_stopped : {A : Type 0} (P : SearchStop → Type 0) (r : Result Decision SearchStop) (stop : PartStop) (holds : A → Type 0) (u0 u1 : ℕ)
+      → ((x : SearchStop) → P x → stop_of stop ≡ x) → IsErrAnd r P → Charges {A = A} (Err stop) holds (first_made (chess d) (outset d who) S) u0 u1 → IsDecision d who S n cut r u0 u0
   openings_stopped P (Ok x) stop holds u0 u1 same fails k = absurd fails
-  openings_stopped {A = A} P (Err x) stop holds u0 u1 same fails k = subst (λ (y : SearchStop). IsDecided d who S n cut (Err y) u0 u0) (same x fails) (go stop k)
+  openings_stopped {A = A} P (Err x) stop holds u0 u1 same fails k = subst (λ (y : SearchStop). IsDecision d who S n cut (Err y) u0 u0) (same x fails) (go stop k)
     where
-      go : (stop : PartStop) → Charged {A = A} (Err stop) holds (first_made (chess d) (outset d who) S) u0 u1 → IsDecided d who S n cut (Err (stop_of stop)) u0 u0
+      go : (stop : PartStop) → Charges {A = A} (Err stop) holds (first_made (chess d) (outset d who) S) u0 u1 → IsDecision d who S n cut (Err (stop_of stop)) u0 u0
       go split.Spent v = ((let w = first_within in omega (arith, v.0)), omega arith)
       go split.NoMemory v = omega arith
 
   -- the openings are there
-  pub are_opened : (T T1 : Interned) (r : Option (Vec Opening Global)) (os : Vec Opening Global) → T ≡ [] → r ≡ Some os → IsOpened d who S T T1 r → (list_any (is_over (chess d) (outset d who)) S ≡ false) × AreAdded [] T1 os.items (game.opening_sets d who S)
-  are_opened T T1 r os e f o = subst (λ (T : Interned). IsOpened d who S T T1 (Some os)) e (subst (λ (r : Option (Vec Opening Global)). IsOpened d who S T T1 r) f o)
+  pub are_opened : (T T1 : SetRows) (r : Option (Vec Opening Global)) (os : Vec Opening Global) → T ≡ [] → r ≡ Some os → IsOpened d who S T T1 r → (list_any (is_over (chess d) (outset d who)) S ≡ false) × AreAdded [] T1 os.items (game.opening_sets d who S)
+  are_opened T T1 r os e f o = subst (λ (T : SetRows). IsOpened d who S T T1 (Some os)) e (subst (λ (r : Option (Vec Opening Global)). IsOpened d who S T T1 r) f o)
 
   -- some listed position is over
-  pub over : (u0 u1 : ℕ) → list_any (is_over (chess d) (outset d who)) S ≡ true → u1 + first_made (chess d) (outset d who) S ≡ u0 → IsDecided d who S n cut (Ok Over) u0 u1
+  pub over : (u0 u1 : ℕ) → list_any (is_over (chess d) (outset d who)) S ≡ true → u1 + first_made (chess d) (outset d who) S ≡ u0 → IsDecision d who S n cut (Ok Over) u0 u1
   over u0 u1 o e =
       let none : can_plan (chess d) (outset d who) n S ≡ false = ap (λ b. not b && list_all (λ key. can (chess d) n (opening_set (chess d) (outset d who) S key)) (openings (chess d) (outset d who) S)) o in (
         o,
@@ -70,7 +70,7 @@ module _ (d : Dialect) (cut : Bool) (who : Side) (S : List Pos) (n : ℕ) where
       )
 
   -- the openings are there, and their sets are searched
-  module _ (T1 : Interned) (os : List Opening) (a : AreAdded [] T1 os (game.opening_sets d who S)) where
+  module _ (T1 : SetRows) (os : List Opening) (a : AreAdded [] T1 os (game.opening_sets d who S)) where
     pub opened_ready : IsReady d cut T1
     opened_ready = record { counted = a.sets.counted; sound = subst (λ E. IsSound (chess d) cut E) (sym (a.sets.noted ∙ no_entries)) (empty_sound (chess d) cut) }
 
@@ -84,13 +84,13 @@ module _ (d : Dialect) (cut : Bool) (who : Side) (S : List Pos) (n : ℕ) where
     none_stored = a.sets.noted ∙ no_entries
 
     -- they were stopped
-    pub search_stopped : {A : Type 0} (P : SearchStop → Type 0) (r : Result Decided SearchStop) (e : SearchStop) (holds : A → Type 0) (T2 : Interned) (u0 u1 u2 : ℕ)
-        → ((x : SearchStop) → P x → e ≡ x) → IsErrAnd r P → u1 + first_made (chess d) (outset d who) S ≡ u0 → Stretches d cut {A = A} (Err e) holds (CoversSets (chess d) (sets_in T1 os) n) 0 T1 T2 u1 u2 → IsDecided d who S n cut r u0 u0
+    pub search_stopped : {A : Type 0} (P : SearchStop → Type 0) (r : Result Decision SearchStop) (e : SearchStop) (holds : A → Type 0) (T2 : SetRows) (u0 u1 u2 : ℕ)
+        → ((x : SearchStop) → P x → e ≡ x) → IsErrAnd r P → u1 + first_made (chess d) (outset d who) S ≡ u0 → Stretches d cut {A = A} (Err e) holds (CoversSets (chess d) (sets_in T1 os) n) 0 T1 T2 u1 u2 → IsDecision d who S n cut r u0 u0
     search_stopped P (Ok x) e holds T2 u0 u1 u2 same fails taken k = absurd fails
     search_stopped {A = A} P (Err x) e holds T2 u0 u1 u2 same fails taken k =
         go x (subst (λ (y : SearchStop). Stretches d cut {A = A} (Err y) holds (CoversSets (chess d) (sets_in T1 os) n) 0 T1 T2 u1 u2) (same x fails) k)
       where
-        go : (y : SearchStop) → Stretches d cut {A = A} (Err y) holds (CoversSets (chess d) (sets_in T1 os) n) 0 T1 T2 u1 u2 → IsDecided d who S n cut (Err y) u0 u0
+        go : (y : SearchStop) → Stretches d cut {A = A} (Err y) holds (CoversSets (chess d) (sets_in T1 os) n) 0 T1 T2 u1 u2 → IsDecision d who S n cut (Err y) u0 u0
         go Spent v =
             let w = subst (λ E. FallsShort (chess d) (CoversSets (chess d) (opening_sets (chess d) (outset d who) S) n) 0 E u1) none_stored (subst (λ (Cs : List (List Pos)). FallsShort (chess d) (CoversSets (chess d) Cs n) 0 (entries T1) u1) at_sets v.0) in
             let f = short_is_below_fresh (chess d) (chess_is_game d) (outset d who) (outset_is_lawful d who) n S u1 w in
@@ -98,7 +98,7 @@ module _ (d : Dialect) (cut : Bool) (who : Side) (S : List Pos) (n : ℕ) where
         go Large v = absurd v
         go NoMemory v = omega arith
 
-    module _ (T2 : Interned) (yes : Bool) (u0 u1 u2 : ℕ) (none : list_any (is_over (chess d) (outset d who)) S ≡ false) (taken : u1 + first_made (chess d) (outset d who) S ≡ u0) (w : TellsSets d T2 (sets_in T1 os) n yes) (s : IsSearched d cut (CoversSets (chess d) (sets_in T1 os) n) 0 T1 T2 u1 u2) (o : IsOnce (pairs (entries T2))) where
+    module _ (T2 : SetRows) (yes : Bool) (u0 u1 u2 : ℕ) (none : list_any (is_over (chess d) (outset d who)) S ≡ false) (taken : u1 + first_made (chess d) (outset d who) S ≡ u0) (w : TellsSets d T2 (sets_in T1 os) n yes) (s : IsSearched d cut (CoversSets (chess d) (sets_in T1 os) n) 0 T1 T2 u1 u2) (o : IsOnce (pairs (entries T2))) where
       stretch : IsStretch (chess d) cut (CoversSets (chess d) (opening_sets (chess d) (outset d who) S) n) 0 [] (entries T2) u1 u2
       stretch = subst (λ E. IsStretch (chess d) cut (CoversSets (chess d) (opening_sets (chess d) (outset d who) S) n) 0 E (entries T2) u1 u2) none_stored (subst (λ (Cs : List (List Pos)). IsStretch (chess d) cut (CoversSets (chess d) Cs n) 0 (entries T1) (entries T2) u1 u2) at_sets s.stretch)
 
@@ -131,39 +131,39 @@ module _ (d : Dialect) (cut : Bool) (who : Side) (S : List Pos) (n : ℕ) where
       ready = ready_from d cut s
 
       -- what the search leaves, whatever its answer
-      is_found : (w : Found) → w.table ≡ T2 → w.openings.items ≡ os → AreNotes d cut T2 w.notes → IsFound d who S n cut w u0
+      is_found : (w : Findings) → w.table ≡ T2 → w.openings.items ≡ os → AreNotes d cut T2 w.notes → IsFound d who S n cut w u0
       is_found w t o r = record {
         ready = subst (IsReady d cut) (sym t) ready;
-        paid = subst (λ (T : Interned). charged (chess d) (entries T) ≤ u0) (sym t) (let x = stretch.exact in omega arith);
-        numbered = subst (λ (T : Interned). AreNumbered T w.openings.items) (sym t) (subst (λ (xs : List Opening). AreNumbered T2 xs) (sym o) (numbered_more T1 T2 os s.more a.numbered));
-        sets = subst (λ (T : Interned). map (opening_in T) w.openings.items ≡ game.opening_sets d who S) (sym t) (subst (λ (xs : List Opening). map (opening_in T2) xs ≡ game.opening_sets d who S) (sym o) (same_openings T1 T2 os s.more a.numbered ∙ a.are));
-        noted = subst (λ (T : Interned). AreNotes d cut T w.notes) (sym t) r;
+        paid = subst (λ (T : SetRows). charged (chess d) (entries T) ≤ u0) (sym t) (let x = stretch.exact in omega arith);
+        numbered = subst (λ (T : SetRows). AreNumbered T w.openings.items) (sym t) (subst (λ (xs : List Opening). AreNumbered T2 xs) (sym o) (numbered_more T1 T2 os s.more a.numbered));
+        sets = subst (λ (T : SetRows). map (opening_in T) w.openings.items ≡ game.opening_sets d who S) (sym t) (subst (λ (xs : List Opening). map (opening_in T2) xs ≡ game.opening_sets d who S) (sym o) (same_openings T1 T2 os s.more a.numbered ∙ a.are));
+        noted = subst (λ (T : SetRows). AreNotes d cut T w.notes) (sym t) r;
       }
 
       -- some opening set cannot be won
-      pub not_won : yes ≡ false → (lost : Found) → lost.table ≡ T2 → lost.openings.items ≡ os → AreNotes d cut T2 lost.notes → IsLost d who S n cut lost u0 × IsAccount d who S n cut u0 u2
+      pub not_won : yes ≡ false → (lost : Findings) → lost.table ≡ T2 → lost.openings.items ≡ os → AreNotes d cut T2 lost.notes → IsLost d who S n cut lost u0 × IsAccount d who S n cut u0 u2
       not_won e lost t o r = (
         record {
           cannot = sym answer ∙ e;
           none_over = none;
           found = is_found lost t o r;
           lost =
-              subst (λ (T : Interned). FirstIsLost T (sets_in T lost.openings.items)) (sym t) (subst (λ (xs : List Opening). FirstIsLost T2 (sets_in T2 xs)) (sym o)
+              subst (λ (T : SetRows). FirstIsLost T (sets_in T lost.openings.items)) (sym t) (subst (λ (xs : List Opening). FirstIsLost T2 (sets_in T2 xs)) (sym o)
               (subst (FirstIsLost T2) (sym (same_sets T1 T2 os s.more a.numbered)) (w.stored.lost e)));
         },
         account,
       )
         where
-          FirstIsLost : Interned → List (List Pos) → Type 0
+          FirstIsLost : SetRows → List (List Pos) → Type 0
           FirstIsLost T Cs = IfSome (find (λ C. not (can (chess d) n C)) Cs) (λ C. 0 < n → stored position_lt (entries T) (C, n) ≡ Some None)
 
       -- all can
-      pub all_are_won : yes ≡ true → (won : Found) → won.table ≡ T2 → won.openings.items ≡ os → AreNotes d cut T2 won.notes → IsWon d who S n cut won u0 × IsAccount d who S n cut u0 u2
+      pub all_are_won : yes ≡ true → (won : Findings) → won.table ≡ T2 → won.openings.items ≡ os → AreNotes d cut T2 won.notes → IsWon d who S n cut won u0 × IsAccount d who S n cut u0 u2
       all_are_won e won t o r = (
         record {
           can = sym answer ∙ e;
           found = is_found won t o r;
-          won = subst (λ (T : Interned). (C : List Pos) → In C (sets_in T won.openings.items) → WonBy T C n) (sym t) (subst (λ (xs : List Opening). (C : List Pos) → In C (sets_in T2 xs) → WonBy T2 C n) (sym o) each);
+          won = subst (λ (T : SetRows). (C : List Pos) → In C (sets_in T won.openings.items) → WonBy T C n) (sym t) (subst (λ (xs : List Opening). (C : List Pos) → In C (sets_in T2 xs) → WonBy T2 C n) (sym o) each);
         },
         account,
       )

@@ -4,7 +4,7 @@ use Rattle.std.specs.Prelude.{IfSome, IfOk}
 use Rattle.std.specs.List.{list_any}
 use Rattle.std.proofs.lemmas.Bool.{cond-true, both_ways}
 use Rattle.std.proofs.lemmas.Simd.{map-map}
-use Rattle.krieg_search.proofs.Common.{Pos, Move, Dialect, stale_in_some, keys, class, begins, block_pair, lives_in_some, pair_of, flees, classes, Key, chess, class_pair, IsParted, SomeLives, AllMate, Parted, sets_of, FailsAtOnce, Leaves, IsLeft, Left}
+use Rattle.krieg_search.proofs.Common.{Pos, Move, Dialect, stale_in_some, keys, class, begins, block_pair, lives_in_some, pair_of, flees, classes, Key, chess, class_pair, IsParted, SomeLives, AllMate, Parted, sets_of, FailsAtOnce, Leaves, IsRemainder, Remainder}
 use Rattle.krieg_theory.proofs.Seen.{escape_fails}
 use Rattle.krieg_sight.proofs.Theorems.{escapes_is_flees}
 use Rattle.krieg_accounts.proofs.TryEnds.{begins_stale, blocked_stale}
@@ -39,13 +39,13 @@ module _ (d : Dialect) where
   }
 
   -- what is left where tries may not be cut is left where they may
-  pub left_more : {E : Type 0} (cut : Bool) (B : List Pos) (t : Move) (j : ℕ) (r : Result (Option Left) E) → IfOk r (IsLeft d false B t j) → IfOk r (IsLeft d cut B t j)
+  pub left_more : {E : Type 0} (cut : Bool) (B : List Pos) (t : Move) (j : ℕ) (r : Result (Option Remainder) E) → IfOk r (IsRemainder d false B t j) → IfOk r (IsRemainder d cut B t j)
   left_more cut B t j (Ok None) f = record { fails = f.fails; no_pair = λ c. f.no_pair refl }
   left_more cut B t j (Ok (Some l)) a = a
   left_more cut B t j (Err e) a = tt
 
   -- one that mates wherever it is legal
-  pub leaves_refused : (B : List Pos) (t : Move) (l : Left) (rest : List Pos) → l.classes.items ≡ [] → l.refused ≡ rest → AllMate d B t rest → Leaves d B t 1 l
+  pub leaves_refused : (B : List Pos) (t : Move) (l : Remainder) (rest : List Pos) → l.classes.items ≡ [] → l.refused ≡ rest → AllMate d B t rest → Leaves d B t 1 l
   leaves_refused B t l rest none is a = record {
     none_lives = λ e. a.none_lives;
     none_stale = a.none_stale;
@@ -53,7 +53,7 @@ module _ (d : Dialect) where
     refused_part = is ∙ a.refused_part;
   }
 
-  pub leaves_parts : (B : List Pos) (t : Move) (j : ℕ) (l : Left) (p : Parted) → l.classes.items ≡ p.classes.items → l.refused ≡ p.refused → p.stale ≡ false → IsParted d B t p → (j ≡ 1 → ⊥) → Leaves d B t j l
+  pub leaves_parts : (B : List Pos) (t : Move) (j : ℕ) (l : Remainder) (p : Parted) → l.classes.items ≡ p.classes.items → l.refused ≡ p.refused → p.stale ≡ false → IsParted d B t p → (j ≡ 1 → ⊥) → Leaves d B t j l
   leaves_parts B t j l p same is none a more = record {
     none_lives = λ e. absurd (more e);
     none_stale = sym a.stale_part ∙ none;

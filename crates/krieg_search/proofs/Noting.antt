@@ -3,7 +3,7 @@ use Rattle.std.proofs.Common.{Bool, ◌≡◌, ℕ, zero, suc, ◌<◌, ◌^◌,
 use Rattle.std.specs.Prelude.{option_map}
 use Rattle.std.specs.Result.{IsErrAnd}
 use Rattle.std.proofs.lemmas.Bool.{both_ways}
-use Rattle.krieg_search.proofs.Common.{Pos, Move, Dialect, first_try, price, floor_price, position_lt, stored, AddsResult, known, IsBacked, CoversPair, CoversTries, chess, Known, Interned, sets, set_at, try_of, entries, IsMore, IsNoted, SearchStop, Large, IsReady, IsSearched, Stretches, TellsSet}
+use Rattle.krieg_search.proofs.Common.{Pos, Move, Dialect, first_try, price, floor_price, position_lt, stored, AddsResult, known, IsBacked, CoversPair, CoversTries, chess, SetResult, SetRows, sets, set_at, try_of, entries, IsMore, IsNoted, SearchStop, Large, IsReady, IsSearched, Stretches, TellsSet}
 use Rattle.krieg_accounts.proofs.Tables.{result_can}
 use Rattle.krieg_accounts.proofs.Stretches.{stretch_noted, short_noted, still_unknown}
 use Rattle.krieg_game.proofs.ChessLaws.{chess_is_game}
@@ -11,17 +11,17 @@ use Rattle.krieg_search.specs.declared.stop.SearchStop.TheVariants.{Spent, NoMem
 use Rattle.krieg_search.proofs.Searching.{more_then, searched_nothing}
 
 -- the sets of a table by their places
-set_there : (T : Interned) (m : ℕ) → set_at T m ≡ slice_index_or (sets T) m []
+set_there : (T : SetRows) (m : ℕ) → set_at T m ≡ slice_index_or (sets T) m []
 set_there [] m = refl
 set_there (r ∷ T) zero = refl
 set_there (r ∷ T) (suc m) = set_there T m
 
-length_sets : (T : Interned) → length (sets T) ≡ length T
+length_sets : (T : SetRows) → length (sets T) ≡ length T
 length_sets [] = refl
 length_sets (r ∷ T) = ap suc (length_sets T)
 
 -- no set changes where a result is noted
-module _ {T1 T2 : Interned} {set j : ℕ} {k : Known} (n : IsNoted T1 T2 set j k) where
+module _ {T1 T2 : SetRows} {set j : ℕ} {k : SetResult} (n : IsNoted T1 T2 set j k) where
   same_set : (m : ℕ) → set_at T2 m ≡ set_at T1 m
   same_set m = set_there T2 m ∙ ap (λ (xs : List (List Pos)). slice_index_or xs m []) n.same_sets ∙ sym (set_there T1 m)
 
@@ -33,7 +33,7 @@ module _ {T1 T2 : Interned} {set j : ℕ} {k : Known} (n : IsNoted T1 T2 set j k
 
 module _ (d : Dialect) (cut : Bool) where
   -- the result that is stored for a pair answers
-  pub stored_tells : (T : Interned) (B : List Pos) (j : ℕ) (o : Option Move) → IsReady d cut T → known (chess d) (entries T) (B, j) ≡ Some o → TellsSet d T B j (is_some o)
+  pub stored_tells : (T : SetRows) (B : List Pos) (j : ℕ) (o : Option Move) → IsReady d cut T → known (chess d) (entries T) (B, j) ≡ Some o → TellsSet d T B j (is_some o)
   stored_tells T B j (Some t) r h = record {
     right = sym (result_can (chess d) (chess_is_game d) cut (entries T) r.sound B j (Some t) h);
     stored = record { won = λ y. (j, t, h); lost = λ y. absurd (both_ways true y refl) };
@@ -43,7 +43,7 @@ module _ (d : Dialect) (cut : Bool) where
     stored = record { won = λ y. absurd (both_ways false refl y); lost = λ y p. h };
   }
 
-  pub found_tells : {T : Interned} {B : List Pos} {j : ℕ} (u : ℕ) {found : Option Known} {k : Known} → IsReady d cut T → found ≡ Some k → option_map try_of found ≡ stored position_lt (entries T) (B, j)
+  pub found_tells : {T : SetRows} {B : List Pos} {j : ℕ} (u : ℕ) {found : Option SetResult} {k : SetResult} → IsReady d cut T → found ≡ Some k → option_map try_of found ≡ stored position_lt (entries T) (B, j)
       → TellsSet d T B j (is_some (try_of k)) × IsSearched d cut (CoversPair (chess d) B j) 0 T T u u
   found_tells {T = T} {B = B} {j = j} u {k = k} r e h = (
     stored_tells T B j (try_of k) r (sym h ∙ ap (option_map try_of) e),
@@ -51,11 +51,11 @@ module _ (d : Dialect) (cut : Bool) where
   )
 
   -- nothing is stored where nothing is found
-  pub none_found : (T : Interned) (q : List Pos × ℕ) {found : Option Known} → found ≡ None → option_map try_of found ≡ stored position_lt (entries T) q → known (chess d) (entries T) q ≡ None
+  pub none_found : (T : SetRows) (q : List Pos × ℕ) {found : Option SetResult} → found ≡ None → option_map try_of found ≡ stored position_lt (entries T) q → known (chess d) (entries T) q ≡ None
   none_found T q e h = sym h ∙ ap (option_map try_of) e
 
   -- a search of the pair was stopped at one of its tries
-  pub pair_stopped : {A : Type 0} (P : SearchStop → Type 0) (r : Result A SearchStop) (wanted : A → Type 0) (B : List Pos) (j : ℕ) (T0 T : Interned) (u0 u : ℕ) → IsErrAnd r P → known (chess d) (entries T0) (B, j) ≡ None
+  pub pair_stopped : {A : Type 0} (P : SearchStop → Type 0) (r : Result A SearchStop) (wanted : A → Type 0) (B : List Pos) (j : ℕ) (T0 T : SetRows) (u0 u : ℕ) → IsErrAnd r P → known (chess d) (entries T0) (B, j) ≡ None
       → Stretches d cut r wanted (CoversTries (chess d) B j) (price (chess d) B) T0 T u0 u → Stretches d cut r wanted (CoversPair (chess d) B j) 0 T0 T u0 u
   pair_stopped P (Ok x) wanted B j T0 T u0 u fails none k = absurd fails
   pair_stopped P (Err Spent) wanted B j T0 T u0 u fails none k = (short_noted (chess d) (chess_is_game d) (entries T0) B j u0 none k.0, k.1)
@@ -63,7 +63,7 @@ module _ (d : Dialect) (cut : Bool) where
   pair_stopped P (Err NoMemory) wanted B j T0 T u0 u fails none k = k
 
   -- the tries are through, and the result is noted
-  pub noted : (T0 T1 T2 : Interned) (set j : ℕ) (k : Known) (o : Option Move) (u0 u1 : ℕ) → 0 < j → set < length T0
+  pub noted : (T0 T1 T2 : SetRows) (set j : ℕ) (k : SetResult) (o : Option Move) (u0 u1 : ℕ) → 0 < j → set < length T0
       → IsSearched d cut (CoversTries (chess d) (set_at T0 set) j) (floor_price (chess d) (set_at T0 set, j)) T0 T1 u0 u1
       → known (chess d) (entries T0) (set_at T0 set, j) ≡ None → IsNoted T1 T2 set j k → try_of k ≡ o → o ≡ first_try (chess d) j (set_at T0 set) → IsBacked (chess d) cut (entries T1) (set_at T0 set) j o
       → TellsSet d T2 (set_at T0 set) j (is_some o) × IsSearched d cut (CoversPair (chess d) (set_at T0 set) j) 0 T0 T2 u0 u1

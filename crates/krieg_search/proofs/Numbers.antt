@@ -1,7 +1,7 @@
 -- The numbers of moves for one set, one after another.
 use Rattle.std.proofs.Common.{Bool, ◌≡◌, ℕ, ◌+◌, ◌≤◌, ◌<◌, true, false, ◌⊎◌, List, None, refl, sym, subst, inl, inr, arith, eq-or-lt_of_le}
 use Rattle.std.proofs.lemmas.Bool.{both_ways}
-use Rattle.krieg_search.proofs.Common.{Pos, Dialect, can, StoredLost, CoversSet, CoversPair, LostBelow, chess, Interned, entries, IsReady, IsSearched, TellsSet}
+use Rattle.krieg_search.proofs.Common.{Pos, Dialect, can, StoredLost, CoversSet, CoversPair, LostBelow, chess, SetRows, entries, IsReady, IsSearched, TellsSet}
 use Rattle.krieg_theory.proofs.Unique.{can_upto}
 use Rattle.krieg_accounts.proofs.Covering.{covers_pair}
 use Rattle.krieg_game.proofs.ChessLaws.{chess_is_game}
@@ -9,19 +9,19 @@ use Rattle.krieg_search.proofs.Searching.{searched_nothing, searched_then}
 
 module _ (d : Dialect) (cut : Bool) where
   -- the set cannot be won within any number up to the one that was tried last
-  pub record IsCounting (T0 T : Interned) (B : List Pos) (j last u0 u : ℕ) : Type 0 where
+  pub record IsCounting (T0 T : SetRows) (B : List Pos) (j last u0 u : ℕ) : Type 0 where
     pub within : last ≤ j
     pub lost : LostBelow (chess d) (entries T) B (last + 1)
     pub fails : can (chess d) last B ≡ false
     pub searched : IsSearched d cut (CoversSet (chess d) B j) 0 T0 T u0 u
 
-  pub no_number : (T : Interned) (B : List Pos) (j u : ℕ) → IsReady d cut T → IsCounting T T B j 0 u u
+  pub no_number : (T : SetRows) (B : List Pos) (j u : ℕ) → IsReady d cut T → IsCounting T T B j 0 u u
   no_number T B j u r = record { within = omega arith; lost = λ i p q. absurd (omega arith); fails = refl; searched = searched_nothing d cut (CoversSet (chess d) B j) T u r }
 
   pub next_covers : (B : List Pos) (j last : ℕ) → last < j → (R : List (List Pos × ℕ)) → CoversSet (chess d) B j R → CoversPair (chess d) B (last + 1) R
   next_covers B j last l = covers_pair (chess d) B (last + 1) j (omega arith) (omega arith)
 
-  module _ {T0 T1 T2 : Interned} {B : List Pos} {j last u0 u1 u2 : ℕ} (a : IsCounting T0 T1 B j last u0 u1) (l : last < j) (s : IsSearched d cut (CoversPair (chess d) B (last + 1)) 0 T1 T2 u1 u2) where
+  module _ {T0 T1 T2 : SetRows} {B : List Pos} {j last u0 u1 u2 : ℕ} (a : IsCounting T0 T1 B j last u0 u1) (l : last < j) (s : IsSearched d cut (CoversPair (chess d) B (last + 1)) 0 T1 T2 u1 u2) where
     after : IsSearched d cut (CoversSet (chess d) B j) 0 T0 T2 u0 u2
     after = searched_then d cut (CoversSet (chess d) B j) (CoversPair (chess d) B (last + 1)) 0 0 0 T0 T1 T2 u0 u1 u2 (next_covers B j last l) a.searched refl s
 
@@ -47,7 +47,7 @@ module _ (d : Dialect) (cut : Bool) where
         go i p (inr h) = s.stretch.kept (B, i) None (a.lost i p h)
 
   -- no number is left
-  pub all_fail : {T0 T : Interned} {B : List Pos} {j last u0 u : ℕ} → IsCounting T0 T B j last u0 u → j ≤ last → TellsSet d T B j false × IsSearched d cut (CoversSet (chess d) B j) 0 T0 T u0 u
+  pub all_fail : {T0 T : SetRows} {B : List Pos} {j last u0 u : ℕ} → IsCounting T0 T B j last u0 u → j ≤ last → TellsSet d T B j false × IsSearched d cut (CoversSet (chess d) B j) 0 T0 T u0 u
   all_fail {T = T} {B = B} {j = j} {last = last} a h =
       let e : last ≡ j = (let w = a.within in omega arith) in (
         record {

@@ -4,7 +4,7 @@ use Rattle.std.specs.Ordering.{is_lt, nat_cmp, ord_max}
 use Rattle.std.proofs.lemmas.Bool.{cases_lt}
 use Rattle.std.proofs.lemmas.List.{append_assoc}
 use Rattle.std.proofs.Math.Nat.{le-max_left, le-max_right}
-use Rattle.krieg_search.proofs.Common.{Pos, Dialect, In, Just, size, depth, least, canon, greatest, stored, RootKey, chess, position_lt, NodeTree, PlanTrees, plan_size, plan_depth, Interned, set_at, entries, AddsSets, AreNumbered, sets_in, Win, Opening, WonBy, IsPaidFor, with_root, roots_for}
+use Rattle.krieg_search.proofs.Common.{Pos, Dialect, In, Just, size, depth, least, canon, greatest, stored, RootKey, chess, position_lt, NodeTree, PlanTrees, plan_size, plan_depth, SetRows, set_at, entries, AddsSets, AreNumbered, sets_in, Win, Opening, WonBy, IsPaidFor, with_root, roots_for}
 use Rattle.krieg_theory.proofs.Lists.{in_map}
 use Rattle.krieg_accounts.proofs.Tables.{wins_least}
 use Rattle.krieg_game.proofs.ChessLaws.{chess_is_game}
@@ -32,7 +32,7 @@ greater_is a b = go (cases_lt b a)
 
 module _ (d : Dialect) (j : ℕ) where
   -- the same for the roots of a plan, and with the greatest of the least numbers
-  pub record IsRooting (T0 T : Interned) (pushed : PlanTrees) (worst : ℕ) (rest all : List (RootKey × List Pos)) (had has deep : ℕ) : Type 0 where
+  pub record IsRooting (T0 T : SetRows) (pushed : PlanTrees) (worst : ℕ) (rest all : List (RootKey × List Pos)) (had has deep : ℕ) : Type 0 where
     pub joined : pushed ++ roots_for d j rest ≡ roots_for d j all
     pub numbers : max worst (greatest (λ (c : RootKey × List Pos). least (chess d) j c.1) rest) ≡ greatest (λ (c : RootKey × List Pos). least (chess d) j c.1) all
     pub nodes : has + plan_size (roots_for d j all) ≡ had + plan_size (roots_for d j rest)
@@ -40,14 +40,14 @@ module _ (d : Dialect) (j : ℕ) where
     pub short : plan_depth (roots_for d j rest) ≤ deep → plan_depth (roots_for d j all) ≤ deep
     pub sets : AddsSets T0 T
 
-  pub no_root : (T : Interned) (all : List (RootKey × List Pos)) (had deep : ℕ) → AddsSets T T → IsRooting T T [] 0 all all had had deep
+  pub no_root : (T : SetRows) (all : List (RootKey × List Pos)) (had deep : ℕ) → AddsSets T T → IsRooting T T [] 0 all all had had deep
   no_root T all had deep s = record { joined = refl; numbers = omega arith; nodes = refl; longest = omega arith; short = λ h. h; sets = s }
 
   no_more : (xs : PlanTrees) → xs ++ [] ≡ xs
   no_more [] = refl
   no_more (x ∷ xs) = ap (λ ys. x ∷ ys) (no_more xs)
 
-  pub all_roots : (T0 T : Interned) (pushed : PlanTrees) (worst : ℕ) (all : List (RootKey × List Pos)) (had has deep : ℕ) → IsRooting T0 T pushed worst [] all had has deep
+  pub all_roots : (T0 T : SetRows) (pushed : PlanTrees) (worst : ℕ) (all : List (RootKey × List Pos)) (had has deep : ℕ) → IsRooting T0 T pushed worst [] all had has deep
       → (pushed ≡ roots_for d j all) × (worst ≡ greatest (λ (c : RootKey × List Pos). least (chess d) j c.1) all) × (has + plan_size (roots_for d j all) ≡ had) × (plan_depth (roots_for d j all) ≤ deep) × AddsSets T0 T
   all_roots T0 T pushed worst all had has deep a = (
     sym (no_more pushed) ∙ a.joined,
@@ -57,7 +57,7 @@ module _ (d : Dialect) (j : ℕ) where
     a.sets,
   )
 
-  module _ (T0 T1 : Interned) (pushed : PlanTrees) (worst : ℕ) (c : RootKey × List Pos) (rest all : List (RootKey × List Pos)) (n : NodeTree) (had has deep : ℕ) (a : IsRooting T0 T1 pushed worst (c ∷ rest) all had has deep) (is : canon (chess d) j c.1 ≡ Just n) where
+  module _ (T0 T1 : SetRows) (pushed : PlanTrees) (worst : ℕ) (c : RootKey × List Pos) (rest all : List (RootKey × List Pos)) (n : NodeTree) (had has deep : ℕ) (a : IsRooting T0 T1 pushed worst (c ∷ rest) all had has deep) (is : canon (chess d) j c.1 ≡ Just n) where
     next : roots_for d j (c ∷ rest) ≡ (c.0, n) ∷ roots_for d j rest
     next = ap (λ m. with_root c.0 m (roots_for d j rest)) is
 
@@ -73,7 +73,7 @@ module _ (d : Dialect) (j : ℕ) where
     root_large (inr h) = inr (let x = a.longest in let s = depths in let m = le-max_left (depth n) (plan_depth (roots_for d j rest)) in omega arith)
 
     -- it fits, and its root is added
-    pub one_root : (T2 : Interned) (worse has' : ℕ) → worse ≡ max worst (least (chess d) j c.1) → has' + size n ≡ has → depth n ≤ deep → AddsSets T1 T2 → IsRooting T0 T2 (pushed ++ (c.0, n) ∷ []) worse rest all had has' deep
+    pub one_root : (T2 : SetRows) (worse has' : ℕ) → worse ≡ max worst (least (chess d) j c.1) → has' + size n ≡ has → depth n ≤ deep → AddsSets T1 T2 → IsRooting T0 T2 (pushed ++ (c.0, n) ∷ []) worse rest all had has' deep
     one_root T2 worse has' w e f s = record {
       joined = append_assoc pushed ((c.0, n) ∷ []) (roots_for d j rest) ∙ ap (λ ys. pushed ++ ys) (sym next) ∙ a.joined;
       numbers = (let x = a.numbers in omega arith);
@@ -84,7 +84,7 @@ module _ (d : Dialect) (j : ℕ) where
     }
 
 -- the opening whose root comes next
-module _ (d : Dialect) (j : ℕ) (T0 T1 : Interned) (os ahead rest : List Opening) (x : Opening) (e : ahead ≡ x ∷ rest) (inside : (o : Opening) → In o ahead → In o os) (s : AddsSets T0 T1) (paid : IsPaidFor d true T0) (n : AreNumbered T0 os) (won : (C : List Pos) → In C (sets_in T0 os) → WonBy T0 C j) where
+module _ (d : Dialect) (j : ℕ) (T0 T1 : SetRows) (os ahead rest : List Opening) (x : Opening) (e : ahead ≡ x ∷ rest) (inside : (o : Opening) → In o ahead → In o os) (s : AddsSets T0 T1) (paid : IsPaidFor d true T0) (n : AreNumbered T0 os) (won : (C : List Pos) → In C (sets_in T0 os) → WonBy T0 C j) where
   here : In x os
   here = inside x (subst (λ (ys : List Opening). In x ys) (sym e) (inl refl))
 

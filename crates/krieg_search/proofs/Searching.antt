@@ -1,27 +1,27 @@
 -- One stretch of the search behind another, over the table in which sets have numbers.
 use Rattle.std.proofs.Common.{Bool, ◌≡◌, ℕ, ◌+◌, ◌≤◌, List, Result, Ok, Err, refl, sym, subst, ◌∙◌, arith}
 use Rattle.std.specs.Result.{IsErrAnd}
-use Rattle.krieg_search.proofs.Common.{Pos, Move, Dialect, Entries, IsStretch, FallsShort, chess, Interned, entries, IsMore, SearchStop, Large, IsNumbered, IsReady, IsSearched, Stretches}
+use Rattle.krieg_search.proofs.Common.{Pos, Move, Dialect, Entries, IsStretch, FallsShort, chess, SetRows, entries, IsMore, SearchStop, Large, IsNumbered, IsReady, IsSearched, Stretches}
 use Rattle.krieg_accounts.proofs.Stretches.{stretch_of_nothing, stretch_of_split, stretch_then, short_then, stretch_cost, short_cost}
 use Rattle.krieg_search.specs.declared.stop.SearchStop.TheVariants.{Spent, NoMemory}
 
-pub more_itself : (T : Interned) → IsMore T T
+pub more_itself : (T : SetRows) → IsMore T T
 more_itself T = record { longer = omega arith; same = λ k h. refl }
 
-pub more_then : (T0 T1 T2 : Interned) → IsMore T0 T1 → IsMore T1 T2 → IsMore T0 T2
+pub more_then : (T0 T1 T2 : SetRows) → IsMore T0 T1 → IsMore T1 T2 → IsMore T0 T2
 more_then T0 T1 T2 a b = record { longer = (let x = a.longer in let y = b.longer in omega arith); same = λ k h. (let x = a.longer in b.same k (omega arith) ∙ a.same k h) }
 
 module _ (d : Dialect) (cut : Bool) where
-  pub ready_from : {Q : List (List Pos × ℕ) → Type 0} {a : ℕ} {T T' : Interned} {u0 u1 : ℕ} → IsSearched d cut Q a T T' u0 u1 → IsReady d cut T'
+  pub ready_from : {Q : List (List Pos × ℕ) → Type 0} {a : ℕ} {T T' : SetRows} {u0 u1 : ℕ} → IsSearched d cut Q a T T' u0 u1 → IsReady d cut T'
   ready_from s = record { counted = s.counted; sound = s.stretch.sound }
 
-  pub searched_nothing : (Q : List (List Pos × ℕ) → Type 0) (T : Interned) (u : ℕ) → IsReady d cut T → IsSearched d cut Q 0 T T u u
+  pub searched_nothing : (Q : List (List Pos × ℕ) → Type 0) (T : SetRows) (u : ℕ) → IsReady d cut T → IsSearched d cut Q 0 T T u u
   searched_nothing Q T u r = record { counted = r.counted; more = more_itself T; fewer = omega arith; stretch = stretch_of_nothing (chess d) cut Q (entries T) u r.sound }
 
-  pub searched_split : (Q : List (List Pos × ℕ) → Type 0) (T : Interned) (m had has : ℕ) → IsReady d cut T → has + m ≡ had → IsSearched d cut Q m T T had has
+  pub searched_split : (Q : List (List Pos × ℕ) → Type 0) (T : SetRows) (m had has : ℕ) → IsReady d cut T → has + m ≡ had → IsSearched d cut Q m T T had has
   searched_split Q T m had has r e = record { counted = r.counted; more = more_itself T; fewer = omega arith; stretch = stretch_of_split (chess d) cut Q (entries T) m had has r.sound e }
 
-  pub searched_then : (Q Q' : List (List Pos × ℕ) → Type 0) (a b all : ℕ) (T0 T1 T2 : Interned) (u0 u1 u2 : ℕ) → ((R : List (List Pos × ℕ)) → Q R → Q' R) → IsSearched d cut Q a T0 T1 u0 u1 → a + b ≡ all → IsSearched d cut Q' b T1 T2 u1 u2 → IsSearched d cut Q all T0 T2 u0 u2
+  pub searched_then : (Q Q' : List (List Pos × ℕ) → Type 0) (a b all : ℕ) (T0 T1 T2 : SetRows) (u0 u1 u2 : ℕ) → ((R : List (List Pos × ℕ)) → Q R → Q' R) → IsSearched d cut Q a T0 T1 u0 u1 → a + b ≡ all → IsSearched d cut Q' b T1 T2 u1 u2 → IsSearched d cut Q all T0 T2 u0 u2
   searched_then Q Q' a b all T0 T1 T2 u0 u1 u2 f s e t = record {
     counted = t.counted;
     more = more_then T0 T1 T2 s.more t.more;
@@ -30,7 +30,7 @@ module _ (d : Dialect) (cut : Bool) where
   }
 
   -- a set is given its number
-  pub searched_number : {Q : List (List Pos × ℕ) → Type 0} {a : ℕ} {T0 T1 T2 : Interned} {B : List Pos} {set u0 u1 : ℕ} → IsSearched d cut Q a T0 T1 u0 u1 → IsNumbered T1 T2 B set → IsSearched d cut Q a T0 T2 u0 u1
+  pub searched_number : {Q : List (List Pos × ℕ) → Type 0} {a : ℕ} {T0 T1 T2 : SetRows} {B : List Pos} {set u0 u1 : ℕ} → IsSearched d cut Q a T0 T1 u0 u1 → IsNumbered T1 T2 B set → IsSearched d cut Q a T0 T2 u0 u1
   searched_number {Q = Q} {a = a} {T0 = T0} {T1 = T1} {T2 = T2} {u0 = u0} {u1 = u1} s n = record {
     counted = n.counted;
     more = more_then T0 T1 T2 s.more n.interned.more;
@@ -38,11 +38,11 @@ module _ (d : Dialect) (cut : Bool) where
     stretch = subst (λ (E : Entries Pos Move). IsStretch (chess d) cut Q a (entries T0) E u0 u1) (sym n.interned.noted) s.stretch;
   }
 
-  pub short_behind : (Q Q' : List (List Pos × ℕ) → Type 0) (a b all : ℕ) (T0 T1 : Interned) (u0 u1 : ℕ) → ((R : List (List Pos × ℕ)) → Q R → Q' R) → IsSearched d cut Q a T0 T1 u0 u1 → a + b ≤ all → FallsShort (chess d) Q' b (entries T1) u1 → FallsShort (chess d) Q all (entries T0) u0
+  pub short_behind : (Q Q' : List (List Pos × ℕ) → Type 0) (a b all : ℕ) (T0 T1 : SetRows) (u0 u1 : ℕ) → ((R : List (List Pos × ℕ)) → Q R → Q' R) → IsSearched d cut Q a T0 T1 u0 u1 → a + b ≤ all → FallsShort (chess d) Q' b (entries T1) u1 → FallsShort (chess d) Q all (entries T0) u0
   short_behind Q Q' a b all T0 T1 u0 u1 f s h v = short_cost (chess d) Q (a + b) all (entries T0) u0 h (short_then (chess d) cut Q Q' a b (entries T0) (entries T1) u0 u1 f s.stretch v)
 
   -- a step was stopped, behind others
-  pub stopped : {A B : Type 0} {P : SearchStop → Type 0} (r : Result B SearchStop) (e : SearchStop) (holds : A → Type 0) (wanted : B → Type 0) {Q Q' : List (List Pos × ℕ) → Type 0} {a : ℕ} (b : ℕ) {all : ℕ} {T0 T1 : Interned} (T2 T3 : Interned) {u0 u1 : ℕ} (u2 : ℕ)
+  pub stopped : {A B : Type 0} {P : SearchStop → Type 0} (r : Result B SearchStop) (e : SearchStop) (holds : A → Type 0) (wanted : B → Type 0) {Q Q' : List (List Pos × ℕ) → Type 0} {a : ℕ} (b : ℕ) {all : ℕ} {T0 T1 : SetRows} (T2 T3 : SetRows) {u0 u1 : ℕ} (u2 : ℕ)
       → ((x : SearchStop) → P x → e ≡ x) → IsErrAnd r P → ((R : List (List Pos × ℕ)) → Q R → Q' R) → IsSearched d cut Q a T0 T1 u0 u1 → a + b ≤ all → Stretches d cut (Err e) holds Q' b T1 T2 u1 u2 → Stretches d cut r wanted Q all T0 T3 u0 u2
   stopped (Ok x) e holds wanted b T2 T3 u2 same fails f s h k = absurd fails
   stopped {A = A} {B = B} (Err x) e holds wanted {Q = Q} {Q' = Q'} {a = a} b {all = all} {T0 = T0} {T1 = T1} T2 T3 {u0 = u0} {u1 = u1} u2 same fails f s h k =

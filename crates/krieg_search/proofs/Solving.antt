@@ -1,7 +1,7 @@
 -- The plan of the opening sets is the best one.
 use Rattle.std.proofs.Common.{Bool, ◌≡◌, ℕ, ◌<◌, ◌^◌, true, false, max, List, [], ◌∷◌, map, Ok, refl, sym, ap, subst, ◌∙◌, arith}
 use Rattle.std.proofs.lemmas.Bool.{both_ways, false_from_ne_true}
-use Rattle.krieg_search.proofs.Common.{Pos, Move, Side, Dialect, Maybe, Nothing, Just, least, canon, greatest, openings, opening_set, roots_of, root_with, can_plan, canon_plan, canon_worst, Key, RootKey, chess, outset, PlanTrees, plan_of, is_ordered_plan, Answer, Mates, None, Found, entries, opening_in, IsWon, IsPaidFor, with_root, roots_for, IsUnfit, IsPlan, IsPlanned, IsBest, NoneMates, IsLarge, IsAnswer}
+use Rattle.krieg_search.proofs.Common.{Pos, Move, Side, Dialect, Maybe, Nothing, Just, least, canon, greatest, openings, opening_set, roots_of, root_with, can_plan, canon_plan, canon_worst, Key, RootKey, chess, outset, PlanTrees, plan_of, is_ordered_plan, Answer, Mates, None, Findings, entries, opening_in, IsWon, IsPaidFor, with_root, roots_for, IsUnfit, IsPlan, IsPlanned, IsBest, NoneMates, IsLarge, IsAnswer}
 use Rattle.krieg_theory.proofs.Planned.{mates_shows, canon_plan_is, canon_plan_worst, worst_enough, worst_least}
 use Rattle.krieg_accounts.proofs.Stretches.{weaker}
 use Rattle.krieg_game.proofs.ChessLaws.{chess_is_game, outset_is_lawful}
@@ -37,7 +37,7 @@ module _ (d : Dialect) (who : Side) (S : List Pos) (n : ℕ) where
     cannot = c;
   }
 
-  module _ (cut : Bool) (w : Found) (had : ℕ) (a : IsWon d who S n cut w had) where
+  module _ (cut : Bool) (w : Findings) (had : ℕ) (a : IsWon d who S n cut w had) where
     pairs : List (RootKey × List Pos)
     pairs = map (opening_in w.table) w.openings.items
 
@@ -70,6 +70,6 @@ module _ (d : Dialect) (who : Side) (S : List Pos) (n : ℕ) where
 
 module _ (d : Dialect) (who : Side) (S : List Pos) (n : ℕ) where
   -- the plan was built
-  pub built : (cut : Bool) (w : Found) (had nodes : ℕ) (a : Answer) → IsWon d who S n cut w had → IsPlanned d n (map (opening_in w.table) w.openings.items) nodes (Ok a) → IsAnswer d who S n nodes (Ok a)
+  pub built : (cut : Bool) (w : Findings) (had nodes : ℕ) (a : Answer) → IsWon d who S n cut w had → IsPlanned d n (map (opening_in w.table) w.openings.items) nodes (Ok a) → IsAnswer d who S n nodes (Ok a)
   built cut w had nodes (Mates worst plan) k p = (is_best d who S n cut w had k nodes worst (plan_of plan) p, p.fit)
   built cut w had nodes None k p = absurd p

@@ -4,7 +4,7 @@ use Rattle.std.specs.Prelude.{All}
 use Rattle.std.proofs.lemmas.List.{get_or-map, length-map}
 use Rattle.std.proofs.lemmas.List.Elements.{All-map}
 use Rattle.krieg_search.proofs.Common.{Pos, Move, tally_of, move_of, IsTold, Plain, Counted}
-use Rattle.krieg_search.specs.declared.tried.Try.{Try}
+use Rattle.krieg_search.specs.declared.try_list.Try.{Try}
 
 -- nothing is told
 pub plain_moves : (ts : List Move) → map move_of (map (λ t. Plain t) ts) ≡ ts

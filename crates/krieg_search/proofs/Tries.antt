@@ -1,6 +1,6 @@
 -- The tries of a set, one after another.
 use Rattle.std.proofs.Common.{Bool, ◌≡◌, ℕ, ◌+◌, ◌≤◌, ◌<◌, true, false, List, length, take, get_or, Option, Some, None, sym, subst}
-use Rattle.krieg_search.proofs.Common.{Pos, Move, Dialect, legal_in_some, tries, first_try, total, made, price, floor_price, IsBacked, CoversTry, CoversTries, LostBelow, chess, Interned, entries, IsReady, IsSearched, TellsTry}
+use Rattle.krieg_search.proofs.Common.{Pos, Move, Dialect, legal_in_some, tries, first_try, total, made, price, floor_price, IsBacked, CoversTry, CoversTries, LostBelow, chess, SetRows, entries, IsReady, IsSearched, TellsTry}
 use Rattle.krieg_accounts.proofs.Covering.{covers_try}
 use Rattle.krieg_accounts.proofs.TryWalk.{FailedTo, legal_at, first_here, first_none, price_here, price_none, price_within, price_more, failed_more, backed_here, backed_none}
 use Rattle.krieg_game.proofs.ChessLaws.{chess_is_game}
@@ -8,14 +8,14 @@ use Rattle.krieg_search.proofs.Searching.{searched_nothing, searched_then}
 
 module _ (d : Dialect) (cut : Bool) where
   -- the first k tries have failed, and were split since the first of the two tables
-  pub record IsTrying (T0 T : Interned) (B : List Pos) (j : ℕ) (ts : List Move) (k u0 u : ℕ) : Type 0 where
+  pub record IsTrying (T0 T : SetRows) (B : List Pos) (j : ℕ) (ts : List Move) (k u0 u : ℕ) : Type 0 where
     pub failed : FailedTo (chess d) (chess_is_game d) cut (entries T) B j ts k
     pub searched : IsSearched d cut (CoversTries (chess d) B j) (total (made (chess d) B) (take k ts)) T0 T u0 u
 
-  pub none_tried : (T : Interned) (B : List Pos) (j : ℕ) (ts : List Move) (u : ℕ) → IsReady d cut T → IsTrying T T B j ts 0 u u
+  pub none_tried : (T : SetRows) (B : List Pos) (j : ℕ) (ts : List Move) (u : ℕ) → IsReady d cut T → IsTrying T T B j ts 0 u u
   none_tried T B j ts u r = record { failed = λ t i. absurd i; searched = searched_nothing d cut (CoversTries (chess d) B j) T u r }
 
-  module _ {B : List Pos} {j : ℕ} {ts : List Move} (are : ts ≡ tries (chess d) B) {T0 T1 : Interned} {k : ℕ} {t : Move} {u0 u1 : ℕ} (l : k < length ts) (e : t ≡ get_or ts k t) (a : IsTrying T0 T1 B j ts k u0 u1) where
+  module _ {B : List Pos} {j : ℕ} {ts : List Move} (are : ts ≡ tries (chess d) B) {T0 T1 : SetRows} {k : ℕ} {t : Move} {u0 u1 : ℕ} (l : k < length ts) (e : t ≡ get_or ts k t) (a : IsTrying T0 T1 B j ts k u0 u1) where
     pub next_legal : legal_in_some (chess d) B t ≡ true
     next_legal = legal_at (chess d) (chess_is_game d) B j ts are k t l e
 
@@ -26,7 +26,7 @@ module _ (d : Dialect) (cut : Bool) where
     pub next_within : total (made (chess d) B) (take k ts) + made (chess d) B t ≤ price (chess d) B
     next_within = price_within (chess d) (chess_is_game d) B j ts are k t l e
 
-    module _ {T2 : Interned} {u2 : ℕ} (s : IsSearched d cut (CoversTry (chess d) B j t) (made (chess d) B t) T1 T2 u1 u2) where
+    module _ {T2 : SetRows} {u2 : ℕ} (s : IsSearched d cut (CoversTry (chess d) B j t) (made (chess d) B t) T1 T2 u1 u2) where
       after : (all : ℕ) → total (made (chess d) B) (take k ts) + made (chess d) B t ≡ all → IsSearched d cut (CoversTries (chess d) B j) all T0 T2 u0 u2
       after all p = searched_then d cut (CoversTries (chess d) B j) (CoversTry (chess d) B j t) (total (made (chess d) B) (take k ts)) (made (chess d) B t) all T0 T1 T2 u0 u1 u2 next_covers a.searched p s
 
@@ -49,7 +49,7 @@ module _ (d : Dialect) (cut : Bool) where
         win_backed some below = backed_here (chess d) (chess_is_game d) B j ts are cut (entries T1) (entries T2) k t some l e s.stretch.kept (λ i p q. win_searched.stretch.kept (B, i) None (below i p q)) a.failed w.stored
 
   -- no try is left: the set cannot be won
-  module _ {B : List Pos} {j : ℕ} {ts : List Move} (are : ts ≡ tries (chess d) B) {T0 T : Interned} {k u0 u : ℕ} (l : length ts ≤ k) (a : IsTrying T0 T B j ts k u0 u) where
+  module _ {B : List Pos} {j : ℕ} {ts : List Move} (are : ts ≡ tries (chess d) B) {T0 T : SetRows} {k u0 u : ℕ} (l : length ts ≤ k) (a : IsTrying T0 T B j ts k u0 u) where
     pub loss_first : ◌≡◌ {A = Option Move} None (first_try (chess d) j B)
     loss_first = first_none (chess d) (chess_is_game d) B j ts are cut (entries T) k l a.failed
 

@@ -3,7 +3,7 @@ use Rattle.std.proofs.Common.{◌≡◌, ℕ, suc, ◌+◌, ◌-◌, ◌<◌, Bo
 use Rattle.std.specs.Prelude.{IfSome, IsTrue, ◌↔◌}
 use Rattle.std.specs.List.{list_all}
 use Rattle.std.proofs.lemmas.Bool.{both_ways, or_left}
-use Rattle.krieg_search.proofs.Common.{Pos, Move, Dialect, In, is_nil, refused, legal_in_some, can, begins, made, known, StoredLost, StoredWon, CoversSet, CoversTry, CoversSets, classes, chess, Interned, set_at, entries, Left, AtOnce, Refused, IsNumbered, IsReady, IsSearched, TellsSet, TellsTry, TellsSets, sets_of, TellsFirst, TellsBlock, FailsAtOnce, Leaves, IsLeft}
+use Rattle.krieg_search.proofs.Common.{Pos, Move, Dialect, In, is_nil, refused, legal_in_some, can, begins, made, known, StoredLost, StoredWon, CoversSet, CoversTry, CoversSets, classes, chess, SetRows, set_at, entries, Remainder, AtOnce, Refused, IsNumbered, IsReady, IsSearched, TellsSet, TellsTry, TellsSets, sets_of, TellsFirst, TellsBlock, FailsAtOnce, Leaves, IsRemainder}
 use Rattle.krieg_theory.proofs.Steps.{refused_lt}
 use Rattle.krieg_accounts.proofs.Covering as covering
 use Rattle.krieg_accounts.proofs.TryEnds.{begins_class, begins_rest, answered_class, answered_all, answered_rest}
@@ -23,7 +23,7 @@ some_is (x ∷ X) b h e = refl
 
 module _ (d : Dialect) (cut : Bool) where
   -- a try that fails at once
-  pub failed : (T : Interned) (B : List Pos) (t : Move) (j u0 u1 : ℕ) → IsReady d cut T → FailsAtOnce d cut B t j → u1 + made (chess d) B t ≡ u0
+  pub failed : (T : SetRows) (B : List Pos) (t : Move) (j u0 u1 : ℕ) → IsReady d cut T → FailsAtOnce d cut B t j → u1 + made (chess d) B t ≡ u0
       → TellsBlock d cut T B j t (Some AtOnce) × IsSearched d cut (CoversTry (chess d) B j t) (made (chess d) B t) T T u0 u1
   failed T B t j u0 u1 r f e = (
     record {
@@ -41,23 +41,23 @@ module _ (d : Dialect) (cut : Bool) where
   )
 
   -- what is at hand where the try does not fail at once
-  pub record IsTried (T : Interned) (B : List Pos) (t : Move) (j : ℕ) (l : Left) (u0 u1 : ℕ) : Type 0 where
+  pub record IsTried (T : SetRows) (B : List Pos) (t : Move) (j : ℕ) (l : Remainder) (u0 u1 : ℕ) : Type 0 where
     pub some : 0 < j
     pub ready : IsReady d cut T
     pub legal : legal_in_some (chess d) B t ≡ true
     pub leaves : Leaves d B t j l
     pub taken : u1 + made (chess d) B t ≡ u0
 
-  pub tried_at : {T : Interned} {B0 B : List Pos} {found : Option Left} {l : Left} (t : Move) (j u0 u1 : ℕ) → B0 ≡ B → found ≡ Some l → 0 < j → IsReady d cut T → legal_in_some (chess d) B t ≡ true → IsLeft d cut B0 t j found → u1 + made (chess d) B0 t ≡ u0 → IsTried T B t j l u0 u1
+  pub tried_at : {T : SetRows} {B0 B : List Pos} {found : Option Remainder} {l : Remainder} (t : Move) (j u0 u1 : ℕ) → B0 ≡ B → found ≡ Some l → 0 < j → IsReady d cut T → legal_in_some (chess d) B t ≡ true → IsRemainder d cut B0 t j found → u1 + made (chess d) B0 t ≡ u0 → IsTried T B t j l u0 u1
   tried_at {B0 = B0} {l = l} t j u0 u1 same is some ready legal left taken = record {
     some = some;
     ready = ready;
     legal = legal;
-    leaves = subst (λ (X : List Pos). Leaves d X t j l) same (subst (λ (o : Option Left). IsLeft d cut B0 t j o) is left);
+    leaves = subst (λ (X : List Pos). Leaves d X t j l) same (subst (λ (o : Option Remainder). IsRemainder d cut B0 t j o) is left);
     taken = subst (λ (X : List Pos). u1 + made (chess d) X t ≡ u0) same taken;
   }
 
-  module _ {T0 : Interned} {B : List Pos} {t : Move} {j : ℕ} {l : Left} {u0 u1 : ℕ} (a : IsTried T0 B t j l u0 u1) where
+  module _ {T0 : SetRows} {B : List Pos} {t : Move} {j : ℕ} {l : Remainder} {u0 u1 : ℕ} (a : IsTried T0 B t j l u0 u1) where
     one_less : suc (j - 1) ≡ j
     one_less = let p = a.some in omega arith
 
@@ -76,14 +76,14 @@ module _ (d : Dialect) (cut : Bool) where
     pub after_split : IsSearched d cut (CoversTry (chess d) B j t) (made (chess d) B t) T0 T0 u0 u1
     after_split = searched_split d cut (CoversTry (chess d) B j t) T0 (made (chess d) B t) u0 u1 a.ready a.taken
 
-    pub after_classes : {T1 : Interned} {u2 : ℕ} → IsSearched d cut (CoversSets (chess d) (sets_of l.classes.items) (j - 1)) 0 T0 T1 u1 u2 → IsSearched d cut (CoversTry (chess d) B j t) (made (chess d) B t) T0 T1 u0 u2
+    pub after_classes : {T1 : SetRows} {u2 : ℕ} → IsSearched d cut (CoversSets (chess d) (sets_of l.classes.items) (j - 1)) 0 T0 T1 u1 u2 → IsSearched d cut (CoversTry (chess d) B j t) (made (chess d) B t) T0 T1 u0 u2
     after_classes {T1 = T1} {u2 = u2} w = searched_then d cut (CoversTry (chess d) B j t) (CoversSets (chess d) (sets_of l.classes.items) (j - 1)) (made (chess d) B t) 0 (made (chess d) B t) T0 T0 T1 u0 u1 u2 covers_classes after_split (omega arith) w
 
-    in_game : (T : Interned) (won : Bool) → TellsSets d T (sets_of l.classes.items) (j - 1) won → TellsSets d T (classes (chess d) B t) (j - 1) won
+    in_game : (T : SetRows) (won : Bool) → TellsSets d T (sets_of l.classes.items) (j - 1) won → TellsSets d T (classes (chess d) B t) (j - 1) won
     in_game T won w = subst (λ (Cs : List (List Pos)). TellsSets d T Cs (j - 1) won) at_sets w
 
     -- some class cannot be won
-    pub class_lost : {T1 : Interned} (lost : LostClass) → TellsFirst d T1 l.classes.items (j - 1) (Some lost) → TellsBlock d cut T1 B j t (Some (Class lost.heard lost.set))
+    pub class_lost : {T1 : SetRows} (lost : LostClass) → TellsFirst d T1 l.classes.items (j - 1) (Some lost) → TellsBlock d cut T1 B j t (Some (Class lost.heard lost.set))
     class_lost {T1 = T1} lost w =
         let v = in_game T1 false w.tells in
         let b = class_blocks d B t (j - 1) l leaves_less lost.heard (set_at T1 lost.set) w.first in
@@ -96,7 +96,7 @@ module _ (d : Dialect) (cut : Bool) where
         })
 
     -- all classes can be won
-    module _ {T1 : Interned} (w : TellsFirst d T1 l.classes.items (j - 1) None) where
+    module _ {T1 : SetRows} (w : TellsFirst d T1 l.classes.items (j - 1) None) where
       all_won : list_all (can (chess d) (j - 1)) (classes (chess d) B t) ≡ true
       all_won = sym (in_game T1 true w.tells).right
 
@@ -119,7 +119,7 @@ module _ (d : Dialect) (cut : Bool) where
           })
 
       -- or those that do are searched last
-      module _ {T2 : Interned} {rest u2 : ℕ} (s : IsSearched d cut (CoversSets (chess d) (sets_of l.classes.items) (j - 1)) 0 T0 T1 u1 u2) (n : is_nil l.refused ≡ false) (i : IsNumbered T1 T2 l.refused rest) where
+      module _ {T2 : SetRows} {rest u2 : ℕ} (s : IsSearched d cut (CoversSets (chess d) (sets_of l.classes.items) (j - 1)) 0 T0 T1 u1 u2) (n : is_nil l.refused ≡ false) (i : IsNumbered T1 T2 l.refused rest) where
         abbrev X : List Pos
         X = set_at T2 rest
 
@@ -138,7 +138,7 @@ module _ (d : Dialect) (cut : Bool) where
         pub covers_rest : (R : List (List Pos × ℕ)) → CoversTry (chess d) B j t R → CoversSet (chess d) X j R
         covers_rest R h = subst (λ (Y : List Pos). CoversSet (chess d) Y j R) (sym is_rest) (covering.covers_refused (chess d) B j t some_rest R h)
 
-        module _ {T3 : Interned} {u3 : ℕ} (r : IsSearched d cut (CoversSet (chess d) X j) 0 T2 T3 u2 u3) where
+        module _ {T3 : SetRows} {u3 : ℕ} (r : IsSearched d cut (CoversSet (chess d) X j) 0 T2 T3 u2 u3) where
           kept : (C : List Pos) → StoredWon (chess d) (entries T1) C → StoredWon (chess d) (entries T3) C
           kept C m = (m.0, m.1, r.stretch.kept (C, m.0) (Some m.1) (subst (λ E. known (chess d) E (C, m.0) ≡ Some (Some m.1)) (sym i.interned.noted) m.2))
 

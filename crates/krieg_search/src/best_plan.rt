@@ -4,17 +4,17 @@ ghost use Rattle.krieg_theory.specs.Sets.{In};
 ghost use Rattle.krieg_costs.specs.Cost.{cost_of};
 ghost use Rattle.krieg_game.specs.Chess.{chess};
 ghost use Rattle.krieg_game.specs.Outset.{outset};
-ghost use Rattle.krieg_plan.specs.Ordered.{is_ordered_plan};
-ghost use Rattle.krieg_split.specs.Turns.{IsOwnTurn, IsOthersTurn};
+ghost use Rattle.krieg_plan.specs.Order.{is_ordered_plan};
+ghost use Rattle.krieg_parting.specs.Turns.{IsOwnTurn, IsOthersTurn};
 ghost use Rattle.krieg_search.specs.declared.stop.SearchStop.TheVariants.{Spent};
-ghost use Rattle.krieg_search.specs.Opened.{AreNumbered, opening_in};
-ghost use Rattle.krieg_search.specs.Decided.{sets_in};
-ghost use Rattle.krieg_search.specs.Built.{WonBy, IsPaidFor, roots_for};
-ghost use Rattle.krieg_search.specs.Planned.{IsPlanned};
-ghost use Rattle.krieg_search.specs.Solved.{IsAnswer, IsCharged, HasAccount, IsChargedAtMost, Takes};
+ghost use Rattle.krieg_search.specs.Openings.{AreNumbered, opening_in};
+ghost use Rattle.krieg_search.specs.Decision.{sets_in};
+ghost use Rattle.krieg_search.specs.Building.{WonBy, IsPaidFor, roots_for};
+ghost use Rattle.krieg_search.specs.BuiltPlan.{IsPlanned};
+ghost use Rattle.krieg_search.specs.Solutions.{IsAnswer, IsCharged, HasAccount, IsChargedAtMost, Takes};
 
 use crate::build::Builder;
-use crate::decide::{Decided, Found, decide};
+use crate::decide::{Decision, Findings, decide};
 use crate::roots::{Roots, build_roots};
 use crate::stop::SearchStop;
 use crate::way::Way;
@@ -38,7 +38,7 @@ pub enum Answer {
 fn build_plan(
     alloc: Global,
     d: Dialect,
-    won: Found,
+    won: Findings,
     moves: u8,
     nodes: usize,
 ) -> Result<Answer, SearchStop>
@@ -50,7 +50,7 @@ fn build_plan(
         (map (opening_in won.table) won.openings.items)) ≡ true }
     ensures { IsPlanned d moves (map (opening_in won.table) won.openings.items) nodes result }
 {
-    let Found {
+    let Findings {
         table,
         openings,
         ..
@@ -79,15 +79,15 @@ fn answer_for(
 {
     let mut left = Units::new(units.left());
     let won = match decide(way, 0, who, b, moves, &mut left)? {
-        Decided::Over => {
+        Decision::Over => {
             *units = left;
             return Ok(Answer::None);
         }
-        Decided::Lost(_found) => {
+        Decision::Lost(_found) => {
             *units = left;
             return Ok(Answer::None);
         }
-        Decided::Won(won) => won,
+        Decision::Won(won) => won,
     };
     match build_plan(way.alloc, way.d, won, moves, nodes) {
         Ok(answer) => {

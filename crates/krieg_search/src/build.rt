@@ -9,12 +9,12 @@ ghost use Rattle.krieg_accounts.specs.Stored.{stored};
 ghost use Rattle.krieg_accounts.specs.Laws.{refused_canon};
 ghost use Rattle.krieg_game.specs.Chess.{chess};
 ghost use Rattle.krieg_game.specs.Classes.{class_pair};
-ghost use Rattle.krieg_split.specs.Parted.{IsParted};
-ghost use Rattle.krieg_table.specs.Interned.{set_at};
+ghost use Rattle.krieg_split.specs.Parts.{IsParted};
+ghost use Rattle.krieg_table.specs.SetRows.{set_at};
 ghost use Rattle.krieg_table.specs.Entries.{entries};
 ghost use Rattle.krieg_plan.specs.Nodes.{tree_of, edge_of, as_other, as_edges};
-ghost use Rattle.krieg_search.specs.Searched.{sets_of};
-ghost use Rattle.krieg_search.specs.Built.{WonBy, IsPaidFor, winning_try, edges_for, Builds};
+ghost use Rattle.krieg_search.specs.Stretches.{sets_of};
+ghost use Rattle.krieg_search.specs.Building.{WonBy, IsPaidFor, winning_try, edges_for, Builds};
 
 use crate::number::number_of;
 use crate::stop::SearchStop;
@@ -24,7 +24,7 @@ use krieg_pack::Belief;
 use krieg_parting::PartStop;
 use krieg_plan::{Edge, Node};
 use krieg_split::{Parted, split};
-use krieg_table::{Known, Table};
+use krieg_table::{SetResult, Table};
 use krieg_words::Dialect;
 use std::alloc::Global;
 
@@ -42,8 +42,8 @@ fn stored_try(table: &Table, set: u32, moves: u8) -> Option<Move>
         (set_at table.now set, moves)) }
 {
     match table.result(set, moves) {
-        Some(Known::Wins(mv)) => Some(mv),
-        Some(Known::Loses) => None,
+        Some(SetResult::Wins(mv)) => Some(mv),
+        Some(SetResult::Loses) => None,
         None => None,
     }
 }

@@ -1,10 +1,10 @@
 ghost use Rattle.std.specs.Prelude.{◌≡◌, ◌≤◌, ◌⊎◌, IfOk, OnOk, map};
 ghost use Rattle.krieg_accounts.specs.Stretch.{CoversSets};
 ghost use Rattle.krieg_game.specs.Chess.{chess};
-ghost use Rattle.krieg_split.specs.Turns.{IsOwnTurn, IsOthersTurn};
-ghost use Rattle.krieg_search.specs.Searched.{IsAtWork, Searches, TellsSets};
-ghost use Rattle.krieg_search.specs.Opened.{AreNumbered};
-ghost use Rattle.krieg_search.specs.Decided.{IsDecided, AreFewNotes, sets_in};
+ghost use Rattle.krieg_parting.specs.Turns.{IsOwnTurn, IsOthersTurn};
+ghost use Rattle.krieg_search.specs.Stretches.{IsAtWork, Searches, TellsSets};
+ghost use Rattle.krieg_search.specs.Openings.{AreNumbered};
+ghost use Rattle.krieg_search.specs.Decision.{IsDecision, AreFewNotes, sets_in};
 
 use crate::notes::Notes;
 use crate::openings::{Opening, find_openings};
@@ -18,7 +18,7 @@ use krieg_table::Table;
 
 /// What a search leaves: the results, and what may be heard before the first own turn.
 #[derive(Drop)]
-pub struct Found {
+pub struct Findings {
     pub table: Table,
     pub openings: Vec<Opening>,
     /// What blocks each try of sets that cannot be won.
@@ -27,13 +27,13 @@ pub struct Found {
 
 /// Whether some plan mates every listed position.
 #[derive(Drop)]
-pub enum Decided {
+pub enum Decision {
     /// None does, since some listed position is over.
     Over,
     /// None does: the set of some opening cannot be won, and the first such is stored.
-    Lost(Found),
+    Lost(Findings),
     /// Some plan does: the set of each opening is stored as one that can be won.
-    Won(Found),
+    Won(Findings),
 }
 
 /// Whether the set of each opening can be won within `moves`, up to the first that cannot.
@@ -75,10 +75,10 @@ pub fn decide(
     b: &Belief,
     moves: u8,
     units: &mut Units,
-) -> Result<Decided, SearchStop>
+) -> Result<Decision, SearchStop>
     requires most { moves ≤ MOST_MOVES }
     requires turn { IsOwnTurn who b.now ⊎ IsOthersTurn who b.now }
-    ensures decided { IsDecided way.d who b.now moves way.cut result units.old units.new }
+    ensures decided { IsDecision way.d who b.now moves way.cut result units.old units.new }
     ensures noted { IfOk result (λ r. AreFewNotes r noted) }
 {
     let had = units.left();
@@ -98,7 +98,7 @@ pub fn decide(
     )?
     else {
         *units = search.units;
-        return Ok(Decided::Over);
+        return Ok(Decision::Over);
     };
     let all_win = all_openings_win(&mut search, way, &openings, moves)?;
     let Search {
@@ -110,13 +110,13 @@ pub fn decide(
     *units = left;
     table.know_once();
     if !all_win {
-        return Ok(Decided::Lost(Found {
+        return Ok(Decision::Lost(Findings {
             table,
             openings,
             notes,
         }));
     }
-    Ok(Decided::Won(Found {
+    Ok(Decision::Won(Findings {
         table,
         openings,
         notes,

@@ -2,18 +2,18 @@
 //!
 //! It tells how a side mates every listed position, whichever of them is on the board, within a number of own moves;
 //! or that no plan does. Both give the same answers, at other prices. What stands in their clauses is in the terms of
-//! krieg_theory and krieg_costs: read `Solved` in `specs/` (what each answer says, and what it takes), then `Decided` and
-//! `Planned` (the two halves: whether some plan mates, with the account of what that took, and the plan that is built),
-//! then `Searched` and `Built` (a stretch of the search, and a node of the plan), and `Notes` and `Blocked` (what blocks a
+//! krieg_theory and krieg_costs: read `Solutions` in `specs/` (what each answer says, and what it takes), then `Decision` and
+//! `BuiltPlan` (the two halves: whether some plan mates, with the account of what that took, and the plan that is built),
+//! then `Stretches` and `Building` (a stretch of the search, and a node of the plan), and `Notes` and `Blocks` (what blocks a
 //! try). `laws` has the theorems of krieg_theory and krieg_costs for chess.
 //!
 //! How a search works is a `Way`, which stays the same. What it has found out so far, with the units that are left to it, is
-//! a `Search`, and `IsAtWork` (in `Searched`) holds of it between any two steps.
+//! a `Search`, and `IsAtWork` (in `Stretches`) holds of it between any two steps.
 //!
 //! `openings` has what may be heard before the first own turn, with the set of what is possible then. `decide` asks
 //! for one opening after the other whether its set can be won, by `search`: one number of moves after the other; for
-//! each number the tries in their order (`tried`), up to the first that begins to win; for a try first what makes it fail at
-//! once (`left`), then what is possible after each thing that may be heard, and then the members that refuse it, up to
+//! each number the tries in their order (`try_list`), up to the first that begins to win; for a try first what makes it fail at
+//! once (`remainder`), then what is possible after each thing that may be heard, and then the members that refuse it, up to
 //! the first part that cannot be won. Each set has a number in a table (`number`), which holds what is found
 //! for each number of moves, so that no set is searched twice for the same number of moves.
 //!
@@ -24,12 +24,12 @@
 //!
 //! `roots` and `build` make the plan of the stored results, by a `Builder`. Each node is taken from the number that is
 //! allowed before anything below it is built. They split the sets once more, each by the one try that wins it, by units
-//! that are made for that alone: `paid` (in `Built`) says that the search has paid for all of these splits.
+//! that are made for that alone: `paid` (in `Building`) says that the search has paid for all of these splits.
 //!
 //! Who goes on by what a search leaves, as krieg_refute does, calls `decide` itself: it gives the table and the openings,
 //! whatever the answer. `left_by` makes one split of it again, and `number_of` finds the number of a part. `decide` also
 //! keeps `notes`, at most as many as it is asked for: of a set that cannot be won with two moves or more, what blocks each of its
-//! tries, by the number of a part and the words that are heard there (`heard`). `solve` and `find` keep none.
+//! tries, by the number of a part and the words that are heard there (`packed_key`). `solve` and `find` keep none.
 //!
 //! The search calls itself for each part of a set, and building for each node below a node. Where one try after another
 //! is refused, they go a level deeper for each, some 2,490 levels at most. A level of the search takes some 460 bytes of
@@ -52,25 +52,25 @@
 mod best_plan;
 mod build;
 pub mod decide;
-mod heard;
 pub mod laws;
-mod left;
 mod notes;
 mod number;
 mod openings;
+mod packed_key;
+mod remainder;
 mod roots;
 mod search;
 mod stop;
-mod tried;
+mod try_list;
 mod turn;
 mod way;
 
 pub use best_plan::{Answer, find, solve};
-pub use heard::Heard;
-pub use left::{Left, left_by};
-pub use notes::{Asked, Block, Note, Notes};
+pub use notes::{Block, Note, Notes, Question};
 pub use number::number_of;
 pub use openings::Opening;
+pub use packed_key::PackedKey;
+pub use remainder::{Remainder, left_by};
 pub use stop::{SearchStop, SearchStop as Stop2};
 pub use turn::has_one_turn;
 pub use way::Way;

@@ -1,9 +1,9 @@
 ghost use Rattle.std.specs.Prelude.{◌≡◌, ◌+◌, ◌≤◌, ◌++◌, ◌∷◌, [], Bool, IfOk, OnOk, IfSome, option_map};
 ghost use Rattle.krieg_words.specs.declared.dialects.Dialect.{Dialect};
-ghost use Rattle.krieg_table.specs.Interned.{Interned};
+ghost use Rattle.krieg_table.specs.SetRows.{SetRows};
 ghost use Rattle.krieg_search.specs.Notes.{AreNotes, IsRow, row_of, items_of};
 
-use crate::heard::Heard;
+use crate::packed_key::PackedKey;
 use indexmap::IndexMap;
 use krieg_board::{MOST_MOVES, Move, NoMemory};
 use std::alloc::Global;
@@ -16,7 +16,7 @@ pub enum Block {
     /// lives in some.
     AtOnce,
     /// The class of these words, whose set has the number, cannot be won with one move less.
-    Class(Heard, u32),
+    Class(PackedKey, u32),
     /// The members that refuse it, whose set has the number, cannot be won with the same number of moves.
     Refused(u32),
 }
@@ -33,7 +33,7 @@ const _: () = prove!(size_of::<Note>() <= 16);
 
 /// A set by its number, with a number of own moves.
 #[derive(Clone, Copy, Debug, PartialEq, Eq, Hash)]
-pub struct Asked {
+pub struct Question {
     pub set: u32,
     pub moves: u8,
 }
@@ -44,7 +44,7 @@ pub struct Asked {
 /// many of these may be added yet.
 #[derive(Drop)]
 pub struct Notes {
-    rows: IndexMap<Asked, Vec<Note>>,
+    rows: IndexMap<Question, Vec<Note>>,
     /// How many notes may be kept.
     most: usize,
     /// How many may be added yet.
@@ -52,9 +52,9 @@ pub struct Notes {
 }
 
 impl Model for Notes {
-    ghost use Rattle.krieg_search.specs.Notes.{Noted};
+    ghost use Rattle.krieg_search.specs.Notes.{NoteState};
 
-    ghost Value = { Noted };
+    ghost Value = { NoteState };
 
     ghost view = { λ n. record { rows = n.rows.entries; most = n.most; left = n.left } };
 }
@@ -100,10 +100,10 @@ impl Notes {
     pub fn of(&self, set: u32, moves: u8) -> Option<&[Note]>
         ensures value { option_map (λ ns. ns.now) result
             ≡ row_of self.now.rows (record { set = set; moves = moves }) }
-        ensures right { (d : Dialect) (cut : Bool) (T : Interned) → AreNotes d cut T self.now
+        ensures right { (d : Dialect) (cut : Bool) (T : SetRows) → AreNotes d cut T self.now
             → IfSome result (λ ns. IsRow d cut T (record { set = set; moves = moves }) ns.now) }
     {
-        match self.rows.get(&Asked { set, moves }) {
+        match self.rows.get(&Question { set, moves }) {
             Some(row) => Some(row.as_slice()),
             None => None,
         }
@@ -140,7 +140,7 @@ impl Notes {
     #[inline(never)]
     pub(crate) fn keep(&mut self, set: u32, moves: u8, row: Row) -> Result<(), NoMemory>
         requires { moves ≤ MOST_MOVES }
-        ensures noted { (d : Dialect) (cut : Bool) (T : Interned) → AreNotes d cut T self.old
+        ensures noted { (d : Dialect) (cut : Bool) (T : SetRows) → AreNotes d cut T self.old
             → IfSome (items_of row) (IsRow d cut T (record { set = set; moves = moves }))
             → OnOk result (AreNotes d cut T self.new) }
         ensures most { self.new.most ≡ self.old.most }
@@ -152,7 +152,7 @@ impl Notes {
             return Ok(());
         };
         self.left = left;
-        self.rows.insert(Asked { set, moves }, notes)?;
+        self.rows.insert(Question { set, moves }, notes)?;
         Ok(())
     }
 }

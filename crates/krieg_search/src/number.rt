@@ -1,5 +1,5 @@
 ghost use Rattle.std.specs.Prelude.{IfOk};
-ghost use Rattle.krieg_search.specs.Searched.{AreCounted, IsNumbered};
+ghost use Rattle.krieg_search.specs.Stretches.{AreCounted, IsNumbered};
 
 use krieg_board::NoMemory;
 use krieg_pack::Belief;

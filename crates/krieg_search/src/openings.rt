@@ -5,18 +5,18 @@ ghost use Rattle.krieg_theory.specs.Sets.{In};
 ghost use Rattle.krieg_costs.specs.Cost.{first_made};
 ghost use Rattle.krieg_game.specs.Chess.{chess};
 ghost use Rattle.krieg_game.specs.Outset.{outset};
-ghost use Rattle.krieg_split.specs.Turns.{IsOwnTurn, IsOthersTurn};
-ghost use Rattle.krieg_split.specs.Units.{Charged};
+ghost use Rattle.krieg_parting.specs.Turns.{IsOwnTurn, IsOthersTurn};
+ghost use Rattle.krieg_split.specs.Units.{Charges};
 ghost use Rattle.krieg_split.specs.Openings.{opened_set};
 ghost use Rattle.krieg_split.specs.Firsts.{first_set};
-ghost use Rattle.krieg_search.specs.Searched.{AreCounted};
-ghost use Rattle.krieg_search.specs.Opened.{AreNumbered, IsAdded, AreAdded, IsOpened};
+ghost use Rattle.krieg_search.specs.Stretches.{AreCounted};
+ghost use Rattle.krieg_search.specs.Openings.{AreNumbered, IsAdded, AreAdded, IsOpened};
 
 use crate::number::number_of;
 use krieg_board::{NoMemory, Side, Units};
 use krieg_pack::Belief;
 use krieg_parting::PartStop;
-use krieg_split::{First, Firsts, Opened, first_replies, openings};
+use krieg_split::{First, Firsts, OpeningSet, first_replies, openings};
 use krieg_table::Table;
 use krieg_words::{Dialect, Words};
 use std::alloc::Global;
@@ -61,7 +61,7 @@ fn add(
 fn own_openings(
     alloc: Global,
     table: &mut Table,
-    opened: Vec<Opened>,
+    opened: Vec<OpeningSet>,
 ) -> Result<Vec<Opening>, NoMemory>
     requires { AreCounted table.old }
     ensures { IfOk result (λ os. AreAdded table.old table.new os.items
@@ -109,7 +109,7 @@ pub(crate) fn find_openings(
 ) -> Result<Option<Vec<Opening>>, PartStop>
     requires turn { IsOwnTurn who b.now ⊎ IsOthersTurn who b.now }
     requires counted { AreCounted table.old }
-    ensures { Charged result (IsOpened d who b.now table.old table.new)
+    ensures { Charges result (IsOpened d who b.now table.old table.new)
         (first_made (chess d) (outset d who) b.now) units.old units.new }
 {
     if is_own_turn(b, who) {

@@ -2,10 +2,10 @@ ghost use Rattle.std.specs.Prelude.{List, map, true};
 ghost use Rattle.krieg_board.specs.Pos.{Pos};
 ghost use Rattle.krieg_theory.specs.Sets.{In};
 ghost use Rattle.krieg_plan.specs.Trees.{plan_size, plan_depth};
-ghost use Rattle.krieg_search.specs.Opened.{AreNumbered, opening_in};
-ghost use Rattle.krieg_search.specs.Decided.{sets_in};
-ghost use Rattle.krieg_search.specs.Built.{WonBy, IsPaidFor, Builds, roots_for};
-ghost use Rattle.krieg_search.specs.Rooted.{AreRoots};
+ghost use Rattle.krieg_search.specs.Openings.{AreNumbered, opening_in};
+ghost use Rattle.krieg_search.specs.Decision.{sets_in};
+ghost use Rattle.krieg_search.specs.Building.{WonBy, IsPaidFor, Builds, roots_for};
+ghost use Rattle.krieg_search.specs.BuiltRoots.{AreRoots};
 
 use crate::build::{Builder, win_of};
 use crate::openings::Opening;

@@ -4,23 +4,23 @@ ghost use Rattle.krieg_costs.specs.Cost.{made};
 ghost use Rattle.krieg_accounts.specs.Answers.{LostBelow};
 ghost use Rattle.krieg_accounts.specs.Stretch.{CoversSet, CoversPair, CoversTry, CoversSets};
 ghost use Rattle.krieg_game.specs.Chess.{chess};
-ghost use Rattle.krieg_table.specs.Interned.{set_at};
+ghost use Rattle.krieg_table.specs.SetRows.{set_at};
 ghost use Rattle.krieg_table.specs.Entries.{entries};
-ghost use Rattle.krieg_search.specs.Tried.{IsTold, move_of};
-ghost use Rattle.krieg_search.specs.Searched.{IsAtWork, Searches, TellsSet, sets_of};
-ghost use Rattle.krieg_search.specs.Blocked.{TellsBlock, TellsFirst};
+ghost use Rattle.krieg_search.specs.Tries.{IsTold, move_of};
+ghost use Rattle.krieg_search.specs.Stretches.{IsAtWork, Searches, TellsSet, sets_of};
+ghost use Rattle.krieg_search.specs.Blocks.{TellsBlock, TellsFirst};
 
-use crate::heard::Heard;
-use crate::left::{Left, left_of};
 use crate::notes::{Block, Notes, add};
 use crate::number::number_of;
+use crate::packed_key::PackedKey;
+use crate::remainder::{Remainder, left_of};
 use crate::stop::SearchStop;
-use crate::tried::{Try, move_of_try, tries_for};
+use crate::try_list::{Try, move_of_try, tries_for};
 use crate::way::Way;
 use krieg_board::{MOST_MOVES, Units};
 use krieg_game::Class;
 use krieg_sight::Sight;
-use krieg_table::{Known, Table};
+use krieg_table::{SetResult, Table};
 
 /// A search at work: what it has found out so far, and the units that are left to it.
 #[derive(Drop)]
@@ -34,7 +34,7 @@ pub(crate) struct Search {
 /// A class that cannot be won: its words, and the number of its set.
 #[derive(Clone, Copy)]
 pub(crate) struct LostClass {
-    pub heard: Heard,
+    pub heard: PackedKey,
     pub set: u32,
 }
 
@@ -76,8 +76,8 @@ impl Search {
         ensures most { self.new.notes.most ≡ self.old.notes.most }
     {
         match self.table.result(set, moves) {
-            Some(Known::Wins(_)) => return Ok(true),
-            Some(Known::Loses) => return Ok(false),
+            Some(SetResult::Wins(_)) => return Ok(true),
+            Some(SetResult::Loses) => return Ok(false),
             None => {}
         }
         let tries = tries_for(way.alloc, self.table.belief(set), moves, self.units.left())?;
@@ -86,12 +86,13 @@ impl Search {
             match self.block_of(way, set, tried, moves)? {
                 Some(block) => add(&mut row, move_of_try(tried), block)?,
                 None => {
-                    self.table.note(set, moves, Known::Wins(move_of_try(tried)));
+                    self.table
+                        .note(set, moves, SetResult::Wins(move_of_try(tried)));
                     return Ok(true);
                 }
             }
         }
-        self.table.note(set, moves, Known::Loses);
+        self.table.note(set, moves, SetResult::Loses);
         self.notes.keep(set, moves, row)?;
         Ok(false)
     }
@@ -123,7 +124,7 @@ impl Search {
         ensures ready { OnOk result (IsAtWork way self.new) }
         ensures most { self.new.notes.most ≡ self.old.notes.most }
     {
-        let Some(Left { classes, refused }) = left_of(
+        let Some(Remainder { classes, refused }) = left_of(
             way,
             &mut self.sight,
             self.table.belief(set),
@@ -169,7 +170,7 @@ impl Search {
             let set = number_of(&mut self.table, class.belief)?;
             if !self.can_win(way, set, moves)? {
                 return Ok(Some(LostClass {
-                    heard: Heard::new(&class.own, &class.reply),
+                    heard: PackedKey::new(&class.own, &class.reply),
                     set,
                 }));
             }

@@ -2,7 +2,7 @@ ghost use Rattle.std.specs.Prelude.{◌≡◌, ◌⊎◌, ◌↔◌, IsTrue};
 ghost use Rattle.std.specs.List.{list_all};
 ghost use Rattle.krieg_board.specs.Men.{is_same_side};
 ghost use Rattle.krieg_board.specs.declared.men.Side.{Side as Turn};
-ghost use Rattle.krieg_split.specs.Turns.{IsOwnTurn, IsOthersTurn};
+ghost use Rattle.krieg_parting.specs.Turns.{IsOwnTurn, IsOthersTurn};
 
 use krieg_board::Side;
 use krieg_pack::{Belief, Packed, unpack};

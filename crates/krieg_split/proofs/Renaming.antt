@@ -2,7 +2,7 @@
 use Rattle.std.proofs.Common.{◌≡◌, List, [], ◌∷◌, ◌++◌, map, sym, ap, ◌∙◌, append_assoc}
 use Rattle.std.proofs.lemmas.List.{map_push}
 use Rattle.std.proofs.lemmas.Simd.{map-map}
-use Rattle.krieg_split.proofs.Common.{Pos, Side, Dialect, Said, silent, RootKey, classes_in, opened, opening_sets, IsOwnTurn, opened_pair, opened_set, heard_first, Opened}
+use Rattle.krieg_split.proofs.Common.{Pos, Side, Dialect, Said, silent, RootKey, classes_in, opened, opening_sets, IsOwnTurn, opened_pair, opened_set, heard_first, OpeningSet}
 use Rattle.std.specs.Prelude.{None}
 use Rattle.krieg_game.proofs.Classed.{openings_are_classed}
 
@@ -20,7 +20,7 @@ abbrev unheard : Said × List Pos → RootKey × List Pos
 unheard o = ((o.0, None), o.1)
 
 -- at the player's turn the members by their opening words are the opening sets
-pub opening_sets_are : (d : Dialect) (who : Side) (B : List Pos) (os : List Opened) → map opened_pair os ≡ map heard_first (classes_in (map (opened d silent) B)) → IsOwnTurn who B → map opened_set os ≡ opening_sets d who B
+pub opening_sets_are : (d : Dialect) (who : Side) (B : List Pos) (os : List OpeningSet) → map opened_pair os ≡ map heard_first (classes_in (map (opened d silent) B)) → IsOwnTurn who B → map opened_set os ≡ opening_sets d who B
 opening_sets_are d who B os is turn =
     sym (map-map unheard opened_pair os)
     ∙ ap (map unheard) is

@@ -11,7 +11,7 @@ use Rattle.std.proofs.lemmas.List.Elements.{All-map}
 use Rattle.std.proofs.lemmas.Option.{slice_get_within, get_or_from_slice_get}
 use Rattle.std.specs.Prelude.{All}
 use Rattle.std.specs.List.{slice_get, list_any}
-use Rattle.krieg_split.proofs.Common.{Pos, Move, after, is_legal, moves, all_moves, is_mate, Dialect, Wild16, In, total, chess, lives, replies, tally_of, tally_with, AreTallies, Listed, MOST_COUNTED, Tally}
+use Rattle.krieg_split.proofs.Common.{Pos, Move, after, is_legal, moves, all_moves, is_mate, Dialect, Wild16, In, total, chess, lives, replies, tally_of, tally_with, AreTallies, MemberMoves, MOST_COUNTED, Tally}
 use Rattle.krieg_moves.proofs.Counting.{few_moves}
 use Rattle.krieg_pack.proofs.Membership.{in_at}
 use Rattle.krieg_theory.specs.Split as theory
@@ -41,9 +41,9 @@ as_it_was f xs ys i x within is at =
     at ∙ ap (λ zs. get_or zs i x) is ∙ get_or-append_right (map f (take i xs)) (drop i xs) i i x n (omega arith) ∙ ap (λ k. get_or (drop i xs) k x) zero ∙ ap (λ zs. get_or zs 0 x) (drop_more xs i x within)
 
 -- a member of the set with its legal moves
-pub listed_at : (ls : List Listed) (B : List Pos) (i : ℕ) (m : Listed) → map (λ m. m.position) ls ≡ B → i < length ls → m ≡ get_or ls i m → (i < length B) × (m.position ≡ get_or B i m.position)
+pub listed_at : (ls : List MemberMoves) (B : List Pos) (i : ℕ) (m : MemberMoves) → map (λ m. m.position) ls ≡ B → i < length ls → m ≡ get_or ls i m → (i < length B) × (m.position ≡ get_or B i m.position)
 listed_at ls B i m is within at =
-    let position = λ (m : Listed). m.position in
+    let position = λ (m : MemberMoves). m.position in
     let n : length B ≡ length ls = ap length (sym is) ∙ length-map ls position in
     (omega arith, ap position at ∙ sym (get_or-map position ls i m m.position within) ∙ ap (λ ps. get_or ps i m.position) is)
 

@@ -1,5 +1,5 @@
 pub mod Units
-pub mod Parted
+pub mod Parts
 pub mod LastMove
 pub mod Turns
 pub mod Firsts

@@ -2,7 +2,7 @@
 use Rattle.std.specs.Prelude.{◌≡◌, ℕ, ◌+◌, ◌<◌, Result, Ok, Err}
 use Rattle.krieg_parting.specs.declared.stop.PartStop.{PartStop}
 use Rattle.krieg_parting.specs.declared.stop.PartStop.TheVariants.{Spent, NoMemory}
-pub use Rattle.krieg_parting.specs.Charged.{Charged}
+pub use Rattle.krieg_parting.specs.Charges.{Charges}
 
 -- An answer takes exactly its cost. An error takes none, and Spent comes only where fewer units are left.
 abbrev pub IsPaid : {A : Type 0} → Result A PartStop → ℕ → ℕ → ℕ → Type 0

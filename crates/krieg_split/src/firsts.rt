@@ -4,10 +4,10 @@ ghost use Rattle.krieg_costs.specs.Cost.{first_made};
 ghost use Rattle.krieg_game.specs.Chess.{chess};
 ghost use Rattle.krieg_game.specs.Outset.{outset};
 ghost use Rattle.krieg_game.specs.Classes.{class_pair};
-ghost use Rattle.krieg_parting.specs.Charged.{Charged};
+ghost use Rattle.krieg_parting.specs.Charges.{Charges};
 ghost use Rattle.krieg_parting.specs.FirstMoves.{AreFirstMoves};
 ghost use Rattle.krieg_split.specs.Units.{IsPaid};
-ghost use Rattle.krieg_split.specs.Turns.{IsOthersTurn};
+ghost use Rattle.krieg_parting.specs.Turns.{IsOthersTurn};
 ghost use Rattle.krieg_split.specs.Firsts.{AreFirsts, AreOpeningSets, first_pair, first_cost};
 
 use krieg_board::{NoMemory, Units};
@@ -41,7 +41,7 @@ fn moves_of_all(
     members: &[Packed],
     units: &mut Units,
 ) -> Result<FirstMoves, PartStop>
-    ensures { Charged result (AreFirstMoves d members.now)
+    ensures { Charges result (AreFirstMoves d members.now)
         (first_cost members.now) units.old units.new }
 {
     take(units, members.len() as u64)?;

@@ -3,7 +3,7 @@ ghost use Rattle.krieg_pack.specs.Members.{set_of};
 ghost use Rattle.krieg_costs.specs.Cost.{made};
 ghost use Rattle.krieg_game.specs.Chess.{chess};
 ghost use Rattle.krieg_parting.specs.Mating.{AreTried, refuses};
-ghost use Rattle.krieg_split.specs.Units.{Charged, IsPaid};
+ghost use Rattle.krieg_split.specs.Units.{Charges, IsPaid};
 ghost use Rattle.krieg_split.specs.LastMove.{IsLastMove};
 ghost use Rattle.krieg_split.specs.Tallies.{tally_of};
 
@@ -78,7 +78,7 @@ fn mating_by(alloc: Global, members: &[Packed], tally: &Tally) -> Result<Mating,
 
 /// Takes one unit for each member and one for each reply.
 fn pay(members: usize, replies: u64, units: &mut Units) -> Result<(), PartStop>
-    ensures { Charged result (λ _. ⊤) (members + replies) units.old units.new }
+    ensures { Charges result (λ _. ⊤) (members + replies) units.old units.new }
 {
     take(units, members as u64)?;
     take(units, replies)

@@ -8,7 +8,7 @@
 //! `mate_by_tally` answers as `split_to_mate` does, by such a count. `openings` parts a set by its opening words, and
 //! `first_replies` by these and by what is heard of the opponent's first move. What is made is counted in units, exactly.
 //!
-//! What the answers mean is said by the theory of plans, for chess under an umpire: `Parted`, `LastMove`, `Tallies`,
+//! What the answers mean is said by the theory of plans, for chess under an umpire: `Parts`, `LastMove`, `Tallies`,
 //! `Firsts` and `Openings` in `specs/`, and `Units` for what they take. `laws` has theorems on the sizes of the parts.
 //!
 //! What a try makes of a set is `krieg_parting`'s: here an error takes no units, and the answers are those that a search
@@ -27,7 +27,7 @@ mod firsts;
 mod large;
 mod last_move;
 pub mod laws;
-mod listed;
+mod member_moves;
 mod opening_sets;
 mod parts;
 mod tallies;
@@ -37,7 +37,7 @@ pub use firsts::{First, Firsts, first_replies};
 pub use krieg_parting::{PartStop as SplitStop, Parted};
 pub use large::{tally_all, tally_large};
 pub use last_move::{mate_by_tally, split_to_mate};
-pub use opening_sets::{Opened, openings};
+pub use opening_sets::{OpeningSet, openings};
 pub use parts::{pay_split, split, split_unless_stale};
 pub use tallies::{MOST_TALLIED, Tally, tally_tries};
 pub use try_list::tries;

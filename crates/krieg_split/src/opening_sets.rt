@@ -2,7 +2,7 @@ ghost use Rattle.std.specs.Prelude.{◌≡◌, map, IfOk};
 ghost use Rattle.krieg_board.specs.declared.men.Side.{Side};
 ghost use Rattle.krieg_game.specs.Classes.{class_pair, classes_in};
 ghost use Rattle.krieg_game.specs.ClassLaws.{opened, opening_sets};
-ghost use Rattle.krieg_split.specs.Turns.{IsOwnTurn};
+ghost use Rattle.krieg_parting.specs.Turns.{IsOwnTurn};
 ghost use Rattle.krieg_split.specs.Openings.{opened_pair, opened_set, heard_first};
 ghost use Rattle.krieg_words.specs.WordsReading.{silent};
 
@@ -15,19 +15,19 @@ use std::alloc::Global;
 
 /// The members of a set with the same opening words.
 #[derive(Drop)]
-pub struct Opened {
+pub struct OpeningSet {
     pub opens: Words,
     pub belief: Belief,
 }
 
 /// The classes by their opening words alone.
-fn opened_of(alloc: Global, classes: Vec<Class>) -> Result<Vec<Opened>, NoMemory>
+fn opened_of(alloc: Global, classes: Vec<Class>) -> Result<Vec<OpeningSet>, NoMemory>
     ensures { IfOk result (λ v. map opened_pair v.items
         ≡ map heard_first (map class_pair classes.items)) }
 {
     let mut openings = Vec::with_capacity(alloc, classes.len())?;
     for class in classes {
-        openings.push(Opened {
+        openings.push(OpeningSet {
             opens: class.own,
             belief: class.belief,
         })?;
@@ -39,7 +39,7 @@ fn opened_of(alloc: Global, classes: Vec<Class>) -> Result<Vec<Opened>, NoMemory
 ///
 /// Where the player `who` is to move in all of them, these are the opening sets of his plans.
 #[inline(never)]
-pub fn openings(alloc: Global, d: Dialect, b: &Belief) -> Result<Vec<Opened>, NoMemory>
+pub fn openings(alloc: Global, d: Dialect, b: &Belief) -> Result<Vec<OpeningSet>, NoMemory>
     ensures value { IfOk result (λ v. map opened_pair v.items
         ≡ map heard_first (classes_in (map (opened d silent) b.now))) }
     ensures sets { IfOk result (λ v. (who : Side) → IsOwnTurn who b.now

@@ -2,7 +2,7 @@ ghost use Rattle.std.specs.Prelude.{IfOk};
 ghost use Rattle.krieg_words.specs.declared.dialects.Dialect.{Dialect};
 ghost use Rattle.krieg_costs.specs.Cost.{made};
 ghost use Rattle.krieg_game.specs.Chess.{chess};
-ghost use Rattle.krieg_split.specs.Parted.{IsParted, IsUnlessStale};
+ghost use Rattle.krieg_split.specs.Parts.{IsParted, IsUnlessStale};
 ghost use Rattle.krieg_split.specs.Units.{IsPaid};
 
 use krieg_board::{Move, Units};

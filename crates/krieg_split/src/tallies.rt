@@ -6,7 +6,7 @@ ghost use Rattle.krieg_theory.specs.Split as theory;
 ghost use Rattle.krieg_game.specs.Chess.{chess};
 ghost use Rattle.krieg_split.specs.Tallies.{tally_of, tally_with};
 
-use crate::listed::list_all;
+use crate::member_moves::list_all;
 use crate::try_list::{stands_at, tries_of};
 use krieg_board::{Move, NoMemory, Position};
 use krieg_moves::{count_replies, mates_by};

@@ -7,7 +7,7 @@ ghost use Rattle.krieg_theory.specs.Split as theory;
 ghost use Rattle.krieg_game.specs.Chess.{chess};
 ghost use Rattle.krieg_split.specs.MoveSets.{AllBefore, IsPut, move_set};
 
-use crate::listed::Listed;
+use crate::member_moves::MemberMoves;
 use krieg_board::{Move, NoMemory};
 use krieg_moves::legal_moves;
 use krieg_pack::{Belief, unpack};
@@ -83,7 +83,7 @@ pub fn tries(alloc: Global, b: &Belief) -> Result<Vec<Move>, NoMemory>
 }
 
 /// The same, by a caller that has the legal moves of all members.
-pub(crate) fn tries_of(alloc: Global, members: &[Listed]) -> Result<Vec<Move>, NoMemory>
+pub(crate) fn tries_of(alloc: Global, members: &[MemberMoves]) -> Result<Vec<Move>, NoMemory>
     ensures { IfOk result (λ ts. (d : Dialect)
         → ts.items ≡ theory.tries (chess d) (map (λ m. m.position) members.now)) }
 {

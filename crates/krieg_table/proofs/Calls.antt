@@ -7,7 +7,7 @@ use Rattle.std.specs.Cmp.Lexicographic.{pointwise}
 use Rattle.std.proofs.lemmas.Bool.{cases_Bool, cond-true, cond-false, both_ways}
 use Rattle.indexmap.specs.IndexMap.{insert_entry}
 use Rattle.indexmap.specs.Layout.{set_value_at}
-use Rattle.krieg_table.proofs.Common.{Pos, MOST_MOVES, position_lt, position_eq, In, same_list, IsOnce, Known, Results, nothing, with_known, Row, Interned, sets, row_at, number_of, interned, with_result, IsTable, IsInterned, IsNoted}
+use Rattle.krieg_table.proofs.Common.{Pos, MOST_MOVES, position_lt, position_eq, In, same_list, IsOnce, SetResult, Results, nothing, with_known, Row, SetRows, sets, row_at, number_of, interned, with_result, IsTable, IsInterned, IsNoted}
 use Rattle.krieg_table.proofs.Sets.{test_is, set_itself}
 use Rattle.krieg_table.proofs.Interning.{interned_is, stays_table}
 use Rattle.krieg_table.proofs.Noting.{row_in, noted_is}
@@ -17,20 +17,20 @@ module _ (B : List Pos) where
   test X = pointwise position_eq B X
 
   -- the map after an insertion that leaves the results of a set that is there
-  pub inserted : (T : Interned) → insert_entry (pointwise position_eq) T B (unwrap_or (lookup test T) nothing) ≡ interned B T
+  pub inserted : (T : SetRows) → insert_entry (pointwise position_eq) T B (unwrap_or (lookup test T) nothing) ≡ interned B T
   inserted [] = refl
   inserted (r ∷ T) = go (test r.0) (test_is B r.0) (inserted T)
     where
       go : (b : Bool) → b ≡ same_list position_lt r.0 B → insert_entry (pointwise position_eq) T B (unwrap_or (lookup test T) nothing) ≡ interned B T
           → cond b ((r.0, unwrap_or (cond b (Some r.1) (lookup test T)) nothing) ∷ T) (r ∷ insert_entry (pointwise position_eq) T B (unwrap_or (cond b (Some r.1) (lookup test T)) nothing)) ≡ interned B (r ∷ T)
       go true e h = sym (cond-true (same_list position_lt r.0 B) (r ∷ T) (r ∷ interned B T) (sym e))
-      go false e h = ap (λ (x : Interned). r ∷ x) h ∙ sym (cond-false (same_list position_lt r.0 B) (r ∷ T) (r ∷ interned B T) (sym e))
+      go false e h = ap (λ (x : SetRows). r ∷ x) h ∙ sym (cond-false (same_list position_lt r.0 B) (r ∷ T) (r ∷ interned B T) (sym e))
 
   one : (n : ℕ) → 1 + n ≡ suc n
   one n = omega arith
 
   -- and the place of the set in it
-  pub placed : (T : Interned) → position_or_len test (keys_of T) ≡ number_of B T
+  pub placed : (T : SetRows) → position_or_len test (keys_of T) ≡ number_of B T
   placed [] = refl
   placed (r ∷ T) = go (test r.0) (test_is B r.0) (placed T)
     where
@@ -38,7 +38,7 @@ module _ (B : List Pos) where
       go true e h = sym (cond-true (same_list position_lt r.0 B) 0 (suc (number_of B T)) (sym e))
       go false e h = ap (λ (n : ℕ). 1 + n) h ∙ one (number_of B T) ∙ sym (cond-false (same_list position_lt r.0 B) 0 (suc (number_of B T)) (sym e))
 
-  pub absent : (T : Interned) → lookup test T ≡ None → In B (sets T) → ⊥
+  pub absent : (T : SetRows) → lookup test T ≡ None → In B (sets T) → ⊥
   absent [] e i = i
   absent (r ∷ T) e i = go (cases_Bool (test r.0)) i (absent T)
     where
@@ -48,27 +48,27 @@ module _ (B : List Pos) where
       go (inr t) (inr j) h = h (sym (cond-false (test r.0) (Some r.1) (lookup test T) t) ∙ e) j
 
 -- the row that a call by number gives
-pub results_at : (T : Interned) (id : ℕ) (rs : Results) → slice_get (map (λ (r : Row). r.1) T) id ≡ Some rs → (row_at T id).1 ≡ rs
+pub results_at : (T : SetRows) (id : ℕ) (rs : Results) → slice_get (map (λ (r : Row). r.1) T) id ≡ Some rs → (row_at T id).1 ≡ rs
 results_at [] id rs h = absurd (let q : ◌≡◌ {A = Option Results} None (Some rs) = h in cc)
 results_at (r ∷ T) zero rs h = let q : Some r.1 ≡ Some rs = h in cc
 results_at (r ∷ T) (suc id) rs h = results_at T id rs h
 
 -- a write by number
-pub put_at : (T : Interned) (id moves : ℕ) (k : Known) → set_value_at T id (with_known (row_at T id).1 moves k) ≡ with_result T id moves k
+pub put_at : (T : SetRows) (id moves : ℕ) (k : SetResult) → set_value_at T id (with_known (row_at T id).1 moves k) ≡ with_result T id moves k
 put_at [] id moves k = refl
 put_at (r ∷ T) zero moves k = refl
-put_at (r ∷ T) (suc id) moves k = ap (λ (x : Interned). r ∷ x) (put_at T id moves k)
+put_at (r ∷ T) (suc id) moves k = ap (λ (x : SetRows). r ∷ x) (put_at T id moves k)
 
-pub with_length : (rs : Results) (moves : ℕ) (k : Known) → length (with_known rs moves k) ≡ length rs
+pub with_length : (rs : Results) (moves : ℕ) (k : SetResult) → length (with_known rs moves k) ≡ length rs
 with_length rs zero k = refl
 with_length rs (suc i) k = length-set rs i (Some k)
 
-put_sets : (T : Interned) (id : ℕ) (w : Results) → sets (set_value_at T id w) ≡ sets T
+put_sets : (T : SetRows) (id : ℕ) (w : Results) → sets (set_value_at T id w) ≡ sets T
 put_sets [] id w = refl
 put_sets (r ∷ T) zero w = refl
 put_sets (r ∷ T) (suc id) w = ap (λ xs. r.0 ∷ xs) (put_sets T id w)
 
-put_in : (T : Interned) (id : ℕ) (w : Results) (r : Row) → In r (set_value_at T id w) → In r T ⊎ (w ≡ r.1)
+put_in : (T : SetRows) (id : ℕ) (w : Results) (r : Row) → In r (set_value_at T id w) → In r T ⊎ (w ≡ r.1)
 put_in [] id w r i = absurd i
 put_in (s ∷ T) zero w r (inl e) = inr (ap (λ (x : Row). x.1) e)
 put_in (s ∷ T) zero w r (inr i) = inl (inr i)
@@ -79,7 +79,7 @@ put_in (s ∷ T) (suc id) w r (inr i) = go (put_in T id w r i)
     go (inl a) = inl (inr a)
     go (inr e) = inr e
 
-pub put_table : (T : Interned) (id : ℕ) (w : Results) → IsTable T → length w ≡ MOST_MOVES → IsTable (set_value_at T id w)
+pub put_table : (T : SetRows) (id : ℕ) (w : Results) → IsTable T → length w ≡ MOST_MOVES → IsTable (set_value_at T id w)
 put_table T id w t h = record {
   once = subst (λ xs. IsOnce xs) (sym (put_sets T id w)) t.once;
   room = λ r i. room r (put_in T id w r i);
@@ -90,26 +90,26 @@ put_table T id w t h = record {
     room r (inr e) = sym (ap (λ (x : Results). length x) e) ∙ h
 
 -- what is owed where a set has come
-pub table_from : (B : List Pos) (T E : Interned) → E ≡ interned B T → IsTable T → IsTable E
+pub table_from : (B : List Pos) (T E : SetRows) → E ≡ interned B T → IsTable T → IsTable E
 table_from B T E e t = subst IsTable (sym e) (stays_table B T t)
 
-pub interned_from : (B : List Pos) (T E : Interned) (id : ℕ) → E ≡ interned B T → id ≡ number_of B T → IsInterned T E B id
-interned_from B T E id e n = subst (λ (x : Interned). IsInterned T x B id) (sym e) (subst (λ (i : ℕ). IsInterned T (interned B T) B i) (sym n) (interned_is B T))
+pub interned_from : (B : List Pos) (T E : SetRows) (id : ℕ) → E ≡ interned B T → id ≡ number_of B T → IsInterned T E B id
+interned_from B T E id e n = subst (λ (x : SetRows). IsInterned T x B id) (sym e) (subst (λ (i : ℕ). IsInterned T (interned B T) B i) (sym n) (interned_is B T))
 
 pub on_err : {A X P : Type 0} (r : Result A X) → P → OnErr r P
 on_err (Ok a) p = tt
 on_err (Err x) p = p
 
 -- what is owed where a result was put in: T is the table before, now the row's results, and new what they became
-module _ (T : Interned) (id moves : ℕ) (k : Known) (now new : Results) (at : (row_at T id).1 ≡ now) (put : new ≡ with_known now moves k) where
-  pub rows_put : (S : Interned) → T ≡ S → set_value_at T id new ≡ with_result S id moves k
-  rows_put S s = ap (set_value_at T id) (put ∙ ap (λ (x : Results). with_known x moves k) (sym at)) ∙ put_at T id moves k ∙ ap (λ (x : Interned). with_result x id moves k) s
+module _ (T : SetRows) (id moves : ℕ) (k : SetResult) (now new : Results) (at : (row_at T id).1 ≡ now) (put : new ≡ with_known now moves k) where
+  pub rows_put : (S : SetRows) → T ≡ S → set_value_at T id new ≡ with_result S id moves k
+  rows_put S s = ap (set_value_at T id) (put ∙ ap (λ (x : Results). with_known x moves k) (sym at)) ∙ put_at T id moves k ∙ ap (λ (x : SetRows). with_result x id moves k) s
 
   pub table_put : IsTable T → id < length T → IsTable (set_value_at T id new)
   table_put t l =
       let same : length new ≡ length now = ap (λ (x : Results). length x) put ∙ with_length now moves k in
       put_table T id new t (same ∙ ap (λ (x : Results). length x) (sym at) ∙ t.room (row_at T id) (row_in T id l))
 
-  pub noted_put : (S : Interned) → T ≡ S → IsTable T → id < length T → 0 < moves → moves ≤ MOST_MOVES → IsNoted S (set_value_at T id new) id moves k
+  pub noted_put : (S : SetRows) → T ≡ S → IsTable T → id < length T → 0 < moves → moves ≤ MOST_MOVES → IsNoted S (set_value_at T id new) id moves k
   noted_put S s t l a b =
-      subst (λ (x : Interned). IsNoted S x id moves k) (sym (rows_put S s)) (noted_is S id moves k (subst IsTable s t) (subst (λ (x : Interned). id < length x) s l) a b)
+      subst (λ (x : SetRows). IsNoted S x id moves k) (sym (rows_put S s)) (noted_is S id moves k (subst IsTable s t) (subst (λ (x : SetRows). id < length x) s l) a b)

@@ -10,7 +10,7 @@ pub use Rattle.krieg_pack.specs.OrderLaws.{position_total}
 pub use Rattle.krieg_pack.specs.SameNumbers.{same_position}
 unfoldable pub use Rattle.krieg_table.specs.Entries.{entries}
 pub use Rattle.krieg_table.specs.Entries.{row_entries, try_of}
-pub use Rattle.krieg_table.specs.Interned.{Interned, Row, interned, known_at, number_of, row_at, set_at, sets, with_result}
+pub use Rattle.krieg_table.specs.SetRows.{SetRows, Row, interned, known_at, number_of, row_at, set_at, sets, with_result}
 pub use Rattle.krieg_table.specs.Results.{Results, known_for, nothing, with_known}
 pub use Rattle.krieg_table.specs.Table.{IsInterned, IsNoted, IsTable}
-pub use Rattle.krieg_table.specs.declared.known.Known.{Known}
+pub use Rattle.krieg_table.specs.declared.set_result.SetResult.{SetResult}

@@ -1,7 +1,7 @@
 -- The rows once a result has come.
 use Rattle.std.proofs.Common.{◌≡◌, ℕ, zero, suc, ◌+◌, ◌≤◌, ◌<◌, true, false, ◌⊎◌, inl, inr, List, [], ◌∷◌, ◌++◌, length, set, slice_index_or, Option, Some, None, option_map, refl, sym, ap, subst, ◌∙◌, arith}
 use Rattle.std.proofs.lemmas.Bool.{cases_Bool, both_ways}
-use Rattle.krieg_table.proofs.Common.{Pos, Move, MOST_MOVES, position_lt, In, total, IsOnce, PairOf, Entries, same_entry, stored, pairs, AddsResult, Known, Results, known_for, Row, Interned, sets, row_at, set_at, known_at, with_result, try_of, row_entries, entries, IsTable, IsNoted}
+use Rattle.krieg_table.proofs.Common.{Pos, Move, MOST_MOVES, position_lt, In, total, IsOnce, PairOf, Entries, same_entry, stored, pairs, AddsResult, SetResult, Results, known_for, Row, SetRows, sets, row_at, set_at, known_at, with_result, try_of, row_entries, entries, IsTable, IsNoted}
 use Rattle.krieg_pack.proofs.PositionSets.{position_order}
 use Rattle.krieg_accounts.proofs.Appended.{entry_is, entry_refl}
 use Rattle.krieg_table.proofs.RowEntries.{or_else, stored_append, other_set, before_first, at_place, others_stay, row_total}
@@ -9,13 +9,13 @@ use Rattle.krieg_table.proofs.RowEntries.{or_else, stored_append, other_set, bef
 one : (i : ℕ) → suc i ≡ 1 + i
 one i = omega arith
 
-set_in : (T : Interned) (id : ℕ) → id < length T → In (set_at T id) (sets T)
+set_in : (T : SetRows) (id : ℕ) → id < length T → In (set_at T id) (sets T)
 set_in [] id l = absurd (omega arith)
 set_in (r ∷ T) zero l = inl refl
 set_in (r ∷ T) (suc id) l = inr (set_in T id (omega arith))
 
 -- nothing is stored of a set that is not there
-not_there : (T : Interned) (q : PairOf Pos) → (In q.0 (sets T) → ⊥) → stored position_lt (entries T) q ≡ None
+not_there : (T : SetRows) (q : PairOf Pos) → (In q.0 (sets T) → ⊥) → stored position_lt (entries T) q ≡ None
 unfolding entries
 not_there [] q h = refl
 not_there (r ∷ T) q h =
@@ -23,7 +23,7 @@ not_there (r ∷ T) q h =
     ∙ not_there T q (λ i. h (inr i))
 
 -- what is stored of the first set is what its row has
-in_row : (r : Row) (T : Interned) (moves : ℕ) → (In r.0 (sets T) → ⊥) → stored position_lt (row_entries r.0 1 r.1 ++ entries T) (r.0, moves) ≡ option_map try_of (known_for r.1 moves)
+in_row : (r : Row) (T : SetRows) (moves : ℕ) → (In r.0 (sets T) → ⊥) → stored position_lt (row_entries r.0 1 r.1 ++ entries T) (r.0, moves) ≡ option_map try_of (known_for r.1 moves)
 in_row r T moves n = stored_append (row_entries r.0 1 r.1) (entries T) (r.0, moves) ∙ ap (λ o. or_else (stored position_lt (row_entries r.0 1 r.1) (r.0, moves)) o) (not_there T (r.0, moves) n) ∙ none_else (stored position_lt (row_entries r.0 1 r.1) (r.0, moves)) ∙ here moves
   where
     none_else : (o : Option (Option Move)) → or_else o None ≡ o
@@ -35,7 +35,7 @@ in_row r T moves n = stored_append (row_entries r.0 1 r.1) (entries T) (r.0, mov
     here (suc i) = ap (λ (m : ℕ). stored position_lt (row_entries r.0 1 r.1) (r.0, m)) (one i) ∙ at_place r.0 r.1 1 i
 
 -- what is known by number is what is stored by sets
-pub known_is : (T : Interned) (id moves : ℕ) → IsOnce (sets T) → id < length T → option_map try_of (known_at T id moves) ≡ stored position_lt (entries T) (set_at T id, moves)
+pub known_is : (T : SetRows) (id moves : ℕ) → IsOnce (sets T) → id < length T → option_map try_of (known_at T id moves) ≡ stored position_lt (entries T) (set_at T id, moves)
 unfolding entries
 known_is [] id moves o l = absurd (omega arith)
 known_is (r ∷ T) zero moves o l = sym (in_row r T moves o.0)
@@ -48,23 +48,23 @@ total_pairs : (f : PairOf Pos → ℕ) (xs ys : Entries Pos Move) → total f (p
 total_pairs f [] ys = omega arith
 total_pairs f (x ∷ xs) ys = let ih = total_pairs f xs ys in omega arith
 
-module _ (moves : ℕ) (k : Known) where
-  pub same_sets : (T : Interned) (id : ℕ) → sets (with_result T id moves k) ≡ sets T
+module _ (moves : ℕ) (k : SetResult) where
+  pub same_sets : (T : SetRows) (id : ℕ) → sets (with_result T id moves k) ≡ sets T
   same_sets [] id = refl
   same_sets (r ∷ T) zero = refl
   same_sets (r ∷ T) (suc id) = ap (λ xs. r.0 ∷ xs) (same_sets T id)
 
-  same_length : (T : Interned) (id : ℕ) → length (with_result T id moves k) ≡ length T
+  same_length : (T : SetRows) (id : ℕ) → length (with_result T id moves k) ≡ length T
   same_length [] id = refl
   same_length (r ∷ T) zero = refl
   same_length (r ∷ T) (suc id) = ap suc (same_length T id)
 
-  same_at : (T : Interned) (id : ℕ) → set_at (with_result T id moves k) id ≡ set_at T id
+  same_at : (T : SetRows) (id : ℕ) → set_at (with_result T id moves k) id ≡ set_at T id
   same_at [] id = refl
   same_at (r ∷ T) zero = refl
   same_at (r ∷ T) (suc id) = same_at T id
 
-module _ (i : ℕ) (k : Known) where
+module _ (i : ℕ) (k : SetResult) where
   put_there : (rs : Results) → i < length rs → slice_index_or (set rs i (Some k)) i None ≡ Some k
   put_there rs l = go rs i l
     where
@@ -73,12 +73,12 @@ module _ (i : ℕ) (k : Known) where
       go (r ∷ rs) zero l = refl
       go (r ∷ rs) (suc i) l = go rs i (omega arith)
 
-  known_there : (T : Interned) (id : ℕ) → id < length T → i < length (row_at T id).1 → known_at (with_result T id (suc i) k) id (suc i) ≡ Some k
+  known_there : (T : SetRows) (id : ℕ) → id < length T → i < length (row_at T id).1 → known_at (with_result T id (suc i) k) id (suc i) ≡ Some k
   known_there [] id l h = absurd (omega arith)
   known_there (r ∷ T) zero l h = put_there r.1 h
   known_there (r ∷ T) (suc id) l h = known_there T id (omega arith) h
 
-  others : (T : Interned) (id : ℕ) (q : PairOf Pos) → (((set_at T id, suc i) ≡ q) → ⊥) → stored position_lt (entries (with_result T id (suc i) k)) q ≡ stored position_lt (entries T) q
+  others : (T : SetRows) (id : ℕ) (q : PairOf Pos) → (((set_at T id, suc i) ≡ q) → ⊥) → stored position_lt (entries (with_result T id (suc i) k)) q ≡ stored position_lt (entries T) q
   unfolding entries
   others [] id q n = refl
   others (r ∷ T) zero q n =
@@ -88,7 +88,7 @@ module _ (i : ℕ) (k : Known) where
       stored_append (row_entries r.0 1 r.1) (entries (with_result T id (suc i) k)) q ∙ ap (λ o. or_else (stored position_lt (row_entries r.0 1 r.1) q) o) (others T id q n)
       ∙ sym (stored_append (row_entries r.0 1 r.1) (entries T) q)
 
-  one_more : (f : PairOf Pos → ℕ) (T : Interned) (id : ℕ) → id < length T → i < length (row_at T id).1 → known_at T id (suc i) ≡ None → total f (pairs (entries (with_result T id (suc i) k))) ≡ f (set_at T id, suc i) + total f (pairs (entries T))
+  one_more : (f : PairOf Pos → ℕ) (T : SetRows) (id : ℕ) → id < length T → i < length (row_at T id).1 → known_at T id (suc i) ≡ None → total f (pairs (entries (with_result T id (suc i) k))) ≡ f (set_at T id, suc i) + total f (pairs (entries T))
   unfolding entries
   one_more f [] id l h e = absurd (omega arith)
   one_more f (r ∷ T) zero l h e =
@@ -129,16 +129,16 @@ module _ (T T' : Entries Pos Move) (p : PairOf Pos) (o : Option Move) (here : st
       news q x h (inl e) = inr (e, (let c : Some o ≡ Some x = sym here ∙ ap (stored position_lt T') e ∙ h in cc))
       news q x h (inr n) = inl (sym (others q n) ∙ h)
 
-pub row_in : (T : Interned) (id : ℕ) → id < length T → In (row_at T id) T
+pub row_in : (T : SetRows) (id : ℕ) → id < length T → In (row_at T id) T
 row_in [] id l = absurd (omega arith)
 row_in (r ∷ T) zero l = inl refl
 row_in (r ∷ T) (suc id) l = inr (row_in T id (omega arith))
 
-none_from : (o : Option Known) → option_map try_of o ≡ None → o ≡ None
+none_from : (o : Option SetResult) → option_map try_of o ≡ None → o ≡ None
 none_from None e = refl
 none_from (Some k) e = absurd (let q : ◌≡◌ {A = Option (Option Move)} (Some (try_of k)) None = e in cc)
 
-pub noted_is : (T : Interned) (id moves : ℕ) (k : Known) → IsTable T → id < length T → 0 < moves → moves ≤ MOST_MOVES → IsNoted T (with_result T id moves k) id moves k
+pub noted_is : (T : SetRows) (id moves : ℕ) (k : SetResult) → IsTable T → id < length T → 0 < moves → moves ≤ MOST_MOVES → IsNoted T (with_result T id moves k) id moves k
 noted_is T id zero k t l a b = absurd (omega arith)
 noted_is T id (suc i) k t l a b =
     let room = t.room (row_at T id) (row_in T id l) in

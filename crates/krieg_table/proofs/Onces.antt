@@ -1,7 +1,7 @@
 -- No pair of a set and a number has two results.
 use Rattle.std.proofs.Common.{◌≡◌, ℕ, suc, ◌≤◌, ◌⊎◌, inl, inr, List, [], ◌∷◌, ◌++◌, Option, Some, None, sym, ap, subst, arith}
 use Rattle.std.proofs.lemmas.List.{map-append}
-use Rattle.krieg_table.proofs.Common.{Pos, Move, In, IsOnce, PairOf, Entries, pairs, Results, Interned, sets, row_entries, entries}
+use Rattle.krieg_table.proofs.Common.{Pos, Move, In, IsOnce, PairOf, Entries, pairs, Results, SetRows, sets, row_entries, entries}
 use Rattle.krieg_theory.proofs.Lists.{append_in}
 use Rattle.krieg_costs.proofs.Onces.{once_append}
 
@@ -21,7 +21,7 @@ module _ (B : List Pos) where
   row_once (None ∷ rs) n = row_once rs (suc n)
   row_once (Some k ∷ rs) n = (λ i. (let a = (in_row rs (suc n) (B, n) i).1 in absurd (omega arith)), row_once rs (suc n))
 
-in_sets : (T : Interned) (q : PairOf Pos) → In q (pairs (entries T)) → In q.0 (sets T)
+in_sets : (T : SetRows) (q : PairOf Pos) → In q (pairs (entries T)) → In q.0 (sets T)
 unfolding entries
 in_sets [] q i = absurd i
 in_sets (r ∷ T) q i = there (in_sets T q) (append_in (pairs (row_entries r.0 1 r.1)) (pairs (entries T)) q (subst (In q) (pairs_append (row_entries r.0 1 r.1) (entries T)) i))
@@ -31,7 +31,7 @@ in_sets (r ∷ T) q i = there (in_sets T q) (append_in (pairs (row_entries r.0 1
     there ih (inr j) = inr (ih j)
 
 -- since no set has two numbers
-pub pairs_once : (T : Interned) → IsOnce (sets T) → IsOnce (pairs (entries T))
+pub pairs_once : (T : SetRows) → IsOnce (sets T) → IsOnce (pairs (entries T))
 unfolding entries
 pairs_once [] o = tt
 pairs_once (r ∷ T) o =

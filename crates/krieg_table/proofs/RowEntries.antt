@@ -1,7 +1,7 @@
 -- The results of one set: what is stored for each number of moves, and what changes where one is put in.
 use Rattle.std.proofs.Common.{◌≡◌, ℕ, zero, suc, ◌+◌, ◌<◌, Bool, true, false, cond, List, [], ◌∷◌, ◌++◌, length, set, slice_index_or, Option, Some, None, option_map, refl, sym, ap, ◌∙◌, arith}
 use Rattle.std.proofs.lemmas.Bool.{cond-true, cond-false, false_from_ne_true}
-use Rattle.krieg_table.proofs.Common.{Pos, Move, position_lt, total, PairOf, Entries, same_entry, stored, pairs, Known, Results, try_of, row_entries}
+use Rattle.krieg_table.proofs.Common.{Pos, Move, position_lt, total, PairOf, Entries, same_entry, stored, pairs, SetResult, Results, try_of, row_entries}
 use Rattle.krieg_pack.proofs.PositionSets.{position_order}
 use Rattle.krieg_accounts.proofs.Appended.{entry_is, entry_refl}
 
@@ -50,7 +50,7 @@ module _ (B : List Pos) where
       ∙ ap (λ (m : ℕ). stored position_lt (row_entries B (suc n) rs) (B, m)) (let e : n + suc i ≡ suc n + i = omega arith in e) ∙ at_place rs (suc n) i
 
   -- where one is put in, the others stay
-  pub others_stay : (rs : Results) (n i : ℕ) (k : Known) (q : PairOf Pos) → (((B, n + i) ≡ q) → ⊥) → stored position_lt (row_entries B n (set rs i (Some k))) q ≡ stored position_lt (row_entries B n rs) q
+  pub others_stay : (rs : Results) (n i : ℕ) (k : SetResult) (q : PairOf Pos) → (((B, n + i) ≡ q) → ⊥) → stored position_lt (row_entries B n (set rs i (Some k))) q ≡ stored position_lt (row_entries B n rs) q
   others_stay [] n i k q h = refl
   others_stay (None ∷ rs) n zero k q h = other_entry (B, n) q (try_of k) (row_entries B (suc n) rs) (λ e. h (ap (λ (m : ℕ). (B, m)) (let d : n + 0 ≡ n = omega arith in d) ∙ e))
   others_stay (Some x ∷ rs) n zero k q h =
@@ -61,10 +61,10 @@ module _ (B : List Pos) where
       ap (λ o. cond (same_entry position_lt (B, n) q) (Some (try_of x)) o) (others_stay rs (suc n) i k q (λ e. h (ap (λ (m : ℕ). (B, m)) (let d : n + suc i ≡ suc n + i = omega arith in d) ∙ e)))
 
   -- and a sum over the pairs grows by the new one
-  pub row_total : (f : PairOf Pos → ℕ) (rs : Results) (n i : ℕ) (k : Known) → i < length rs → slice_index_or rs i None ≡ None → total f (pairs (row_entries B n (set rs i (Some k)))) ≡ f (B, n + i) + total f (pairs (row_entries B n rs))
+  pub row_total : (f : PairOf Pos → ℕ) (rs : Results) (n i : ℕ) (k : SetResult) → i < length rs → slice_index_or rs i None ≡ None → total f (pairs (row_entries B n (set rs i (Some k)))) ≡ f (B, n + i) + total f (pairs (row_entries B n rs))
   row_total f [] n i k l e = absurd (omega arith)
   row_total f (None ∷ rs) n zero k l e = ap (λ (m : ℕ). f (B, m) + total f (pairs (row_entries B (suc n) rs))) (let d : n ≡ n + 0 = omega arith in d)
-  row_total f (Some x ∷ rs) n zero k l e = absurd (let q : ◌≡◌ {A = Option Known} (Some x) None = e in cc)
+  row_total f (Some x ∷ rs) n zero k l e = absurd (let q : ◌≡◌ {A = Option SetResult} (Some x) None = e in cc)
   row_total f (None ∷ rs) n (suc i) k l e =
       row_total f rs (suc n) i k (omega arith) e ∙ ap (λ (m : ℕ). f (B, m) + total f (pairs (row_entries B (suc n) rs))) (let d : suc n + i ≡ n + suc i = omega arith in d)
   row_total f (Some x ∷ rs) n (suc i) k l e =

@@ -1,4 +1,4 @@
 pub mod Results
-pub mod Interned
+pub mod SetRows
 pub mod Entries
 pub mod Table

@@ -6,22 +6,22 @@ use Rattle.krieg_pack.specs.Order.{position_lt}
 use Rattle.krieg_theory.specs.Sets.{In}
 use Rattle.krieg_costs.specs.Sums.{IsOnce}
 use Rattle.krieg_accounts.specs.Stored.{PairOf, stored, AddsResult}
-use Rattle.krieg_table.specs.declared.known.Known.{Known}
-use Rattle.krieg_table.specs.Interned.{Row, Interned, sets, set_at}
+use Rattle.krieg_table.specs.declared.set_result.SetResult.{SetResult}
+use Rattle.krieg_table.specs.SetRows.{Row, SetRows, sets, set_at}
 use Rattle.krieg_table.specs.Entries.{try_of, entries}
 
 -- no set has two numbers, and each has room for the results of each number of moves that may be asked for
-pub record IsTable (T : Interned) : Type 0 where
+pub record IsTable (T : SetRows) : Type 0 where
   pub once : IsOnce (sets T)
   pub room : (r : Row) → In r T → length r.1 ≡ MOST_MOVES
 
 -- each set has kept its number
-pub record IsMore (T T' : Interned) : Type 0 where
+pub record IsMore (T T' : SetRows) : Type 0 where
   pub longer : length T ≤ length T'
   pub same : (k : ℕ) → k < length T → set_at T' k ≡ set_at T k
 
 -- the set has the number, no other set has come, and the results are as they were
-pub record IsInterned (T T' : Interned) (B : List Pos) (id : ℕ) : Type 0 where
+pub record IsInterned (T T' : SetRows) (B : List Pos) (id : ℕ) : Type 0 where
   pub within : id < length T'
   pub at : set_at T' id ≡ B
   pub more : IsMore T T'
@@ -29,7 +29,7 @@ pub record IsInterned (T T' : Interned) (B : List Pos) (id : ℕ) : Type 0 where
   pub noted : entries T' ≡ entries T
 
 -- the result is there, in place of one before, and all else is as it was
-pub record IsNoted (T T' : Interned) (id moves : ℕ) (k : Known) : Type 0 where
+pub record IsNoted (T T' : SetRows) (id moves : ℕ) (k : SetResult) : Type 0 where
   pub same_sets : sets T' ≡ sets T
   pub here : stored position_lt (entries T') (set_at T id, moves) ≡ Some (try_of k)
   pub others : (q : PairOf Pos) → (((set_at T id, moves) ≡ q) → ⊥) → stored position_lt (entries T') q ≡ stored position_lt (entries T) q

@@ -4,7 +4,7 @@
 //! keeps beside it what is known for each number of own moves that may be asked for: that the set can be won,
 //! and by which try first, or that it cannot. A set is hashed once a call of `intern`, and looked at by its number from then on.
 //!
-//! In contracts a `Table` is the list of its rows (`Interned` in `specs/`), and every call says what they become.
+//! In contracts a `Table` is the list of its rows (`SetRows` in `specs/`), and every call says what they become.
 //! `Entries` has the results by sets, as `krieg_accounts` speaks of them, and `Table` what a call does to these. `results`
 //! has what is known of one set; it is internal.
 //!
@@ -19,9 +19,9 @@
 //! ```
 #![tactic(auto)]
 
-mod known;
 mod results;
+mod set_result;
 mod table;
 
-pub use known::Known;
+pub use set_result::SetResult;
 pub use table::{MOST_SETS, Table};

@@ -3,14 +3,14 @@
 ghost use Rattle.std.specs.Prelude.{◌≡◌, ◌<◌, ◌≤◌};
 ghost use Rattle.krieg_table.specs.Results.{nothing, known_for, with_known};
 
-use crate::known::Known;
+use crate::set_result::SetResult;
 use krieg_board::MOST_MOVES;
 use std::marker::Model;
 
 /// What is known of a set, for each number of own moves from 1 on. In contracts it is their list.
 #[derive(Drop)]
 pub(crate) struct Results {
-    by_moves: [Option<Known>; MOST_MOVES as usize],
+    by_moves: [Option<SetResult>; MOST_MOVES as usize],
 }
 
 // A table keeps one for each of its sets.
@@ -39,7 +39,7 @@ impl Results {
     }
 
     /// What is known for a number of moves: nothing for 0 and beyond the most.
-    pub(crate) fn get(&self, moves: u8) -> Option<Known>
+    pub(crate) fn get(&self, moves: u8) -> Option<SetResult>
         ensures { result ≡ known_for self.now moves }
     {
         let place = usize::from(moves).checked_sub(1)?;
@@ -47,7 +47,7 @@ impl Results {
     }
 
     /// Puts in what is known for a number of moves.
-    pub(crate) fn put(&mut self, moves: u8, known: Known)
+    pub(crate) fn put(&mut self, moves: u8, known: SetResult)
         requires some { 0 < moves }
         requires most { moves ≤ MOST_MOVES }
         ensures { self.new ≡ with_known self.old moves known }

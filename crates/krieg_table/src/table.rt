@@ -3,12 +3,12 @@ ghost use Rattle.krieg_theory.specs.Sets.{In};
 ghost use Rattle.krieg_pack.specs.Order.{position_lt};
 ghost use Rattle.krieg_costs.specs.Sums.{IsOnce};
 ghost use Rattle.krieg_accounts.specs.Stored.{stored, pairs};
-ghost use Rattle.krieg_table.specs.Interned.{sets, set_at, known_at, number_of, interned, with_result};
+ghost use Rattle.krieg_table.specs.SetRows.{sets, set_at, known_at, number_of, interned, with_result};
 ghost use Rattle.krieg_table.specs.Entries.{try_of, entries};
 ghost use Rattle.krieg_table.specs.Table.{IsInterned, IsNoted};
 
-use crate::known::Known;
 use crate::results::Results;
+use crate::set_result::SetResult;
 use indexmap::IndexMap;
 use krieg_board::{MOST_MOVES, NoMemory};
 use krieg_pack::Belief;
@@ -28,10 +28,10 @@ pub struct Table {
 }
 
 impl Model for Table {
-    ghost use Rattle.krieg_table.specs.Interned.{Interned};
+    ghost use Rattle.krieg_table.specs.SetRows.{SetRows};
     ghost use Rattle.krieg_table.specs.Table.{IsTable};
 
-    ghost Value = { Interned };
+    ghost Value = { SetRows };
 
     ghost view = { λ t. t.rows.entries };
 
@@ -94,7 +94,7 @@ impl Table {
 
     /// What was noted last of the set with that number and the number of own moves. It is unknown for 0 and beyond
     /// [`MOST_MOVES`].
-    pub fn result(&self, id: u32, moves: u8) -> Option<Known>
+    pub fn result(&self, id: u32, moves: u8) -> Option<SetResult>
         requires { id < length self.now }
         ensures value { result ≡ known_at self.now id moves }
         ensures by_sets { option_map try_of result
@@ -105,7 +105,7 @@ impl Table {
 
     /// Notes what is known of the set with that number and the number of own moves, from 1 to
     /// [`MOST_MOVES`]. All other results stay. It takes no memory.
-    pub fn note(&mut self, id: u32, moves: u8, known: Known)
+    pub fn note(&mut self, id: u32, moves: u8, known: SetResult)
         requires within { id < length self.old }
         requires some { 0 < moves }
         requires most { moves ≤ MOST_MOVES }

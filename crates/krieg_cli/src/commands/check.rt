@@ -1,5 +1,5 @@
 ghost use Rattle.std.specs.Prelude.{◌≡◌, IfOk};
-ghost use Rattle.krieg_plan.specs.Listed.{IsOneTurn};
+ghost use Rattle.krieg_plan.specs.OneTurn.{IsOneTurn};
 ghost use Rattle.krieg_planfile.specs.PlanFiles.{state_of};
 ghost use Rattle.krieg_cli.specs.Parts.{Decides};
 ghost use Rattle.krieg_cli.specs.Check as spec;
@@ -8,7 +8,7 @@ use crate::commands::counted::counted;
 use crate::ending::Ending;
 use crate::refusal::Refusal;
 use krieg_board::{NoMemory, Units};
-use krieg_checker::{Checked, check_owned};
+use krieg_checker::{PlanVerdict, check_owned};
 use krieg_plan::PlanFile;
 use krieg_planfile::read_plan;
 use std::alloc::Global;
@@ -28,8 +28,8 @@ fn judged(alloc: Global, budget: u64, file: PlanFile) -> Result<Vec<u8>, Ending>
 {
     let mut units = Units::new(budget);
     match check_owned(alloc, file, &mut units)? {
-        Checked::Mates(worst) => Ok(worst_text(alloc, worst)?),
-        Checked::Fails => Err(Ending::Refused(Refusal::PlanFails)),
+        PlanVerdict::Mates(worst) => Ok(worst_text(alloc, worst)?),
+        PlanVerdict::Fails => Err(Ending::Refused(Refusal::PlanFails)),
     }
 }
 

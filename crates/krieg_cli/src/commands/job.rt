@@ -7,8 +7,8 @@ ghost use Rattle.krieg_sheet.specs.Places.{IsSheet};
 ghost use Rattle.krieg_belief.specs.Possible.{IsPossible, HaveOneHand};
 ghost use Rattle.krieg_plan.specs.Plans.{plan_of};
 ghost use Rattle.krieg_plan.specs.Trees.{plan_size};
-ghost use Rattle.krieg_search.specs.Solved.{IsBest};
-ghost use Rattle.krieg_search.specs.Planned.{IsFit};
+ghost use Rattle.krieg_search.specs.Solutions.{IsBest};
+ghost use Rattle.krieg_search.specs.BuiltPlan.{IsFit};
 ghost use Rattle.krieg_cli.specs.Parts.{Decides};
 ghost use Rattle.krieg_cli.specs.Solve.{least_units};
 ghost use Rattle.krieg_cli.specs.Job as spec;
@@ -22,7 +22,7 @@ use crate::ending::Ending;
 use krieg_args::MOST_SEED;
 use krieg_belief::{BeliefStop, believe};
 use krieg_board::{MOST_UNITS, NoMemory, Side, Units};
-use krieg_checker::{Checked, check};
+use krieg_checker::{PlanVerdict, check};
 use krieg_fen::MOST_LISTED;
 use krieg_make::made_sheet;
 use krieg_pack::Belief;
@@ -92,12 +92,12 @@ fn checked(alloc: Global, set: &Belief, worst: u8, plan: Plan) -> Result<Finding
     };
     let mut units = Units::new(MOST_UNITS);
     match check(alloc, &file, &mut units)? {
-        Checked::Mates(checked) => Ok(Finding::Plan {
+        PlanVerdict::Mates(checked) => Ok(Finding::Plan {
             worst,
             nodes,
             checked,
         }),
-        Checked::Fails => unreachable!(),
+        PlanVerdict::Fails => unreachable!(),
     }
 }
 

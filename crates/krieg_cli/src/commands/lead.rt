@@ -1,5 +1,5 @@
 ghost use Rattle.std.specs.Prelude.{◌≡◌, ◌<◌, ◌≤◌, Err, IfOk, IfErr, vec_len};
-ghost use Rattle.krieg_plan.specs.Listed.{IsOneTurn};
+ghost use Rattle.krieg_plan.specs.OneTurn.{IsOneTurn};
 ghost use Rattle.krieg_planfile.specs.PlanFiles.{state_of};
 ghost use Rattle.krieg_play.specs.Calls.{FirstChanges};
 ghost use Rattle.krieg_robot.specs.Laws.{Mates};

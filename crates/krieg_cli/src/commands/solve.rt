@@ -1,8 +1,8 @@
 ghost use Rattle.std.specs.Prelude.{◌≡◌, ◌≤◌, ◌⊎◌, false, length, Ok, IfOk, MatchBool};
 ghost use Rattle.krieg_text.specs.Lines.{lines};
 ghost use Rattle.krieg_text.specs.Reading.{whole};
-ghost use Rattle.krieg_split.specs.Turns.{IsOwnTurn, IsOthersTurn};
-ghost use Rattle.krieg_search.specs.Solved.{IsAnswer, IsCharged, IsChargedAtMost};
+ghost use Rattle.krieg_parting.specs.Turns.{IsOwnTurn, IsOthersTurn};
+ghost use Rattle.krieg_search.specs.Solutions.{IsAnswer, IsCharged, IsChargedAtMost};
 ghost use Rattle.krieg_theory.specs.Sets.{is_nil};
 ghost use Rattle.krieg_belief.specs.Possible.{HaveOneHand};
 ghost use Rattle.krieg_plan.specs.Plans.{plan_of};

@@ -1,7 +1,7 @@
 use Rattle.std.proofs.Common.{false, ◌≡◌, ◌+◌, ◌-◌, ◌≤◌, List, length, map, take, None, Err, is_some, sym, ap, subst, ◌∙◌, arith, refl}
 use Rattle.std.proofs.lemmas.List.{length-map, take_all}
 use Rattle.std.specs.Prelude.{IfSome}
-use Rattle.krieg_refute.proofs.Common.{Pos, Move, Key, Large, position_lt, tries, block_pair, stored, add_all, behind_try, WalksTries, chess, set_at, why_of, reason_of, Class, Refused, pairs_in, Claims, Reasons, Blocks, Asked, entries, ByClass, ByRefused}
+use Rattle.krieg_refute.proofs.Common.{Pos, Move, Key, Large, position_lt, tries, block_pair, stored, add_all, behind_try, WalksTries, chess, set_at, why_of, reason_of, Class, Refused, pairs_in, Claims, Reasons, Blocks, Question, entries, ByClass, ByRefused}
 use Rattle.krieg_costs.specs.Refutation as theory
 use Rattle.krieg_theory.specs.Sets.{In}
 use Rattle.krieg_theory.proofs.Steps.{refused_lt}
@@ -11,7 +11,7 @@ use Rattle.krieg_search.proofs.Building.{adds_nothing, adds_then, still_paid}
 use Rattle.krieg_refute.specs.declared.refutation.Reason.{Reason}
 use Rattle.krieg_refute.proofs.Reasoning.{walked_more, reasons_more}
 use Rattle.krieg_claims.proofs.Walking.{walks_there}
-use Rattle.krieg_search.specs.contracts.notes.AskedPartialEq.TheImpl as derived_eq
+use Rattle.krieg_search.specs.contracts.notes.QuestionPartialEq.TheImpl as derived_eq
 use Rattle.krieg_refute.proofs.Places.{absent, place_at, same_asked}
 use Rattle.krieg_refute.proofs.Carrying.{carried, set_large, tries_large, pushed, next_is}
 use Rattle.krieg_accounts.proofs.Tables.{result_can}
@@ -29,7 +29,7 @@ claim-returns-in-Some t c =
     let j = c.args.asked.moves in
     let w = c.args.claimed.now in
     let qs = pairs_in T w.places.keys in
-    let a : Asked = c.args.asked in
+    let a : Question = c.args.asked in
     let p = place_at d T c.know_once.ensures.sets a c.requires.within ((derived_eq.ghosts).eq a) (and_from _ _ (eq-eqb c.args.asked.set c.args.asked.set refl) (eq-eqb c.args.asked.moves c.args.asked.moves refl)) (λ k h. same_asked a k h) w.places.keys c.in-Some.index c.requires.claimed.numbered (sym c.in-Some.ensures.index) in
     let walks = walks_there (chess d) (chess_is_game d) qs B j c.requires.claimed.stands p.0 in
     let at : (c.in-Some.index + 1) ≡ written.place_of (chess d) qs (B, j) = (let e = p.1 in omega arith) in
@@ -58,7 +58,7 @@ claim-push-requires-clause-next t c =
     let ts = tries (chess d) B in
     let same = r.0.more.same c.args.asked.set c.requires.within in
     let cannot = result_can (chess d) (chess_is_game d) false (entries T0) c.requires.paid.ready.sound B j None c.requires.lost in
-    let a : Asked = c.args.asked in
+    let a : Question = c.args.asked in
     let new : In (B, j) (pairs_in T0 w0.places.keys) → ⊥ = (let f = c.get_index_of.ensures.found in let i = c.in_default.is in absent T0 w0.places.keys a ((derived_eq.ghosts).eq a) c.know_once.ensures.sets c.requires.within c.requires.claimed.numbered (and_from _ _ (eq-eqb c.args.asked.set c.args.asked.set refl) (eq-eqb c.args.asked.moves c.args.asked.moves refl)) (sym f ∙ ap is_some i)) in
     next_is d T1 w1.places.keys (pairs_in T0 w0.places.keys) B (set_at T1 c.args.asked.set) j ts (map reason_of c.in_ok-reasons.reasons.items) same c.requires.some c.requires.members cannot new refl r.2 r.3
 
@@ -75,7 +75,7 @@ claim-returns t c =
     let ts = tries (chess d) B in
     let same = r.0.more.same c.args.asked.set c.requires.within in
     let cannot = result_can (chess d) (chess_is_game d) false (entries T0) c.requires.paid.ready.sound B j None c.requires.lost in
-    let a : Asked = c.args.asked in
+    let a : Question = c.args.asked in
     let new : In (B, j) (pairs_in T0 w0.places.keys) → ⊥ = (let f = c.get_index_of.ensures.found in let i = c.in_default.is in absent T0 w0.places.keys a ((derived_eq.ghosts).eq a) c.know_once.ensures.sets c.requires.within c.requires.claimed.numbered (and_from _ _ (eq-eqb c.args.asked.set c.args.asked.set refl) (eq-eqb c.args.asked.moves c.args.asked.moves refl)) (sym f ∙ ap is_some i)) in
     pushed d T0 T1 B (set_at T1 c.args.asked.set) j w0 w1 c.push.new.claimed c.push.result same c.requires.some c.requires.members cannot new r.0 r.2 c.push.ensures
 

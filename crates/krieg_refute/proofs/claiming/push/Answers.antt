@@ -1,7 +1,7 @@
 use Rattle.std.proofs.Common.{◌≡◌, ℕ, ◌+◌, ◌<◌, ◌++◌, ◌∷◌, [], List, length, refl, ap, sym, subst, ◌∙◌, min, arith, rules}
 use Rattle.std.proofs.lemmas.List.{map-append, length-map}
 use Rattle.std.proofs.lemmas.List.Elements.{All-push, All-same}
-use Rattle.krieg_refute.proofs.Common.{Pos, place_of, Stands, AreFew, AreMany, positions_in, reasons_in, chess, set_at, Draft, claim_over, claims_over, Asked, claims_of, most_claims, most_claimed, pairs_in}
+use Rattle.krieg_refute.proofs.Common.{Pos, place_of, Stands, AreFew, AreMany, positions_in, reasons_in, chess, set_at, Draft, claim_over, claims_over, Question, claims_of, most_claims, most_claimed, pairs_in}
 use Rattle.krieg_theory.specs.Sets.{In}
 use Rattle.krieg_theory.proofs.Lists.{in_map}
 use Rattle.krieg_claims.specs.Written as written
@@ -15,7 +15,7 @@ returns-then-not-are_few c =
     let T = c.args.table.now in
     let w = c.args.claimed.now in
     let one : Claim = record { moves = c.args.moves; set = set_at T c.args.set; reasons = c.args.reasons } in
-    let a : Asked = record { set = c.args.set; moves = c.args.moves } in
+    let a : Question = record { set = c.args.set; moves = c.args.moves } in
     let own = c.requires.claimed in
     let cs = claims_over T w.claims.items in
     let is = claims_are d T w.places.keys cs one a c.requires.within own.numbered own.stands own.are c.requires.next (λ i. set_at T c.args.set) (λ i. c.args.moves) in
@@ -32,7 +32,7 @@ returns-then-not-are_few c =
 
 pub add_place-requires : goal.add_place-requires
 add_place-requires c = λ i.
-    c.requires.next.fresh (in_map {Y = List Pos × ℕ} (λ (k : Asked). (set_at c.args.table.now k.set, k.moves)) c.args.claimed.now.places.keys (record { set = c.args.set; moves = c.args.moves }) i)
+    c.requires.next.fresh (in_map {Y = List Pos × ℕ} (λ (k : Question). (set_at c.args.table.now k.set, k.moves)) c.args.claimed.now.places.keys (record { set = c.args.set; moves = c.args.moves }) i)
 
 pub returns : goal.returns
 returns c =
@@ -44,7 +44,7 @@ returns c =
     let B = set_at T c.args.set in
     let draft : Draft = record { moves = c.args.moves; set = c.args.set; reasons = c.args.reasons } in
     let one = claim_over T draft in
-    let a : Asked = record { set = c.args.set; moves = c.args.moves } in
+    let a : Question = record { set = c.args.set; moves = c.args.moves } in
     let own = c.requires.claimed in
     let next = c.requires.next in
     let set : B ≡ B = refl in

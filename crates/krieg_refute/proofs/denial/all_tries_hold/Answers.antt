@@ -3,15 +3,15 @@ use Rattle.std.specs.declared.alloc.Global.{Global}
 use Rattle.std.specs.Prelude.{All, IfSome}
 use Rattle.std.specs.List.{list_all}
 use Rattle.std.proofs.lemmas.List.Folds.{list_all-map}
-use Rattle.krieg_refute.proofs.Common.{Pos, Move, Dialect, tries, Key, PartStop, Charged, total, made, chess, tally_of, AreTallies, Tally, claims_of, reason_of, try_holds}
+use Rattle.krieg_refute.proofs.Common.{Pos, Move, Dialect, tries, Key, PartStop, Charges, total, made, chess, tally_of, AreTallies, Tally, claims_of, reason_of, try_holds}
 use Rattle.krieg_costs.specs.Refutation.{Claim, Reason}
 use Rattle.krieg_parting.proofs.Charges.{said}
 use Rattle.krieg_refute.proofs.LastTries.{members_paid, are_tallies, total_tallied}
 use Rattle.krieg_refute.proofs.denial.all_tries_hold.Goals as goal
 
 hold_by_tallies : (d : Dialect) (B : List Pos) (j : ℕ) → 0 ≡ j - 1 → (cs : List (Claim (chess d))) (rs : List (Move × Reason Key)) (ts : List Move) (ys : List Tally) → ts ≡ tries (chess d) B → AreTallies B B ys → (r : Result Bool PartStop) (u0 u1 : ℕ)
-    → Charged r (λ yes. yes ≡ list_all (λ (y : Tally). try_holds d cs 0 B y.mv rs) ys) (total (λ (y : Tally). made (chess d) B y.mv) ys) u0 u1
-    → Charged r (λ yes. yes ≡ list_all (λ t. try_holds d cs (j - 1) B t rs) ts) (total (made (chess d) B) ts) u0 u1
+    → Charges r (λ yes. yes ≡ list_all (λ (y : Tally). try_holds d cs 0 B y.mv rs) ys) (total (λ (y : Tally). made (chess d) B y.mv) ys) u0 u1
+    → Charges r (λ yes. yes ≡ list_all (λ t. try_holds d cs (j - 1) B t rs) ts) (total (made (chess d) B) ts) u0 u1
 hold_by_tallies d B j last cs rs ts ys tried found r u0 u1 h =
     let are = found d ∙ ap (map (tally_of B)) (sym tried) in
     let holds : ℕ → Move → Bool = λ i t. try_holds d cs i B t rs in

@@ -1,6 +1,6 @@
 use Rattle.std.proofs.Common.{false, ◌≡◌, ℕ, Err, subst, ◌∙◌, arith}
 use Rattle.std.proofs.lemmas.Bool.{both_ways}
-use Rattle.krieg_refute.proofs.Common.{IsAccount, IsDecided, side_of}
+use Rattle.krieg_refute.proofs.Common.{IsAccount, IsDecision, side_of}
 use Rattle.krieg_search.proofs.OpenedSets.{none_over}
 use Rattle.krieg_search.proofs.Accounting.{taken_between}
 use Rattle.krieg_refute.proofs.FirstLost.{first_some, first_within, first_members, first_stored, is_denial, claims_stopped, claims_stopped_taken, search_stopped, search_stopped_taken, is_mated}
@@ -51,12 +51,12 @@ claims_for-requires-clause-paid c =
 pub returns-in_err-decide-clause-answer : goal.returns-in_err-decide-clause-answer
 returns-in_err-decide-clause-answer c =
     search_stopped c.args.d _ c.args.b.now c.args.moves _ c.from_residual.result c.in_err-decide.field-0.0 c.new-left.result c.decide.new.units (λ x h. cc) c.from_residual.ensures.1
-    (subst (λ who. IsDecided c.args.d who c.args.b.now c.args.moves false (Err c.in_err-decide.field-0.0) c.new-left.result c.decide.new.units) c.side_of-who.ensures c.in_err-decide.ensures.decided)
+    (subst (λ who. IsDecision c.args.d who c.args.b.now c.args.moves false (Err c.in_err-decide.field-0.0) c.new-left.result c.decide.new.units) c.side_of-who.ensures c.in_err-decide.ensures.decided)
 
 pub returns-in_err-decide-clause-units : goal.returns-in_err-decide-clause-units
 returns-in_err-decide-clause-units c =
     search_stopped_taken c.args.d _ c.args.b.now c.args.moves _ c.from_residual.result c.in_err-decide.field-0.0 c.new-left.result c.decide.new.units c.args.units.now (λ x h. cc) c.from_residual.ensures.1
-    (c.new-left.ensures ∙ c.left.ensures) (subst (λ who. IsDecided c.args.d who c.args.b.now c.args.moves false (Err c.in_err-decide.field-0.0) c.new-left.result c.decide.new.units) c.side_of-who.ensures c.in_err-decide.ensures.decided)
+    (c.new-left.ensures ∙ c.left.ensures) (subst (λ who. IsDecision c.args.d who c.args.b.now c.args.moves false (Err c.in_err-decide.field-0.0) c.new-left.result c.decide.new.units) c.side_of-who.ensures c.in_err-decide.ensures.decided)
 
 pub returns-in_err-claims-in-Lost-clause-answer : goal.returns-in_err-claims-in-Lost-clause-answer
 returns-in_err-claims-in-Lost-clause-answer c =

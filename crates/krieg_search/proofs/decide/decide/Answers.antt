@@ -1,6 +1,6 @@
 use Rattle.std.proofs.Common.{Bool, Err, refl, sym, subst, ◌∙◌, List, Option, Vec}
 use Rattle.std.specs.declared.alloc.Global.{Global}
-use Rattle.krieg_search.proofs.Common.{CoversSets, chess, Opening, Found, AreCounted, IsSearched, Stretches, TellsSets, AreNumbered, IsOpened, sets_in, AreNotes}
+use Rattle.krieg_search.proofs.Common.{CoversSets, chess, Opening, Findings, AreCounted, IsSearched, Stretches, TellsSets, AreNumbered, IsOpened, sets_in, AreNotes}
 use Rattle.krieg_search.proofs.Noted.{none_kept}
 use Rattle.krieg_search.proofs.Deciding.{empty_counted, are_opened, openings_stopped, over, opened_ready, search_stopped, not_won, all_are_won}
 use Rattle.krieg_search.proofs.decide.decide.Goals as goal
@@ -77,7 +77,7 @@ returns-then-not-all_win-clause-decided c =
     let u2 = c.all_openings_win.new.search.units in
     let os = c.in-Some.openings in
     let o = are_opened d c.args.way.cut who S n c.new-3.result T1 c.in_ok-openings.field-0 os c.new-3.ensures c.in-Some.is c.in_ok-openings.ensures.0 in
-    let lost : Found = record { table = T2; openings = os; notes = c.all_openings_win.new.search.notes } in
+    let lost : Findings = record { table = T2; openings = os; notes = c.all_openings_win.new.search.notes } in
     let w = subst (λ (xs : List Opening). TellsSets d T2 (sets_in T1 xs) n c.in_ok-all_win.all_win × IsSearched d c.args.way.cut (CoversSets (chess d) (sets_in T1 xs) n) 0 T1 T2 u1 u2) c.deref.ensures.value c.in_ok-all_win.ensures.searched in
     not_won d c.args.way.cut who S n T1 os.items o.1 T2 c.in_ok-all_win.all_win u0 u1 u2 o.0 (c.in_ok-openings.ensures.1 ∙ c.new-4.ensures ∙ c.left-had.ensures) w.0 w.1 c.know_once.ensures.results c.if-not-all_win.true lost refl refl c.in_ok-all_win.ensures.ready.1
 
@@ -94,6 +94,6 @@ returns-clause-decided c =
     let u2 = c.all_openings_win.new.search.units in
     let os = c.in-Some.openings in
     let o = are_opened d c.args.way.cut who S n c.new-3.result T1 c.in_ok-openings.field-0 os c.new-3.ensures c.in-Some.is c.in_ok-openings.ensures.0 in
-    let won : Found = record { table = T2; openings = os; notes = c.all_openings_win.new.search.notes } in
+    let won : Findings = record { table = T2; openings = os; notes = c.all_openings_win.new.search.notes } in
     let w = subst (λ (xs : List Opening). TellsSets d T2 (sets_in T1 xs) n c.in_ok-all_win.all_win × IsSearched d c.args.way.cut (CoversSets (chess d) (sets_in T1 xs) n) 0 T1 T2 u1 u2) c.deref.ensures.value c.in_ok-all_win.ensures.searched in
     all_are_won d c.args.way.cut who S n T1 os.items o.1 T2 c.in_ok-all_win.all_win u0 u1 u2 o.0 (c.in_ok-openings.ensures.1 ∙ c.new-4.ensures ∙ c.left-had.ensures) w.0 w.1 c.know_once.ensures.results c.if-not-all_win.false won refl refl c.in_ok-all_win.ensures.ready.1

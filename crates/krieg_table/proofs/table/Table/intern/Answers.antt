@@ -1,12 +1,12 @@
 use Rattle.std.proofs.Common.{rules, ap, sym, subst, ◌∙◌, arith}
-use Rattle.krieg_table.proofs.Common.{In, Interned, sets, number_of}
+use Rattle.krieg_table.proofs.Common.{In, SetRows, sets, number_of}
 use Rattle.krieg_table.proofs.Calls.{inserted, placed, absent, table_from, interned_from, on_err}
 use Rattle.krieg_table.proofs.Interning.{number_at_most}
 use Rattle.krieg_table.proofs.table.Table.intern.Goals as goal
 
 pub returns-in_err-row-clause-new_alone : goal.returns-in_err-row-clause-new_alone
 returns-in_err-row-clause-new_alone c =
-    on_err c.from_residual.result (λ i. absent c.args.b c.self.inside.rows.entries c.in_err-row.ensures.absent (subst (λ (T : Interned). In c.args.b (sets T)) (sym c.self.view_is) i))
+    on_err c.from_residual.result (λ i. absent c.args.b c.self.inside.rows.entries c.in_err-row.ensures.absent (subst (λ (T : SetRows). In c.args.b (sets T)) (sym c.self.view_is) i))
 
 pub overflow_cast-result : goal.overflow_cast-result
 overflow_cast-result c =
