@@ -18,8 +18,8 @@
 //! ```
 //! let mut units = Units::new(16);
 //! match check(alloc, &file, &mut units) {
-//!     Ok(Checked::Mates(worst)) => .., // the plan mates all listed positions, within `worst` moves
-//!     Ok(Checked::Fails) => .., // in some position it does not, within what the file claims
+//!     Ok(PlanVerdict::Mates(worst)) => .., // the plan mates all listed positions, within `worst` moves
+//!     Ok(PlanVerdict::Fails) => .., // in some position it does not, within what the file claims
 //!     Err(CheckStop::Spent) => .., // it takes more than 16 units
 //!     Err(CheckStop::NoMemory) => ..,
 //! }

@@ -12,9 +12,9 @@
 //! let mut table = Table::new(alloc);
 //! let id = table.intern(set)?; // 0: the first set
 //! let unknown = table.result(id, 2); // None
-//! table.note(id, 2, Known::Wins(mv));
+//! table.note(id, 2, SetResult::Wins(mv));
 //! let again = table.intern(copy)?; // 0 once more
-//! let found = table.result(again, 2); // Some(Known::Wins(mv)), and still None with 1 or 3 moves
+//! let found = table.result(again, 2); // Some(SetResult::Wins(mv)), and still None with 1 or 3 moves
 //! let sets = table.into_sets(alloc)?; // the set, moved out, and what was known of it is let go
 //! ```
 #![tactic(auto)]
