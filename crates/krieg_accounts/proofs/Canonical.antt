@@ -1,11 +1,11 @@
 -- The canonical node of a set that is stored as won, by what is stored of its parts.
 use Rattle.std.proofs.Common.{◌≡◌, ℕ, zero, suc, ◌≤◌, ◌<◌, Bool, true, false, cond, ◌⊎◌, List, [], ◌∷◌, find, Some, None, refl, sym, ap, subst, inl, inr, ◌∙◌, arith}
 use Rattle.std.proofs.lemmas.Bool.{cases_Bool, cond-true, cond-false}
-use Rattle.krieg_accounts.proofs.Common.{In, is_nil, Game, IsGame, Try, Just, refused, tries, keys, class, can, begins, first_try, edges_of, node_of, canon, total, up_to, made, floor_price, StoredIsCanon, pairs, Table, known, StoredWon, IsSound, charged}
+use Rattle.krieg_accounts.proofs.Common.{In, is_nil, Game, IsGame, Try, Just, refused, tries, keys, class, can, begins, first_try, edges_of, node_of, canon, total, up_to, made, floor_price, StoredIsCanon, Table, known, StoredWon, IsSound}
 use Rattle.krieg_theory.proofs.Least.{least_le}
 use Rattle.krieg_theory.proofs.Unique.{canon_upto, canon_step, part}
 use Rattle.krieg_costs.proofs.WonSets.{first_is}
-use Rattle.krieg_accounts.proofs.Tables.{known_in, result_can, wins_least}
+use Rattle.krieg_accounts.proofs.Tables.{result_can, wins_least}
 use Rattle.krieg_accounts.proofs.TryOrder as tried
 
 pub in_total : {X : Type 0} (f : X → ℕ) (xs : List X) (x : X) → In x xs → f x ≤ total f xs
@@ -53,13 +53,11 @@ module _ (G : Game) (L : IsGame G) where
       let f = first_is G L k B m (first_stored cut T s B k m h).1 in
       by_least cut T s (refused G B m) (suc k) ((s.backed B (suc k) (Some m) h).refused_part m refl e) (f.refused_won e)
 
-  -- its split was paid for
-  pub split_paid : (cut : Bool) → (T : Table G) → IsSound G cut T → (B : List G.Position) (k : ℕ) (m : G.Move) → known G T (B, suc k) ≡ Some (Some m) → made G B m ≤ charged G T
-  split_paid cut T s B k m h =
+  -- its split is among those that its result stands for
+  pub split_within : (cut : Bool) → (T : Table G) → IsSound G cut T → (B : List G.Position) (k : ℕ) (m : G.Move) → known G T (B, suc k) ≡ Some (Some m) → made G B m ≤ floor_price G (B, suc k)
+  split_within cut T s B k m h =
       let f = first_stored cut T s B k m h in
-      let a = in_total (made G B) (up_to (begins G (suc k) B) (tries G B)) m (found_up_to (begins G (suc k) B) (tries G B) m (tried.first_is G L (suc k) B ∙ f.1)) in
-      let b = in_total (floor_price G) (pairs T) (B, suc k) (known_in G L T (B, suc k) (Some m) h) in
-      omega arith
+      in_total (made G B) (up_to (begins G (suc k) B) (tries G B)) m (found_up_to (begins G (suc k) B) (tries G B) m (tried.first_is G L (suc k) B ∙ f.1))
 
   pub stored_is_canon : StoredIsCanon G
   stored_is_canon cut T B j k m s h l = canon_stored cut T s B j k m h l

@@ -16,7 +16,7 @@ pub use Rattle.krieg_costs.specs.Reach.{HasParts, LeadsOn, reach, reach_of}
 pub use Rattle.krieg_costs.specs.Sums.{Pair, once, same_pair, total, up_to}
 pub use Rattle.krieg_accounts.specs.Answers.{AnswersPlan, AnswersSet, AnswersSets, AnswersTry, LostBelow, classes, opening_sets}
 pub use Rattle.krieg_accounts.specs.Charges.{all_owed, charged, owed}
-pub use Rattle.krieg_accounts.specs.Laws.{FloorIsCharged, FloorIsTaken, FreshIsEnough, NotedIsStretch, ResultIsCan, SetsAnswerPlan, ShortIsBelowFresh, ShortOfPair, StoredIsBacking, StoredIsCanon, StretchesJoin, WonIsLeast}
+pub use Rattle.krieg_accounts.specs.Laws.{FloorIsCharged, FloorIsTaken, FreshIsEnough, LostIsStretch, NotedIsStretch, PartCan, ResultIsCan, SetsAnswerPlan, ShortIsBelowFresh, ShortOfPair, StoredIsBacking, StoredIsCanon, StretchesJoin, WonIsLeast}
 pub use Rattle.krieg_accounts.specs.Sound.{IsBacked, IsEarlier, IsSound, StoredLost, StoredWon, Table, known}
 pub use Rattle.krieg_accounts.specs.Stored.{AddsResult, Entries, PairOf, pairs, same_entry, stored}
 pub use Rattle.krieg_accounts.specs.Stretch.{CoversPair, CoversSet, CoversSets, CoversTries, CoversTry, FallsShort, IsStretch}

@@ -47,7 +47,7 @@ module _ (G : Game) (L : IsGame G) (O : Outset G) (W : IsOutset G O) where
   pub floor_is_taken : FloorIsTaken G O
   floor_is_taken n S T had has w a =
       let f = floor_is_charged G L O W n S T w.sound a in
-      let x = w.exact in
+      let x = w.exact refl in
       omega arith
 
   pub sets_answer_plan : SetsAnswerPlan G O

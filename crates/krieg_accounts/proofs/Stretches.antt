@@ -1,8 +1,9 @@
 -- One stretch of a search after another, and the note at the end of one.
 use Rattle.std.proofs.Common.{Bool, ◌≡◌, ℕ, ◌+◌, ◌≤◌, ◌<◌, List, ◌++◌, length, Option, Some, None, is_some, ◌⊎◌, inl, inr, refl, sym, ap, subst, ◌∙◌, arith}
 use Rattle.std.specs.Prelude.{IfSome, true}
+use Rattle.krieg_theory.proofs.First.{first_none}
 use Rattle.std.proofs.lemmas.Bool.{both_ways}
-use Rattle.krieg_accounts.proofs.Common.{In, Game, IsGame, refused, tries, class, begins, first_try, Pair, made, price, block_pair, floor_price, AddsResult, Table, known, StoredLost, StoredWon, IsBacked, IsSound, StretchesJoin, NotedIsStretch, ShortOfPair, IsStretch, FallsShort, CoversPair, CoversTries, CoversSets}
+use Rattle.krieg_accounts.proofs.Common.{In, Game, IsGame, refused, tries, class, begins, first_try, Pair, made, price, block_pair, floor_price, AddsResult, Table, known, StoredLost, StoredWon, IsBacked, IsSound, StretchesJoin, NotedIsStretch, LostIsStretch, ShortOfPair, IsStretch, can, LostBelow, FallsShort, CoversPair, CoversTries, CoversSets}
 use Rattle.krieg_theory.proofs.Lists.{in_append_left, in_append_right}
 use Rattle.krieg_costs.proofs.Totals.{total_up_to}
 use Rattle.krieg_accounts.proofs.Below.{below, below_has, below_in, not_below_itself, some_list}
@@ -11,11 +12,11 @@ use Rattle.krieg_accounts.proofs.Owed.{grows_kept, owed_over_at, owed_below_at}
 module _ (G : Game) where
   -- nothing is done
   pub stretch_of_nothing : (cut : Bool) → (Q : List (Pair G) → Type 0) (T : Table G) (u : ℕ) → IsSound G cut T → IsStretch G cut Q 0 T T u u
-  stretch_of_nothing cut Q T u s = record { sound = s; kept = λ q x h. h; news = λ R h q x k. inl k; exact = omega arith; paid = λ R q. omega arith }
+  stretch_of_nothing cut Q T u s = record { sound = s; kept = λ q x h. h; news = λ R h q x k. inl k; exact = λ c. omega arith; at_most = omega arith; fewer = omega arith; won = λ q x k. inl k; paid = λ R q. omega arith }
 
   -- a try is split, which costs what it takes
   pub stretch_of_split : (cut : Bool) → (Q : List (Pair G) → Type 0) (T : Table G) (m had has : ℕ) → IsSound G cut T → has + m ≡ had → IsStretch G cut Q m T T had has
-  stretch_of_split cut Q T m had has s e = record { sound = s; kept = λ q x h. h; news = λ R h q x k. inl k; exact = omega arith; paid = λ R q. omega arith }
+  stretch_of_split cut Q T m had has s e = record { sound = s; kept = λ q x h. h; news = λ R h q x k. inl k; exact = λ c. omega arith; at_most = omega arith; fewer = omega arith; won = λ q x k. inl k; paid = λ R q. omega arith }
 
   -- one stretch behind another
   pub stretch_then : (cut : Bool) → (Q Q' : List (Pair G) → Type 0) (a b : ℕ) (T0 T1 T2 : Table G) (u0 u1 u2 : ℕ) → ((R : List (Pair G)) → Q R → Q' R) → IsStretch G cut Q a T0 T1 u0 u1 → IsStretch G cut Q' b T1 T2 u1 u2 → IsStretch G cut Q (a + b) T0 T2 u0 u2
@@ -23,13 +24,24 @@ module _ (G : Game) where
     sound = v.sound;
     kept = λ q x h. v.kept q x (w.kept q x h);
     news = λ R h q x k. before R h q x (v.news R (f R h) q x k);
-    exact = (let x = w.exact in let y = v.exact in omega arith);
+    exact = λ c. (let x = w.exact c in let y = v.exact c in omega arith);
+    at_most = (let x = w.at_most in let y = v.at_most in omega arith);
+    fewer = (let x = w.fewer in let y = v.fewer in omega arith);
+    won = λ q m k. paid_before q m (v.won q m k);
     paid = λ R q. (let x = w.paid R q in let y = v.paid R (f R q) in omega arith);
   }
     where
       before : (R : List (Pair G)) → Q R → (q : Pair G) (x : Option G.Move) → (known G T1 q ≡ Some x) ⊎ In q R → (known G T0 q ≡ Some x) ⊎ In q R
       before R h q x (inl k) = w.news R h q x k
       before R h q x (inr i) = inr i
+
+      paid_first : (q : Pair G) (m : G.Move) → (known G T0 q ≡ Some (Some m)) ⊎ (u1 + a + floor_price G q ≤ u0) → (known G T0 q ≡ Some (Some m)) ⊎ (u2 + (a + b) + floor_price G q ≤ u0)
+      paid_first q m (inl k) = inl k
+      paid_first q m (inr e) = let y = v.fewer in inr (omega arith)
+
+      paid_before : (q : Pair G) (m : G.Move) → (known G T1 q ≡ Some (Some m)) ⊎ (u2 + b + floor_price G q ≤ u1) → (known G T0 q ≡ Some (Some m)) ⊎ (u2 + (a + b) + floor_price G q ≤ u0)
+      paid_before q m (inl k) = paid_first q m (w.won q m k)
+      paid_before q m (inr e) = let x = w.fewer in inr (omega arith)
 
   -- units that fall short behind a stretch did so before it
   pub short_then : (cut : Bool) → (Q Q' : List (Pair G) → Type 0) (a b : ℕ) (T0 T1 : Table G) (u0 u1 : ℕ) → ((R : List (Pair G)) → Q R → Q' R) → IsStretch G cut Q a T0 T1 u0 u1 → FallsShort G Q' b T1 u1 → FallsShort G Q (a + b) T0 u0
@@ -44,7 +56,7 @@ module _ (G : Game) where
 
   -- for fewer lists
   pub stretch_for : (cut : Bool) → (Q Q' : List (Pair G) → Type 0) (a : ℕ) (T0 T1 : Table G) (u0 u1 : ℕ) → ((R : List (Pair G)) → Q R → Q' R) → IsStretch G cut Q' a T0 T1 u0 u1 → IsStretch G cut Q a T0 T1 u0 u1
-  stretch_for cut Q Q' a T0 T1 u0 u1 f w = record { sound = w.sound; kept = w.kept; news = λ R q. w.news R (f R q); exact = w.exact; paid = λ R q. w.paid R (f R q) }
+  stretch_for cut Q Q' a T0 T1 u0 u1 f w = record { sound = w.sound; kept = w.kept; news = λ R q. w.news R (f R q); exact = w.exact; at_most = w.at_most; fewer = w.fewer; won = w.won; paid = λ R q. w.paid R (f R q) }
 
   -- what holds of stored results holds in each table that keeps them
   abbrev pub Kept : Table G → Table G → Type 0
@@ -97,7 +109,10 @@ module _ (G : Game) (L : IsGame G) where
     sound = noted_sound cut T1 T2 B j o w.sound n e b;
     kept = λ q x h. n.kept q x (w.kept q x h);
     news = λ R h q x k. before R h q x (n.nothing_else q x k);
-    exact = (let a = w.exact in let c = n.one_more (floor_price G) in omega arith);
+    exact = λ h. (let a = w.exact h in let c = n.one_more (floor_price G) in omega arith);
+    at_most = (let a = w.at_most in let c = n.one_more (floor_price G) in omega arith);
+    fewer = (let a = w.fewer in omega arith);
+    won = λ q m k. taken q m (n.nothing_else q (Some m) k);
     paid = λ R q.
         let a = w.paid (below G L j (length B) R) (below_has G L R B j q) in
         let c = owed_over_at G L R (B, j) T0 T1 T2 (grows_kept G L T0 T1 w.kept) (grows_kept G L T1 T2 n.kept) (ap is_some none) (ap is_some n.here) q.1 in
@@ -112,6 +127,46 @@ module _ (G : Game) (L : IsGame G) where
       before : (R : List (Pair G)) → CoversPair G B j R → (q : Pair G) (x : Option G.Move) → (known G T1 q ≡ Some x) ⊎ (((B, j) ≡ q) × (o ≡ x)) → (known G T0 q ≡ Some x) ⊎ In q R
       before R h q x (inl k) = inside R q x (w.news (below G L j (length B) R) (below_has G L R B j h) q x k)
       before R h q x (inr e) = inr (subst (λ p. In p R) e.0 h.1)
+
+      less : (q : Pair G) (m : G.Move) → (known G T0 q ≡ Some (Some m)) ⊎ (u1 + floor_price G (B, j) + floor_price G q ≤ u0) → (known G T0 q ≡ Some (Some m)) ⊎ (u1 + 0 + floor_price G q ≤ u0)
+      less q m (inl k) = inl k
+      less q m (inr h) = inr (omega arith)
+
+      taken : (q : Pair G) (m : G.Move) → (known G T1 q ≡ Some (Some m)) ⊎ (((B, j) ≡ q) × (o ≡ Some m)) → (known G T0 q ≡ Some (Some m)) ⊎ (u1 + 0 + floor_price G q ≤ u0)
+      taken q m (inl k) = less q m (w.won q m k)
+      taken q m (inr h) = let f = w.fewer in inr (subst (λ p. u1 + 0 + floor_price G p ≤ u0) h.0 (omega arith))
+
+  -- where tries may be cut, a set that is known to be lost is noted for nothing
+  pub lost_is_stretch : LostIsStretch G
+  lost_is_stretch T0 T1 B j u s c pos lost none n = record {
+    sound = noted_sound true T0 T1 B j None s n (sym (first_none G L j B c)) backed;
+    kept = n.kept;
+    news = λ R h q x k. fresh R h q x (n.nothing_else q x k);
+    exact = λ h. absurd (both_ways true h refl);
+    at_most = (let p = n.one_more (floor_price G) in omega arith);
+    fewer = omega arith;
+    won = λ q m k. old q m (n.nothing_else q (Some m) k);
+    paid = λ R q.
+        let c = owed_over_at G L R (B, j) T0 T0 T1 (λ p h. h) (grows_kept G L T0 T1 n.kept) (ap is_some none) (ap is_some n.here) q.1 in
+        omega arith;
+  }
+    where
+      backed : IsBacked G true T0 B j None
+      backed = record {
+        some = pos;
+        below = lost;
+        earlier = λ h. absurd (both_ways true h refl);
+        classes = λ m h. absurd (let k : ◌≡◌ {A = Option G.Move} None (Some m) = h in cc);
+        refused_part = λ m h. absurd (let k : ◌≡◌ {A = Option G.Move} None (Some m) = h in cc);
+      }
+
+      fresh : (R : List (Pair G)) → CoversPair G B j R → (q : Pair G) (x : Option G.Move) → (known G T0 q ≡ Some x) ⊎ (((B, j) ≡ q) × (None ≡ x)) → (known G T0 q ≡ Some x) ⊎ In q R
+      fresh R h q x (inl k) = inl k
+      fresh R h q x (inr e) = inr (subst (λ p. In p R) e.0 h.1)
+
+      old : (q : Pair G) (m : G.Move) → (known G T0 q ≡ Some (Some m)) ⊎ (((B, j) ≡ q) × (◌≡◌ {A = Option G.Move} None (Some m))) → (known G T0 q ≡ Some (Some m)) ⊎ (u + 0 + floor_price G q ≤ u)
+      old q m (inl k) = inl k
+      old q m (inr h) = absurd (let k : ◌≡◌ {A = Option G.Move} None (Some m) = h.1 in cc)
 
   -- a pair is not stored while it is expanded
   pub still_unknown : (cut : Bool) → (T0 T1 : Table G) (B : List G.Position) (j : ℕ) (cost u0 u1 : ℕ) → 0 < j → IsStretch G cut (CoversTries G B j) cost T0 T1 u0 u1 → known G T0 (B, j) ≡ None → known G T1 (B, j) ≡ None

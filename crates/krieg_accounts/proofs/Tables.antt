@@ -1,12 +1,24 @@
 -- Stored pairs, and what right results say.
 use Rattle.std.proofs.Common.{Bool, ◌≡◌, ℕ, zero, suc, ◌≤◌, ◌<◌, true, false, ◌⊎◌, List, [], ◌∷◌, Option, Some, None, is_some, refl, sym, ap, subst, inl, inr, ◌∙◌, arith, eq-or-lt_of_le}
 use Rattle.std.proofs.lemmas.Bool.{cases_Bool, cond-true, cond-false, both_ways}
-use Rattle.krieg_accounts.proofs.Common.{In, Game, IsGame, can, least, Pair, same_pair, pairs, ResultIsCan, WonIsLeast, Table, known, StoredWon, IsSound}
+use Rattle.krieg_accounts.proofs.Common.{In, is_nil, Game, IsGame, can, least, Pair, same_pair, pairs, PartCan, ResultIsCan, WonIsLeast, Table, known, StoredWon, IsSound}
+use Rattle.krieg_theory.proofs.Lists.{nil_or_member}
+use Rattle.krieg_theory.proofs.Steps.{Member}
+use Rattle.krieg_theory.proofs.Shown.{node_shows}
+use Rattle.krieg_theory.proofs.Built.{canon_wins}
 use Rattle.krieg_theory.proofs.First.{first_can}
 use Rattle.krieg_theory.proofs.Least.{can_least, least_least}
 use Rattle.krieg_costs.proofs.Pairs.{same_pair_eq, same_pair_refl}
 
 module _ (G : Game) (L : IsGame G) where
+  -- what wins a set wins its parts
+  pub part_can : PartCan G
+  part_can A B j e h c = go (nil_or_member A)
+    where
+      go : (is_nil A ≡ true) ⊎ Member A → can G j A ≡ true
+      go (inl n) = absurd (both_ways _ e n)
+      go (inr m) = let w = canon_wins G L j B c in node_shows G L w.0 A j m (λ p i. w.2 p (h p i))
+
   -- what is stored is one of the pairs
   pub known_in : (T : Table G) (q : Pair G) (x : Option G.Move) → known G T q ≡ Some x → In q (pairs T)
   known_in [] q x h = absurd (let k : ◌≡◌ {A = Option (Option G.Move)} None (Some x) = h in cc)

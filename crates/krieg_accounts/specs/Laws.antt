@@ -1,7 +1,7 @@
 -- The laws, each a statement that a function of this crate has as its contract.
-use Rattle.std.specs.Prelude.{◌≡◌, ℕ, suc, ◌+◌, ◌<◌, ◌≤◌, Bool, false, List, [], ◌++◌, Option, Some, None, is_some, if◌then◌else◌}
+use Rattle.std.specs.Prelude.{◌≡◌, ℕ, suc, ◌+◌, ◌<◌, ◌≤◌, Bool, true, false, List, [], ◌++◌, Option, Some, None, is_some, if◌then◌else◌}
 use Rattle.std.specs.List.{list_any}
-use Rattle.krieg_theory.specs.Sets.{is_nil}
+use Rattle.krieg_theory.specs.Sets.{In, is_nil}
 use Rattle.krieg_theory.specs.Tree.{Try, Maybe, Nothing, Just}
 use Rattle.krieg_theory.specs.Game.{Game}
 use Rattle.krieg_theory.specs.Split.{refused, keys, class}
@@ -16,9 +16,13 @@ use Rattle.krieg_accounts.specs.Stored.{pairs, AddsResult}
 use Rattle.krieg_accounts.specs.Sound.{Table, known, IsBacked, IsSound}
 use Rattle.krieg_accounts.specs.Charges.{charged}
 use Rattle.krieg_accounts.specs.Stretch.{IsStretch, FallsShort, CoversPair, CoversTries, CoversSets}
-use Rattle.krieg_accounts.specs.Answers.{AnswersSets, opening_sets, AnswersPlan}
+use Rattle.krieg_accounts.specs.Answers.{LostBelow, AnswersSets, opening_sets, AnswersPlan}
 
 module _ (G : Game) where
+  -- what wins a set wins each part of it that has a member: so a set is lost where a part of it is
+  abbrev pub PartCan : Type 0
+  PartCan = (A B : List G.Position) (j : ℕ) → is_nil A ≡ false → ((p : G.Position) → In p A → In p B) → can G j B ≡ true → can G j A ≡ true
+
   -- a stored result says whether the set can be won within the number
   abbrev pub ResultIsCan : Type 0
   ResultIsCan = (cut : Bool) (T : Table G) (B : List G.Position) (j : ℕ) (o : Option G.Move) → IsSound G cut T → known G T (B, j) ≡ Some o → can G j B ≡ is_some o
@@ -50,6 +54,11 @@ module _ (G : Game) where
   abbrev pub NotedIsStretch : Type 0
   NotedIsStretch = (cut : Bool) (T0 T1 T2 : Table G) (B : List G.Position) (j : ℕ) (o : Option G.Move) (u0 u1 : ℕ) → IsStretch G cut (CoversTries G B j) (floor_price G (B, j)) T0 T1 u0 u1 →
       o ≡ first_try G j B → IsBacked G cut T1 B j o → known G T0 (B, j) ≡ None → AddsResult G.position_lt T1 T2 (B, j) o → IsStretch G cut (CoversPair G B j) 0 T0 T2 u0 u1
+
+  -- where tries may be cut, a set that is known to be lost is noted for nothing: that is a stretch over the pair
+  abbrev pub LostIsStretch : Type 0
+  LostIsStretch = (T0 T1 : Table G) (B : List G.Position) (j u : ℕ) → IsSound G true T0 → can G j B ≡ false → 0 < j → LostBelow G T0 B j → known G T0 (B, j) ≡ None →
+      AddsResult G.position_lt T0 T1 (B, j) None → IsStretch G true (CoversPair G B j) 0 T0 T1 u u
 
   -- units that fall short of all tries of a pair that is not stored fall short of the pair
   abbrev pub ShortOfPair : Type 0

@@ -1,6 +1,6 @@
 //! The laws: each function here does nothing, and its contract is a theorem about every game.
 
-ghost use Rattle.krieg_accounts.specs.Laws.{ResultIsCan, WonIsLeast, StoredIsBacking, StoredIsCanon, StretchesJoin, NotedIsStretch, ShortOfPair, SetsAnswerPlan, FloorIsCharged, FloorIsTaken, FreshIsEnough, ShortIsBelowFresh};
+ghost use Rattle.krieg_accounts.specs.Laws.{PartCan, ResultIsCan, WonIsLeast, StoredIsBacking, StoredIsCanon, StretchesJoin, NotedIsStretch, LostIsStretch, ShortOfPair, SetsAnswerPlan, FloorIsCharged, FloorIsTaken, FreshIsEnough, ShortIsBelowFresh};
 
 use krieg_theory::HiddenGame;
 
@@ -29,9 +29,19 @@ pub fn stretches_join<G: HiddenGame>()
     ensures { StretchesJoin G.game }
 {}
 
+/// What wins a set wins each part of it that has a member.
+pub fn part_can<G: HiddenGame>()
+    ensures { PartCan G.game }
+{}
+
 /// A pair that was expanded and whose result is noted was a stretch that costs nothing apart from what is stored.
 pub fn noted_is_stretch<G: HiddenGame>()
     ensures { NotedIsStretch G.game }
+{}
+
+/// Where tries may be cut, a set that is known to be lost is noted for nothing.
+pub fn lost_is_stretch<G: HiddenGame>()
+    ensures { LostIsStretch G.game }
 {}
 
 /// Units that fall short of all tries of a pair that is not stored fall short of the pair.
