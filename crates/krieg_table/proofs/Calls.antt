@@ -1,5 +1,5 @@
 -- What the map's calls give, in the words of the table.
-use Rattle.std.proofs.Common.{◌≡◌, ℕ, zero, suc, ◌+◌, ◌≤◌, ◌<◌, Bool, true, false, cond, not, ◌⊎◌, inl, inr, List, [], ◌∷◌, length, Option, Some, None, refl, sym, ap, subst, ◌∙◌, arith, length-set}
+use Rattle.std.proofs.Common.{◌≡◌, ℕ, zero, suc, ◌+◌, ◌<◌, Bool, true, false, cond, not, ◌⊎◌, inl, inr, List, [], ◌∷◌, length, Option, Some, None, refl, sym, ap, subst, ◌∙◌, arith}
 use Rattle.std.specs.Prelude.{slice_get, unwrap_or, map, Result, Ok, Err, OnErr}
 use Rattle.std.specs.Map.{lookup, keys_of}
 use Rattle.std.specs.List.{position_or_len}
@@ -7,10 +7,10 @@ use Rattle.std.specs.Cmp.Lexicographic.{pointwise}
 use Rattle.std.proofs.lemmas.Bool.{cases_Bool, cond-true, cond-false, both_ways}
 use Rattle.indexmap.specs.IndexMap.{insert_entry}
 use Rattle.indexmap.specs.Layout.{set_value_at}
-use Rattle.krieg_table.proofs.Common.{Pos, MOST_MOVES, position_lt, position_eq, In, same_list, IsOnce, SetResult, Results, nothing, with_known, Row, SetRows, sets, row_at, number_of, interned, with_result, IsTable, IsInterned, IsNoted}
+use Rattle.krieg_table.proofs.Common.{Pos, position_lt, position_eq, In, same_list, SetResult, Results, nothing, with_known, Follows, Row, SetRows, sets, row_at, number_of, interned, with_result, IsTable, IsInterned, IsNoted}
 use Rattle.krieg_table.proofs.Sets.{test_is, set_itself}
 use Rattle.krieg_table.proofs.Interning.{interned_is, stays_table}
-use Rattle.krieg_table.proofs.Noting.{row_in, noted_is}
+use Rattle.krieg_table.proofs.Noting.{put_table, noted_is}
 
 module _ (B : List Pos) where
   abbrev pub test : List Pos → Bool
@@ -59,36 +59,6 @@ put_at [] id moves k = refl
 put_at (r ∷ T) zero moves k = refl
 put_at (r ∷ T) (suc id) moves k = ap (λ (x : SetRows). r ∷ x) (put_at T id moves k)
 
-pub with_length : (rs : Results) (moves : ℕ) (k : SetResult) → length (with_known rs moves k) ≡ length rs
-with_length rs zero k = refl
-with_length rs (suc i) k = length-set rs i (Some k)
-
-put_sets : (T : SetRows) (id : ℕ) (w : Results) → sets (set_value_at T id w) ≡ sets T
-put_sets [] id w = refl
-put_sets (r ∷ T) zero w = refl
-put_sets (r ∷ T) (suc id) w = ap (λ xs. r.0 ∷ xs) (put_sets T id w)
-
-put_in : (T : SetRows) (id : ℕ) (w : Results) (r : Row) → In r (set_value_at T id w) → In r T ⊎ (w ≡ r.1)
-put_in [] id w r i = absurd i
-put_in (s ∷ T) zero w r (inl e) = inr (ap (λ (x : Row). x.1) e)
-put_in (s ∷ T) zero w r (inr i) = inl (inr i)
-put_in (s ∷ T) (suc id) w r (inl e) = inl (inl e)
-put_in (s ∷ T) (suc id) w r (inr i) = go (put_in T id w r i)
-  where
-    go : In r T ⊎ (w ≡ r.1) → In r (s ∷ T) ⊎ (w ≡ r.1)
-    go (inl a) = inl (inr a)
-    go (inr e) = inr e
-
-pub put_table : (T : SetRows) (id : ℕ) (w : Results) → IsTable T → length w ≡ MOST_MOVES → IsTable (set_value_at T id w)
-put_table T id w t h = record {
-  once = subst (λ xs. IsOnce xs) (sym (put_sets T id w)) t.once;
-  room = λ r i. room r (put_in T id w r i);
-}
-  where
-    room : (r : Row) → In r T ⊎ (w ≡ r.1) → length r.1 ≡ MOST_MOVES
-    room r (inl i) = t.room r i
-    room r (inr e) = sym (ap (λ (x : Results). length x) e) ∙ h
-
 -- what is owed where a set has come
 pub table_from : (B : List Pos) (T E : SetRows) → E ≡ interned B T → IsTable T → IsTable E
 table_from B T E e t = subst IsTable (sym e) (stays_table B T t)
@@ -102,14 +72,14 @@ on_err (Err x) p = p
 
 -- what is owed where a result was put in: T is the table before, now the row's results, and new what they became
 module _ (T : SetRows) (id moves : ℕ) (k : SetResult) (now new : Results) (at : (row_at T id).1 ≡ now) (put : new ≡ with_known now moves k) where
+  rows : set_value_at T id new ≡ with_result T id moves k
+  rows = ap (set_value_at T id) (put ∙ ap (λ (x : Results). with_known x moves k) (sym at)) ∙ put_at T id moves k
+
   pub rows_put : (S : SetRows) → T ≡ S → set_value_at T id new ≡ with_result S id moves k
-  rows_put S s = ap (set_value_at T id) (put ∙ ap (λ (x : Results). with_known x moves k) (sym at)) ∙ put_at T id moves k ∙ ap (λ (x : SetRows). with_result x id moves k) s
+  rows_put S s = rows ∙ ap (λ (x : SetRows). with_result x id moves k) s
 
-  pub table_put : IsTable T → id < length T → IsTable (set_value_at T id new)
-  table_put t l =
-      let same : length new ≡ length now = ap (λ (x : Results). length x) put ∙ with_length now moves k in
-      put_table T id new t (same ∙ ap (λ (x : Results). length x) (sym at) ∙ t.room (row_at T id) (row_in T id l))
+  pub table_put : (S : SetRows) → T ≡ S → IsTable T → Follows (row_at S id).1 moves k → IsTable (set_value_at T id new)
+  table_put S s t x = subst IsTable (sym (rows_put S s)) (put_table S id moves k (subst IsTable s t) x)
 
-  pub noted_put : (S : SetRows) → T ≡ S → IsTable T → id < length T → 0 < moves → moves ≤ MOST_MOVES → IsNoted S (set_value_at T id new) id moves k
-  noted_put S s t l a b =
-      subst (λ (x : SetRows). IsNoted S x id moves k) (sym (rows_put S s)) (noted_is S id moves k (subst IsTable s t) (subst (λ (x : SetRows). id < length x) s l) a b)
+  pub noted_put : (S : SetRows) → T ≡ S → IsTable T → id < length S → Follows (row_at S id).1 moves k → IsNoted S (set_value_at T id new) id moves k
+  noted_put S s t l x = subst (λ (y : SetRows). IsNoted S y id moves k) (sym (rows_put S s)) (noted_is S id moves k (subst IsTable s t) l x)

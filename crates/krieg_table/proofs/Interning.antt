@@ -1,7 +1,7 @@
 -- The rows once a set has come: it has its number, and all else is as it was.
 use Rattle.std.proofs.Common.{◌≡◌, ℕ, zero, suc, ◌≤◌, ◌<◌, Bool, true, false, ◌⊎◌, inl, inr, List, [], ◌∷◌, ◌++◌, length, refl, sym, ap, subst, ◌∙◌, arith}
 use Rattle.std.proofs.lemmas.Bool.{cases_Bool, cond-true, cond-false, both_ways}
-use Rattle.krieg_table.proofs.Common.{Pos, MOST_MOVES, position_lt, In, same_list, IsOnce, nothing, Row, SetRows, sets, set_at, number_of, interned, entries, IsTable, IsInterned}
+use Rattle.krieg_table.proofs.Common.{Pos, position_lt, In, same_list, IsOnce, nothing, Row, SetRows, sets, set_at, number_of, interned, entries, AreResults, IsTable, IsInterned}
 use Rattle.krieg_table.proofs.Sets.{one_set, set_itself}
 
 abbrev has : List Pos → Row → Bool
@@ -96,7 +96,7 @@ module _ (B : List Pos) where
     where
       go : (has B r ≡ true) ⊎ (has B r ≡ false) → entries (interned B T) ≡ entries T → entries (interned B (r ∷ T)) ≡ entries (r ∷ T)
       go (inl e) h = ap entries (rows_there B r T e)
-      go (inr e) h = ap entries (rows_later B r T e) ∙ ap (λ es. Rattle.krieg_table.specs.Entries.row_entries r.0 1 r.1 ++ es) h
+      go (inr e) h = ap entries (rows_later B r T e) ∙ ap (λ es. Rattle.krieg_table.specs.Entries.row_entries r.0 r.1 ++ es) h
 
   pub interned_is : (T : SetRows) → IsInterned T (interned B T) B (number_of B T)
   interned_is T = record {
@@ -154,8 +154,8 @@ module _ (B : List Pos) where
       go (inr e) h = subst (λ (x : SetRows). IsOnce (sets x)) (sym (rows_later B s T e)) ((λ i. not_there e (in_sets T s.0 i)), h)
 
   pub stays_table : (T : SetRows) → IsTable T → IsTable (interned B T)
-  stays_table T t = record { once = stays_once T t.once; room = λ r i. room r (in_interned T r i) }
+  stays_table T t = record { once = stays_once T t.once; results = λ r i. results r (in_interned T r i) }
     where
-      room : (r : Row) → In r T ⊎ ((B, nothing) ≡ r) → length r.1 ≡ MOST_MOVES
-      room r (inl i) = t.room r i
-      room r (inr e) = ap (λ (x : Row). length x.1) (sym e)
+      results : (r : Row) → In r T ⊎ ((B, nothing) ≡ r) → AreResults r.1
+      results r (inl i) = t.results r i
+      results r (inr e) = subst (λ (x : Row). AreResults x.1) e tt

@@ -20,7 +20,7 @@ sets T = map (λ r. r.0) T
 
 -- the row with a number: an empty set of which nothing is known, where there is none
 abbrev pub row_at : SetRows → ℕ → Row
-row_at T id = slice_index_or T id ([], [])
+row_at T id = slice_index_or T id ([], nothing)
 
 -- the set with a number
 abbrev pub set_at : SetRows → ℕ → List Pos

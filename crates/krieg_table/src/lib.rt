@@ -1,8 +1,7 @@
 //! Sets of positions by number, and what a search knows of each.
 //!
 //! A search meets the same sets again and again. `Table` gives each a number, in the order in which they first come, and
-//! keeps beside it what is known for each number of own moves that may be asked for: that the set can be won,
-//! and by which try first, or that it cannot. A set is hashed once a call of `intern`, and looked at by its number from then on.
+//! keeps beside it with how many own moves it cannot be won, and with how many it can, and by which try first. A set is hashed once a call of `intern`, and looked at by its number from then on.
 //!
 //! In contracts a `Table` is the list of its rows (`SetRows` in `specs/`), and every call says what they become.
 //! `Entries` has the results by sets, as `krieg_accounts` speaks of them, and `Table` what a call does to these. `results`
@@ -12,9 +11,10 @@
 //! let mut table = Table::new(alloc);
 //! let id = table.intern(set)?; // 0: the first set
 //! let unknown = table.result(id, 2); // None
+//! table.note(id, 1, SetResult::Loses);
 //! table.note(id, 2, SetResult::Wins(mv));
 //! let again = table.intern(copy)?; // 0 once more
-//! let found = table.result(again, 2); // Some(SetResult::Wins(mv)), and still None with 1 or 3 moves
+//! let found = table.result(again, 2); // Some(SetResult::Wins(mv)), and still None with 3 moves
 //! let sets = table.into_sets(alloc)?; // the set, moved out, and what was known of it is let go
 //! ```
 #![tactic(auto)]
@@ -23,5 +23,5 @@ mod results;
 mod set_result;
 mod table;
 
-pub use set_result::SetResult;
+pub use set_result::{SetResult, Win};
 pub use table::{MOST_SETS, Table};

@@ -8,3 +8,10 @@ pub enum SetResult {
     /// It cannot.
     Loses,
 }
+
+/// With how many own moves a set is won, from 1 on, and by which try first.
+#[derive(Clone, Copy, Debug, PartialEq, Eq)]
+pub struct Win {
+    pub moves: u8,
+    pub mv: Move,
+}

@@ -1,16 +1,17 @@
-ghost use Rattle.std.specs.Prelude.{◌≡◌, ◌<◌, ◌≤◌, [], length, IfOk, OnOk, OnErr, option_map};
+ghost use Rattle.std.specs.Prelude.{◌≡◌, ◌<◌, ◌≤◌, ℕ, [], length, None, Some, IfOk, IfSome, OnOk, OnErr, option_map};
+ghost use Rattle.krieg_board.specs.declared.men.Move.{Move as Try};
 ghost use Rattle.krieg_theory.specs.Sets.{In};
 ghost use Rattle.krieg_pack.specs.Order.{position_lt};
 ghost use Rattle.krieg_costs.specs.Sums.{IsOnce};
 ghost use Rattle.krieg_accounts.specs.Stored.{stored, pairs};
 ghost use Rattle.krieg_table.specs.SetRows.{sets, set_at, known_at, number_of, interned, with_result};
 ghost use Rattle.krieg_table.specs.Entries.{try_of, entries};
-ghost use Rattle.krieg_table.specs.Table.{IsInterned, IsNoted};
+ghost use Rattle.krieg_table.specs.Table.{IsInterned, IsNext, IsNoted};
 
 use crate::results::Results;
-use crate::set_result::SetResult;
+use crate::set_result::{SetResult, Win};
 use indexmap::IndexMap;
-use krieg_board::{MOST_MOVES, NoMemory};
+use krieg_board::NoMemory;
 use krieg_pack::Belief;
 use std::alloc::Global;
 use std::marker::Model;
@@ -18,7 +19,7 @@ use std::marker::Model;
 /// A table with so many sets is full.
 pub const MOST_SETS: usize = 100_000_000;
 
-/// Sets of positions by number, and what is known of each with 1 to [`MOST_MOVES`] own moves.
+/// Sets of positions by number, and what is known of each for numbers of own moves from 1 on.
 ///
 /// Sets are numbered from 0 in the order in which they first came, and each has one number. In contracts a `Table` is
 /// the list of its rows: each a set with what is known of it. `entries` has the same results by sets.
@@ -92,8 +93,7 @@ impl Table {
         }
     }
 
-    /// What was noted last of the set with that number and the number of own moves. It is unknown for 0 and beyond
-    /// [`MOST_MOVES`].
+    /// What was noted of the set with that number and the number of own moves.
     pub fn result(&self, id: u32, moves: u8) -> Option<SetResult>
         requires { id < length self.now }
         ensures value { result ≡ known_at self.now id moves }
@@ -103,12 +103,34 @@ impl Table {
         self.rows[id as usize].get(moves)
     }
 
-    /// Notes what is known of the set with that number and the number of own moves, from 1 to
-    /// [`MOST_MOVES`]. All other results stay. It takes no memory.
+    /// The greatest number of own moves with which the set with that number was noted to be lost, and it is lost with each smaller one;
+    /// 0 where none was.
+    pub fn lost(&self, id: u32) -> u8
+        requires { id < length self.now }
+        ensures all { (i : ℕ) → 0 < i → i ≤ result
+            → stored position_lt (entries self.now) (set_at self.now id, i) ≡ Some None }
+        ensures only { (i : ℕ) → stored position_lt (entries self.now) (set_at self.now id, i)
+            ≡ Some None → i ≤ result }
+    {
+        self.rows[id as usize].lost()
+    }
+
+    /// With how many own moves the set with that number is won, and by which try, where that was noted.
+    pub fn win(&self, id: u32) -> Option<Win>
+        requires { id < length self.now }
+        ensures stored { IfSome result (λ w. stored position_lt (entries self.now)
+            (set_at self.now id, w.moves) ≡ Some (Some w.mv)) }
+        ensures only { (i : ℕ) (m : Try) → stored position_lt (entries self.now)
+            (set_at self.now id, i) ≡ Some (Some m) → result ≡ Some (record { moves = i; mv = m }) }
+    {
+        self.rows[id as usize].win()
+    }
+
+    /// Notes what is known of the set with that number and the number of own moves, where it is known to be lost with each smaller
+    /// one, and nothing else is known. All other results stay. It takes no memory.
     pub fn note(&mut self, id: u32, moves: u8, known: SetResult)
         requires within { id < length self.old }
-        requires some { 0 < moves }
-        requires most { moves ≤ MOST_MOVES }
+        requires next { IsNext self.old id moves }
         ensures rows { self.new ≡ with_result self.old id moves known }
         ensures noted { IsNoted self.old self.new id moves known }
     {

@@ -10,4 +10,4 @@ returns-clause-by_sets c =
     let at = results_at T c.args.id c.index.result.now c.index.ensures in
     let l = subst (λ (T : SetRows). c.args.id < length T) (sym c.self.view_is) c.requires in
     subst (λ (T : SetRows). option_map try_of c.get.result ≡ stored position_lt (entries T) (set_at T c.args.id, c.args.moves)) c.self.view_is
-    (ap (option_map try_of) (c.get.ensures ∙ ap (λ (rs : Results). known_for rs c.args.moves) (sym at)) ∙ known_is T c.args.id c.args.moves c.self.invariant.once l)
+    (ap (option_map try_of) (c.get.ensures ∙ ap (λ (rs : Results). known_for rs c.args.moves) (sym at)) ∙ known_is T c.args.id c.args.moves c.self.invariant l)
