@@ -1,25 +1,15 @@
 -- The canonical node of a set that is stored as won, by what is stored of its parts.
-use Rattle.std.proofs.Common.{◌≡◌, ℕ, zero, suc, ◌≤◌, ◌<◌, Bool, true, false, cond, ◌⊎◌, List, [], ◌∷◌, find, Some, None, refl, sym, ap, subst, inl, inr, ◌∙◌, arith}
-use Rattle.std.proofs.lemmas.Bool.{cases_Bool, cond-true, cond-false}
-use Rattle.krieg_accounts.proofs.Common.{In, is_nil, Game, IsGame, Try, Just, refused, tries, keys, class, can, begins, first_try, edges_of, node_of, canon, total, up_to, made, floor_price, StoredIsCanon, Table, known, StoredWon, IsSound}
+use Rattle.std.proofs.Common.{◌≡◌, ℕ, zero, suc, ◌≤◌, ◌<◌, Bool, true, false, List, [], ◌∷◌, Some, None, refl, sym, ap, inl, inr, ◌∙◌, arith}
+use Rattle.krieg_accounts.proofs.Common.{In, is_nil, Game, IsGame, Try, Just, refused, keys, class, can, first_try, edges_of, node_of, canon, total, StoredIsCanon, Table, known, StoredWon, IsSound}
 use Rattle.krieg_theory.proofs.Least.{least_le}
 use Rattle.krieg_theory.proofs.Unique.{canon_upto, canon_step, part}
 use Rattle.krieg_costs.proofs.WonSets.{first_is}
 use Rattle.krieg_accounts.proofs.Tables.{result_can, wins_least}
-use Rattle.krieg_accounts.proofs.TryOrder as tried
 
 pub in_total : {X : Type 0} (f : X → ℕ) (xs : List X) (x : X) → In x xs → f x ≤ total f xs
 in_total f [] x i = absurd i
 in_total f (y ∷ ys) x (inl e) = let a : f y ≡ f x = ap f e in omega arith
 in_total f (y ∷ ys) x (inr i) = let ih = in_total f ys x i in omega arith
-
-found_up_to : {X : Type 0} (f : X → Bool) (xs : List X) (x : X) → find f xs ≡ Some x → In x (up_to f xs)
-found_up_to f [] x e = absurd (cc)
-found_up_to {X = X} f (y ∷ ys) x e = go (cases_Bool (f y)) (found_up_to f ys x)
-  where
-    go : (f y ≡ true) ⊎ (f y ≡ false) → (find f ys ≡ Some x → In x (up_to f ys)) → (y ≡ x) ⊎ In x (cond (f y) [] (up_to f ys))
-    go (inl t) r = inl (let q : Some y ≡ Some x = sym (cond-true (f y) (Some y) (find f ys) t) ∙ e in cc)
-    go (inr t) r = inr (subst (In x) (sym (cond-false (f y) [] (up_to f ys) t)) (r (sym (cond-false (f y) (Some y) (find f ys) t) ∙ e)))
 
 module _ (G : Game) (L : IsGame G) where
   -- the set is stored as won within j
@@ -52,12 +42,6 @@ module _ (G : Game) (L : IsGame G) where
   refused_won cut T s B k m h e =
       let f = first_is G L k B m (first_stored cut T s B k m h).1 in
       by_least cut T s (refused G B m) (suc k) ((s.backed B (suc k) (Some m) h).refused_part m refl e) (f.refused_won e)
-
-  -- its split is among those that its result stands for
-  pub split_within : (cut : Bool) → (T : Table G) → IsSound G cut T → (B : List G.Position) (k : ℕ) (m : G.Move) → known G T (B, suc k) ≡ Some (Some m) → made G B m ≤ floor_price G (B, suc k)
-  split_within cut T s B k m h =
-      let f = first_stored cut T s B k m h in
-      in_total (made G B) (up_to (begins G (suc k) B) (tries G B)) m (found_up_to (begins G (suc k) B) (tries G B) m (tried.first_is G L (suc k) B ∙ f.1))
 
   pub stored_is_canon : StoredIsCanon G
   stored_is_canon cut T B j k m s h l = canon_stored cut T s B j k m h l

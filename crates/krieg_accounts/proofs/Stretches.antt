@@ -3,7 +3,7 @@ use Rattle.std.proofs.Common.{Bool, ◌≡◌, ℕ, ◌+◌, ◌≤◌, ◌<◌,
 use Rattle.std.specs.Prelude.{IfSome, true}
 use Rattle.krieg_theory.proofs.First.{first_none}
 use Rattle.std.proofs.lemmas.Bool.{both_ways}
-use Rattle.krieg_accounts.proofs.Common.{In, Game, IsGame, refused, tries, class, begins, first_try, Pair, made, price, block_pair, floor_price, AddsResult, Table, known, StoredLost, StoredWon, IsBacked, IsSound, StretchesJoin, NotedIsStretch, LostIsStretch, ShortOfPair, IsStretch, can, LostBelow, FallsShort, CoversPair, CoversTries, CoversSets}
+use Rattle.krieg_accounts.proofs.Common.{In, Game, IsGame, refused, tries, class, begins, first_try, Pair, made, price, block_pair, floor_price, AddsResult, Table, known, StoredLost, StoredWon, IsBacked, IsSound, StretchesJoin, NotedIsStretch, LostIsStretch, ShortOfPair, IsStretch, FallsShort, CoversPair, CoversTries, CoversSets}
 use Rattle.krieg_theory.proofs.Lists.{in_append_left, in_append_right}
 use Rattle.krieg_costs.proofs.Totals.{total_up_to}
 use Rattle.krieg_accounts.proofs.Below.{below, below_has, below_in, not_below_itself, some_list}
@@ -17,6 +17,10 @@ module _ (G : Game) where
   -- a try is split, which costs what it takes
   pub stretch_of_split : (cut : Bool) → (Q : List (Pair G) → Type 0) (T : Table G) (m had has : ℕ) → IsSound G cut T → has + m ≡ had → IsStretch G cut Q m T T had has
   stretch_of_split cut Q T m had has s e = record { sound = s; kept = λ q x h. h; news = λ R h q x k. inl k; exact = λ c. omega arith; at_most = omega arith; fewer = omega arith; won = λ q x k. inl k; paid = λ R q. omega arith }
+
+  -- a try is cut, which takes nothing
+  pub stretch_of_cut : (cut : Bool) → (Q : List (Pair G) → Type 0) (T : Table G) (m u : ℕ) → cut ≡ true → IsSound G cut T → IsStretch G cut Q m T T u u
+  stretch_of_cut cut Q T m u may s = record { sound = s; kept = λ q x h. h; news = λ R h q x k. inl k; exact = λ c. absurd (both_ways cut c may); at_most = omega arith; fewer = omega arith; won = λ q x k. inl k; paid = λ R q. omega arith }
 
   -- one stretch behind another
   pub stretch_then : (cut : Bool) → (Q Q' : List (Pair G) → Type 0) (a b : ℕ) (T0 T1 T2 : Table G) (u0 u1 u2 : ℕ) → ((R : List (Pair G)) → Q R → Q' R) → IsStretch G cut Q a T0 T1 u0 u1 → IsStretch G cut Q' b T1 T2 u1 u2 → IsStretch G cut Q (a + b) T0 T2 u0 u2
@@ -35,11 +39,11 @@ module _ (G : Game) where
       before R h q x (inl k) = w.news R h q x k
       before R h q x (inr i) = inr i
 
-      paid_first : (q : Pair G) (m : G.Move) → (known G T0 q ≡ Some (Some m)) ⊎ (u1 + a + floor_price G q ≤ u0) → (known G T0 q ≡ Some (Some m)) ⊎ (u2 + (a + b) + floor_price G q ≤ u0)
+      paid_first : (q : Pair G) (m : G.Move) → (known G T0 q ≡ Some (Some m)) ⊎ (u1 + made G q.0 m ≤ u0) → (known G T0 q ≡ Some (Some m)) ⊎ (u2 + made G q.0 m ≤ u0)
       paid_first q m (inl k) = inl k
       paid_first q m (inr e) = let y = v.fewer in inr (omega arith)
 
-      paid_before : (q : Pair G) (m : G.Move) → (known G T1 q ≡ Some (Some m)) ⊎ (u2 + b + floor_price G q ≤ u1) → (known G T0 q ≡ Some (Some m)) ⊎ (u2 + (a + b) + floor_price G q ≤ u0)
+      paid_before : (q : Pair G) (m : G.Move) → (known G T1 q ≡ Some (Some m)) ⊎ (u2 + made G q.0 m ≤ u1) → (known G T0 q ≡ Some (Some m)) ⊎ (u2 + made G q.0 m ≤ u0)
       paid_before q m (inl k) = paid_first q m (w.won q m k)
       paid_before q m (inr e) = let x = w.fewer in inr (omega arith)
 
@@ -104,14 +108,14 @@ module _ (G : Game) (L : IsGame G) where
           subst P a.0 (subst (λ y. IsBacked G cut T' B j y) a.1 (backed_kept G cut T T' B j o n.kept b))
 
   -- the pair was expanded, and its result is noted
-  pub stretch_noted : (cut : Bool) → (T0 T1 T2 : Table G) (B : List G.Position) (j : ℕ) (o : Option G.Move) (u0 u1 : ℕ) → IsStretch G cut (CoversTries G B j) (floor_price G (B, j)) T0 T1 u0 u1 → o ≡ first_try G j B → IsBacked G cut T1 B j o → known G T0 (B, j) ≡ None → AddsResult G.position_lt T1 T2 (B, j) o → IsStretch G cut (CoversPair G B j) 0 T0 T2 u0 u1
-  stretch_noted cut T0 T1 T2 B j o u0 u1 w e b none n = record {
+  pub stretch_noted : (cut : Bool) → (T0 T1 T2 : Table G) (B : List G.Position) (j : ℕ) (o : Option G.Move) (u0 u1 : ℕ) → IsStretch G cut (CoversTries G B j) (floor_price G (B, j)) T0 T1 u0 u1 → IfSome o (λ m. u1 + made G B m ≤ u0) → o ≡ first_try G j B → IsBacked G cut T1 B j o → known G T0 (B, j) ≡ None → AddsResult G.position_lt T1 T2 (B, j) o → IsStretch G cut (CoversPair G B j) 0 T0 T2 u0 u1
+  stretch_noted cut T0 T1 T2 B j o u0 u1 w p e b none n = record {
     sound = noted_sound cut T1 T2 B j o w.sound n e b;
     kept = λ q x h. n.kept q x (w.kept q x h);
     news = λ R h q x k. before R h q x (n.nothing_else q x k);
     exact = λ h. (let a = w.exact h in let c = n.one_more (floor_price G) in omega arith);
     at_most = (let a = w.at_most in let c = n.one_more (floor_price G) in omega arith);
-    fewer = (let a = w.fewer in omega arith);
+    fewer = w.fewer;
     won = λ q m k. taken q m (n.nothing_else q (Some m) k);
     paid = λ R q.
         let a = w.paid (below G L j (length B) R) (below_has G L R B j q) in
@@ -128,13 +132,9 @@ module _ (G : Game) (L : IsGame G) where
       before R h q x (inl k) = inside R q x (w.news (below G L j (length B) R) (below_has G L R B j h) q x k)
       before R h q x (inr e) = inr (subst (λ p. In p R) e.0 h.1)
 
-      less : (q : Pair G) (m : G.Move) → (known G T0 q ≡ Some (Some m)) ⊎ (u1 + floor_price G (B, j) + floor_price G q ≤ u0) → (known G T0 q ≡ Some (Some m)) ⊎ (u1 + 0 + floor_price G q ≤ u0)
-      less q m (inl k) = inl k
-      less q m (inr h) = inr (omega arith)
-
-      taken : (q : Pair G) (m : G.Move) → (known G T1 q ≡ Some (Some m)) ⊎ (((B, j) ≡ q) × (o ≡ Some m)) → (known G T0 q ≡ Some (Some m)) ⊎ (u1 + 0 + floor_price G q ≤ u0)
-      taken q m (inl k) = less q m (w.won q m k)
-      taken q m (inr h) = let f = w.fewer in inr (subst (λ p. u1 + 0 + floor_price G p ≤ u0) h.0 (omega arith))
+      taken : (q : Pair G) (m : G.Move) → (known G T1 q ≡ Some (Some m)) ⊎ (((B, j) ≡ q) × (o ≡ Some m)) → (known G T0 q ≡ Some (Some m)) ⊎ (u1 + made G q.0 m ≤ u0)
+      taken q m (inl k) = w.won q m k
+      taken q m (inr h) = inr (subst (λ (x : Pair G). u1 + made G x.0 m ≤ u0) h.0 (subst (λ (x : Option G.Move). IfSome x (λ t. u1 + made G B t ≤ u0)) h.1 p))
 
   -- where tries may be cut, a set that is known to be lost is noted for nothing
   pub lost_is_stretch : LostIsStretch G
@@ -164,7 +164,7 @@ module _ (G : Game) (L : IsGame G) where
       fresh R h q x (inl k) = inl k
       fresh R h q x (inr e) = inr (subst (λ p. In p R) e.0 h.1)
 
-      old : (q : Pair G) (m : G.Move) → (known G T0 q ≡ Some (Some m)) ⊎ (((B, j) ≡ q) × (◌≡◌ {A = Option G.Move} None (Some m))) → (known G T0 q ≡ Some (Some m)) ⊎ (u + 0 + floor_price G q ≤ u)
+      old : (q : Pair G) (m : G.Move) → (known G T0 q ≡ Some (Some m)) ⊎ (((B, j) ≡ q) × (◌≡◌ {A = Option G.Move} None (Some m))) → (known G T0 q ≡ Some (Some m)) ⊎ (u + made G q.0 m ≤ u)
       old q m (inl k) = inl k
       old q m (inr h) = absurd (let k : ◌≡◌ {A = Option G.Move} None (Some m) = h.1 in cc)
 

@@ -19,7 +19,7 @@ both_classes =
 pub by_hand : IsStretch toy false (CoversSet toy (2 ∷ []) 2) 0 [] of_two 20 11
 by_hand =
     let Q = CoversSet toy (2 ∷ []) 2 in
-    let last = noted two_1 two_3 (2 ∷ []) 2 (Some 0) 16 11 both_classes refl two_backed refl refl in
+    let last = noted two_1 two_3 (2 ∷ []) 2 (Some 0) 16 11 both_classes (omega arith) refl two_backed refl refl in
     stretch_then toy false Q (CoversPair toy (2 ∷ []) 2) 0 0 [] two_1 of_two 20 16 11 (λ R h. (h.0, h.1 2 (omega arith) (omega arith)))
     (stretch_for toy false Q (CoversPair toy (2 ∷ []) 1) 0 [] two_1 20 16 (λ R h. (h.0, h.1 1 (omega arith) (omega arith))) two_first) last
 

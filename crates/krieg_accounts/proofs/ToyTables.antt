@@ -1,9 +1,9 @@
 -- The tables of the small game are sound, one result after another.
-use Rattle.std.proofs.Common.{◌≡◌, ℕ, zero, suc, ◌+◌, ◌<◌, true, false, not, inl, inr, List, [], ◌∷◌, ◌++◌, Option, Some, None, refl, sym, ap, subst, arith}
+use Rattle.std.proofs.Common.{◌≡◌, ℕ, zero, suc, ◌+◌, ◌<◌, ◌≤◌, true, false, not, inl, inr, List, [], ◌∷◌, ◌++◌, Option, Some, None, refl, sym, ap, subst, arith}
 use Rattle.std.specs.Prelude.{◌==◌, IfSome, ⊤}
 use Rattle.std.specs.List.{list_all}
 use Rattle.std.proofs.lemmas.Bool.{both_ways, and_parts, eq-eqb, not_from_true}
-use Rattle.krieg_accounts.proofs.Common.{In, is_nil, refused, tries, keys, class, first_try, toy, lawful, nat_order, Pair, block_pair, floor_price, pairs, Table, known, StoredLost, StoredWon, IsEarlier, IsBacked, IsSound, IsStretch, CoversPair, CoversTries, LostBelow, lost_within, won_within, of_two, of_nought_and_five}
+use Rattle.krieg_accounts.proofs.Common.{In, is_nil, refused, tries, keys, class, first_try, toy, lawful, nat_order, Pair, made, block_pair, floor_price, pairs, Table, known, StoredLost, StoredWon, IsEarlier, IsBacked, IsSound, IsStretch, CoversPair, CoversTries, LostBelow, lost_within, won_within, of_two, of_nought_and_five}
 use Rattle.std.specs.Prelude.{nat_lt}
 use Rattle.krieg_costs.proofs.Costs.{legal_try}
 use Rattle.krieg_accounts.proofs.Tables.{known_in}
@@ -67,12 +67,12 @@ below_two T B h (suc zero) a b = h
 below_two T B h (suc (suc i)) a b = absurd (omega arith)
 
 -- a pair is expanded and its result is noted
-pub noted : (T0 T1 : Table toy) (B : List ℕ) (j : ℕ) (o : Option ℕ) (u0 u1 : ℕ) → IsStretch toy false (CoversTries toy B j) (floor_price toy (B, j)) T0 T1 u0 u1 → o ≡ first_try toy j B → IsBacked toy false T1 B j o → known toy T0 (B, j) ≡ None → known toy T1 (B, j) ≡ None → IsStretch toy false (CoversPair toy B j) 0 T0 (T1 ++ ((B, j), o) ∷ []) u0 u1
-noted T0 T1 B j o u0 u1 w f b n m = stretch_noted toy lawful false T0 T1 (T1 ++ ((B, j), o) ∷ []) B j o u0 u1 w f b n (appended nat_lt nat_order T1 (B, j) o m)
+pub noted : (T0 T1 : Table toy) (B : List ℕ) (j : ℕ) (o : Option ℕ) (u0 u1 : ℕ) → IsStretch toy false (CoversTries toy B j) (floor_price toy (B, j)) T0 T1 u0 u1 → IfSome o (λ m. u1 + made toy B m ≤ u0) → o ≡ first_try toy j B → IsBacked toy false T1 B j o → known toy T0 (B, j) ≡ None → known toy T1 (B, j) ≡ None → IsStretch toy false (CoversPair toy B j) 0 T0 (T1 ++ ((B, j), o) ∷ []) u0 u1
+noted T0 T1 B j o u0 u1 w p f b n m = stretch_noted toy lawful false T0 T1 (T1 ++ ((B, j), o) ∷ []) B j o u0 u1 w p f b n (appended nat_lt nat_order T1 (B, j) o m)
 
 -- of a pair that needs nothing new
-pub alone : (T : Table toy) (B : List ℕ) (j : ℕ) (o : Option ℕ) (u0 u1 : ℕ) → IsSound toy false T → u1 + floor_price toy (B, j) ≡ u0 → o ≡ first_try toy j B → IsBacked toy false T B j o → known toy T (B, j) ≡ None → IsStretch toy false (CoversPair toy B j) 0 T (T ++ ((B, j), o) ∷ []) u0 u1
-alone T B j o u0 u1 s e f b n = noted T T B j o u0 u1 (stretch_of_split toy false (CoversTries toy B j) T (floor_price toy (B, j)) u0 u1 s e) f b n n
+pub alone : (T : Table toy) (B : List ℕ) (j : ℕ) (o : Option ℕ) (u0 u1 : ℕ) → IsSound toy false T → u1 + floor_price toy (B, j) ≡ u0 → IfSome o (λ m. u1 + made toy B m ≤ u0) → o ≡ first_try toy j B → IsBacked toy false T B j o → known toy T (B, j) ≡ None → IsStretch toy false (CoversPair toy B j) 0 T (T ++ ((B, j), o) ∷ []) u0 u1
+alone T B j o u0 u1 s e p f b n = noted T T B j o u0 u1 (stretch_of_split toy false (CoversTries toy B j) T (floor_price toy (B, j)) u0 u1 s e) p f b n n
 
 -- the set of 2: it is lost with one move, both classes of the try 0 are won with one, and so it is won with two
 abbrev pub two_1 : Table toy
@@ -85,20 +85,20 @@ abbrev pub two_3 : Table toy
 two_3 = lost_within (2 ∷ []) 1 ∷ won_within (0 ∷ []) 1 0 ∷ won_within (1 ∷ []) 1 1 ∷ []
 
 pub two_first : IsStretch toy false (CoversPair toy (2 ∷ []) 1) 0 [] two_1 20 16
-two_first = alone [] (2 ∷ []) 1 None 20 16 (empty_sound toy false) refl refl (lost_backed [] (2 ∷ []) 1 (omega arith) (below_one [] (2 ∷ [])) (λ e. tt, (λ e. tt, tt))) refl
+two_first = alone [] (2 ∷ []) 1 None 20 16 (empty_sound toy false) refl tt refl (lost_backed [] (2 ∷ []) 1 (omega arith) (below_one [] (2 ∷ [])) (λ e. tt, (λ e. tt, tt))) refl
 
 pub two_second : IsStretch toy false (CoversPair toy (0 ∷ []) 1) 0 two_1 two_2 13 12
-two_second = alone two_1 (0 ∷ []) 1 (Some 0) 13 12 two_first.sound refl refl (won_backed two_1 (0 ∷ []) 1 0 (omega arith) (below_one two_1 (0 ∷ [])) (λ e. tt, (λ e. tt, (λ e. tt, tt))) tt refl) refl
+two_second = alone two_1 (0 ∷ []) 1 (Some 0) 13 12 two_first.sound refl (omega arith) refl (won_backed two_1 (0 ∷ []) 1 0 (omega arith) (below_one two_1 (0 ∷ [])) (λ e. tt, (λ e. tt, (λ e. tt, tt))) tt refl) refl
 
 pub two_third : IsStretch toy false (CoversPair toy (1 ∷ []) 1) 0 two_2 two_3 12 11
-two_third = alone two_2 (1 ∷ []) 1 (Some 1) 12 11 two_second.sound refl refl (won_backed two_2 (1 ∷ []) 1 1 (omega arith) (below_one two_2 (1 ∷ [])) (λ e. tt, (λ e. tt, tt)) tt refl) refl
+two_third = alone two_2 (1 ∷ []) 1 (Some 1) 12 11 two_second.sound refl (omega arith) refl (won_backed two_2 (1 ∷ []) 1 1 (omega arith) (below_one two_2 (1 ∷ [])) (λ e. tt, (λ e. tt, tt)) tt refl) refl
 
 -- the result of 2 with two moves, once both classes are stored
 pub two_backed : IsBacked toy false two_3 (2 ∷ []) 2 (Some 0)
 two_backed = won_backed two_3 (2 ∷ []) 2 0 (omega arith) (below_two two_3 (2 ∷ []) refl) (λ e. tt, (λ e. tt, tt)) ((1, 0, refl), ((1, 1, refl), tt)) refl
 
 pub two_sound : IsSound toy false of_two
-two_sound = (alone two_3 (2 ∷ []) 2 (Some 0) 3 0 two_third.sound refl refl two_backed refl).sound
+two_sound = (alone two_3 (2 ∷ []) 2 (Some 0) 3 0 two_third.sound refl (omega arith) refl two_backed refl).sound
 
 -- the set of 0 and 5
 abbrev five_1 : Table toy
@@ -111,16 +111,16 @@ abbrev five_3 : Table toy
 five_3 = lost_within (5 ∷ []) 1 ∷ lost_within (0 ∷ 5 ∷ []) 1 ∷ lost_within (5 ∷ []) 2 ∷ []
 
 five_first : IsSound toy false five_1
-five_first = (alone [] (5 ∷ []) 1 None 0 0 (empty_sound toy false) refl refl (lost_backed [] (5 ∷ []) 1 (omega arith) (below_one [] (5 ∷ [])) tt) refl).sound
+five_first = (alone [] (5 ∷ []) 1 None 0 0 (empty_sound toy false) refl tt refl (lost_backed [] (5 ∷ []) 1 (omega arith) (below_one [] (5 ∷ [])) tt) refl).sound
 
 five_second : IsSound toy false five_2
-five_second = (alone five_1 (0 ∷ 5 ∷ []) 1 None 7 0 five_first refl refl (lost_backed five_1 (0 ∷ 5 ∷ []) 1 (omega arith) (below_one five_1 (0 ∷ 5 ∷ [])) (λ e. refl, (λ e. tt, (λ e. tt, tt)))) refl).sound
+five_second = (alone five_1 (0 ∷ 5 ∷ []) 1 None 7 0 five_first refl tt refl (lost_backed five_1 (0 ∷ 5 ∷ []) 1 (omega arith) (below_one five_1 (0 ∷ 5 ∷ [])) (λ e. refl, (λ e. tt, (λ e. tt, tt)))) refl).sound
 
 five_third : IsSound toy false five_3
-five_third = (alone five_2 (5 ∷ []) 2 None 0 0 five_second refl refl (lost_backed five_2 (5 ∷ []) 2 (omega arith) (below_two five_2 (5 ∷ []) refl) tt) refl).sound
+five_third = (alone five_2 (5 ∷ []) 2 None 0 0 five_second refl tt refl (lost_backed five_2 (5 ∷ []) 2 (omega arith) (below_two five_2 (5 ∷ []) refl) tt) refl).sound
 
 pub five_sound : IsSound toy false of_nought_and_five
-five_sound = (alone five_3 (0 ∷ 5 ∷ []) 2 None 7 0 five_third refl refl (lost_backed five_3 (0 ∷ 5 ∷ []) 2 (omega arith) (below_two five_3 (0 ∷ 5 ∷ []) refl) (λ e. refl, (λ e. tt, (λ e. refl, tt)))) refl).sound
+five_sound = (alone five_3 (0 ∷ 5 ∷ []) 2 None 7 0 five_third refl tt refl (lost_backed five_3 (0 ∷ 5 ∷ []) 2 (omega arith) (below_two five_3 (0 ∷ 5 ∷ []) refl) (λ e. refl, (λ e. tt, (λ e. refl, tt)))) refl).sound
 
 -- the same set where tries may be cut: nothing is stored of its blocks
 cut_backed : (T : Table toy) (j : ℕ) → 0 < j → LostBelow toy T (0 ∷ 5 ∷ []) j → IsBacked toy true T (0 ∷ 5 ∷ []) j None

@@ -1,5 +1,5 @@
 -- The laws, each a statement that a function of this crate has as its contract.
-use Rattle.std.specs.Prelude.{◌≡◌, ℕ, suc, ◌+◌, ◌<◌, ◌≤◌, Bool, true, false, List, [], ◌++◌, Option, Some, None, is_some, if◌then◌else◌}
+use Rattle.std.specs.Prelude.{◌≡◌, ℕ, suc, ◌+◌, ◌<◌, ◌≤◌, Bool, true, false, List, [], ◌++◌, Option, Some, None, is_some, IfSome, if◌then◌else◌}
 use Rattle.std.specs.List.{list_any}
 use Rattle.krieg_theory.specs.Sets.{In, is_nil}
 use Rattle.krieg_theory.specs.Tree.{Try, Maybe, Nothing, Just}
@@ -8,7 +8,7 @@ use Rattle.krieg_theory.specs.Split.{refused, keys, class}
 use Rattle.krieg_theory.specs.Can.{can, first_try, least}
 use Rattle.krieg_theory.specs.Computed.{edges_of, canon}
 use Rattle.krieg_theory.specs.Plans.{Outset, is_over, can_plan}
-use Rattle.krieg_costs.specs.Cost.{price, first_made}
+use Rattle.krieg_costs.specs.Cost.{made, price, first_made}
 use Rattle.krieg_costs.specs.Reach.{fresh}
 use Rattle.krieg_costs.specs.Backing.{floor_price, floor}
 use Rattle.krieg_costs.specs.BackingRules.{KeepsLost, KeepsWon}
@@ -49,11 +49,11 @@ module _ (G : Game) where
   StretchesJoin = (cut : Bool) (Cs Ds : List (List G.Position)) (j a b : ℕ) (T0 T1 T2 : Table G) (u0 u1 u2 : ℕ) →
       IsStretch G cut (CoversSets G Cs j) a T0 T1 u0 u1 → IsStretch G cut (CoversSets G Ds j) b T1 T2 u1 u2 → IsStretch G cut (CoversSets G (Cs ++ Ds) j) (a + b) T0 T2 u0 u2
 
-  -- A pair is expanded: a stretch over all parts costs the tries up to the first that wins. Once the result is noted it
-  -- is a stretch over the pair, and costs nothing apart from what is stored.
+  -- A pair is expanded: a stretch over all parts costs the tries up to the first that wins, whose own split was paid. Once
+  -- the result is noted it is a stretch over the pair, and costs nothing apart from what is stored.
   abbrev pub NotedIsStretch : Type 0
   NotedIsStretch = (cut : Bool) (T0 T1 T2 : Table G) (B : List G.Position) (j : ℕ) (o : Option G.Move) (u0 u1 : ℕ) → IsStretch G cut (CoversTries G B j) (floor_price G (B, j)) T0 T1 u0 u1 →
-      o ≡ first_try G j B → IsBacked G cut T1 B j o → known G T0 (B, j) ≡ None → AddsResult G.position_lt T1 T2 (B, j) o → IsStretch G cut (CoversPair G B j) 0 T0 T2 u0 u1
+      IfSome o (λ m. u1 + made G B m ≤ u0) → o ≡ first_try G j B → IsBacked G cut T1 B j o → known G T0 (B, j) ≡ None → AddsResult G.position_lt T1 T2 (B, j) o → IsStretch G cut (CoversPair G B j) 0 T0 T2 u0 u1
 
   -- where tries may be cut, a set that is known to be lost is noted for nothing: that is a stretch over the pair
   abbrev pub LostIsStretch : Type 0

@@ -5,23 +5,24 @@ use Rattle.krieg_theory.specs.Game.{Game}
 use Rattle.krieg_theory.specs.Split.{legal_in_some}
 use Rattle.krieg_costs.specs.Sums.{Pair}
 use Rattle.krieg_costs.specs.Reach.{HasParts, LeadsOn}
-use Rattle.krieg_costs.specs.Backing.{floor_price}
+use Rattle.krieg_costs.specs.Cost.{made}
 use Rattle.krieg_accounts.specs.Sound.{Table, known, IsSound}
 use Rattle.krieg_accounts.specs.Charges.{charged, all_owed}
 
 module _ (G : Game) where
   -- From the table T and `had` units to the table T' and `has` units. A result may come only for a pair that stands in
-  -- every list R that Q admits. The cost is what was split for pairs that have no result yet. All else that was taken
-  -- is what the new results took, and of each list R at most what its pairs with a new result owed. Where tries may be cut, a set
-  -- may also be found to be lost for nothing; a result that is won is paid for.
+  -- every list R that Q admits. The cost is what the splits of tries take for pairs that have no result yet. All else
+  -- that was taken is what the new results took, and of each list R at most what its pairs with a new result owed. Where
+  -- tries may be cut, less may be taken: for a try that is cut, and for a set that is found to be lost, nothing. But the
+  -- split of a try that wins was paid.
   pub record IsStretch (cut : Bool) (Q : List (Pair G) → Type 0) (cost : ℕ) (T T' : Table G) (had has : ℕ) : Type 0 where
     pub sound : IsSound G cut T'
     pub kept : (q : Pair G) (x : Option G.Move) → known G T q ≡ Some x → known G T' q ≡ Some x
     pub news : (R : List (Pair G)) → Q R → (q : Pair G) (x : Option G.Move) → known G T' q ≡ Some x → (known G T q ≡ Some x) ⊎ In q R
     pub exact : cut ≡ false → had + charged G T ≡ has + cost + charged G T'
     pub at_most : had + charged G T ≤ has + cost + charged G T'
-    pub fewer : has + cost ≤ had
-    pub won : (q : Pair G) (m : G.Move) → known G T' q ≡ Some (Some m) → (known G T q ≡ Some (Some m)) ⊎ (has + cost + floor_price G q ≤ had)
+    pub fewer : has ≤ had
+    pub won : (q : Pair G) (m : G.Move) → known G T' q ≡ Some (Some m) → (known G T q ≡ Some (Some m)) ⊎ (has + made G q.0 m ≤ had)
     pub paid : (R : List (Pair G)) → Q R → had + all_owed G R T' ≤ has + cost + all_owed G R T
 
   -- the units are fewer than the cost and what the pairs of any list that Q admits may take yet

@@ -5,8 +5,9 @@
 //! the block of each try, and on the smaller numbers; a win on the parts of its own try, and on the blocks of the tries
 //! before it. What a sound table took is at least the floor of `krieg_costs`, once it has the answer.
 //!
-//! A search may also cut tries: it looks into no part of a try that is known to fail. A flag, `cut`, says whether it may,
-//! and where it may, results do not stand on blocks. Then the floor does not hold, and all else does.
+//! A search may also cut tries: it looks into no part of a try that is known to fail, and takes nothing for it. A flag,
+//! `cut`, says whether it may, and where it may, results do not stand on blocks. Then the floor does not hold, and all
+//! else does.
 //!
 //! A stretch of a search goes from one table and number of units to others. Stretches join, and a result that is noted
 //! at the end of one makes it a stretch that costs nothing apart from what is stored. So a whole search takes at most

@@ -16,7 +16,7 @@ ghost use Rattle.krieg_costs.specs.Reach.{reach};
 ghost use Rattle.krieg_accounts.specs.Stored.{pairs};
 ghost use Rattle.krieg_accounts.specs.Sound.{known, IsSound};
 ghost use Rattle.krieg_accounts.specs.Charges.{charged, owed, all_owed};
-ghost use Rattle.krieg_accounts.specs.Stretch.{IsStretch, FallsShort, CoversSet};
+ghost use Rattle.krieg_accounts.specs.Stretch.{IsStretch, FallsShort, CoversSet, CoversTry};
 ghost use Rattle.krieg_accounts.specs.Answers.{opening_sets, AnswersPlan};
 ghost use Rattle.krieg_accounts.specs.Toy.{lost_within, won_within, of_two, of_nought_and_five};
 
@@ -83,6 +83,10 @@ pub fn searching()
     ensures forgetting { IsStretch toy false (CoversSet toy (2 ∷ []) 2) 0 of_two [] 20 29 → ⊥ }
     ensures another_set { IsStretch toy false (CoversSet toy (5 ∷ []) 2) 0 []
         (won_within (0 ∷ []) 1 0 ∷ []) 20 19 → ⊥ }
+    ensures a_cut_is_free { IsStretch toy true (CoversTry toy (2 ∷ []) 2 0) 3 [] [] 20 20 }
+    ensures a_split_is_not { IsStretch toy false (CoversTry toy (2 ∷ []) 2 0) 3 [] [] 20 20 → ⊥ }
+    ensures a_win_is_paid { IsStretch toy true (CoversSet toy (0 ∷ []) 1) 0 []
+        (won_within (0 ∷ []) 1 0 ∷ []) 20 20 → ⊥ }
     ensures short { FallsShort toy (CoversSet toy (2 ∷ []) 2) 0 [] 14 }
     ensures enough { FallsShort toy (CoversSet toy (2 ∷ []) 2) 0 [] 15 → ⊥ }
 {}

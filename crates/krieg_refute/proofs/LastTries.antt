@@ -8,12 +8,8 @@ use Rattle.krieg_refute.proofs.Common.{Pos, Move, Dialect, position_lt, same, re
 use Rattle.krieg_pack.proofs.PositionSets.{position_order}
 use Rattle.krieg_theory.specs.Sets.{In}
 use Rattle.krieg_theory.proofs.Lists.{all_at, all_from, any_at, any_from, in_filter, filter_in}
-use Rattle.krieg_theory.proofs.Ascending.{same_eq, same_refl}
+use Rattle.krieg_theory.proofs.Ascending.{same_eq}
 use Rattle.krieg_refute.proofs.ClaimTests.{both}
-
--- a set is within itself
-pub within_itself : (S : List Pos) → is_within position_lt S S ≡ true
-within_itself S = all_from _ S (λ p i. any_from (same position_lt p) S p i (same_refl position_lt position_order p))
 
 -- each of a set refuses the try and is a member just where each is one of those that refuse it
 pub within_refused : (d : Dialect) (B C : List Pos) (t : Move) → (is_within position_lt C B && list_all (refuses t) C) ≡ is_within position_lt C (refused (chess d) B t)

@@ -18,12 +18,13 @@ ghost use Rattle.krieg_refute.specs.Refutations.{refutes, is_own_turn, claims_pr
 ghost use Rattle.krieg_refute.specs.Exclusion.{NoneMates};
 ghost use Rattle.krieg_refute.specs.Reasons.{try_holds as try_spec, opens_with, within_opening};
 
-use crate::reasons::{are_for, is_within, reasons_hold};
+use crate::reasons::{are_for, reasons_hold};
 use crate::refutation::{Claim, Refutation};
 use crate::try_result::{TryResult, last_try};
 use krieg_board::{Move, NoMemory, Side, Units};
 use krieg_pack::{Belief, Packed, unpack};
 use krieg_parting::PartStop;
+use krieg_search::is_within;
 use krieg_split::{Tally, split, tally_all, tally_tries, tries};
 use krieg_words::{Dialect, Words, compare, opening, told};
 use std::alloc::Global;

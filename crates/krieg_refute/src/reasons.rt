@@ -22,36 +22,11 @@ use crate::refutation::{Claim, Reason, Why};
 use crate::try_result::{LastTry, TryResult, all_refuse, stalemates_in_some};
 use krieg_board::Move;
 use krieg_game::Class;
-use krieg_pack::{Belief, Packed, unpack};
+use krieg_pack::Belief;
+use krieg_search::is_within;
 use krieg_split::Parted;
 use krieg_words::{Words, compare};
 use std::alloc::Global;
-
-/// Whether a packed position is a member.
-fn is_member(member: &Packed, set: &Belief) -> bool
-    ensures { result ≡ list_any (same position_lt member.now) set.now }
-{
-    set.holds(&unpack(member))
-}
-
-/// Whether each of the positions is a member.
-fn are_members(members: &[Packed], set: &Belief) -> bool
-    ensures { result ≡ theory.is_within position_lt members.now set.now }
-{
-    for member in members {
-        if !is_member(member, set) {
-            return false;
-        }
-    }
-    true
-}
-
-/// Whether each member of one set is one of another. A claim that is cited was mostly written for all of the set.
-pub(crate) fn is_within(small: &Belief, set: &Belief) -> bool
-    ensures { result ≡ theory.is_within position_lt small.now set.now }
-{
-    small.same(set) || are_members(small.members(), set)
-}
 
 /// The claim at a place, counted from 1.
 fn cited(claims: &[Claim], place: u16) -> Option<&Claim>

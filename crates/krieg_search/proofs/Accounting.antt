@@ -16,13 +16,13 @@ at_most_fresh d cut who S n had has a =
     let G = chess d in
     let R = reach_of G (outset d who) n S in
     let g = total_within (floor_price G) (λ q. price G q.0) (pairs a.results) (once G R) a.once (λ q i. in_once G (chess_is_game d) R q (a.reached q i)) (λ q. total_up_to (made G q.0) (begins G q.1 q.0) (tries G q.0)) in
-    let e = a.exact in
+    let e = a.at_most in
     omega arith
 
 pub account_is_between : (d : Dialect) (who : Side) → AccountIsBetween d who
 account_is_between d who S n had has a =
     let f = floor_is_charged (chess d) (chess_is_game d) (outset d who) (outset_is_lawful d who) n S a.results a.sound a.answer in
-    let e = a.exact in
+    let e = a.exact refl in
     record { at_least = omega arith; at_most = at_most_fresh d false who S n had has a }
 
 -- by the units that were there
@@ -52,8 +52,8 @@ module _ (d : Dialect) (who : Side) (S : List Pos) (n : ℕ) where
 
   -- what a search that may cut tries takes
   pub charged_at_most : (r : Result Answer SearchStop) (had has : ℕ) → Takes d who S n true r had has → IsChargedAtMost d who S n r had has
-  charged_at_most (Ok a) had has k = ((let e = k.exact in omega arith), at_most_fresh d true who S n had has k)
-  charged_at_most (Err Large) had has k = ((let e = k.exact in omega arith), at_most_fresh d true who S n had has k)
+  charged_at_most (Ok a) had has k = (k.fewer, at_most_fresh d true who S n had has k)
+  charged_at_most (Err Large) had has k = (k.fewer, at_most_fresh d true who S n had has k)
   charged_at_most (Err Spent) had has k = k
   charged_at_most (Err NoMemory) had has k = k
 

@@ -2,13 +2,13 @@
 use Rattle.std.proofs.Common.{Bool, ◌≡◌, ℕ, suc, ◌+◌, ◌-◌, ◌≤◌, ◌<◌, ◌^◌, true, false, ◌⊎◌, inl, inr, List, [], ◌∷◌, map, Some, Result, Ok, Err, max, refl, sym, ap, subst, ◌∙◌, arith}
 use Rattle.std.specs.Result.{IsErrAnd}
 use Rattle.std.proofs.Math.Nat.{le-max_left, le-max_right}
-use Rattle.krieg_search.proofs.Common.{Pos, Move, Dialect, In, is_nil, Maybe, Just, Edges, size, size_other, size_edges, depth, depth_other, depth_edges, refused, keys, class, can, edge_with, edges_of, canon, made, known, IsSound, charged, refused_canon, Key, chess, class_pair, IsParted, Parted, NodeTree, SetRows, entries, SearchStop, Large, AreCounted, IsNumbered, IsReady, sets_of, AddsSets, WonBy, Builds, IsPaidFor, edges_for}
+use Rattle.krieg_search.proofs.Common.{Pos, Move, Dialect, In, is_nil, Maybe, Just, Edges, size, size_other, size_edges, depth, depth_other, depth_edges, refused, keys, class, can, edge_with, edges_of, canon, made, known, IsSound, charged, refused_canon, Key, chess, class_pair, IsParted, Parted, NodeTree, SetRows, entries, SearchStop, Large, AreCounted, IsNumbered, IsReady, sets_of, AddsSets, WonBy, Builds, IsPaidFor, edges_for, stored, position_lt}
 use Rattle.krieg_theory.specs.Tree.{Try}
 use Rattle.krieg_theory.proofs.Lists.{map_in}
 use Rattle.krieg_theory.proofs.Built.{canon_wins}
 use Rattle.krieg_theory.proofs.Unique.{can_upto}
 use Rattle.krieg_accounts.proofs.Tables.{result_can}
-use Rattle.krieg_accounts.proofs.Canonical.{class_won, refused_won, split_paid, stored_is_canon}
+use Rattle.krieg_accounts.proofs.Canonical.{class_won, refused_won, stored_is_canon}
 use Rattle.krieg_game.proofs.ChessLaws.{chess_is_game}
 use Rattle.krieg_search.specs.declared.stop.SearchStop.TheVariants.{Spent, NoMemory}
 use Rattle.krieg_search.proofs.Leaving.{sets_are}
@@ -53,7 +53,8 @@ module _ (d : Dialect) where
   pub still_paid : {cut : Bool} (T T' : SetRows) → AddsSets T T' → IsPaidFor d cut T → IsPaidFor d cut T'
   still_paid {cut = cut} T T' a p = record {
     ready = record { counted = a.counted; sound = subst (λ E. IsSound (chess d) cut E) (sym a.noted) p.ready.sound };
-    paid = subst (λ E. charged (chess d) E < 2 ^ 64) (sym a.noted) p.paid;
+    paid = subst (λ E. cut ≡ false → charged (chess d) E < 2 ^ 64) (sym a.noted) p.paid;
+    wins = λ q m k. p.wins q m (subst (λ E. stored position_lt E q ≡ Some (Some m)) a.noted k);
   }
 
   -- a set that is stored as won has a canonical node
@@ -84,7 +85,7 @@ module _ (d : Dialect) where
 
     -- its split was paid for
     pub paid_by : made (chess d) B m < 2 ^ 64
-    paid_by = let a = split_paid (chess d) (chess_is_game d) true (entries T) paid.ready.sound B (number - 1) m at_before in let b = paid.paid in omega arith
+    paid_by = paid.wins (B, number) m stored
 
     module _ (p : Parted) (q : IsParted d B m p) where
       pub classes_won : (C : List Pos) → In C (sets_of p.classes.items) → WonBy T C (number - 1)

@@ -14,7 +14,7 @@ pub use Rattle.krieg_theory.specs.Canonical.{AreCanon, IsCanon, IsCanonOther}
 pub use Rattle.krieg_theory.specs.Computed.{canon, edge_with, edges_of}
 pub use Rattle.krieg_theory.specs.Laws.{BeginsIsWon, CanBegins, CanIsWon, CanPlanIsMated, CanonPlanIsComputed, CanonPlanIsLeast, CanonPlanIsOne, CanonPlanIsThere}
 pub use Rattle.krieg_theory.specs.Plans.{AreCanonRoots, IsCanonPlan, all_starts, can_plan, canon_plan, canon_worst, greatest, is_over, opening_set, openings, root_with, roots_of}
-pub use Rattle.krieg_theory.specs.Sets.{Ascending, In, is_nil}
+pub use Rattle.krieg_theory.specs.Sets.{Ascending, In, is_nil, same}
 pub use Rattle.krieg_theory.specs.Split.{all_outcomes, class, keys, legal_in_some, refused, stale_in_some, tries}
 pub use Rattle.krieg_theory.specs.Tree.{Edges, Just, Maybe, NoEdges, Nothing, depth, depth_edges, depth_other, size, size_edges, size_other}
 pub use Rattle.krieg_costs.specs.Backing.{floor_price}
@@ -22,6 +22,7 @@ pub use Rattle.krieg_costs.specs.Block.{Lives, LostRefused, NoBlock, Stale, bloc
 pub use Rattle.krieg_costs.specs.Cost.{cost_of, first_made, made, price}
 pub use Rattle.krieg_costs.specs.Laws.{BackingIsLeast, FloorIsAtMostFresh, FreshIsAtMostCost, ReachIsLeast, RefutationExcludes}
 pub use Rattle.krieg_costs.specs.Reach.{fresh, reach_of}
+pub use Rattle.krieg_costs.specs.Refutation.{is_within}
 pub use Rattle.krieg_costs.specs.Sums.{IsOnce, once, total}
 pub use Rattle.krieg_accounts.specs.Answers.{AnswersPlan, AnswersSets, LostBelow, classes, opening_sets}
 pub use Rattle.krieg_accounts.specs.Charges.{charged}
@@ -37,7 +38,7 @@ pub use Rattle.krieg_game.specs.KeyNumbers.{AreSaid}
 pub use Rattle.krieg_game.specs.Keys.{Key, RootKey, key_lt, root_lt}
 unfoldable pub use Rattle.krieg_game.specs.Outset.{starts, waits}
 pub use Rattle.krieg_game.specs.Outset.{outset}
-pub use Rattle.krieg_sight.specs.Seen.{flees}
+pub use Rattle.krieg_sight.specs.Seen.{flees, mates_within}
 pub use Rattle.krieg_plan.specs.Nodes.{as_edges, as_other, edge_of, tree_of}
 pub use Rattle.krieg_plan.specs.Order.{are_ordered, are_ordered_roots, is_ascending, is_ordered, is_ordered_other, is_ordered_plan}
 pub use Rattle.krieg_plan.specs.Plans.{plan_of}
@@ -53,9 +54,10 @@ pub use Rattle.krieg_parting.specs.declared.stop.PartStop.{PartStop}
 unfoldable pub use Rattle.krieg_table.specs.Entries.{entries}
 pub use Rattle.krieg_table.specs.Entries.{try_of}
 pub use Rattle.krieg_table.specs.SetRows.{SetRows, set_at, sets}
-pub use Rattle.krieg_table.specs.Table.{IsMore, IsNoted}
+pub use Rattle.krieg_table.specs.Table.{IsMore, IsNext, IsNoted}
 pub use Rattle.krieg_table.specs.declared.set_result.SetResult.{SetResult}
 pub use Rattle.krieg_table.specs.declared.set_result.SetResult.TheVariants.{Loses, Wins}
+pub use Rattle.krieg_table.specs.declared.set_result.Win.{Win}
 pub use Rattle.krieg_split.specs.Firsts.{first_cost, first_set}
 pub use Rattle.krieg_split.specs.LastMove.{AllMate, SomeLives}
 pub use Rattle.krieg_split.specs.Openings.{opened_set}
@@ -65,10 +67,11 @@ pub use Rattle.krieg_parting.specs.Turns.{IsOthersTurn, IsOwnTurn}
 pub use Rattle.krieg_split.specs.Units.{Charges, IsPaid}
 pub use Rattle.krieg_split.specs.declared.firsts.Firsts.{Firsts}
 pub use Rattle.krieg_search.specs.Blocks.{TellsBlock, TellsFirst}
-pub use Rattle.krieg_search.specs.Building.{Builds, IsPaidFor, WonBy, edges_for, roots_for, winning_try, with_root}
+pub use Rattle.krieg_search.specs.Building.{Builds, IsPaidFor, WinsAreBelow, WonBy, edges_for, roots_for, with_root}
 pub use Rattle.krieg_search.specs.Decision.{IsAccount, IsBetween, IsDecision, IsFound, IsLost, IsWon, sets_in}
 pub use Rattle.krieg_search.specs.Laws.{AccountIsBetween}
-pub use Rattle.krieg_search.specs.Remainders.{FailsAtOnce, IsRemainder, Leaves}
+pub use Rattle.krieg_search.specs.Remainders.{FailsAtOnce, IsPaidUnlessCut, IsRemainder, Leaves}
+pub use Rattle.krieg_search.specs.LostParts.{HasLostPart}
 pub use Rattle.krieg_search.specs.Notes.{AreNotes, IsBlock, IsLostPart, IsRow, NoteState, Rows, items_of, notes_in, same_asked}
 pub use Rattle.krieg_search.specs.Openings.{AddsSets, AreAdded, AreNumbered, IsAdded, IsOpened, opening_in}
 pub use Rattle.krieg_search.specs.PackedKey.{IsPacked, bytes_of, number_of, unpacked}
@@ -79,7 +82,6 @@ pub use Rattle.krieg_search.specs.Stops.{stop_of}
 pub use Rattle.krieg_search.specs.Tries.{IsTold, move_of}
 pub use Rattle.krieg_search.specs.declared.best_plan.Answer.{Answer}
 pub use Rattle.krieg_search.specs.declared.best_plan.Answer.TheVariants.{Mates, None}
-pub use Rattle.krieg_search.specs.declared.build.Win.{Win}
 pub use Rattle.krieg_search.specs.declared.decide.Decision.{Decision}
 pub use Rattle.krieg_search.specs.declared.decide.Decision.TheVariants.{Over}
 pub use Rattle.krieg_search.specs.declared.decide.Findings.{Findings}

@@ -1,12 +1,12 @@
 -- What is decided over the opening sets, and what it takes.
-use Rattle.std.proofs.Common.{◌≡◌, ℕ, ◌+◌, ◌<◌, ◌≤◌, Bool, true, false, not, ◌&&◌, ◌⊎◌, inl, inr, List, [], map, find, Option, Some, None, Result, Ok, Err, refl, sym, ap, subst, ◌∙◌, arith, Vec}
+use Rattle.std.proofs.Common.{◌≡◌, ℕ, ◌+◌, ◌<◌, ◌≤◌, Bool, true, false, not, ◌&&◌, ◌⊎◌, inl, inr, List, [], map, find, Option, Some, None, Result, Ok, Err, refl, sym, ap, subst, ◌∙◌, arith, Vec, suc}
 use Rattle.std.specs.Prelude.{IfSome}
 use Rattle.std.specs.declared.alloc.Global.{Global}
 use Rattle.std.specs.List.{list_all, list_any}
 use Rattle.std.specs.Result.{IsErrAnd}
 use Rattle.std.proofs.lemmas.Bool.{both_ways}
 use Rattle.std.proofs.lemmas.Simd.{map-map}
-use Rattle.krieg_search.proofs.Common.{Pos, Move, Side, Dialect, In, can, openings, opening_set, is_over, can_plan, IsOnce, once, first_made, reach_of, fresh, position_lt, stored, pairs, known, IsSound, charged, IsStretch, FallsShort, CoversSets, AnswersSets, opening_sets, AnswersPlan, RootKey, chess, outset, PartStop, Charges, SetRows, entries, IsMore, Opening, Findings, Decision, Over, SearchStop, Large, stop_of, AreCounted, IsReady, IsSearched, Stretches, TellsSets, opening_in, AreNumbered, AreAdded, IsOpened, WonBy, AreNotes, sets_in, IsAccount, IsFound, IsLost, IsWon, IsDecision}
+use Rattle.krieg_search.proofs.Common.{Pos, Move, Side, Dialect, In, can, openings, opening_set, is_over, can_plan, IsOnce, once, made, first_made, reach_of, fresh, position_lt, stored, pairs, known, IsSound, charged, IsStretch, FallsShort, CoversSets, AnswersSets, opening_sets, AnswersPlan, RootKey, chess, outset, PartStop, Charges, SetRows, entries, IsMore, Opening, Findings, Decision, Over, SearchStop, Large, stop_of, AreCounted, IsReady, IsSearched, Stretches, TellsSets, opening_in, AreNumbered, AreAdded, IsOpened, WonBy, AreNotes, WinsAreBelow, sets_in, IsAccount, IsFound, IsLost, IsWon, IsDecision}
 use Rattle.krieg_theory.proofs.Lists.{all_at}
 use Rattle.krieg_costs.proofs.Pairs.{once_in}
 use Rattle.krieg_accounts.proofs.Canonical.{by_least}
@@ -65,7 +65,9 @@ module _ (d : Dialect) (cut : Bool) (who : Side) (S : List Pos) (n : ℕ) where
           answer = record { all_won = λ c. absurd (both_ways _ none c); one_lost = λ q. absurd (both_ways _ q o) };
           once = tt;
           reached = λ q i. absurd i;
-          exact = omega arith;
+          exact = λ h. omega arith;
+          at_most = omega arith;
+          fewer = omega arith;
         },
       )
 
@@ -125,7 +127,7 @@ module _ (d : Dialect) (cut : Bool) (who : Side) (S : List Pos) (n : ℕ) where
           there x (inr i) = once_in (chess d) (chess_is_game d) (reach_of (chess d) (outset d who) n S) q i
 
       account : IsAccount d who S n cut u0 u2
-      account = record { results = entries T2; sound = stretch.sound; answer = plan; once = o; reached = reached; exact = (let x = stretch.exact in omega arith) }
+      account = record { results = entries T2; sound = stretch.sound; answer = plan; once = o; reached = reached; exact = λ h. (let x = stretch.exact h in omega arith); at_most = (let x = stretch.at_most in omega arith); fewer = (let x = stretch.fewer in omega arith) }
 
       ready : IsReady d cut T2
       ready = ready_from d cut s
@@ -134,11 +136,16 @@ module _ (d : Dialect) (cut : Bool) (who : Side) (S : List Pos) (n : ℕ) where
       is_found : (w : Findings) → w.table ≡ T2 → w.openings.items ≡ os → AreNotes d cut T2 w.notes → IsFound d who S n cut w u0
       is_found w t o r = record {
         ready = subst (IsReady d cut) (sym t) ready;
-        paid = subst (λ (T : SetRows). charged (chess d) (entries T) ≤ u0) (sym t) (let x = stretch.exact in omega arith);
+        paid = subst (λ (T : SetRows). cut ≡ false → charged (chess d) (entries T) ≤ u0) (sym t) (λ h. (let x = stretch.exact h in omega arith));
+        wins = subst (λ (T : SetRows). WinsAreBelow d (suc u0) T) (sym t) (λ q m k. below q m (stretch.won q m k));
         numbered = subst (λ (T : SetRows). AreNumbered T w.openings.items) (sym t) (subst (λ (xs : List Opening). AreNumbered T2 xs) (sym o) (numbered_more T1 T2 os s.more a.numbered));
         sets = subst (λ (T : SetRows). map (opening_in T) w.openings.items ≡ game.opening_sets d who S) (sym t) (subst (λ (xs : List Opening). map (opening_in T2) xs ≡ game.opening_sets d who S) (sym o) (same_openings T1 T2 os s.more a.numbered ∙ a.are));
         noted = subst (λ (T : SetRows). AreNotes d cut T w.notes) (sym t) r;
       }
+        where
+          below : (q : List Pos × ℕ) (m : Move) → (known (chess d) [] q ≡ Some (Some m)) ⊎ (u2 + made (chess d) q.0 m ≤ u1) → made (chess d) q.0 m < suc u0
+          below q m (inl k) = absurd (let e : ◌≡◌ {A = Option (Option Move)} None (Some (Some m)) = k in cc)
+          below q m (inr h) = omega arith
 
       -- some opening set cannot be won
       pub not_won : yes ≡ false → (lost : Findings) → lost.table ≡ T2 → lost.openings.items ≡ os → AreNotes d cut T2 lost.notes → IsLost d who S n cut lost u0 × IsAccount d who S n cut u0 u2

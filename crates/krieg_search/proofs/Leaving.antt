@@ -1,10 +1,10 @@
 -- What a try leaves to be won, by the theory's words.
-use Rattle.std.proofs.Common.{◌≡◌, ℕ, zero, suc, ◌-◌, ◌<◌, Bool, true, false, List, [], map, Option, Some, None, Result, Ok, Err, refl, sym, ap, subst, ◌∙◌, arith}
+use Rattle.std.proofs.Common.{◌≡◌, ℕ, zero, suc, ◌-◌, ◌<◌, Bool, true, false, List, [], map, Option, Some, None, Result, Ok, Err, refl, sym, ap, subst, inl, ◌∙◌, arith}
 use Rattle.std.specs.Prelude.{IfSome, IfOk}
 use Rattle.std.specs.List.{list_any}
 use Rattle.std.proofs.lemmas.Bool.{cond-true, both_ways}
 use Rattle.std.proofs.lemmas.Simd.{map-map}
-use Rattle.krieg_search.proofs.Common.{Pos, Move, Dialect, stale_in_some, keys, class, begins, block_pair, lives_in_some, pair_of, flees, classes, Key, chess, class_pair, IsParted, SomeLives, AllMate, Parted, sets_of, FailsAtOnce, Leaves, IsRemainder, Remainder}
+use Rattle.krieg_search.proofs.Common.{Pos, Move, Dialect, stale_in_some, keys, class, begins, block_pair, lives_in_some, pair_of, flees, classes, Key, chess, class_pair, IsParted, SomeLives, AllMate, Parted, sets_of, FailsAtOnce, Leaves, IsRemainder, Remainder, PartStop, IsPaid, IsPaidUnlessCut}
 use Rattle.krieg_theory.proofs.Seen.{escape_fails}
 use Rattle.krieg_sight.proofs.Theorems.{escapes_is_flees}
 use Rattle.krieg_accounts.proofs.TryEnds.{begins_stale, blocked_stale}
@@ -37,6 +37,11 @@ module _ (d : Dialect) where
     fails = subst (λ (n : ℕ). begins (chess d) n B t ≡ false) (let n : suc (j - 1) ≡ j = omega arith in n) (escape_fails (chess d) (chess_is_game d) B (j - 1) t (escapes_is_flees d (j - 1) B t ∙ e));
     no_pair = λ c. absurd (both_ways cut c may);
   }
+
+  -- a try that takes what its split takes
+  pub paid_as_split : (cut : Bool) (r : Result (Option Remainder) PartStop) (cost old new : ℕ) → IsPaid r cost old new → IsPaidUnlessCut cut r cost old new
+  paid_as_split cut (Ok o) cost old new e = inl e
+  paid_as_split cut (Err e) cost old new h = h
 
   -- what is left where tries may not be cut is left where they may
   pub left_more : {E : Type 0} (cut : Bool) (B : List Pos) (t : Move) (j : ℕ) (r : Result (Option Remainder) E) → IfOk r (IsRemainder d false B t j) → IfOk r (IsRemainder d cut B t j)

@@ -9,6 +9,8 @@ mod Trying
 mod Tries
 mod Numbers
 mod Noting
+pub mod NextNotes
+pub mod SetParts
 pub mod Checking
 mod Asking
 pub mod OpenedSets

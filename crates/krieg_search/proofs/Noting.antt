@@ -1,11 +1,11 @@
 -- What is known of a set once its result is stored.
-use Rattle.std.proofs.Common.{Bool, ◌≡◌, ℕ, zero, suc, ◌<◌, ◌^◌, true, false, List, [], ◌∷◌, length, slice_index_or, Option, Some, None, Result, Ok, Err, is_some, refl, sym, ap, subst, ◌∙◌, arith}
-use Rattle.std.specs.Prelude.{option_map}
+use Rattle.std.proofs.Common.{Bool, ◌≡◌, ℕ, zero, suc, ◌+◌, ◌<◌, ◌≤◌, ◌^◌, true, false, List, [], ◌∷◌, length, slice_index_or, Option, Some, None, Result, Ok, Err, is_some, refl, sym, ap, subst, ◌∙◌, arith}
+use Rattle.std.specs.Prelude.{IfSome, option_map}
 use Rattle.std.specs.Result.{IsErrAnd}
 use Rattle.std.proofs.lemmas.Bool.{both_ways}
-use Rattle.krieg_search.proofs.Common.{Pos, Move, Dialect, first_try, price, floor_price, position_lt, stored, AddsResult, known, IsBacked, CoversPair, CoversTries, chess, SetResult, SetRows, sets, set_at, try_of, entries, IsMore, IsNoted, SearchStop, Large, IsReady, IsSearched, Stretches, TellsSet}
+use Rattle.krieg_search.proofs.Common.{Pos, Move, Dialect, first_try, made, price, floor_price, position_lt, stored, AddsResult, known, IsBacked, CoversPair, CoversTries, chess, SetResult, SetRows, sets, set_at, try_of, entries, IsMore, IsNoted, SearchStop, Large, AreCounted, IsReady, IsSearched, Stretches, TellsSet}
 use Rattle.krieg_accounts.proofs.Tables.{result_can}
-use Rattle.krieg_accounts.proofs.Stretches.{stretch_noted, short_noted, still_unknown}
+use Rattle.krieg_accounts.proofs.Stretches.{stretch_noted, short_noted}
 use Rattle.krieg_game.proofs.ChessLaws.{chess_is_game}
 use Rattle.krieg_search.specs.declared.stop.SearchStop.TheVariants.{Spent, NoMemory}
 use Rattle.krieg_search.proofs.Searching.{more_then, searched_nothing}
@@ -30,6 +30,9 @@ module _ {T1 T2 : SetRows} {set j : ℕ} {k : SetResult} (n : IsNoted T1 T2 set 
     longer = (let a = length_sets T1 in let b = length_sets T2 in let q = ap (λ (xs : List (List Pos)). length xs) n.same_sets in omega arith);
     same = λ m h. same_set m;
   }
+
+  pub noted_counted : AreCounted T1 → AreCounted T2
+  noted_counted c m = subst (λ (X : List Pos). length X < 2 ^ 64) (sym (same_set m)) (c m)
 
 module _ (d : Dialect) (cut : Bool) where
   -- the result that is stored for a pair answers
@@ -64,12 +67,12 @@ module _ (d : Dialect) (cut : Bool) where
 
   -- the tries are through, and the result is noted
   pub noted : (T0 T1 T2 : SetRows) (set j : ℕ) (k : SetResult) (o : Option Move) (u0 u1 : ℕ) → 0 < j → set < length T0
-      → IsSearched d cut (CoversTries (chess d) (set_at T0 set) j) (floor_price (chess d) (set_at T0 set, j)) T0 T1 u0 u1
+      → IsSearched d cut (CoversTries (chess d) (set_at T0 set) j) (floor_price (chess d) (set_at T0 set, j)) T0 T1 u0 u1 → IfSome o (λ m. u1 + made (chess d) (set_at T0 set) m ≤ u0)
       → known (chess d) (entries T0) (set_at T0 set, j) ≡ None → IsNoted T1 T2 set j k → try_of k ≡ o → o ≡ first_try (chess d) j (set_at T0 set) → IsBacked (chess d) cut (entries T1) (set_at T0 set) j o
       → TellsSet d T2 (set_at T0 set) j (is_some o) × IsSearched d cut (CoversPair (chess d) (set_at T0 set) j) 0 T0 T2 u0 u1
-  noted T0 T1 T2 set j k o u0 u1 pos w s none n is f b = (
+  noted T0 T1 T2 set j k o u0 u1 pos w s paid none n is f b = (
     stored_tells T2 B j o (record { counted = counted; sound = sound.sound }) adds.here,
-    record { counted = counted; more = more; fewer = s.fewer; stretch = sound },
+    record { counted = counted; more = more; stretch = sound },
   )
     where
       B : List Pos
@@ -78,17 +81,14 @@ module _ (d : Dialect) (cut : Bool) where
       same : set_at T1 set ≡ B
       same = s.more.same set w
 
-      still : stored position_lt (entries T1) (set_at T1 set, j) ≡ None
-      still = subst (λ (X : List Pos). stored position_lt (entries T1) (X, j) ≡ None) (sym same) (still_unknown (chess d) (chess_is_game d) cut (entries T0) (entries T1) B j (floor_price (chess d) (B, j)) u0 u1 pos s.stretch none)
-
       adds : AddsResult position_lt (entries T1) (entries T2) (B, j) o
-      adds = subst (λ (X : List Pos). AddsResult position_lt (entries T1) (entries T2) (X, j) o) same (subst (λ (y : Option Move). AddsResult position_lt (entries T1) (entries T2) (set_at T1 set, j) y) is (n.added still))
+      adds = subst (λ (X : List Pos). AddsResult position_lt (entries T1) (entries T2) (X, j) o) same (subst (λ (y : Option Move). AddsResult position_lt (entries T1) (entries T2) (set_at T1 set, j) y) is n.added)
 
-      counted : (k : ℕ) → length (set_at T2 k) < 2 ^ 64
-      counted k = subst (λ (X : List Pos). length X < 2 ^ 64) (sym (same_set n k)) (s.counted k)
+      counted : AreCounted T2
+      counted = noted_counted n s.counted
 
       more : IsMore T0 T2
       more = more_then T0 T1 T2 s.more (noted_more n)
 
       sound : Rattle.krieg_accounts.specs.Stretch.IsStretch (chess d) cut (CoversPair (chess d) B j) 0 (entries T0) (entries T2) u0 u1
-      sound = stretch_noted (chess d) (chess_is_game d) cut (entries T0) (entries T1) (entries T2) B j o u0 u1 s.stretch f b none adds
+      sound = stretch_noted (chess d) (chess_is_game d) cut (entries T0) (entries T1) (entries T2) B j o u0 u1 s.stretch paid f b none adds

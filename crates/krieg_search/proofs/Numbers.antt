@@ -1,9 +1,10 @@
 -- The numbers of moves for one set, one after another.
-use Rattle.std.proofs.Common.{Bool, ◌≡◌, ℕ, ◌+◌, ◌≤◌, ◌<◌, true, false, ◌⊎◌, List, None, refl, sym, subst, inl, inr, arith, eq-or-lt_of_le}
+use Rattle.std.proofs.Common.{Bool, ◌≡◌, ℕ, zero, suc, ◌+◌, ◌≤◌, ◌<◌, true, false, ◌⊎◌, List, None, refl, sym, subst, inl, inr, arith, eq-or-lt_of_le}
 use Rattle.std.proofs.lemmas.Bool.{both_ways}
 use Rattle.krieg_search.proofs.Common.{Pos, Dialect, can, StoredLost, CoversSet, CoversPair, LostBelow, chess, SetRows, entries, IsReady, IsSearched, TellsSet}
 use Rattle.krieg_theory.proofs.Unique.{can_upto}
 use Rattle.krieg_accounts.proofs.Covering.{covers_pair}
+use Rattle.krieg_accounts.proofs.Tables.{result_can}
 use Rattle.krieg_game.proofs.ChessLaws.{chess_is_game}
 use Rattle.krieg_search.proofs.Searching.{searched_nothing, searched_then}
 
@@ -15,8 +16,13 @@ module _ (d : Dialect) (cut : Bool) where
     pub fails : can (chess d) last B ≡ false
     pub searched : IsSearched d cut (CoversSet (chess d) B j) 0 T0 T u0 u
 
-  pub no_number : (T : SetRows) (B : List Pos) (j u : ℕ) → IsReady d cut T → IsCounting T T B j 0 u u
-  no_number T B j u r = record { within = omega arith; lost = λ i p q. absurd (omega arith); fails = refl; searched = searched_nothing d cut (CoversSet (chess d) B j) T u r }
+  -- from the number with which the set is known to be lost
+  pub first_number : (T : SetRows) (B : List Pos) (j last u : ℕ) → IsReady d cut T → last ≤ j → LostBelow (chess d) (entries T) B (last + 1) → IsCounting T T B j last u u
+  first_number T B j last u r l below = record { within = l; lost = below; fails = fails last below; searched = searched_nothing d cut (CoversSet (chess d) B j) T u r }
+    where
+      fails : (n : ℕ) → LostBelow (chess d) (entries T) B (n + 1) → can (chess d) n B ≡ false
+      fails zero h = refl
+      fails (suc n) h = result_can (chess d) (chess_is_game d) cut (entries T) r.sound B (suc n) None (h (suc n) (omega arith) (omega arith))
 
   pub next_covers : (B : List Pos) (j last : ℕ) → last < j → (R : List (List Pos × ℕ)) → CoversSet (chess d) B j R → CoversPair (chess d) B (last + 1) R
   next_covers B j last l = covers_pair (chess d) B (last + 1) j (omega arith) (omega arith)

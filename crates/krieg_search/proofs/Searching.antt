@@ -1,8 +1,8 @@
 -- One stretch of the search behind another, over the table in which sets have numbers.
-use Rattle.std.proofs.Common.{Bool, ◌≡◌, ℕ, ◌+◌, ◌≤◌, List, Result, Ok, Err, refl, sym, subst, ◌∙◌, arith}
+use Rattle.std.proofs.Common.{Bool, ◌≡◌, ℕ, ◌+◌, ◌≤◌, true, List, Result, Ok, Err, refl, sym, subst, ◌∙◌, arith}
 use Rattle.std.specs.Result.{IsErrAnd}
 use Rattle.krieg_search.proofs.Common.{Pos, Move, Dialect, Entries, IsStretch, FallsShort, chess, SetRows, entries, IsMore, SearchStop, Large, IsNumbered, IsReady, IsSearched, Stretches}
-use Rattle.krieg_accounts.proofs.Stretches.{stretch_of_nothing, stretch_of_split, stretch_then, short_then, stretch_cost, short_cost}
+use Rattle.krieg_accounts.proofs.Stretches.{stretch_of_nothing, stretch_of_split, stretch_of_cut, stretch_then, short_then, stretch_cost, short_cost}
 use Rattle.krieg_search.specs.declared.stop.SearchStop.TheVariants.{Spent, NoMemory}
 
 pub more_itself : (T : SetRows) → IsMore T T
@@ -16,16 +16,18 @@ module _ (d : Dialect) (cut : Bool) where
   ready_from s = record { counted = s.counted; sound = s.stretch.sound }
 
   pub searched_nothing : (Q : List (List Pos × ℕ) → Type 0) (T : SetRows) (u : ℕ) → IsReady d cut T → IsSearched d cut Q 0 T T u u
-  searched_nothing Q T u r = record { counted = r.counted; more = more_itself T; fewer = omega arith; stretch = stretch_of_nothing (chess d) cut Q (entries T) u r.sound }
+  searched_nothing Q T u r = record { counted = r.counted; more = more_itself T; stretch = stretch_of_nothing (chess d) cut Q (entries T) u r.sound }
 
   pub searched_split : (Q : List (List Pos × ℕ) → Type 0) (T : SetRows) (m had has : ℕ) → IsReady d cut T → has + m ≡ had → IsSearched d cut Q m T T had has
-  searched_split Q T m had has r e = record { counted = r.counted; more = more_itself T; fewer = omega arith; stretch = stretch_of_split (chess d) cut Q (entries T) m had has r.sound e }
+  searched_split Q T m had has r e = record { counted = r.counted; more = more_itself T; stretch = stretch_of_split (chess d) cut Q (entries T) m had has r.sound e }
+
+  pub searched_cut : (Q : List (List Pos × ℕ) → Type 0) (T : SetRows) (m u : ℕ) → cut ≡ true → IsReady d cut T → IsSearched d cut Q m T T u u
+  searched_cut Q T m u may r = record { counted = r.counted; more = more_itself T; stretch = stretch_of_cut (chess d) cut Q (entries T) m u may r.sound }
 
   pub searched_then : (Q Q' : List (List Pos × ℕ) → Type 0) (a b all : ℕ) (T0 T1 T2 : SetRows) (u0 u1 u2 : ℕ) → ((R : List (List Pos × ℕ)) → Q R → Q' R) → IsSearched d cut Q a T0 T1 u0 u1 → a + b ≡ all → IsSearched d cut Q' b T1 T2 u1 u2 → IsSearched d cut Q all T0 T2 u0 u2
   searched_then Q Q' a b all T0 T1 T2 u0 u1 u2 f s e t = record {
     counted = t.counted;
     more = more_then T0 T1 T2 s.more t.more;
-    fewer = (let a = s.fewer in let b = t.fewer in omega arith);
     stretch = stretch_cost (chess d) cut Q (a + b) all (entries T0) (entries T2) u0 u2 e (stretch_then (chess d) cut Q Q' a b (entries T0) (entries T1) (entries T2) u0 u1 u2 f s.stretch t.stretch);
   }
 
@@ -34,7 +36,6 @@ module _ (d : Dialect) (cut : Bool) where
   searched_number {Q = Q} {a = a} {T0 = T0} {T1 = T1} {T2 = T2} {u0 = u0} {u1 = u1} s n = record {
     counted = n.counted;
     more = more_then T0 T1 T2 s.more n.interned.more;
-    fewer = s.fewer;
     stretch = subst (λ (E : Entries Pos Move). IsStretch (chess d) cut Q a (entries T0) E u0 u1) (sym n.interned.noted) s.stretch;
   }
 
@@ -49,6 +50,6 @@ module _ (d : Dialect) (cut : Bool) where
       go x (subst (λ (y : SearchStop). Stretches d cut {A = A} (Err y) holds Q' b T1 T2 u1 u2) (same x fails) k)
     where
       go : (y : SearchStop) → Stretches d cut {A = A} (Err y) holds Q' b T1 T2 u1 u2 → Stretches d cut {A = B} (Err y) wanted Q all T0 T3 u0 u2
-      go Spent v = (short_behind Q Q' a b all T0 T1 u0 u1 f s h v.0, (let a = s.fewer in let b = v.1 in omega arith))
+      go Spent v = (short_behind Q Q' a b all T0 T1 u0 u1 f s h v.0, (let a = s.stretch.fewer in let b = v.1 in omega arith))
       go Large v = absurd v
-      go NoMemory v = let a = s.fewer in omega arith
+      go NoMemory v = let a = s.stretch.fewer in omega arith

@@ -48,7 +48,7 @@ module _ (d : Dialect) (who : Side) (S : List Pos) (n : ℕ) where
     worst_is = ap (greatest (λ (c : RootKey × List Pos). least (chess d) n c.1)) a.found.sets ∙ greatest_is (openings (chess d) (outset d who) S)
 
     pub is_paid : had < 2 ^ 64 → IsPaidFor d true w.table
-    is_paid h = record { ready = record { counted = a.found.ready.counted; sound = weaker (chess d) cut (entries w.table) a.found.ready.sound }; paid = (let p = a.found.paid in omega arith) }
+    is_paid h = record { ready = record { counted = a.found.ready.counted; sound = weaker (chess d) cut (entries w.table) a.found.ready.sound }; paid = λ e. absurd (both_ways true e refl); wins = λ q m k. (let p = a.found.wins q m k in omega arith) }
 
     pub is_ordered : is_ordered_plan (roots_for d n (map (opening_in w.table) w.openings.items)) ≡ true
     is_ordered = ap is_ordered_plan plan_is ∙ plan_ordered d who (canon_plan (chess d) (outset d who) n S) S (best a.can).canonical

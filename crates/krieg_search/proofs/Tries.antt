@@ -1,5 +1,5 @@
 -- The tries of a set, one after another.
-use Rattle.std.proofs.Common.{Bool, ◌≡◌, ℕ, ◌+◌, ◌≤◌, ◌<◌, true, false, List, length, take, get_or, Option, Some, None, sym, subst}
+use Rattle.std.proofs.Common.{Bool, ◌≡◌, ℕ, ◌+◌, ◌≤◌, ◌<◌, true, false, List, length, take, get_or, Option, Some, None, sym, subst, arith}
 use Rattle.krieg_search.proofs.Common.{Pos, Move, Dialect, legal_in_some, tries, first_try, total, made, price, floor_price, IsBacked, CoversTry, CoversTries, LostBelow, chess, SetRows, entries, IsReady, IsSearched, TellsTry}
 use Rattle.krieg_accounts.proofs.Covering.{covers_try}
 use Rattle.krieg_accounts.proofs.TryWalk.{FailedTo, legal_at, first_here, first_none, price_here, price_none, price_within, price_more, failed_more, backed_here, backed_none}
@@ -44,6 +44,10 @@ module _ (d : Dialect) (cut : Bool) where
 
         pub win_searched : IsSearched d cut (CoversTries (chess d) B j) (floor_price (chess d) (B, j)) T0 T2 u0 u2
         win_searched = after (floor_price (chess d) (B, j)) (price_here (chess d) (chess_is_game d) B j ts are cut (entries T1) k t l e a.failed (sym w.right))
+
+        -- its split was paid
+        pub win_paid : u2 + made (chess d) B t ≤ u1 → u2 + made (chess d) B t ≤ u0
+        win_paid p = let f = a.searched.stretch.fewer in omega arith
 
         pub win_backed : 0 < j → LostBelow (chess d) (entries T0) B j → IsBacked (chess d) cut (entries T2) B j (Some t)
         win_backed some below = backed_here (chess d) (chess_is_game d) B j ts are cut (entries T1) (entries T2) k t some l e s.stretch.kept (λ i p q. win_searched.stretch.kept (B, i) None (below i p q)) a.failed w.stored

@@ -1,5 +1,5 @@
 -- How the test of one try ends.
-use Rattle.std.proofs.Common.{◌≡◌, ℕ, suc, ◌+◌, ◌-◌, ◌<◌, Bool, true, false, ◌||◌, List, [], ◌∷◌, length, Option, Some, None, refl, sym, ap, subst, ◌∙◌, arith}
+use Rattle.std.proofs.Common.{◌≡◌, ℕ, suc, ◌+◌, ◌-◌, ◌<◌, ◌⊎◌, inl, inr, Bool, true, false, ◌||◌, List, [], ◌∷◌, length, Option, Some, None, refl, sym, ap, subst, ◌∙◌, arith}
 use Rattle.std.specs.Prelude.{IfSome, IsTrue, ◌↔◌}
 use Rattle.std.specs.List.{list_all}
 use Rattle.std.proofs.lemmas.Bool.{both_ways, or_left}
@@ -12,7 +12,7 @@ use Rattle.krieg_search.specs.declared.search.LostClass.{LostClass}
 use Rattle.krieg_search.specs.declared.notes.Block.TheVariants.{Class}
 use Rattle.krieg_search.proofs.Leaving.{sets_are}
 use Rattle.krieg_search.proofs.Blocked.{class_blocks, refused_blocks}
-use Rattle.krieg_search.proofs.Searching.{searched_split, searched_then, searched_number}
+use Rattle.krieg_search.proofs.Searching.{searched_split, searched_cut, searched_then, searched_number}
 
 pub empty_is : (X : List Pos) (b : Bool) → (IsTrue b ↔ (X ≡ [])) → b ≡ true → is_nil X ≡ true
 empty_is X b h e = ap is_nil (h.0 e)
@@ -23,9 +23,9 @@ some_is (x ∷ X) b h e = refl
 
 module _ (d : Dialect) (cut : Bool) where
   -- a try that fails at once
-  pub failed : (T : SetRows) (B : List Pos) (t : Move) (j u0 u1 : ℕ) → IsReady d cut T → FailsAtOnce d cut B t j → u1 + made (chess d) B t ≡ u0
-      → TellsBlock d cut T B j t (Some AtOnce) × IsSearched d cut (CoversTry (chess d) B j t) (made (chess d) B t) T T u0 u1
-  failed T B t j u0 u1 r f e = (
+  pub failed : (T : SetRows) (B : List Pos) (t : Move) (j u0 u1 : ℕ) {found : Option Remainder} → IsReady d cut T → FailsAtOnce d cut B t j → (u1 + made (chess d) B t ≡ u0) ⊎ ((cut ≡ true) × (found ≡ None) × (u1 ≡ u0))
+      → TellsBlock d cut T B j t u0 u1 (Some AtOnce) × IsSearched d cut (CoversTry (chess d) B j t) (made (chess d) B t) T T u0 u1
+  failed T B t j u0 u1 {found = found} r f e = (
     record {
       tells = record {
         right = sym f.fails;
@@ -36,9 +36,14 @@ module _ (d : Dialect) (cut : Bool) where
         };
       };
       blocked = f;
+      paid = λ n. absurd (cc);
     },
-    searched_split d cut (CoversTry (chess d) B j t) T (made (chess d) B t) u0 u1 r e,
+    taken e,
   )
+    where
+      taken : (u1 + made (chess d) B t ≡ u0) ⊎ ((cut ≡ true) × (found ≡ None) × (u1 ≡ u0)) → IsSearched d cut (CoversTry (chess d) B j t) (made (chess d) B t) T T u0 u1
+      taken (inl s) = searched_split d cut (CoversTry (chess d) B j t) T (made (chess d) B t) u0 u1 r s
+      taken (inr s) = subst (λ (u : ℕ). IsSearched d cut (CoversTry (chess d) B j t) (made (chess d) B t) T T u0 u) (sym s.2) (searched_cut d cut (CoversTry (chess d) B j t) T (made (chess d) B t) u0 s.0 r)
 
   -- what is at hand where the try does not fail at once
   pub record IsTried (T : SetRows) (B : List Pos) (t : Move) (j : ℕ) (l : Remainder) (u0 u1 : ℕ) : Type 0 where
@@ -48,14 +53,18 @@ module _ (d : Dialect) (cut : Bool) where
     pub leaves : Leaves d B t j l
     pub taken : u1 + made (chess d) B t ≡ u0
 
-  pub tried_at : {T : SetRows} {B0 B : List Pos} {found : Option Remainder} {l : Remainder} (t : Move) (j u0 u1 : ℕ) → B0 ≡ B → found ≡ Some l → 0 < j → IsReady d cut T → legal_in_some (chess d) B t ≡ true → IsRemainder d cut B0 t j found → u1 + made (chess d) B0 t ≡ u0 → IsTried T B t j l u0 u1
-  tried_at {B0 = B0} {l = l} t j u0 u1 same is some ready legal left taken = record {
+  pub tried_at : {T : SetRows} {B0 B : List Pos} {found : Option Remainder} {l : Remainder} (t : Move) (j u0 u1 : ℕ) → B0 ≡ B → found ≡ Some l → 0 < j → IsReady d cut T → legal_in_some (chess d) B t ≡ true → IsRemainder d cut B0 t j found → (u1 + made (chess d) B0 t ≡ u0) ⊎ ((cut ≡ true) × (found ≡ None) × (u1 ≡ u0)) → IsTried T B t j l u0 u1
+  tried_at {B0 = B0} {found = found} {l = l} t j u0 u1 same is some ready legal left paid = record {
     some = some;
     ready = ready;
     legal = legal;
     leaves = subst (λ (X : List Pos). Leaves d X t j l) same (subst (λ (o : Option Remainder). IsRemainder d cut B0 t j o) is left);
-    taken = subst (λ (X : List Pos). u1 + made (chess d) X t ≡ u0) same taken;
+    taken = subst (λ (X : List Pos). u1 + made (chess d) X t ≡ u0) same (taken paid);
   }
+    where
+      taken : (u1 + made (chess d) B0 t ≡ u0) ⊎ ((cut ≡ true) × (found ≡ None) × (u1 ≡ u0)) → u1 + made (chess d) B0 t ≡ u0
+      taken (inl e) = e
+      taken (inr e) = absurd (let k : ◌≡◌ {A = Option Remainder} None (Some l) = sym e.1 ∙ is in cc)
 
   module _ {T0 : SetRows} {B : List Pos} {t : Move} {j : ℕ} {l : Remainder} {u0 u1 : ℕ} (a : IsTried T0 B t j l u0 u1) where
     one_less : suc (j - 1) ≡ j
@@ -83,16 +92,17 @@ module _ (d : Dialect) (cut : Bool) where
     in_game T won w = subst (λ (Cs : List (List Pos)). TellsSets d T Cs (j - 1) won) at_sets w
 
     -- some class cannot be won
-    pub class_lost : {T1 : SetRows} (lost : LostClass) → TellsFirst d T1 l.classes.items (j - 1) (Some lost) → TellsBlock d cut T1 B j t (Some (Class lost.heard lost.set))
-    class_lost {T1 = T1} lost w =
+    pub class_lost : {T1 : SetRows} {u2 : ℕ} (lost : LostClass) → TellsFirst d T1 l.classes.items (j - 1) (Some lost) → TellsBlock d cut T1 B j t u0 u2 (Some (Class lost.heard lost.set))
+    class_lost {T1 = T1} {u2 = u2} lost w =
         let v = in_game T1 false w.tells in
         let b = class_blocks d B t (j - 1) l leaves_less lost.heard (set_at T1 lost.set) w.first in
-        subst (λ (n : ℕ). TellsBlock d cut T1 B n t (Some (Class lost.heard lost.set))) one_less (record {
+        subst (λ (n : ℕ). TellsBlock d cut T1 B n t u0 u2 (Some (Class lost.heard lost.set))) one_less (record {
           tells = record {
             right = sym (begins_class (chess d) (chess_is_game d) (j - 1) B t (sym v.right));
             stored = answered_class (chess d) (chess_is_game d) cut (entries T1) B (j - 1) t a.leaves.none_stale (sym v.right) v.stored;
           };
           blocked = record { blocks = b.0; within = w.within; at = b.1 };
+          paid = λ n. absurd (cc);
         })
 
     -- all classes can be won
@@ -107,15 +117,16 @@ module _ (d : Dialect) (cut : Bool) where
       rest_decides = begins_rest (chess d) (chess_is_game d) (j - 1) B t a.legal a.leaves.none_stale all_won
 
       -- and no member refuses the try
-      pub none_refuses : is_nil l.refused ≡ true → TellsBlock d cut T1 B j t None
-      none_refuses n =
+      pub none_refuses : {u2 : ℕ} → IsSearched d cut (CoversSets (chess d) (sets_of l.classes.items) (j - 1)) 0 T0 T1 u1 u2 → is_nil l.refused ≡ true → TellsBlock d cut T1 B j t u0 u2 None
+      none_refuses {u2 = u2} s n =
           let nil : is_nil (refused (chess d) B t) ≡ true = ap is_nil (sym a.leaves.refused_part) ∙ n in
-          subst (λ (n : ℕ). TellsBlock d cut T1 B n t None) one_less (record {
+          subst (λ (n : ℕ). TellsBlock d cut T1 B n t u0 u2 None) one_less (record {
             tells = record {
               right = sym (rest_decides ∙ or_left _ _ nil);
               stored = answered_all (chess d) (chess_is_game d) cut (entries T1) B (j - 1) t all_stored nil;
             };
             blocked = tt;
+            paid = λ e. (let p = a.taken in let f = s.stretch.fewer in omega arith);
           })
 
       -- or those that do are searched last
@@ -156,11 +167,12 @@ module _ (d : Dialect) (cut : Bool) where
           pub after_rest : IsSearched d cut (CoversTry (chess d) B j t) (made (chess d) B t) T0 T3 u0 u3
           after_rest = searched_then d cut (CoversTry (chess d) B j t) (CoversSet (chess d) X j) (made (chess d) B t) 0 (made (chess d) B t) T0 T2 T3 u0 u2 u3 covers_rest before_rest (omega arith) r
 
-          pub rest_won : TellsSet d T3 X j true → TellsBlock d cut T3 B j t None
-          rest_won v = subst (λ (n : ℕ). TellsBlock d cut T3 B n t None) one_less (record { tells = rest_tells true v; blocked = tt })
+          pub rest_won : TellsSet d T3 X j true → TellsBlock d cut T3 B j t u0 u3 None
+          rest_won v = subst (λ (n : ℕ). TellsBlock d cut T3 B n t u0 u3 None) one_less (record { tells = rest_tells true v; blocked = tt; paid = λ e. (let p = a.taken in let f = s.stretch.fewer in let g = r.stretch.fewer in omega arith) })
 
-          pub rest_lost : TellsSet d T3 X j false → TellsBlock d cut T3 B j t (Some (Refused rest))
-          rest_lost v = subst (λ (n : ℕ). TellsBlock d cut T3 B n t (Some (Refused rest))) one_less (record {
+          pub rest_lost : TellsSet d T3 X j false → TellsBlock d cut T3 B j t u0 u3 (Some (Refused rest))
+          rest_lost v = subst (λ (n : ℕ). TellsBlock d cut T3 B n t u0 u3 (Some (Refused rest))) one_less (record {
+            paid = λ e. absurd (cc);
             tells = rest_tells false v;
             blocked = record {
               blocks = refused_blocks d B t (j - 1) l leaves_less w.first some_rest (sym (rest_known false v).right);

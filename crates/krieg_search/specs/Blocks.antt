@@ -1,10 +1,11 @@
 -- What blocks a try, as a stretch of the search finds it.
-use Rattle.std.specs.Prelude.{◌≡◌, ℕ, ◌<◌, Bool, not, List, length, map, option_map, Option, IfSome, find}
+use Rattle.std.specs.Prelude.{◌≡◌, ℕ, ◌+◌, ◌<◌, ◌≤◌, Bool, not, List, length, map, option_map, Option, None, IfSome, find}
 use Rattle.std.specs.Option.{is_none}
 use Rattle.krieg_board.specs.Pos.{Pos}
 use Rattle.krieg_board.specs.declared.men.Move.{Move}
 use Rattle.krieg_words.specs.declared.dialects.Dialect.{Dialect}
 use Rattle.krieg_theory.specs.Can.{can}
+use Rattle.krieg_costs.specs.Cost.{made}
 use Rattle.krieg_game.specs.Chess.{chess}
 use Rattle.krieg_game.specs.Classes.{class_pair}
 use Rattle.krieg_game.specs.declared.classes.Class.{Class}
@@ -21,7 +22,9 @@ module _ (d : Dialect) where
     pub first : find (λ c. not (can (chess d) j c.1)) (map class_pair cs) ≡ option_map (λ l. (l.heard, set_at T l.set)) o
     pub within : IfSome o (λ l. l.set < length T)
 
-  -- what blocks the try in the set with j moves, or that nothing does, and that the table has it
-  pub record TellsBlock (cut : Bool) (T : SetRows) (B : List Pos) (j : ℕ) (t : Move) (o : Option Block) : Type 0 where
+  -- what blocks the try in the set with j moves, or that nothing does, and that the table has it; where nothing does, its
+  -- split was paid
+  pub record TellsBlock (cut : Bool) (T : SetRows) (B : List Pos) (j : ℕ) (t : Move) (had has : ℕ) (o : Option Block) : Type 0 where
     pub tells : TellsTry d cut T B j t (is_none o)
     pub blocked : IfSome o (IsBlock d cut T B j t)
+    pub paid : o ≡ None → has + made (chess d) B t ≤ had

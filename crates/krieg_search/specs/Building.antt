@@ -1,5 +1,5 @@
 -- Nodes that are built of stored results.
-use Rattle.std.specs.Prelude.{◌≡◌, ℕ, Bool, ◌+◌, ◌<◌, ◌≤◌, ◌^◌, List, [], ◌∷◌, Option, Some, None, Result, Ok, Err, ◌⊎◌, ⊤}
+use Rattle.std.specs.Prelude.{◌≡◌, ℕ, Bool, false, ◌+◌, ◌<◌, ◌≤◌, ◌^◌, List, [], ◌∷◌, Some, Result, Ok, Err, ◌⊎◌, ⊤}
 use Rattle.krieg_board.specs.Pos.{Pos}
 use Rattle.krieg_board.specs.declared.men.Move.{Move}
 use Rattle.krieg_words.specs.declared.dialects.Dialect.{Dialect}
@@ -7,6 +7,7 @@ use Rattle.krieg_theory.specs.Tree.{Maybe, Nothing, Just, Edges, NoEdges}
 use Rattle.krieg_theory.specs.Computed.{edge_with, canon}
 use Rattle.krieg_pack.specs.Order.{position_lt}
 use Rattle.krieg_accounts.specs.Stored.{stored}
+use Rattle.krieg_costs.specs.Cost.{made}
 use Rattle.krieg_accounts.specs.Charges.{charged}
 use Rattle.krieg_game.specs.Keys.{Key, RootKey}
 use Rattle.krieg_game.specs.Chess.{chess}
@@ -17,11 +18,6 @@ use Rattle.krieg_search.specs.declared.stop.SearchStop.{SearchStop}
 use Rattle.krieg_search.specs.declared.stop.SearchStop.TheVariants.{Spent, Large, NoMemory}
 use Rattle.krieg_search.specs.Stretches.{IsReady}
 use Rattle.krieg_search.specs.Openings.{AddsSets}
-
--- the try of a result that is won
-abbrev pub winning_try : Option (Option Move) → Option Move
-winning_try None = None
-winning_try (Some o) = o
 
 -- the set is stored as won within j
 abbrev pub WonBy : SetRows → List Pos → ℕ → Type 0
@@ -41,11 +37,16 @@ with_root key Nothing rs = rs
 with_root key (Just n) rs = (key, n) ∷ rs
 
 module _ (d : Dialect) where
-  -- What building needs of a table, where tries may be cut or not: right results, and that 64 bits count the units of each
-  -- split that they stand for.
+  -- the split of each try that is stored as winning takes fewer units
+  abbrev pub WinsAreBelow : ℕ → SetRows → Type 0
+  WinsAreBelow most T = (q : List Pos × ℕ) (m : Move) → stored position_lt (entries T) q ≡ Some (Some m) → made (chess d) q.0 m < most
+
+  -- What building needs of a table: right results, and that 64 bits count the units of the split by each try that wins.
+  -- Where no try was cut, they count all units that the results stand for.
   pub record IsPaidFor (cut : Bool) (T : SetRows) : Type 0 where
     pub ready : IsReady d cut T
-    pub paid : charged (chess d) (entries T) < 2 ^ 64
+    pub paid : cut ≡ false → charged (chess d) (entries T) < 2 ^ 64
+    pub wins : WinsAreBelow (2 ^ 64) T
 
   -- an edge to the canonical node of each class that has one
   abbrev pub edges_for : ℕ → List (Key × List Pos) → Edges Move Key

@@ -1,5 +1,5 @@
 -- Whether some plan mates, as the search finds it.
-use Rattle.std.specs.Prelude.{◌≡◌, ℕ, ◌+◌, ◌<◌, ◌≤◌, Bool, true, false, not, List, map, find, Some, None, IfSome, Result, Ok, Err, ⊤}
+use Rattle.std.specs.Prelude.{◌≡◌, ℕ, suc, ◌+◌, ◌<◌, ◌≤◌, Bool, true, false, not, List, map, find, Some, None, IfSome, Result, Ok, Err, ⊤}
 use Rattle.std.specs.List.{list_any}
 use Rattle.krieg_board.specs.Pos.{Pos}
 use Rattle.krieg_board.specs.declared.men.Side.{Side}
@@ -29,7 +29,7 @@ use Rattle.krieg_search.specs.declared.stop.SearchStop.{SearchStop}
 use Rattle.krieg_search.specs.declared.stop.SearchStop.TheVariants.{Spent, Large, NoMemory}
 use Rattle.krieg_search.specs.Stretches.{IsReady}
 use Rattle.krieg_search.specs.Openings.{AreNumbered, opening_in}
-use Rattle.krieg_search.specs.Building.{WonBy}
+use Rattle.krieg_search.specs.Building.{WonBy, WinsAreBelow}
 use Rattle.krieg_search.specs.Notes.{AreNotes, notes_in}
 
 -- the sets of openings
@@ -46,14 +46,17 @@ AreFewNotes (Won w) most = notes_in w.notes.rows ≤ most
 module _ (d : Dialect) (who : Side) (S : List Pos) (n : ℕ) where
   -- What was taken, result by result. Each result is of a set with a number of moves, no two are of the same, and all of
   -- these are reached. The results are right, and tell whether some plan mates. What was taken is what the first replies
-  -- take, and for each result the splits of its tries up to the first that wins.
+  -- take, and for each result the splits of its tries up to the first that wins. Where tries may be cut it is at most that,
+  -- since a try that is cut takes nothing, and neither does a set that is found to be lost before any try.
   pub record IsAccount (cut : Bool) (had has : ℕ) : Type 0 where
     pub results : Table (chess d)
     pub sound : IsSound (chess d) cut results
     pub answer : AnswersPlan (chess d) (outset d who) results n S
     pub once : IsOnce (pairs results)
     pub reached : (q : List Pos × ℕ) → In q (pairs results) → In q (reach_of (chess d) (outset d who) n S)
-    pub exact : had ≡ has + first_made (chess d) (outset d who) S + charged (chess d) results
+    pub exact : cut ≡ false → had ≡ has + first_made (chess d) (outset d who) S + charged (chess d) results
+    pub at_most : had ≤ has + first_made (chess d) (outset d who) S + charged (chess d) results
+    pub fewer : has ≤ had
 
   -- at least the floor and at most what is fresh was taken
   pub record IsBetween (had has : ℕ) : Type 0 where
@@ -63,7 +66,8 @@ module _ (d : Dialect) (who : Side) (S : List Pos) (n : ℕ) where
   -- the results are right and paid for, each opening that occurs has its set in the table, and the notes are right
   pub record IsFound (cut : Bool) (w : Findings) (had : ℕ) : Type 0 where
     pub ready : IsReady d cut w.table
-    pub paid : charged (chess d) (entries w.table) ≤ had
+    pub paid : cut ≡ false → charged (chess d) (entries w.table) ≤ had
+    pub wins : WinsAreBelow d (suc had) w.table
     pub numbered : AreNumbered w.table w.openings.items
     pub sets : map (opening_in w.table) w.openings.items ≡ opening_sets d who S
     pub noted : AreNotes d cut w.table w.notes

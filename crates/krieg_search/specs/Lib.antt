@@ -6,6 +6,7 @@ pub mod Stretches
 pub mod Tries
 pub mod Remainders
 pub mod Building
+pub mod LostParts
 pub mod Notes
 pub mod Blocks
 pub mod PackedKey

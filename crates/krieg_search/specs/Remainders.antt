@@ -1,5 +1,5 @@
 -- What a try leaves to be won.
-use Rattle.std.specs.Prelude.{◌≡◌, ℕ, Bool, false, List, map, Option, Some, None}
+use Rattle.std.specs.Prelude.{◌≡◌, ℕ, ◌+◌, Bool, true, false, List, map, Option, Some, None, Result, Ok, Err, ◌⊎◌}
 use Rattle.krieg_board.specs.Pos.{Pos}
 use Rattle.krieg_board.specs.declared.men.Move.{Move}
 use Rattle.krieg_words.specs.declared.dialects.Dialect.{Dialect}
@@ -8,6 +8,8 @@ use Rattle.krieg_theory.specs.Can.{begins}
 use Rattle.krieg_costs.specs.Block.{block_pair, lives_in_some}
 use Rattle.krieg_game.specs.Chess.{chess}
 use Rattle.krieg_game.specs.Classes.{class_pair}
+use Rattle.krieg_parting.specs.declared.stop.PartStop.{PartStop}
+use Rattle.krieg_split.specs.Units.{IsPaid}
 use Rattle.krieg_search.specs.declared.remainder.Remainder.{Remainder}
 
 module _ (d : Dialect) where
@@ -28,3 +30,9 @@ module _ (d : Dialect) where
   abbrev pub IsRemainder : Bool → List Pos → Move → ℕ → Option Remainder → Type 0
   IsRemainder cut B t j None = FailsAtOnce cut B t j
   IsRemainder cut B t j (Some l) = Leaves B t j l
+
+-- A try takes what its split takes, and an error takes nothing. But where tries may be cut, one that fails at once may
+-- take nothing as well.
+abbrev pub IsPaidUnlessCut : Bool → Result (Option Remainder) PartStop → ℕ → ℕ → ℕ → Type 0
+IsPaidUnlessCut cut (Ok o) cost old new = (new + cost ≡ old) ⊎ ((cut ≡ true) × (o ≡ None) × (new ≡ old))
+IsPaidUnlessCut cut (Err e) cost old new = IsPaid {A = Option Remainder} (Err e) cost old new

@@ -60,8 +60,8 @@ module _ (d : Dialect) (who : Side) (S : List Pos) (n : ℕ) where
   HasAccount (Err Spent) had has = ⊤
   HasAccount (Err NoMemory) had has = ⊤
 
-  -- What a search takes that may cut tries: what its account says, so at most what is fresh, and there is no floor. Spent
-  -- comes only where fewer units are left than are fresh. Spent and want of memory take none.
+  -- What a search takes that may cut tries: at most what its account says, so at most what is fresh, and there is no floor.
+  -- Spent comes only where fewer units are left than are fresh. Spent and want of memory take none.
   abbrev pub IsChargedAtMost : Result Answer SearchStop → ℕ → ℕ → Type 0
   IsChargedAtMost (Ok a) had has = (has ≤ had) × (had ≤ has + fresh (chess d) (outset d who) n S)
   IsChargedAtMost (Err Large) had has = (has ≤ had) × (had ≤ has + fresh (chess d) (outset d who) n S)

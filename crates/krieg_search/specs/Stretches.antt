@@ -39,12 +39,11 @@ module _ (d : Dialect) (cut : Bool) where
     pub counted : AreCounted T
     pub sound : IsSound (chess d) cut (entries T)
 
-  -- From one table and number of units to others. No set has lost its number, no units are new, and the results and the
-  -- units are those of a stretch.
+  -- From one table and number of units to others. No set has lost its number, and the results and the units are those of
+  -- a stretch.
   pub record IsSearched (Q : List (List Pos × ℕ) → Type 0) (cost : ℕ) (T T' : SetRows) (had has : ℕ) : Type 0 where
     pub counted : AreCounted T'
     pub more : IsMore T T'
-    pub fewer : has ≤ had
     pub stretch : IsStretch (chess d) cut Q cost (entries T) (entries T') had has
 
   -- An answer that holds, with the stretch that led to it; or too few units for it. After an error some units may be gone,

@@ -18,7 +18,7 @@ use crate::decide::{Decision, Findings, decide};
 use crate::roots::{Roots, build_roots};
 use crate::stop::SearchStop;
 use crate::way::Way;
-use krieg_board::{MOST_MOVES, Side, Units};
+use krieg_board::{Side, Units};
 use krieg_pack::Belief;
 use krieg_plan::Plan;
 use krieg_words::Dialect;
@@ -72,7 +72,6 @@ fn answer_for(
     nodes: usize,
     units: &mut Units,
 ) -> Result<Answer, SearchStop>
-    requires most { moves ≤ MOST_MOVES }
     requires turn { IsOwnTurn who b.now ⊎ IsOthersTurn who b.now }
     ensures answer { IsAnswer way.d who b.now moves nodes result }
     ensures units { Takes way.d who b.now moves way.cut result units.old units.new }
@@ -115,7 +114,7 @@ fn answer_for(
 /// is reached. So it is at least the floor and at most what is fresh. `Spent` comes only where fewer units are left than are
 /// fresh, and so fewer than the cost. It takes none, and neither does `NoMemory`.
 ///
-/// No more than [`MOST_MOVES`] moves may be asked for; within 0 no plan mates a list that has a position. The same side is to move in all
+/// Within 0 moves no plan mates a list that has a position. The same side is to move in all
 /// listed positions; `has_one_turn` tells. `NoMemory` comes for want of memory, and for more than 100,000,000 different sets,
 /// which are all that a table keeps: each but the sets of openings takes a unit at least.
 pub fn solve(
@@ -127,7 +126,6 @@ pub fn solve(
     nodes: usize,
     units: &mut Units,
 ) -> Result<Answer, SearchStop>
-    requires most { moves ≤ MOST_MOVES }
     requires turn { IsOwnTurn who b.now ⊎ IsOthersTurn who b.now }
     ensures answer { IsAnswer d who b.now moves nodes result }
     ensures units { IsCharged d who b.now moves result units.old units.new }
@@ -145,9 +143,9 @@ pub fn solve(
 /// The same answer as `solve`, mostly for far fewer units: a try fails at once where some reply is found to leave a
 /// position that is no mate in time even for a player who sees it.
 ///
-/// The units are those of `solve`, but there is no floor: an answer, and `Large`, take what the account says, which is at
-/// most what is fresh. A try that fails at once takes as much as if it were split, and nothing for what lies below it.
-/// `Spent` comes only where fewer units are left than are fresh. It takes none, and neither does `NoMemory`.
+/// The units are those of `solve`, but there is no floor: an answer, and `Large`, take at most what the account says, and
+/// so at most what is fresh. A try that fails at once for such a reply takes nothing. `Spent` comes only where fewer units
+/// are left than are fresh. It takes none, and neither does `NoMemory`.
 ///
 /// To find such replies at most as many positions are looked at as there are units at the call, and these take none. Where
 /// they are used up, or memory for what is found of them is wanting, the search goes on without: so with just the units that
@@ -163,7 +161,6 @@ pub fn find(
     nodes: usize,
     units: &mut Units,
 ) -> Result<Answer, SearchStop>
-    requires most { moves ≤ MOST_MOVES }
     requires turn { IsOwnTurn who b.now ⊎ IsOthersTurn who b.now }
     ensures answer { IsAnswer d who b.now moves nodes result }
     ensures units { IsChargedAtMost d who b.now moves result units.old units.new }

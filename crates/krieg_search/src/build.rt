@@ -14,7 +14,7 @@ ghost use Rattle.krieg_table.specs.SetRows.{set_at};
 ghost use Rattle.krieg_table.specs.Entries.{entries};
 ghost use Rattle.krieg_plan.specs.Nodes.{tree_of, edge_of, as_other, as_edges};
 ghost use Rattle.krieg_search.specs.Stretches.{sets_of};
-ghost use Rattle.krieg_search.specs.Building.{WonBy, IsPaidFor, winning_try, edges_for, Builds};
+ghost use Rattle.krieg_search.specs.Building.{WonBy, IsPaidFor, edges_for, Builds};
 
 use crate::number::number_of;
 use crate::stop::SearchStop;
@@ -24,29 +24,9 @@ use krieg_pack::Belief;
 use krieg_parting::PartStop;
 use krieg_plan::{Edge, Node};
 use krieg_split::{Parted, split};
-use krieg_table::{SetResult, Table};
+use krieg_table::{Table, Win};
 use krieg_words::Dialect;
 use std::alloc::Global;
-
-/// The least number of moves within which a set can be won, and the first try that begins to win it then.
-#[derive(Clone, Copy, Debug, PartialEq, Eq)]
-pub(crate) struct Win {
-    pub moves: u8,
-    pub mv: Move,
-}
-
-/// The try that is stored for the set and the number, if it is won there.
-fn stored_try(table: &Table, set: u32, moves: u8) -> Option<Move>
-    requires { set < length table.now }
-    ensures { result ≡ winning_try (stored position_lt (entries table.now)
-        (set_at table.now set, moves)) }
-{
-    match table.result(set, moves) {
-        Some(SetResult::Wins(mv)) => Some(mv),
-        Some(SetResult::Loses) => None,
-        None => None,
-    }
-}
 
 /// How the set is won, which is stored as won within `moves`.
 pub(crate) fn win_of(table: &Table, set: u32, moves: u8) -> Win
@@ -57,15 +37,10 @@ pub(crate) fn win_of(table: &Table, set: u32, moves: u8) -> Win
     ensures stored { stored position_lt (entries table.now) (set_at table.now set, result.moves)
         ≡ Some (Some result.mv) }
 {
-    for fewer in 0..moves {
-        if let Some(mv) = stored_try(table, set, fewer + 1) {
-            return Win {
-                moves: fewer + 1,
-                mv,
-            };
-        }
+    match table.win(set) {
+        Some(win) => win,
+        None => unreachable!(),
     }
-    unreachable!()
 }
 
 /// Parts the set once more by a try whose split the search has paid for, by units that are made for it alone.

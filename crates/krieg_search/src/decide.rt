@@ -6,12 +6,13 @@ ghost use Rattle.krieg_search.specs.Stretches.{IsAtWork, Searches, TellsSets};
 ghost use Rattle.krieg_search.specs.Openings.{AreNumbered};
 ghost use Rattle.krieg_search.specs.Decision.{IsDecision, AreFewNotes, sets_in};
 
+use crate::lost_sets::LostSets;
 use crate::notes::Notes;
 use crate::openings::{Opening, find_openings};
-use crate::search::Search;
+use crate::search::{MOST_LEVELS, Search};
 use crate::stop::SearchStop;
 use crate::way::Way;
-use krieg_board::{MOST_MOVES, Side, Units};
+use krieg_board::{Side, Units};
 use krieg_pack::Belief;
 use krieg_sight::Sight;
 use krieg_table::Table;
@@ -43,7 +44,6 @@ fn all_openings_win(
     openings: &[Opening],
     moves: u8,
 ) -> Result<bool, SearchStop>
-    requires most { moves ≤ MOST_MOVES }
     requires ready { IsAtWork way search.old }
     requires numbered { AreNumbered search.old.table openings.now }
     ensures searched { Searches way result
@@ -54,7 +54,7 @@ fn all_openings_win(
     ensures most { search.new.notes.most ≡ search.old.notes.most }
 {
     for o in openings {
-        if !search.can_win(way, o.set, moves)? {
+        if !search.can_win(way, o.set, moves, MOST_LEVELS)? {
             return Ok(false);
         }
     }
@@ -67,7 +67,8 @@ fn all_openings_win(
 /// answer is the same, but of such tries the table has no block. At most as many positions are looked at for it as there are
 /// units.
 ///
-/// At most `noted` notes are kept. An answer takes what its account says, and after an error no units are new.
+/// At most `noted` notes are kept. An answer takes what its account says, or less where tries may be cut, and after an error
+/// no units are new.
 pub fn decide(
     way: Way,
     noted: usize,
@@ -76,7 +77,6 @@ pub fn decide(
     moves: u8,
     units: &mut Units,
 ) -> Result<Decision, SearchStop>
-    requires most { moves ≤ MOST_MOVES }
     requires turn { IsOwnTurn who b.now ⊎ IsOthersTurn who b.now }
     ensures decided { IsDecision way.d who b.now moves way.cut result units.old units.new }
     ensures noted { IfOk result (λ r. AreFewNotes r noted) }
@@ -85,6 +85,7 @@ pub fn decide(
     let mut search = Search {
         sight: Sight::new(way.alloc, if way.cut { had } else { 0 }),
         notes: Notes::new(way.alloc, noted),
+        lost_sets: LostSets::new(way.alloc),
         table: Table::new(way.alloc),
         units: Units::new(had),
     };

@@ -18,13 +18,13 @@
 //! for each number of moves, so that no set is searched twice for the same number of moves.
 //!
 //! `find` may cut tries (`cut`): there a try also fails at once where some reply to it leaves a position that is no mate
-//! in time even for a player who sees it. krieg_sight finds that out, and krieg_theory has the law. Nothing is stored then
-//! of what lies below the try, so the floor of what a search takes does not hold for `find`. It holds for `solve`, which
-//! cuts none. The table that `decide` gives has a block of each try of a lost set only where none was cut.
+//! in time even for a player who sees it. krieg_sight finds that out, and krieg_theory has the law. Such a try takes
+//! nothing, and nothing is stored of what lies below it, so the floor of what a search takes does not hold for `find`. It
+//! holds for `solve`, which cuts none. The table that `decide` gives has a block of each try of a lost set only where none was cut.
 //!
 //! `roots` and `build` make the plan of the stored results, by a `Builder`. Each node is taken from the number that is
 //! allowed before anything below it is built. They split the sets once more, each by the one try that wins it, by units
-//! that are made for that alone: `paid` (in `Building`) says that the search has paid for all of these splits.
+//! that are made for that alone: `wins` (in `Building`) says that the search has paid for each of these splits.
 //!
 //! Who goes on by what a search leaves, as krieg_refute does, calls `decide` itself: it gives the table and the openings,
 //! whatever the answer. `left_by` makes one split of it again, and `number_of` finds the number of a part. `decide` also
@@ -53,6 +53,7 @@ mod best_plan;
 mod build;
 pub mod decide;
 pub mod laws;
+mod lost_sets;
 mod notes;
 mod number;
 mod openings;
@@ -64,6 +65,7 @@ mod stop;
 mod try_list;
 mod turn;
 mod way;
+mod within;
 
 pub use best_plan::{Answer, find, solve};
 pub use notes::{Block, Note, Notes, Question};
@@ -74,3 +76,4 @@ pub use remainder::{Remainder, left_by};
 pub use stop::{SearchStop, SearchStop as Stop2};
 pub use turn::has_one_turn;
 pub use way::Way;
+pub use within::is_within;

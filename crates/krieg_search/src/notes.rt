@@ -5,7 +5,7 @@ ghost use Rattle.krieg_search.specs.Notes.{AreNotes, IsRow, row_of, items_of};
 
 use crate::packed_key::PackedKey;
 use indexmap::IndexMap;
-use krieg_board::{MOST_MOVES, Move, NoMemory};
+use krieg_board::{Move, NoMemory};
 use std::alloc::Global;
 use std::marker::Model;
 
@@ -113,11 +113,10 @@ impl Notes {
     /// Sets with more moves are fewer and larger, so part of the room is left to them: a quarter by those with two, an eighth
     /// by those with three, and so on.
     fn left_behind(&self, moves: u8, tries: usize) -> Option<usize>
-        requires { moves ≤ MOST_MOVES }
         ensures { IfSome result (λ left. left + tries ≡ self.now.left) }
     {
         let left = self.left.checked_sub(tries)?;
-        if left < self.most >> moves {
+        if left < self.most.checked_shr(u32::from(moves)).unwrap_or(0) {
             return None;
         }
         Some(left)
@@ -127,7 +126,6 @@ impl Notes {
     /// move is left.
     #[inline(never)]
     pub(crate) fn row(&self, alloc: Global, moves: u8, tries: usize) -> Result<Row, NoMemory>
-        requires { moves ≤ MOST_MOVES }
         ensures { IfOk result (λ row. IfSome (items_of row) (λ ns. ns ≡ [])) }
     {
         if moves <= 1 || self.left_behind(moves, tries).is_none() {
@@ -139,7 +137,6 @@ impl Notes {
     /// Keeps the row of the set with so many moves, where there is still room for it.
     #[inline(never)]
     pub(crate) fn keep(&mut self, set: u32, moves: u8, row: Row) -> Result<(), NoMemory>
-        requires { moves ≤ MOST_MOVES }
         ensures noted { (d : Dialect) (cut : Bool) (T : SetRows) → AreNotes d cut T self.old
             → IfSome (items_of row) (IsRow d cut T (record { set = set; moves = moves }))
             → OnOk result (AreNotes d cut T self.new) }

@@ -5,7 +5,7 @@ ghost use Rattle.krieg_game.specs.Chess.{chess};
 ghost use Rattle.krieg_split.specs.Units.{IsPaid};
 ghost use Rattle.krieg_split.specs.Tallies.{tally_of};
 ghost use Rattle.krieg_search.specs.Tries.{IsTold, move_of};
-ghost use Rattle.krieg_search.specs.Remainders.{IsRemainder};
+ghost use Rattle.krieg_search.specs.Remainders.{IsRemainder, IsPaidUnlessCut};
 
 use crate::try_list::Try;
 use crate::way::Way;
@@ -14,7 +14,7 @@ use krieg_game::Class;
 use krieg_pack::Belief;
 use krieg_parting::PartStop;
 use krieg_sight::{Sight, some_flees};
-use krieg_split::{Tally, mate_by_tally, pay_split, split_to_mate, split_unless_stale};
+use krieg_split::{Tally, mate_by_tally, split_to_mate, split_unless_stale};
 use krieg_words::Dialect;
 use std::alloc::Global;
 
@@ -102,7 +102,7 @@ pub fn left_by(
 }
 
 /// The same, where tries may be cut: then a try also fails at once where in some member a reply is found to leave a position
-/// that is no mate in time even for a player who sees it.
+/// that is no mate in time even for a player who sees it, and such a try takes nothing.
 fn left_unless_cut(
     way: Way,
     sight: &mut Sight,
@@ -113,10 +113,10 @@ fn left_unless_cut(
 ) -> Result<Option<Remainder>, PartStop>
     requires { 0 < moves }
     ensures left { IfOk result (IsRemainder way.d way.cut b.now mv moves) }
-    ensures units { IsPaid result (made (chess way.d) b.now mv) units.old units.new }
+    ensures units { IsPaidUnlessCut way.cut result (made (chess way.d) b.now mv) units.old
+        units.new }
 {
     if way.cut && 1 < moves && some_flees(way.alloc, sight, b, &mv, moves - 1) {
-        pay_split(way.alloc, b, mv, units)?;
         return Ok(None);
     }
     left_by(way.alloc, way.d, b, mv, moves, units)
@@ -135,8 +135,8 @@ pub(crate) fn left_of(
     requires some { 0 < moves }
     requires told { IsTold b.now moves tried.now }
     ensures left { IfOk result (IsRemainder way.d way.cut b.now (move_of tried.now) moves) }
-    ensures units { IsPaid result (made (chess way.d) b.now (move_of tried.now)) units.old
-        units.new }
+    ensures units { IsPaidUnlessCut way.cut result (made (chess way.d) b.now (move_of tried.now))
+        units.old units.new }
 {
     match tried {
         Try::Plain(mv) => left_unless_cut(way, sight, b, *mv, moves, units),

@@ -1,4 +1,5 @@
-ghost use Rattle.std.specs.Prelude.{◌≡◌, ◌<◌, ◌≤◌, true, OnOk, is_some, length, map, not};
+ghost use Rattle.std.specs.Prelude.{◌≡◌, ◌<◌, ◌≤◌, true, false, Ok, OnOk, is_some, length, map, not};
+ghost use Rattle.krieg_theory.specs.Can.{can};
 ghost use Rattle.krieg_theory.specs.Split.{legal_in_some};
 ghost use Rattle.krieg_costs.specs.Cost.{made};
 ghost use Rattle.krieg_accounts.specs.Answers.{LostBelow};
@@ -6,10 +7,12 @@ ghost use Rattle.krieg_accounts.specs.Stretch.{CoversSet, CoversPair, CoversTry,
 ghost use Rattle.krieg_game.specs.Chess.{chess};
 ghost use Rattle.krieg_table.specs.SetRows.{set_at};
 ghost use Rattle.krieg_table.specs.Entries.{entries};
+ghost use Rattle.krieg_table.specs.Table.{IsNext};
 ghost use Rattle.krieg_search.specs.Tries.{IsTold, move_of};
 ghost use Rattle.krieg_search.specs.Stretches.{IsAtWork, Searches, TellsSet, sets_of};
 ghost use Rattle.krieg_search.specs.Blocks.{TellsBlock, TellsFirst};
 
+use crate::lost_sets::LostSets;
 use crate::notes::{Block, Notes, add};
 use crate::number::number_of;
 use crate::packed_key::PackedKey;
@@ -17,16 +20,20 @@ use crate::remainder::{Remainder, left_of};
 use crate::stop::SearchStop;
 use crate::try_list::{Try, move_of_try, tries_for};
 use crate::way::Way;
-use krieg_board::{MOST_MOVES, Units};
+use krieg_board::Units;
 use krieg_game::Class;
-use krieg_sight::Sight;
+use krieg_sight::{Sight, some_is_no_mate};
 use krieg_table::{SetResult, Table};
+
+/// A search goes so many levels deep at most, which take less than 5 MB of the stack.
+pub(crate) const MOST_LEVELS: u16 = 10_000;
 
 /// A search at work: what it has found out so far, and the units that are left to it.
 #[derive(Drop)]
 pub(crate) struct Search {
     pub sight: Sight,
     pub notes: Notes,
+    pub lost_sets: LostSets,
     pub table: Table,
     pub units: Units,
 }
@@ -39,11 +46,57 @@ pub(crate) struct LostClass {
 }
 
 impl Search {
-    /// Whether the set can be won within `moves`: one number of moves after the other, up to the first that is enough.
-    #[cycle(search)]
-    pub(crate) fn can_win(&mut self, way: Way, set: u32, moves: u8) -> Result<bool, SearchStop>
+    /// Whether some member of the set is found to be no mate within `moves` even for a player who sees the position.
+    fn is_lost_by_sight(&mut self, way: Way, set: u32, moves: u8) -> bool
+        requires { set < length self.old.table }
+        ensures lost { result ≡ true → can (chess way.d) moves (set_at self.old.table set) ≡ false }
+        ensures table { self.new.table ≡ self.old.table }
+        ensures notes { self.new.notes ≡ self.old.notes }
+        ensures units { self.new.units ≡ self.old.units }
+    {
+        some_is_no_mate(way.alloc, &mut self.sight, self.table.belief(set), moves)
+    }
+
+    /// Notes that the set cannot be won within `moves`, where a part of it is found not to be, or where it is seen. It takes no units,
+    /// and is looked for only where tries may be cut.
+    #[inline(never)]
+    fn loses_at_once(&mut self, way: Way, set: u32, moves: u8) -> bool
         requires within { set < length self.old.table }
-        requires most { moves ≤ MOST_MOVES }
+        requires ready { IsAtWork way self.old }
+        requires next { IsNext self.old.table set moves }
+        ensures lost { result ≡ true → Searches way (Ok false)
+            (TellsSet way.d self.new.table (set_at self.old.table set) moves)
+            (CoversPair (chess way.d) (set_at self.old.table set) moves) 0 self.old self.new }
+        ensures ready { IsAtWork way self.new }
+        ensures table { result ≡ false → self.new.table ≡ self.old.table }
+        ensures units { self.new.units ≡ self.old.units }
+        ensures most { self.new.notes.most ≡ self.old.notes.most }
+    {
+        if !way.cut {
+            return false;
+        }
+        if self.is_lost_by_sight(way, set, moves) {
+            self.table.note(set, moves, SetResult::Loses);
+            return true;
+        }
+        if self.lost_sets.has_part(&self.table, set, moves) {
+            self.table.note(set, moves, SetResult::Loses);
+            return true;
+        }
+        false
+    }
+
+    /// Whether the set can be won within `moves`: one number of moves after the other, from the first with which it is not known to be lost
+    /// up to the first that is enough. It goes at most `deep` levels deeper; where more are wanted, that is want of memory.
+    #[cycle(search)]
+    pub(crate) fn can_win(
+        &mut self,
+        way: Way,
+        set: u32,
+        moves: u8,
+        deep: u16,
+    ) -> Result<bool, SearchStop>
+        requires within { set < length self.old.table }
         requires ready { IsAtWork way self.old }
         ensures searched { Searches way result
             (TellsSet way.d self.new.table (set_at self.old.table set) moves)
@@ -51,21 +104,22 @@ impl Search {
         ensures ready { OnOk result (IsAtWork way self.new) }
         ensures most { self.new.notes.most ≡ self.old.notes.most }
     {
-        for fewer in 0..moves {
-            if self.can_win_in(way, set, fewer + 1)? {
+        let Some(deeper) = deep.checked_sub(1) else {
+            return Err(SearchStop::NoMemory);
+        };
+        for fewer in self.table.lost(set).min(moves)..moves {
+            if self.can_win_in(way, set, fewer + 1, deeper)? {
                 return Ok(true);
             }
         }
         Ok(false)
     }
 
-    /// The same for a set that cannot be won within any smaller number: by the result that is stored, or by one try after
-    /// the other, up to the first that begins to win. Where none does, what blocks each is noted, as far as there is room.
+    /// The same for a set that cannot be won within any smaller number: by the result that is stored, at once, or by its tries.
     #[cycle(search)]
-    fn can_win_in(&mut self, way: Way, set: u32, moves: u8) -> Result<bool, SearchStop>
+    fn can_win_in(&mut self, way: Way, set: u32, moves: u8, deep: u16) -> Result<bool, SearchStop>
         requires some { 0 < moves }
         requires within { set < length self.old.table }
-        requires most { moves ≤ MOST_MOVES }
         requires ready { IsAtWork way self.old }
         requires below { LostBelow (chess way.d) (entries self.old.table)
             (set_at self.old.table set) moves }
@@ -80,19 +134,39 @@ impl Search {
             Some(SetResult::Loses) => return Ok(false),
             None => {}
         }
+        if self.loses_at_once(way, set, moves) {
+            return Ok(false);
+        }
+        self.win_by_a_try(way, set, moves, deep)
+    }
+
+    /// The same where nothing is stored: by one try after the other, up to the first that begins to win. Where none does, what blocks each
+    /// is noted, as far as there is room.
+    #[cycle(search)]
+    fn win_by_a_try(&mut self, way: Way, set: u32, moves: u8, deep: u16) -> Result<bool, SearchStop>
+        requires within { set < length self.old.table }
+        requires ready { IsAtWork way self.old }
+        requires next { IsNext self.old.table set moves }
+        ensures searched { Searches way result
+            (TellsSet way.d self.new.table (set_at self.old.table set) moves)
+            (CoversPair (chess way.d) (set_at self.old.table set) moves) 0 self.old self.new }
+        ensures ready { OnOk result (IsAtWork way self.new) }
+        ensures most { self.new.notes.most ≡ self.old.notes.most }
+    {
         let tries = tries_for(way.alloc, self.table.belief(set), moves, self.units.left())?;
         let mut row = self.notes.row(way.alloc, moves, tries.len())?;
         for tried in &tries {
-            match self.block_of(way, set, tried, moves)? {
+            match self.block_of(way, set, tried, moves, deep)? {
                 Some(block) => add(&mut row, move_of_try(tried), block)?,
                 None => {
-                    self.table
-                        .note(set, moves, SetResult::Wins(move_of_try(tried)));
+                    let mv = move_of_try(tried);
+                    self.table.note(set, moves, SetResult::Wins(mv));
                     return Ok(true);
                 }
             }
         }
         self.table.note(set, moves, SetResult::Loses);
+        self.lost_sets.add(way, &self.table, set);
         self.notes.keep(set, moves, row)?;
         Ok(false)
     }
@@ -108,16 +182,17 @@ impl Search {
         set: u32,
         tried: &Try,
         moves: u8,
+        deep: u16,
     ) -> Result<Option<Block>, SearchStop>
         requires some { 0 < moves }
         requires within { set < length self.old.table }
-        requires most { moves ≤ MOST_MOVES }
         requires ready { IsAtWork way self.old }
         requires told { IsTold (set_at self.old.table set) moves tried.now }
         requires legal { legal_in_some (chess way.d) (set_at self.old.table set)
             (move_of tried.now) ≡ true }
         ensures searched { Searches way result (TellsBlock way.d way.cut
-            self.new.table (set_at self.old.table set) moves (move_of tried.now))
+            self.new.table (set_at self.old.table set) moves (move_of tried.now) self.old.units
+            self.new.units)
             (CoversTry (chess way.d) (set_at self.old.table set) moves (move_of tried.now))
             (made (chess way.d) (set_at self.old.table set) (move_of tried.now))
             self.old self.new }
@@ -135,7 +210,7 @@ impl Search {
         else {
             return Ok(Some(Block::AtOnce));
         };
-        let lost = self.first_lost(way, classes, moves - 1)?;
+        let lost = self.first_lost(way, classes, moves - 1, deep)?;
         if let Some(class) = lost {
             return Ok(Some(Block::Class(class.heard, class.set)));
         }
@@ -143,7 +218,7 @@ impl Search {
             return Ok(None);
         }
         let rest = number_of(&mut self.table, refused)?;
-        if self.can_win(way, rest, moves)? {
+        if self.can_win(way, rest, moves, deep)? {
             return Ok(None);
         }
         Ok(Some(Block::Refused(rest)))
@@ -157,8 +232,8 @@ impl Search {
         way: Way,
         classes: Vec<Class>,
         moves: u8,
+        deep: u16,
     ) -> Result<Option<LostClass>, SearchStop>
-        requires most { moves ≤ MOST_MOVES }
         requires ready { IsAtWork way self.old }
         ensures searched { Searches way result
             (TellsFirst way.d self.new.table classes.items moves)
@@ -168,7 +243,7 @@ impl Search {
     {
         for class in classes {
             let set = number_of(&mut self.table, class.belief)?;
-            if !self.can_win(way, set, moves)? {
+            if !self.can_win(way, set, moves, deep)? {
                 return Ok(Some(LostClass {
                     heard: PackedKey::new(&class.own, &class.reply),
                     set,

@@ -1,9 +1,8 @@
 -- The moves of a position, one after another, and how the opponent's turn ends.
-use Rattle.std.proofs.Common.{◌≡◌, ℕ, zero, suc, ◌<◌, Bool, true, false, not, ◌&&◌, List, [], ◌∷◌, length, get_or, inl, inr, refl, sym, ap, subst, ◌∙◌, arith}
-use Rattle.std.specs.Prelude.{◌==◌}
+use Rattle.std.proofs.Common.{◌≡◌, ℕ, zero, suc, ◌<◌, Bool, true, false, not, ◌&&◌, ◌||◌, List, [], ◌∷◌, length, get_or, inl, inr, refl, sym, ap, subst, ◌∙◌, arith}
 use Rattle.std.specs.List.{list_all, list_any}
-use Rattle.std.proofs.lemmas.Bool.{both_ways, eqb-true}
-use Rattle.krieg_sight.proofs.Common.{Pos, Move, is_legal, after, moves, all_moves, in_check, is_ended, is_mate, is_stalemate, is_nil, In, is_met, mates_within}
+use Rattle.std.proofs.lemmas.Bool.{both_ways}
+use Rattle.krieg_sight.proofs.Common.{Pos, Move, is_legal, after, moves, all_moves, in_check, is_ended, is_mate, is_stalemate, is_nil, In, is_met, leaves_none, mates_within}
 use Rattle.krieg_theory.proofs.Lists.{filter_in}
 
 item_in : {X : Type 0} (xs : List X) (k : ℕ) (x : X) → k < length xs → x ≡ get_or xs k x → In x xs
@@ -25,21 +24,26 @@ last_end false [] h = refl
 last_end true (r ∷ rs) h = refl
 last_end false (r ∷ rs) h = refl
 
-pub no_moves : (q : Pos) (rs : List Move) → rs ≡ moves q → (length rs == 0) ≡ true → moves q ≡ []
-no_moves q [] are e = sym are
-no_moves q (r ∷ rs) are e = let n : length (r ∷ rs) ≡ 0 = eqb-true (length (r ∷ rs)) 0 e in absurd (omega arith)
-
 -- with the last move only mate will do
 pub not_met_at_last : (j : ℕ) (q : Pos) → j ≡ 0 → is_mate q ≡ false → is_met (mates_within j) q ≡ false
 unfolding is_mate is_stalemate is_ended
 not_met_at_last j q z e = subst (λ n. is_met (mates_within n) q ≡ false) (sym z) (last_end (in_check q) (moves q) e)
 
--- and where no reply is left, only a check
-pub not_met_at_end : (less : Pos → Bool) (q : Pos) → moves q ≡ [] → in_check q ≡ false → is_met less q ≡ false
-unfolding is_stalemate is_ended
-not_met_at_end less q n e =
-    ap (λ b. not (not b && is_nil (moves q)) && list_all (λ r. less (after q r)) (moves q)) e
-    ∙ ap (λ (rs : List Move). not (is_nil rs) && list_all (λ r. less (after q r)) rs) n
+-- a stalemate will not
+pub stalemate_not_met : (less : Pos → Bool) (q : Pos) → is_stalemate q ≡ true → is_met less q ≡ false
+stalemate_not_met less q e = ap (λ b. not b && list_all (λ r. less (after q r)) (moves q)) e
+
+none_left : (less : Pos → Bool) (q : Pos) (rs : List Move) → list_any (λ r. not (less (after q r))) rs ≡ true → list_all (λ r. less (after q r)) rs ≡ false
+none_left less q [] e = absurd (both_ways _ refl e)
+none_left less q (r ∷ rs) e = elim (less (after q r)) as (λ b. (not b || list_any (λ x. not (less (after q x))) rs) ≡ true → (b && list_all (λ x. less (after q x)) rs) ≡ false) [ true ↦ none_left less q rs | false ↦ λ h. refl ] e
+
+-- nor will a move that leaves no mate
+pub fled_not_met : (j : ℕ) (q : Pos) → leaves_none j q ≡ true → is_met (mates_within j) q ≡ false
+fled_not_met j q e = ap (λ b. not (is_stalemate q) && b) (none_left (mates_within j) q (moves q) e) ∙ and_false (not (is_stalemate q))
+  where
+    and_false : (b : Bool) → (b && false) ≡ false
+    and_false true = refl
+    and_false false = refl
 
 -- no move mates
 pub none_mates : (i j : ℕ) (p key : Pos) (ts : List Move) → suc i ≡ j → key ≡ p → ts ≡ moves p → list_any (λ t. is_met (mates_within i) (after p t)) ts ≡ false → mates_within j key ≡ false

@@ -1,10 +1,11 @@
 -- What is told of positions is right, and stays so.
-use Rattle.std.proofs.Common.{◌≡◌, ℕ, zero, suc, ◌≤◌, ◌<◌, true, false, ◌⊎◌, inl, inr, [], ◌∷◌, Option, Some, None, refl, sym, subst, ◌∙◌, arith, eq-or-lt_of_le}
+use Rattle.std.proofs.Common.{◌≡◌, ℕ, zero, suc, ◌≤◌, ◌<◌, true, false, not, ◌⊎◌, inl, inr, [], ◌∷◌, Option, Some, None, refl, sym, ap, subst, ◌∙◌, arith, eq-or-lt_of_le}
 use Rattle.std.specs.Prelude.{Result, Ok, Err, OnOk, OnErr}
 use Rattle.std.specs.Map.{lookup}
-use Rattle.std.proofs.lemmas.Bool.{cases_Bool, cond-true, cond-false, both_ways, false_from_ne_true}
+use Rattle.std.proofs.lemmas.Bool.{cases_Bool, cond-true, cond-false, both_ways, false_from_ne_true, not-true}
 use Rattle.indexmap.specs.IndexMap.{insert_entry}
-use Rattle.krieg_sight.proofs.Common.{Pos, Wild16, position_eq, equal_position, In, chess, Told, mates_within, Memo, IsRight, AreRight}
+use Rattle.krieg_sight.proofs.Common.{Pos, Wild16, position_eq, equal_position, In, chess, after, moves, Told, leaves_none, mates_within, Memo, IsRight, AreRight}
+use Rattle.krieg_theory.proofs.Lists.{any_at, any_from}
 use Rattle.krieg_theory.proofs.Seen.{more_moves_see}
 use Rattle.krieg_sight.proofs.Theorems.{sees_is}
 
@@ -23,6 +24,12 @@ more_all i (suc n) p e l = go (eq-or-lt_of_le l) (λ h. more_all i n p e h)
 -- so no mate within some is none within fewer
 pub none_within : (i n : ℕ) (p : Pos) → mates_within n p ≡ false → i ≤ n → mates_within i p ≡ false
 none_within i n p e l = false_from_ne_true _ (λ h. both_ways _ e (more_all i n p h l))
+
+-- and where some move leaves no mate within some, one leaves none within fewer
+pub fled_within : (i n : ℕ) (q : Pos) → leaves_none n q ≡ true → i ≤ n → leaves_none i q ≡ true
+fled_within i n q e l =
+    let m = any_at (λ r. not (mates_within n (after q r))) (moves q) e in
+    any_from (λ r. not (mates_within i (after q r))) (moves q) m.0 m.1 (ap not (none_within i n (after q m.0) (not-true _ m.2) l))
 
 -- what is found of a position is right
 pub found_right : (p : Pos) (m : Memo) (told : Told) → AreRight m → lookup (λ (q : Pos). position_eq p q) m ≡ Some told → IsRight p told

@@ -1,17 +1,18 @@
 -- What is known of positions, and how many may be looked at yet.
-use Rattle.std.specs.Prelude.{◌≡◌, ℕ, false, List}
+use Rattle.std.specs.Prelude.{◌≡◌, ℕ, ◌<◌, true, false, List}
 use Rattle.krieg_board.specs.Pos.{Pos}
 use Rattle.krieg_theory.specs.Sets.{In}
 use Rattle.krieg_sight.specs.declared.memo.Told.{Told}
-use Rattle.krieg_sight.specs.Seen.{mates_within}
+use Rattle.krieg_sight.specs.Seen.{leaves_none, mates_within}
 
 -- each position with what is told of it
 abbrev pub Memo : Type 0
 Memo = List (Pos × Told)
 
--- a number within which it is told that there is no mate is right; nothing is claimed of the other one
-abbrev pub IsRight : Pos → Told → Type 0
-IsRight p told = mates_within told.none p ≡ false
+-- the numbers within which it is told that there is no mate, and that some move leaves none, are right; nothing is claimed of the others
+pub record IsRight (p : Pos) (told : Told) : Type 0 where
+  pub none : mates_within told.none p ≡ false
+  pub fled : 0 < told.fled → leaves_none told.fled p ≡ true
 
 -- all that is told is right
 abbrev pub AreRight : Memo → Type 0

@@ -16,6 +16,10 @@ abbrev pub mates_within : ℕ → Pos → Bool
 mates_within zero p = false
 mates_within (suc j) p = list_any (λ t. is_met (mates_within j) (after p t)) (moves p)
 
+-- some move leaves the other side no mate within j
+abbrev pub leaves_none : ℕ → Pos → Bool
+leaves_none j q = list_any (λ r. not (mates_within j (after q r))) (moves q)
+
 -- some reply to the legal move leaves no mate within j
 abbrev pub flees : ℕ → Move → Pos → Bool
-flees j t p = is_legal p t && list_any (λ r. not (mates_within j (after (after p t) r))) (moves (after p t))
+flees j t p = is_legal p t && leaves_none j (after p t)

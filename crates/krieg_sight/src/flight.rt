@@ -1,44 +1,54 @@
 ghost use Rattle.std.specs.Prelude.{◌≡◌, ◌≤◌, true, not};
 ghost use Rattle.std.specs.List.{list_any};
-ghost use Rattle.krieg_moves.specs.After as change;
-ghost use Rattle.krieg_moves.specs.Moves as list;
 ghost use Rattle.krieg_sight.specs.Seen.{mates_within, flees};
 
 use crate::memo::Sight;
-use crate::seeing::may_mate;
-use krieg_board::{Move, Position};
-use krieg_moves::{after, after_if_legal, legal_moves};
+use crate::seeing::{all_may_mate, may_mate};
+use krieg_board::Move;
+use krieg_moves::after_if_legal;
 use krieg_pack::{Belief, Packed, unpack};
 use std::alloc::Global;
-
-/// Whether one of the replies is found to leave no mate within so many moves.
-fn one_flees(alloc: Global, sight: &mut Sight, q: &Position, replies: &[Move], moves: u8) -> bool
-    requires { replies.now ≡ list.moves q.now }
-    ensures fled { result ≡ true → list_any (λ r. not (mates_within moves (change.after q.now r)))
-        replies.now ≡ true }
-    ensures no_more { sight.new.left ≤ sight.old.left }
-{
-    for mv in replies {
-        if !may_mate(alloc, sight, &after(q, *mv), moves) {
-            return true;
-        }
-    }
-    false
-}
 
 /// Whether the move is found to be legal in the member and some reply to leave no mate within so many moves.
 fn is_fled(alloc: Global, sight: &mut Sight, member: &Packed, mv: &Move, moves: u8) -> bool
     ensures fled { result ≡ true → flees moves mv.now member.now ≡ true }
     ensures no_more { sight.new.left ≤ sight.old.left }
 {
-    let p = unpack(member);
-    let Some(q) = after_if_legal(&p, *mv) else {
-        return false;
-    };
-    let Ok(replies) = legal_moves(alloc, &q) else {
-        return false;
-    };
-    one_flees(alloc, sight, &q, replies.as_slice(), moves)
+    match after_if_legal(&unpack(member), *mv) {
+        Some(q) => !all_may_mate(alloc, sight, &q, moves),
+        None => false,
+    }
+}
+
+/// Whether the member is found to be no mate within so many moves.
+fn is_no_mate(alloc: Global, sight: &mut Sight, member: &Packed, moves: u8) -> bool
+    ensures none { result ≡ true → not (mates_within moves member.now) ≡ true }
+    ensures no_more { sight.new.left ≤ sight.old.left }
+{
+    match sight.told(member, moves) {
+        Some(told) => !told,
+        None => !may_mate(alloc, sight, &unpack(member), moves),
+    }
+}
+
+/// Whether some member of the set is found to be no mate within so many moves, even for a player who sees the position. So the set
+/// cannot be won within these.
+pub fn some_is_no_mate(alloc: Global, sight: &mut Sight, b: &Belief, moves: u8) -> bool
+    ensures none { result ≡ true → list_any (λ p. not (mates_within moves p)) b.now ≡ true }
+    ensures no_more { sight.new.left ≤ sight.old.left }
+{
+    let members = b.members();
+    let first = sight.first();
+    if first < members.len() && is_no_mate(alloc, sight, &members[first], moves) {
+        return true;
+    }
+    for place in 0..members.len() {
+        if is_no_mate(alloc, sight, &members[place], moves) {
+            sight.begin_at(place);
+            return true;
+        }
+    }
+    false
 }
 
 /// Whether in some member of the set the move is found to be legal and some reply to leave no mate within so many moves,
@@ -47,8 +57,14 @@ pub fn some_flees(alloc: Global, sight: &mut Sight, b: &Belief, mv: &Move, moves
     ensures fled { result ≡ true → list_any (flees moves mv.now) b.now ≡ true }
     ensures no_more { sight.new.left ≤ sight.old.left }
 {
-    for member in b.members() {
-        if is_fled(alloc, sight, member, mv, moves) {
+    let members = b.members();
+    let first = sight.first();
+    if first < members.len() && is_fled(alloc, sight, &members[first], mv, moves) {
+        return true;
+    }
+    for place in 0..members.len() {
+        if is_fled(alloc, sight, &members[place], mv, moves) {
+            sight.begin_at(place);
             return true;
         }
     }

@@ -1,7 +1,7 @@
 //! Mate by a player who sees the position, as far as it is found out.
 //!
-//! `some_flees` tells that a try fails in a set whatever is heard: in some member a reply leads to a position that is no
-//! mate in time even for a player who sees it. What is found of a position is kept by a `Sight`, which looks at no more
+//! `some_is_no_mate` tells that a set is lost: some member is no mate in time even for a player who sees it. `some_flees` tells that
+//! a try fails in a set whatever is heard: in some member a reply leads to such a position. What is found of a position is kept by a `Sight`, which looks at no more
 //! positions than it was given. Where it does not find out, it tells nothing: only the answer `true` is claimed.
 //!
 //! `Seen` in `specs/` says what such a mate is, and `laws` that it is that of `krieg_theory`, whatever the dialect.
@@ -23,5 +23,5 @@ pub mod laws;
 mod memo;
 mod seeing;
 
-pub use flight::some_flees;
+pub use flight::{some_flees, some_is_no_mate};
 pub use memo::Sight;

@@ -1,6 +1,6 @@
-ghost use Rattle.std.specs.Prelude.{◌≡◌, ◌+◌, [], false, Some};
+ghost use Rattle.std.specs.Prelude.{◌≡◌, ◌+◌, [], true, false, Some};
 ghost use Rattle.std.specs.Bool.{OnTrue, OnFalse};
-ghost use Rattle.krieg_sight.specs.Seen.{mates_within};
+ghost use Rattle.krieg_sight.specs.Seen.{leaves_none, mates_within};
 ghost use Rattle.krieg_sight.specs.Memo.{IsRight};
 
 use indexmap::IndexMap;
@@ -8,19 +8,29 @@ use krieg_pack::Packed;
 use std::alloc::Global;
 use std::marker::Model;
 
-/// What is known of a position: the greatest number of moves within which it was found to be no mate, and the least within
-/// which it may be one. A 0 says nothing.
+/// What is known of a position, each as a number of moves. A 0 says nothing.
 #[derive(Clone, Copy)]
 pub(crate) struct Told {
+    /// The greatest within which it was found to be no mate by the side to move.
     pub none: u8,
+    /// The least within which it may be one.
     pub some: u8,
+    /// The greatest within which some move was found to leave the other side no mate.
+    pub fled: u8,
+    /// The least within which each may be followed by one.
+    pub met: u8,
 }
+
+/// Of so many positions is kept what was found: some 600 MB.
+const MOST_KEPT: usize = 8_000_000;
 
 /// What was found of positions, and how many may be looked at yet.
 #[derive(Drop)]
 pub struct Sight {
     told: IndexMap<Packed, Told>,
     left: u64,
+    /// The place of the member of a set that was found to be no mate last. It is asked first, since it mostly is none again.
+    first: usize,
 }
 
 impl Model for Sight {
@@ -41,7 +51,20 @@ impl Sight {
         Sight {
             told: IndexMap::new(alloc),
             left: positions,
+            first: 0,
         }
+    }
+
+    /// The place of the member of a set that is asked first. Nothing is claimed of it.
+    pub(crate) fn first(&self) -> usize {
+        self.first
+    }
+
+    /// Asks the member at that place first from now on.
+    pub(crate) fn begin_at(&mut self, place: usize)
+        ensures { self.new ≡ self.old }
+    {
+        self.first = place;
     }
 
     /// One position less may be looked at; `false` where none may.
@@ -63,7 +86,12 @@ impl Sight {
     {
         match self.told.get(p) {
             Some(told) => *told,
-            None => Told { none: 0, some: 0 },
+            None => Told {
+                none: 0,
+                some: 0,
+                fled: 0,
+                met: 0,
+            },
         }
     }
 
@@ -81,14 +109,30 @@ impl Sight {
         None
     }
 
-    /// Keeps what is known of the position, where there is memory for it.
+    /// Whether each move in the position may be followed by a mate of the other side within so many moves, where it is known.
+    pub(crate) fn told_of_replies(&self, p: &Packed, moves: u8) -> Option<bool>
+        ensures { result ≡ Some false → leaves_none moves p.now ≡ true }
+    {
+        let told = self.of(p);
+        if 0 < told.fled && moves <= told.fled {
+            return Some(false);
+        }
+        if 0 < told.met && told.met <= moves {
+            return Some(true);
+        }
+        None
+    }
+
+    /// Keeps what is known of the position, where there is room and memory for it.
     fn keep(&mut self, p: &Packed, told: Told)
         requires { IsRight p.now told }
         ensures { self.new.left ≡ self.old.left }
     {
-        match self.told.insert(*p, told) {
-            Ok(_) => {}
-            Err(_) => {}
+        if self.told.len() < MOST_KEPT || self.told.get(p).is_some() {
+            match self.told.insert(*p, told) {
+                Ok(_) => {}
+                Err(_) => {}
+            }
         }
     }
 
@@ -103,6 +147,8 @@ impl Sight {
             Told {
                 none: moves,
                 some: told.some,
+                fled: told.fled,
+                met: told.met,
             },
         );
     }
@@ -117,6 +163,41 @@ impl Sight {
             Told {
                 none: told.none,
                 some: moves,
+                fled: told.fled,
+                met: told.met,
+            },
+        );
+    }
+
+    /// Notes that some move leaves the other side no mate within so many moves.
+    pub(crate) fn note_fled(&mut self, p: &Packed, moves: u8)
+        requires { leaves_none moves p.now ≡ true }
+        ensures { self.new.left ≡ self.old.left }
+    {
+        let told = self.of(p);
+        self.keep(
+            p,
+            Told {
+                none: told.none,
+                some: told.some,
+                fled: moves,
+                met: told.met,
+            },
+        );
+    }
+
+    /// Notes that each move may be followed by one.
+    pub(crate) fn note_met(&mut self, p: &Packed, moves: u8)
+        ensures { self.new.left ≡ self.old.left }
+    {
+        let told = self.of(p);
+        self.keep(
+            p,
+            Told {
+                none: told.none,
+                some: told.some,
+                fled: told.fled,
+                met: moves,
             },
         );
     }

@@ -1,25 +1,33 @@
-ghost use Rattle.std.specs.Prelude.{◌≡◌, ◌-◌, ◌<◌, ◌≤◌, false};
-ghost use Rattle.std.specs.List.{list_any, list_all};
+ghost use Rattle.std.specs.Prelude.{◌≡◌, ◌-◌, ◌<◌, ◌≤◌, true, false, not};
+ghost use Rattle.std.specs.List.{list_any};
 ghost use Rattle.krieg_moves.specs.After as change;
 ghost use Rattle.krieg_moves.specs.Moves as list;
-ghost use Rattle.krieg_sight.specs.Seen.{is_met, mates_within};
+ghost use Rattle.krieg_sight.specs.Seen.{is_met, leaves_none, mates_within};
 
 use crate::memo::Sight;
 use krieg_board::{Move, Position};
-use krieg_moves::{after, in_check, is_mate, legal_moves};
+use krieg_moves::{after, is_mate, is_stalemate, legal_moves};
 use krieg_pack::pack;
 use std::alloc::Global;
 
+/// With so few men on the board the same positions come again and again.
+const FEW_MEN: u32 = 5;
+
+/// Whether few men stand on the board.
+fn has_few_men(p: &Position) -> bool {
+    p.bits().occupied().count_ones() <= FEW_MEN
+}
+
 /// Whether some move may mate within so many, if the player sees the position: `false` only where none does.
 ///
-/// What is found is kept from two moves on. A last move is looked for anew: most positions that are met have one move left,
-/// and to keep them would take more than it saves.
+/// What is found is kept from two moves on, and with few men on the board from the last move on: there the same positions
+/// come again and again. With more men a last move is looked for anew, since to keep it would take more than it saves.
 #[cycle(seeing)]
 pub(crate) fn may_mate(alloc: Global, sight: &mut Sight, p: &Position, moves: u8) -> bool
     ensures none { result ≡ false → mates_within moves p.now ≡ false }
     ensures no_more { sight.new.left ≤ sight.old.left }
 {
-    if moves < 2 {
+    if moves == 0 || (moves == 1 && !has_few_men(p)) {
         return may_mate_anew(alloc, sight, p, moves);
     }
     let key = pack(p);
@@ -78,22 +86,55 @@ fn may_follow(alloc: Global, sight: &mut Sight, q: &Position, moves: u8) -> bool
     if moves == 0 {
         return is_mate(q);
     }
+    all_may_mate(alloc, sight, q, moves) && !is_stalemate(q)
+}
+
+/// Whether after each move of the opponent, who is to move, there may be a mate within so many moves: `false` only where some move of his
+/// leaves none. With few men on the board it is kept.
+#[cycle(seeing)]
+pub(crate) fn all_may_mate(alloc: Global, sight: &mut Sight, q: &Position, moves: u8) -> bool
+    ensures fled { result ≡ false → leaves_none moves q.now ≡ true }
+    ensures no_more { sight.new.left ≤ sight.old.left }
+{
+    if !has_few_men(q) {
+        return all_may_mate_anew(alloc, sight, q, moves);
+    }
+    let key = pack(q);
+    if let Some(told) = sight.told_of_replies(&key, moves) {
+        return told;
+    }
+    if all_may_mate_anew(alloc, sight, q, moves) {
+        sight.note_met(&key, moves);
+        return true;
+    }
+    sight.note_fled(&key, moves);
+    false
+}
+
+/// The same, whatever is known.
+#[cycle(seeing)]
+fn all_may_mate_anew(alloc: Global, sight: &mut Sight, q: &Position, moves: u8) -> bool
+    ensures fled { result ≡ false → leaves_none moves q.now ≡ true }
+    ensures no_more { sight.new.left ≤ sight.old.left }
+{
     let Ok(replies) = legal_moves(alloc, q) else {
         return true;
     };
-    if replies.is_empty() {
-        return in_check(q);
-    }
-    all_may_mate(alloc, sight, q, replies.as_slice(), moves)
+    each_may_mate(alloc, sight, q, replies.as_slice(), moves)
 }
 
 /// Whether after each of the replies there may be a mate within so many moves.
 #[cycle(seeing)]
-fn all_may_mate(alloc: Global, sight: &mut Sight, q: &Position, replies: &[Move], moves: u8) -> bool
-    requires some { 0 < moves }
-    requires listed { replies.now ≡ list.moves q.now }
-    ensures none { result ≡ false → list_all (λ r. mates_within moves (change.after q.now r))
-        replies.now ≡ false }
+fn each_may_mate(
+    alloc: Global,
+    sight: &mut Sight,
+    q: &Position,
+    replies: &[Move],
+    moves: u8,
+) -> bool
+    requires { replies.now ≡ list.moves q.now }
+    ensures fled { result ≡ false → list_any (λ r. not (mates_within moves (change.after q.now r)))
+        replies.now ≡ true }
     ensures no_more { sight.new.left ≤ sight.old.left }
 {
     for mv in replies {

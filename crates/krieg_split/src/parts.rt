@@ -1,5 +1,4 @@
 ghost use Rattle.std.specs.Prelude.{IfOk};
-ghost use Rattle.krieg_words.specs.declared.dialects.Dialect.{Dialect};
 ghost use Rattle.krieg_costs.specs.Cost.{made};
 ghost use Rattle.krieg_game.specs.Chess.{chess};
 ghost use Rattle.krieg_split.specs.Parts.{IsParted, IsUnlessStale};
@@ -7,7 +6,7 @@ ghost use Rattle.krieg_split.specs.Units.{IsPaid};
 
 use krieg_board::{Move, Units};
 use krieg_pack::Belief;
-use krieg_parting::{PartStop, Parted, gather, parts_of, try_to_mate};
+use krieg_parting::{PartStop, Parted, gather, parts_of};
 use krieg_words::Dialect;
 use std::alloc::Global;
 
@@ -57,15 +56,4 @@ pub fn split_unless_stale(
     let parted = parts_of(alloc, parts)?;
     *units = left;
     Ok(Some(parted))
-}
-
-/// Takes what `split` takes, for a try of which nothing else is wanted: it is the same in every dialect. `Spent` comes only
-/// where fewer are left. An error takes none.
-pub fn pay_split(alloc: Global, b: &Belief, mv: Move, units: &mut Units) -> Result<(), PartStop>
-    ensures { (d : Dialect) → IsPaid result (made (chess d) b.now mv) units.old units.new }
-{
-    let mut left = Units::new(units.left());
-    try_to_mate(alloc, b.members(), &mv, false, &mut left)?;
-    *units = left;
-    Ok(())
 }

@@ -16,7 +16,7 @@ left_again-requires-clause-paid c =
     let before : suc (j - 1) ≡ j = omega arith in
     let lost = subst (λ (i : ℕ). IsLost T B i) (sym before) c.requires.lost in
     let a = loss_paid (chess d) (chess_is_game d) (entries T) c.requires.paid.ready.sound B (j - 1) lost c.args.mv c.requires.legal in
-    let b = c.requires.paid.paid in
+    let b = c.requires.paid.paid refl in
     let fits : made (chess d) B c.args.mv < 2 ^ 64 = omega arith in
     rw c.belief.ensures fits
 

@@ -1,4 +1,4 @@
-use Rattle.std.proofs.Common.{false, ◌≡◌, ℕ, Err, subst, ◌∙◌, arith}
+use Rattle.std.proofs.Common.{false, ◌≡◌, ℕ, Err, refl, subst, ◌∙◌, arith}
 use Rattle.std.proofs.lemmas.Bool.{both_ways}
 use Rattle.krieg_refute.proofs.Common.{IsAccount, IsDecision, side_of}
 use Rattle.krieg_search.proofs.OpenedSets.{none_over}
@@ -7,8 +7,8 @@ use Rattle.krieg_refute.proofs.FirstLost.{first_some, first_within, first_member
 use Rattle.krieg_refute.proofs.Sides.{one_side}
 use Rattle.krieg_refute.proofs.refuting.refute.Goals as goal
 
-pub decide-requires-clause-turn : goal.decide-requires-clause-turn
-decide-requires-clause-turn c = c.requires.turn c.side_of-who.result
+pub decide-requires : goal.decide-requires
+decide-requires c = record { turn = c.requires.turn c.side_of-who.result }
 
 pub unreachable-requires : goal.unreachable-requires
 unreachable-requires c =
@@ -46,7 +46,9 @@ claims_for-requires-clause-lost c =
 pub claims_for-requires-clause-paid : goal.claims_for-requires-clause-paid
 claims_for-requires-clause-paid c =
     let k = rw (c.in-Lost.is, c.side_of-who.ensures) at c.in_ok-decide.ensures.decided in
-    record { ready = k.0.found.ready; paid = (let a = c.left.type_inv in let e = c.new-left.ensures in let p = k.0.found.paid in omega arith) }
+    let a = c.left.type_inv in
+    let e = c.new-left.ensures in
+    record { ready = k.0.found.ready; paid = λ h. (let p = k.0.found.paid h in omega arith); wins = λ q m s. (let p = k.0.found.wins q m s in omega arith) }
 
 pub returns-in_err-decide-clause-answer : goal.returns-in_err-decide-clause-answer
 returns-in_err-decide-clause-answer c =

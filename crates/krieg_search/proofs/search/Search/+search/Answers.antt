@@ -7,13 +7,14 @@ use Rattle.krieg_search.proofs.Searching.{ready_from, searched_number, stopped}
 use Rattle.krieg_search.proofs.Noted.{more_notes, no_notes, one_noted, all_noted}
 use Rattle.krieg_search.proofs.Blocked.{is_lost, first_here, first_later}
 use Rattle.krieg_search.proofs.Tries as tries
-use Rattle.krieg_search.proofs.Tries.{none_tried, next_legal, next_within, fails, win_first, win_searched, win_backed, loss_first, loss_searched, loss_backed}
+use Rattle.krieg_search.proofs.Tries.{none_tried, next_legal, next_within, fails, win_first, win_searched, win_paid, win_backed, loss_first, loss_searched, loss_backed}
 use Rattle.krieg_search.proofs.Telling.{move_at, told_at}
-use Rattle.krieg_search.proofs.Noting.{found_tells, none_found, pair_stopped, noted_more, noted}
+use Rattle.krieg_search.proofs.NextNotes.{still_next}
+use Rattle.krieg_search.proofs.Noting.{found_tells, pair_stopped, noted_more, noted}
 use Rattle.krieg_search.proofs.Trying.{empty_is, some_is, tried_at, covers_classes, after_split, after_classes, class_lost, none_refuses, rest_smaller, before_rest, covers_rest, after_rest, rest_won, rest_lost}
 use Rattle.krieg_search.proofs.Checking as sets
 use Rattle.krieg_search.proofs.Checking.{IsChecking, none_checked, all_checked, no_items, set_lost, set_won}
-use Rattle.krieg_search.proofs.Numbers.{no_number, next_covers, number_wins, number_fails, all_fail}
+use Rattle.krieg_search.proofs.Numbers.{first_number, next_covers, number_wins, number_fails, all_fail}
 use Rattle.krieg_search.proofs.search.Search.+search.Goals as goal
 
 pub can_win-can_win_in-requires : goal.can_win-can_win_in-requires
@@ -21,11 +22,10 @@ can_win-can_win_in-requires t c =
     let a = c.loop-fewer.invariant.counting in
     let l = c.loop-fewer-test.true in
     let w = c.requires.within in
-    let m = c.requires.most in
     let same = a.searched.more.same c.args.set w in
     let size : length (set_at c.loop-fewer.self.table c.args.set) ≡ length (set_at c.args.self.now.table c.args.set) = ap length same in
     let longer = a.searched.more.longer in
-    (omega (arith, size), (omega arith, (omega arith, (omega arith, (c.loop-fewer.invariant.ready, rw (sym same) at a.lost)))))
+    (omega (arith, size), (omega arith, (omega arith, (c.loop-fewer.invariant.ready, rw (sym same) at a.lost))))
 
 pub can_win-returns-in_err-can_win_in-clause-searched : goal.can_win-returns-in_err-can_win_in-clause-searched
 can_win-returns-in_err-can_win_in-clause-searched t c =
@@ -43,7 +43,7 @@ can_win-returns-then-branch-clause-searched t c =
 
 pub can_win-loop-fewer-init : goal.can_win-loop-fewer-init
 can_win-loop-fewer-init t c = record {
-  counting = no_number c.args.way.d c.args.way.cut c.args.self.now.table (set_at c.args.self.now.table c.args.set) c.args.moves c.args.self.now.units c.requires.ready.0;
+  counting = first_number c.args.way.d c.args.way.cut c.args.self.now.table (set_at c.args.self.now.table c.args.set) c.args.moves c.min-fewer.result c.args.self.now.units c.requires.ready.0 (let e = c.min-fewer.ensures in omega (arith, e)) (λ i p l. c.lost.ensures.all i p (let e = c.min-fewer.ensures in omega (arith, e, l)));
   ready = c.requires.ready;
   most = refl;
 }
@@ -65,16 +65,16 @@ pub can_win_in-returns-in-Some-Loses-clause-searched : goal.can_win_in-returns-i
 can_win_in-returns-in-Some-Loses-clause-searched t c =
     rw c.in-Some-Loses.field-0-is at (found_tells c.args.way.d c.args.way.cut c.args.self.now.units c.requires.ready.0 c.in-Some-Loses.is c.result.ensures.by_sets)
 
-pub can_win_in-loop-tried-init : goal.can_win_in-loop-tried-init
-can_win_in-loop-tried-init t c = record {
+pub win_by_a_try-loop-tried-init : goal.win_by_a_try-loop-tried-init
+win_by_a_try-loop-tried-init t c = record {
   trying = none_tried c.args.way.d c.args.way.cut c.args.self.now.table (set_at c.args.self.now.table c.args.set) c.args.moves (map move_of c.deref-tried-items.result.now) c.args.self.now.units c.requires.ready.0;
   ready = c.requires.ready;
   most = refl;
   row = no_notes c.args.way.d c.args.way.cut c.args.self.now.table (set_at c.args.self.now.table c.args.set) c.args.moves (map move_of c.deref-tried-items.result.now) (items_of c.in_ok-row.row) c.in_ok-row.ensures;
 }
 
-pub can_win_in-block_of-requires : goal.can_win_in-block_of-requires
-can_win_in-block_of-requires t c =
+pub win_by_a_try-block_of-requires : goal.win_by_a_try-block_of-requires
+win_by_a_try-block_of-requires t c =
     let d = c.args.way.d in
     let are = ap (map move_of) c.deref-tried-items.ensures.value ∙ c.in_ok-tries.ensures.moves d ∙ ap (tries_of (chess d)) c.belief.ensures in
     let at = move_at c.deref-tried-items.result.now c.loop-tried.tried-index c.tried-item.result c.loop-tried-test.true c.tried-item.is in
@@ -85,10 +85,10 @@ can_win_in-block_of-requires t c =
     let size : length (set_at c.loop-tried.self.table c.args.set) ≡ length (set_at c.args.self.now.table c.args.set) = ap length same in
     let told = told_at c.belief.result.now (set_at c.loop-tried.self.table c.args.set) c.args.moves c.deref-tried-items.result.now c.in_ok-tries.tries.items c.loop-tried.tried-index c.tried-item.result c.in_ok-tries.ensures.told c.deref-tried-items.ensures.value c.loop-tried-test.true c.tried-item.is (c.belief.ensures ∙ sym same) in
     let longer = a.searched.more.longer in
-    (omega (arith, size), (c.requires.some, (omega arith, (c.requires.most, (c.loop-tried.invariant.ready, (told, rw (sym same) at legal))))))
+    (omega (arith, size), (c.requires.next.some, (omega arith, (c.loop-tried.invariant.ready, (told, rw (sym same) at legal)))))
 
-pub can_win_in-returns-in_err-block-clause-searched : goal.can_win_in-returns-in_err-block-clause-searched
-can_win_in-returns-in_err-block-clause-searched t c =
+pub win_by_a_try-returns-in_err-block-clause-searched : goal.win_by_a_try-returns-in_err-block-clause-searched
+win_by_a_try-returns-in_err-block-clause-searched t c =
     let d = c.args.way.d in
     let are = ap (map move_of) c.deref-tried-items.ensures.value ∙ c.in_ok-tries.ensures.moves d ∙ ap (tries_of (chess d)) c.belief.ensures in
     let at = move_at c.deref-tried-items.result.now c.loop-tried.tried-index c.tried-item.result c.loop-tried-test.true c.tried-item.is in
@@ -98,11 +98,11 @@ can_win_in-returns-in_err-block-clause-searched t c =
     let r = c.from_residual-in_err-block.result in
     let fails = c.from_residual-in_err-block.ensures.1 in
     let same = a.searched.more.same c.args.set c.requires.within in
-    pair_stopped d c.args.way.cut _ r _ _ _ _ _ _ _ fails (none_found d c.args.way.cut _ _ c.in-None.is c.result.ensures.by_sets)
+    pair_stopped d c.args.way.cut _ r _ _ _ _ _ _ _ fails (c.requires.next.unknown)
     (stopped d c.args.way.cut r c.in_err-block.field-0.0 _ _ _ _ _ _ (λ x h. cc) fails (tries.next_covers d c.args.way.cut are l e a) a.searched (next_within d c.args.way.cut are l e a) (rw same at c.in_err-block.ensures.searched))
 
-pub can_win_in-returns-in-None-2-clause-searched : goal.can_win_in-returns-in-None-2-clause-searched
-can_win_in-returns-in-None-2-clause-searched t c =
+pub win_by_a_try-returns-in-None-clause-searched : goal.win_by_a_try-returns-in-None-clause-searched
+win_by_a_try-returns-in-None-clause-searched t c =
     let d = c.args.way.d in
     let are = ap (map move_of) c.deref-tried-items.ensures.value ∙ c.in_ok-tries.ensures.moves d ∙ ap (tries_of (chess d)) c.belief.ensures in
     let at = move_at c.deref-tried-items.result.now c.loop-tried.tried-index c.tried-item.result c.loop-tried-test.true c.tried-item.is in
@@ -110,18 +110,18 @@ can_win_in-returns-in-None-2-clause-searched t c =
     let a = c.loop-tried.invariant.trying in
     let l = at.0 in
     let e = at.1 in
-    let some = c.requires.some in
-    let v = rw (a.searched.more.same c.args.set c.requires.within, c.in-None-2.is) at c.in_ok-block.ensures.searched in
+    let some = c.requires.next.some in
+    let v = rw (a.searched.more.same c.args.set c.requires.within, c.in-None.is) at c.in_ok-block.ensures.searched in
     let w = v.0.tells in
-    let none = none_found d c.args.way.cut _ _ c.in-None.is c.result.ensures.by_sets in
-    noted d c.args.way.cut c.args.self.now.table c.block_of.new.self.table c.note.new.self c.args.set c.args.moves (Wins x) (Some x) c.args.self.now.units c.block_of.new.self.units some c.requires.within (win_searched d c.args.way.cut are l e a v.1 w) none (rw c.move_of_try-in-None-2.ensures at c.note.ensures.noted) refl
-    (win_first d c.args.way.cut are l e a v.1 w) (win_backed d c.args.way.cut are l e a v.1 w some c.requires.below)
+    let none = c.requires.next.unknown in
+    noted d c.args.way.cut c.args.self.now.table c.block_of.new.self.table c.note.new.self c.args.set c.args.moves (Wins x) (Some x) c.args.self.now.units c.block_of.new.self.units some c.requires.within (win_searched d c.args.way.cut are l e a v.1 w) (win_paid d c.args.way.cut are l e a v.1 w (v.0.paid refl)) none (rw c.move_of_try-mv.ensures at c.note.ensures.noted) refl
+    (win_first d c.args.way.cut are l e a v.1 w) (win_backed d c.args.way.cut are l e a v.1 w some c.requires.next.below)
 
-pub can_win_in-returns-in-None-2-clause-ready : goal.can_win_in-returns-in-None-2-clause-ready
-can_win_in-returns-in-None-2-clause-ready t c = (ready_from c.args.way.d c.args.way.cut (can_win_in-returns-in-None-2-clause-searched t c).1, more_notes c.args.way.d c.args.way.cut c.block_of.new.self.notes (noted_more c.note.ensures.noted) c.in_ok-block.ensures.ready.1)
+pub win_by_a_try-returns-in-None-clause-ready : goal.win_by_a_try-returns-in-None-clause-ready
+win_by_a_try-returns-in-None-clause-ready t c = (ready_from c.args.way.d c.args.way.cut (win_by_a_try-returns-in-None-clause-searched t c).1, more_notes c.args.way.d c.args.way.cut c.block_of.new.self.notes (noted_more c.note.ensures.noted) c.in_ok-block.ensures.ready.1)
 
-pub can_win_in-loop-tried-preserved : goal.can_win_in-loop-tried-preserved
-can_win_in-loop-tried-preserved t c =
+pub win_by_a_try-loop-tried-preserved : goal.win_by_a_try-loop-tried-preserved
+win_by_a_try-loop-tried-preserved t c =
     let d = c.args.way.d in
     let are = ap (map move_of) c.deref-tried-items.ensures.value ∙ c.in_ok-tries.ensures.moves d ∙ ap (tries_of (chess d)) c.belief.ensures in
     let at = move_at c.deref-tried-items.result.now c.loop-tried.tried-index c.tried-item.result c.loop-tried-test.true c.tried-item.is in
@@ -135,22 +135,38 @@ can_win_in-loop-tried-preserved t c =
           v.1.more at.0 at.1 v.0.blocked (rw c.move_of_try.ensures at c.in_ok-add-in-Some.ensures) c.loop-tried.invariant.row;
     }
 
-pub can_win_in-note-requires-2-clause-within : goal.can_win_in-note-requires-2-clause-within
-can_win_in-note-requires-2-clause-within t c = let a = c.loop-tried.invariant.trying.searched.more.longer in let w = c.requires.within in omega arith
+pub win_by_a_try-note-requires-clause-next : goal.win_by_a_try-note-requires-clause-next
+win_by_a_try-note-requires-clause-next t c =
+    let d = c.args.way.d in
+    let are = ap (map move_of) c.deref-tried-items.ensures.value ∙ c.in_ok-tries.ensures.moves d ∙ ap (tries_of (chess d)) c.belief.ensures in
+    let at = move_at c.deref-tried-items.result.now c.loop-tried.tried-index c.tried-item.result c.loop-tried-test.true c.tried-item.is in
+    let a = c.loop-tried.invariant.trying in
+    let v = rw (a.searched.more.same c.args.set c.requires.within, c.in-None.is) at c.in_ok-block.ensures.searched in
+    still_next d c.args.way.cut _ _ c.args.set c.args.moves _ _ _ c.requires.within c.requires.next (win_searched d c.args.way.cut are at.0 at.1 a v.1 v.0.tells)
 
-pub can_win_in-returns-clause-searched : goal.can_win_in-returns-clause-searched
-can_win_in-returns-clause-searched t c =
+pub win_by_a_try-note-requires-2 : goal.win_by_a_try-note-requires-2
+win_by_a_try-note-requires-2 t c =
     let d = c.args.way.d in
     let are = ap (map move_of) c.deref-tried-items.ensures.value ∙ c.in_ok-tries.ensures.moves d ∙ ap (tries_of (chess d)) c.belief.ensures in
     let a = c.loop-tried.invariant.trying in
     let l : length (map move_of c.deref-tried-items.result.now) ≤ c.loop-tried.tried-index = rw length-map c.loop-tried-test.false in
-    let some = c.requires.some in
-    let none = none_found d c.args.way.cut _ _ c.in-None.is c.result.ensures.by_sets in
-    noted d c.args.way.cut c.args.self.now.table c.loop-tried.self.table c.note-2.new.self c.args.set c.args.moves Loses None c.args.self.now.units c.loop-tried.self.units some c.requires.within (loss_searched d c.args.way.cut are l a) none c.note-2.ensures.noted refl
-    (loss_first d c.args.way.cut are l a) (loss_backed d c.args.way.cut are l a some c.requires.below)
+    let longer = a.searched.more.longer in
+    let w = c.requires.within in
+    record { within = omega arith; next = still_next d c.args.way.cut _ _ c.args.set c.args.moves _ _ _ c.requires.within c.requires.next (loss_searched d c.args.way.cut are l a) }
 
-pub can_win_in-returns-clause-ready : goal.can_win_in-returns-clause-ready
-can_win_in-returns-clause-ready t c =
+pub win_by_a_try-returns-clause-searched : goal.win_by_a_try-returns-clause-searched
+win_by_a_try-returns-clause-searched t c =
+    let d = c.args.way.d in
+    let are = ap (map move_of) c.deref-tried-items.ensures.value ∙ c.in_ok-tries.ensures.moves d ∙ ap (tries_of (chess d)) c.belief.ensures in
+    let a = c.loop-tried.invariant.trying in
+    let l : length (map move_of c.deref-tried-items.result.now) ≤ c.loop-tried.tried-index = rw length-map c.loop-tried-test.false in
+    let some = c.requires.next.some in
+    let none = c.requires.next.unknown in
+    noted d c.args.way.cut c.args.self.now.table c.loop-tried.self.table c.note-2.new.self c.args.set c.args.moves Loses None c.args.self.now.units c.loop-tried.self.units some c.requires.within (loss_searched d c.args.way.cut are l a) tt none c.note-2.ensures.noted refl
+    (loss_first d c.args.way.cut are l a) (loss_backed d c.args.way.cut are l a some c.requires.next.below)
+
+pub win_by_a_try-returns-clause-ready : goal.win_by_a_try-returns-clause-ready
+win_by_a_try-returns-clause-ready t c =
     let d = c.args.way.d in
     let are = ap (map move_of) c.deref-tried-items.ensures.value ∙ c.in_ok-tries.ensures.moves d ∙ ap (tries_of (chess d)) c.belief.ensures in
     let a = c.loop-tried.invariant.trying.searched.more in
@@ -159,7 +175,7 @@ can_win_in-returns-clause-ready t c =
     let w = c.requires.within in
     let longer = a.longer in
     let still = more.longer in
-    let searched = can_win_in-returns-clause-searched t c in (
+    let searched = win_by_a_try-returns-clause-searched t c in (
       ready_from d c.args.way.cut searched.1,
       c.in_ok-keep.ensures.noted d c.args.way.cut c.note-2.new.self (more_notes d c.args.way.cut c.loop-tried.self.notes more c.loop-tried.invariant.ready.1)
           (all_noted d c.args.way.cut c.loop-tried.self.table (set_at c.args.self.now.table c.args.set) c.args.moves (map move_of c.deref-tried-items.result.now) c.loop-tried.tried-index c.args.set (items_of c.loop-tried.row)
@@ -185,7 +201,7 @@ block_of-returns-then-is_empty-clause-searched t c =
     let a = tried_at d c.args.way.cut (move_of c.args.tried.now) c.args.moves c.args.self.now.units c.left_of.new.units c.belief.ensures c.in-Some.is c.requires.some c.requires.ready.0 c.requires.legal c.in_ok-classes.ensures.left c.in_ok-classes.ensures.units in
     let w = rw c.in_default-lost.is at c.in_ok-lost.ensures.searched in
     let none = empty_is c.in-Some.field-0.refused c.is_empty.result c.is_empty.ensures c.if-is_empty.true in
-    (none_refuses d c.args.way.cut a w.0 none, after_classes d c.args.way.cut a w.1)
+    (none_refuses d c.args.way.cut a w.0 w.1 none, after_classes d c.args.way.cut a w.1)
 
 pub block_of-can_win-requires : goal.block_of-can_win-requires
 block_of-can_win-requires t c =
@@ -195,7 +211,7 @@ block_of-can_win-requires t c =
     let n = some_is c.in-Some.field-0.refused c.is_empty.result c.is_empty.ensures c.if-is_empty.false in
     let i = c.in_ok-rest.ensures in
     let smaller = rest_smaller d c.args.way.cut a w.0 w.1 n i in
-    (omega (arith, smaller), (i.interned.within, (c.requires.most, (ready_from d c.args.way.cut (before_rest d c.args.way.cut a w.0 w.1 n i), more_notes d c.args.way.cut c.first_lost.new.self.notes i.interned.more c.in_ok-lost.ensures.ready.1))))
+    (omega (arith, smaller), (i.interned.within, (ready_from d c.args.way.cut (before_rest d c.args.way.cut a w.0 w.1 n i), more_notes d c.args.way.cut c.first_lost.new.self.notes i.interned.more c.in_ok-lost.ensures.ready.1)))
 
 pub block_of-returns-in_err-can_win-clause-searched : goal.block_of-returns-in_err-can_win-clause-searched
 block_of-returns-in_err-can_win-clause-searched t c =
@@ -245,7 +261,7 @@ first_lost-can_win-requires t c =
     let d = c.args.way.d in
     let i = c.in_ok-set.ensures in
     let few = i.counted c.in_ok-set.set in
-    (omega arith, (i.interned.within, (c.requires.most, (ready_from d c.args.way.cut (searched_number d c.args.way.cut c.loop-class.invariant.checking.searched i), more_notes d c.args.way.cut c.loop-class.self.notes i.interned.more c.loop-class.invariant.ready.1))))
+    (omega arith, (i.interned.within, (ready_from d c.args.way.cut (searched_number d c.args.way.cut c.loop-class.invariant.checking.searched i), more_notes d c.args.way.cut c.loop-class.self.notes i.interned.more c.loop-class.invariant.ready.1)))
 
 pub first_lost-returns-in_err-can_win-clause-searched : goal.first_lost-returns-in_err-can_win-clause-searched
 first_lost-returns-in_err-can_win-clause-searched t c =

@@ -11,16 +11,19 @@ use Rattle.krieg_search.proofs.search.Search.+search.Given as goal
 
 -- first the number of moves counts, then the members; no class has 2 ^ 64
 abbrev pub decreases-first_lost : goal.decreases-first_lost
-decreases-first_lost l = 8 * (l.moves * 2 ^ 64 + 2 ^ 64 - 1) + 4
+decreases-first_lost l = 8 * (l.moves * 2 ^ 64 + 2 ^ 64 - 1) + 5
 
 abbrev pub decreases-block_of : goal.decreases-block_of
 decreases-block_of l = 8 * (l.moves * 2 ^ 64 + length (set_at l.self.now.table l.set)) + 1
 
+abbrev pub decreases-win_by_a_try : goal.decreases-win_by_a_try
+decreases-win_by_a_try l = 8 * (l.moves * 2 ^ 64 + length (set_at l.self.now.table l.set)) + 2
+
 abbrev pub decreases-can_win_in : goal.decreases-can_win_in
-decreases-can_win_in l = 8 * (l.moves * 2 ^ 64 + length (set_at l.self.now.table l.set)) + 2
+decreases-can_win_in l = 8 * (l.moves * 2 ^ 64 + length (set_at l.self.now.table l.set)) + 3
 
 abbrev pub decreases-can_win : goal.decreases-can_win
-decreases-can_win l = 8 * (l.moves * 2 ^ 64 + length (set_at l.self.now.table l.set)) + 3
+decreases-can_win l = 8 * (l.moves * 2 ^ 64 + length (set_at l.self.now.table l.set)) + 4
 
 abbrev pub invariant-can_win-loop-fewer : goal.invariant-can_win-loop-fewer
 invariant-can_win-loop-fewer l = record {
@@ -29,8 +32,8 @@ invariant-can_win-loop-fewer l = record {
   most : l.self.notes.most ≡ l.initial.self.notes.most;
 }
 
-abbrev pub invariant-can_win_in-loop-tried : goal.invariant-can_win_in-loop-tried
-invariant-can_win_in-loop-tried l = record {
+abbrev pub invariant-win_by_a_try-loop-tried : goal.invariant-win_by_a_try-loop-tried
+invariant-win_by_a_try-loop-tried l = record {
   trying : IsTrying l.way.d l.way.cut l.initial.self.table l.self.table (set_at l.initial.self.table l.set) l.moves (map move_of l.tried-items) l.tried-index l.initial.self.units l.self.units;
   ready : IsAtWork l.way l.self;
   most : l.self.notes.most ≡ l.initial.self.notes.most;

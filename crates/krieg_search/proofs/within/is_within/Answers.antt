@@ -1,8 +1,8 @@
 use Rattle.std.proofs.Common.{◌≡◌, true, sym, subst, ◌∙◌}
-use Rattle.krieg_refute.proofs.Common.{position_lt}
+use Rattle.krieg_search.proofs.Common.{position_lt}
 use Rattle.krieg_costs.specs.Refutation as theory
-use Rattle.krieg_refute.proofs.LastTries.{within_itself}
-use Rattle.krieg_refute.proofs.reasons.is_within.Goals as goal
+use Rattle.krieg_search.proofs.SetParts.{within_itself}
+use Rattle.krieg_search.proofs.within.is_within.Goals as goal
 
 pub returns-then-same : goal.returns-then-same
 returns-then-same c =
