@@ -35,7 +35,7 @@ pub use Rattle.krieg_plan.specs.declared.node.Node.{Node}
 pub use Rattle.krieg_plan.specs.declared.plan.PlanFile.{PlanFile}
 pub use Rattle.krieg_parting.specs.Charges.{Charges}
 pub use Rattle.krieg_parting.specs.FirstMoves.{AreFirstMoves}
-pub use Rattle.krieg_parting.specs.Gathering.{IsGathered}
+pub use Rattle.krieg_parting.specs.Gathering.{IsGathered, whole_try}
 pub use Rattle.krieg_parting.specs.Mating.{IsMating}
 pub use Rattle.krieg_parting.specs.Parts.{IsParted}
 pub use Rattle.krieg_parting.specs.Turns.{IsOthersTurn, IsOwnTurn}

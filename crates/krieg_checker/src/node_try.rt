@@ -9,7 +9,7 @@ ghost use Rattle.krieg_checker.specs.Walk.{try_in};
 use krieg_board::{Move, Units};
 use krieg_game::Class;
 use krieg_pack::Belief;
-use krieg_parting::{Mating, PartStop, Parted, gather, parts_of, try_to_mate};
+use krieg_parting::{Attempt, Mating, PartStop, Parted, gather, parts_of, try_to_mate};
 use krieg_plan::Node;
 use krieg_words::Dialect;
 use std::alloc::Global;
@@ -55,7 +55,12 @@ fn part(
 ) -> Result<Parted, PartStop>
     ensures { Charges result (IsParted d b mv) (made (chess d) b mv) units.old units.new }
 {
-    let parts = gather(alloc, d, b.members(), &mv, true, units)?;
+    let attempt = Attempt {
+        dialect: d,
+        mv,
+        always: true,
+    };
+    let parts = gather(alloc, &attempt, b.members(), units)?;
     drop(b);
     Ok(parts_of(alloc, parts)?)
 }

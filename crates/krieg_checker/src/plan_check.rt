@@ -25,6 +25,15 @@ pub enum PlanVerdict {
     Fails,
 }
 
+/// What a plan file says of its listed positions.
+#[derive(Clone, Copy)]
+struct PlanClaim<'a> {
+    dialect: Dialect,
+    side: Side,
+    worst: u16,
+    plan: &'a Plan,
+}
+
 /// The answer by what was found, against the number that the file claims.
 fn verdict(worst: u16, over: bool, need: Option<u16>) -> PlanVerdict
     ensures { result ≡ spec.verdict worst over need }
@@ -58,23 +67,27 @@ pub fn has_one_turn(f: &PlanFile) -> bool
     }
 }
 
-/// The same as `check`, by the parts of the file with the set of its listed positions.
+/// The same as `check`, by what the file says of its listed positions, and their set.
 fn check_set(
     alloc: Global,
-    d: Dialect,
-    side: Side,
+    said: &PlanClaim<'_>,
     set: Belief,
-    worst: u16,
-    plan: &Plan,
     units: &mut Units,
 ) -> Result<PlanVerdict, PartStop>
     requires { IsOneTurn set }
-    ensures { (f : PlanFile) → AreParts f d side set worst plan.now
+    ensures { (f : PlanFile) → AreParts f said.now set
         → Charges result (IsVerdict f) (check_cost f) units.old units.new }
 {
-    let started = start(alloc, d, side, set, units)?;
-    let need = walk_roots(alloc, d, plan, started.own, started.classes, units)?;
-    Ok(verdict(worst, started.over, need))
+    let started = start(alloc, said.dialect, said.side, set, units)?;
+    let need = walk_roots(
+        alloc,
+        said.dialect,
+        said.plan,
+        started.own,
+        started.classes,
+        units,
+    )?;
+    Ok(verdict(said.worst, started.over, need))
 }
 
 /// Whether the plan mates every listed position within the number that the file claims, and its worst case.
@@ -89,7 +102,13 @@ pub fn check(alloc: Global, f: &PlanFile, units: &mut Units) -> Result<PlanVerdi
     ensures { Charges result (IsVerdict f.now) (check_cost f.now) units.old units.new }
 {
     let set = Belief::from_positions(alloc, f.list.as_slice())?;
-    check_set(alloc, f.dialect, f.side, set, f.worst, &f.plan, units)
+    let said = PlanClaim {
+        dialect: f.dialect,
+        side: f.side,
+        worst: f.worst,
+        plan: &f.plan,
+    };
+    check_set(alloc, &said, set, units)
 }
 
 /// The same of a file that is let go: its list goes once it is a set, so that no more than one of both is kept.
@@ -106,5 +125,11 @@ pub fn check_owned(alloc: Global, f: PlanFile, units: &mut Units) -> Result<Plan
     } = f;
     let set = Belief::from_positions(alloc, list.as_slice())?;
     drop(list);
-    check_set(alloc, dialect, side, set, worst, &plan, units)
+    let said = PlanClaim {
+        dialect,
+        side,
+        worst,
+        plan: &plan,
+    };
+    check_set(alloc, &said, set, units)
 }

@@ -30,6 +30,7 @@ pub use Rattle.krieg_parting.specs.Turns.{IsOthersTurn}
 pub use Rattle.krieg_parting.specs.Wants.{is_wanted}
 pub use Rattle.krieg_parting.specs.declared.firsts.FirstMoves.{FirstMoves}
 pub use Rattle.krieg_parting.specs.declared.last_move.Mating.{Mating}
+pub use Rattle.krieg_parting.specs.declared.parts.Attempt.{Attempt}
 pub use Rattle.krieg_parting.specs.declared.parts.UnsortedParts.{UnsortedParts}
 pub use Rattle.krieg_parting.specs.declared.stop.PartStop.{PartStop}
 pub use Rattle.krieg_parting.specs.declared.stop.PartStop.TheVariants.{NoMemory, Spent}

@@ -1,6 +1,6 @@
 //! What a try makes of a set of positions, one of which is the true one.
 //!
-//! `gather` tries a move in each member: it keeps the members that refuse it, whether it stalemates in some, and what
+//! `gather` makes an `Attempt`, a move that is tried in each member: it keeps the members that refuse it, whether it stalemates in some, and what
 //! comes of it in the others. `parts_of` makes the parts of that, among them the set for each pair of words that may be
 //! heard next. `try_to_mate` only counts, for a move that must mate. `first_moves` makes the opponent's first moves, and
 //! `with_openings` has the members with what is told of them at the start. What is made is counted in units, exactly:
@@ -15,7 +15,8 @@
 //!
 //! ```
 //! let mut units = Units::new(1_000);
-//! let parts = gather(alloc, Dialect::Wild16, b.members(), &mv, &mut units)?;
+//! let attempt = Attempt { dialect: Dialect::Wild16, mv, always: true };
+//! let parts = gather(alloc, &attempt, b.members(), &mut units)?;
 //! let parted = parts_of(alloc, parts)?;
 //! // the move is illegal in `parted.refused`; after it one of `parted.classes` is heard
 //! ```
@@ -30,5 +31,5 @@ mod stop;
 pub use firsts::{FirstMoves, first_moves};
 pub use last_move::{Mating, try_to_mate};
 pub use opened::with_openings;
-pub use parts::{Parted, UnsortedParts, gather, parts_of};
+pub use parts::{Attempt, Parted, UnsortedParts, gather, parts_of};
 pub use stop::{PartStop, take};

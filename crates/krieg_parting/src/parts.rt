@@ -19,6 +19,15 @@ use krieg_pack::{Belief, Packed, unpack};
 use krieg_words::{Dialect, Made, make_if_legal};
 use std::alloc::Global;
 
+/// What is tried, and how much of what comes of it is wanted.
+#[derive(Clone, Copy)]
+pub struct Attempt {
+    pub dialect: Dialect,
+    pub mv: Move,
+    /// Whether all of it is wanted, also once the try stalemates in some member.
+    pub always: bool,
+}
+
 /// What a try makes of a set: for each position in it, it is illegal, or it is made and the opponent replies.
 #[derive(Drop)]
 pub struct Parted {
@@ -42,28 +51,31 @@ pub struct UnsortedParts {
 #[tactic(auto, unfolding(krieg_game::specs::Chess::stalemates, krieg_game::specs::Chess::outcomes))]
 fn add_legal(
     alloc: Global,
-    d: Dialect,
+    attempt: &Attempt,
     p: &Position,
-    mv: &Move,
     made: &Made,
-    always: bool,
     parts: &mut UnsortedParts,
     units: &mut Units,
 ) -> Result<(), PartStop>
-    requires legal { rule.is_legal p.now mv.now ≡ true }
-    requires words { made.now.words ≡ words p.now mv.now }
-    requires position { made.now.position ≡ after p.now mv.now }
+    requires legal { rule.is_legal p.now attempt.now.mv ≡ true }
+    requires words { made.now.words ≡ words p.now attempt.now.mv }
+    requires position { made.now.position ≡ after p.now attempt.now.mv }
     requires guard { IsGuard made.now.position made.now.guard }
-    ensures { Charges result (λ _. IsAdded d always parts.old parts.new p.now mv.now)
-        (suc (length (given (chess d) mv.now p.now))) units.old units.new }
+    ensures { Charges result (λ _. IsAdded attempt.now parts.old parts.new p.now)
+        (suc (length (given (chess attempt.now.dialect) attempt.now.mv p.now)))
+        units.old units.new }
 {
     let replies = legal_moves_by(alloc, &made.position, &made.guard)?;
     take(units, 1 + replies.len() as u64)?;
     parts.stale = parts.stale || is_stalemate_by(&made.position, replies.len());
-    if always || !parts.stale {
-        parts
-            .pool
-            .add(alloc, d, &made.words, &made.position, replies.as_slice())?;
+    if attempt.always || !parts.stale {
+        parts.pool.add(
+            alloc,
+            attempt.dialect,
+            &made.words,
+            &made.position,
+            replies.as_slice(),
+        )?;
     }
     Ok(())
 }
@@ -83,22 +95,21 @@ fn count_replies(p: &Position, mv: &Move) -> usize
 /// are only counted.
 fn add_member(
     alloc: Global,
-    d: Dialect,
+    attempt: &Attempt,
     member: &Packed,
-    mv: &Move,
-    always: bool,
     parts: &mut UnsortedParts,
     units: &mut Units,
 ) -> Result<(), PartStop>
-    ensures { Charges result (λ _. IsAdded d always parts.old parts.new member.now mv.now)
-        (suc (length (given (chess d) mv.now member.now))) units.old units.new }
+    ensures { Charges result (λ _. IsAdded attempt.now parts.old parts.new member.now)
+        (suc (length (given (chess attempt.now.dialect) attempt.now.mv member.now)))
+        units.old units.new }
 {
     let p = unpack(member);
-    if parts.stale && !always {
-        return take(units, 1 + count_replies(&p, mv) as u64);
+    if parts.stale && !attempt.always {
+        return take(units, 1 + count_replies(&p, &attempt.mv) as u64);
     }
-    if let Some(made) = make_if_legal(&p, *mv) {
-        return add_legal(alloc, d, &p, mv, &made, always, parts, units);
+    if let Some(made) = make_if_legal(&p, attempt.mv) {
+        return add_legal(alloc, attempt, &p, &made, parts, units);
     }
     take(units, 1)?;
     parts.refused.push(*member)?;
@@ -109,14 +120,12 @@ fn add_member(
 /// there are units for. Without `always` nothing more is kept once the try stalemates in some member: it fails then.
 pub fn gather(
     alloc: Global,
-    d: Dialect,
+    attempt: &Attempt,
     members: &[Packed],
-    mv: &Move,
-    always: bool,
     units: &mut Units,
 ) -> Result<UnsortedParts, PartStop>
-    ensures { Charges result (IsGathered d always members.now mv.now)
-        (made (chess d) members.now mv.now) units.old units.new }
+    ensures { Charges result (IsGathered attempt.now members.now)
+        (made (chess attempt.now.dialect) members.now attempt.now.mv) units.old units.new }
 {
     let mut parts = UnsortedParts {
         refused: Vec::new(alloc),
@@ -124,7 +133,7 @@ pub fn gather(
         pool: Pool::new(alloc),
     };
     for member in members {
-        add_member(alloc, d, member, mv, always, &mut parts, units)?;
+        add_member(alloc, attempt, member, &mut parts, units)?;
     }
     Ok(parts)
 }

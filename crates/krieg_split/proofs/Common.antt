@@ -29,7 +29,7 @@ unfoldable pub use Rattle.krieg_game.specs.Outset.{starts, waits}
 pub use Rattle.krieg_game.specs.Outset.{outset}
 pub use Rattle.krieg_game.specs.declared.classes.Class.{Class}
 pub use Rattle.krieg_parting.specs.FirstMoves.{AreFirstMoves}
-pub use Rattle.krieg_parting.specs.Gathering.{IsGathered}
+pub use Rattle.krieg_parting.specs.Gathering.{IsGathered, whole_try}
 pub use Rattle.krieg_parting.specs.Mating.{AreTried, IsMating, lives, refuses, replies}
 pub use Rattle.krieg_parting.specs.declared.firsts.FirstMoves.{FirstMoves}
 pub use Rattle.krieg_parting.specs.declared.last_move.Mating.{Mating}

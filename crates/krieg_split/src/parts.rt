@@ -6,7 +6,7 @@ ghost use Rattle.krieg_split.specs.Units.{IsPaid};
 
 use krieg_board::{Move, Units};
 use krieg_pack::Belief;
-use krieg_parting::{PartStop, Parted, gather, parts_of};
+use krieg_parting::{Attempt, PartStop, Parted, gather, parts_of};
 use krieg_words::Dialect;
 use std::alloc::Global;
 
@@ -26,7 +26,12 @@ pub fn split(
     ensures units { IsPaid result (made (chess d) b.now mv) units.old units.new }
 {
     let mut left = Units::new(units.left());
-    let parts = gather(alloc, d, b.members(), &mv, true, &mut left)?;
+    let attempt = Attempt {
+        dialect: d,
+        mv,
+        always: true,
+    };
+    let parts = gather(alloc, &attempt, b.members(), &mut left)?;
     let parted = parts_of(alloc, parts)?;
     *units = left;
     Ok(parted)
@@ -48,7 +53,12 @@ pub fn split_unless_stale(
     ensures units { IsPaid result (made (chess d) b.now mv) units.old units.new }
 {
     let mut left = Units::new(units.left());
-    let parts = gather(alloc, d, b.members(), &mv, false, &mut left)?;
+    let unless_stale = Attempt {
+        dialect: d,
+        mv,
+        always: false,
+    };
+    let parts = gather(alloc, &unless_stale, b.members(), &mut left)?;
     if parts.stale {
         *units = left;
         return Ok(None);
