@@ -9,11 +9,10 @@ ghost use Rattle.krieg_belief.specs.declared.steps.StepStop.TheVariants as stop;
 ghost use Rattle.krieg_belief.specs.Limits as limits;
 ghost use Rattle.krieg_belief.specs.Limits.{AllWithin, IsStop, IsLateStop};
 
-use crate::steps::{StepStop, step};
-use krieg_board::Side;
+use crate::steps::{Hearing, StepStop, step};
 use krieg_pack::Belief;
 use krieg_sheet::{Sheet, list_line};
-use krieg_words::{Dialect, Line, Words};
+use krieg_words::{Line, Words};
 use std::alloc::Global;
 
 /// Why the possible positions of a sheet are not listed.
@@ -38,8 +37,7 @@ fn stopped(stop: StepStop, line: usize) -> BeliefStop
 /// The set after all of the lines, where none on the way has more members than the limit allows.
 fn go_through(
     alloc: Global,
-    d: Dialect,
-    who: Side,
+    hearing: Hearing,
     start: Belief,
     lines: &[Line],
     limit: usize,
@@ -47,14 +45,16 @@ fn go_through(
 ) -> Result<Belief, BeliefStop>
     requires fits { length start ≤ limit }
     requires room { behind + length lines.now < 2 ^ 64 }
-    ensures value { IfOk result (λ b. b ≡ spec.run d who lines.now start) }
+    ensures value { IfOk result
+        (λ b. b ≡ spec.run hearing.dialect hearing.side lines.now start) }
     ensures within { OnOk result ((n : ℕ) → n ≤ length lines.now →
-        length (spec.run d who (take n lines.now) start) ≤ limit) }
-    ensures stop { IfErr result (IsLateStop d who lines.now start limit behind) }
+        length (spec.run hearing.dialect hearing.side (take n lines.now) start) ≤ limit) }
+    ensures stop { IfErr result
+        (IsLateStop hearing.dialect hearing.side lines.now start limit behind) }
 {
     let mut b = start;
     for i in 0..lines.len() {
-        b = match step(alloc, d, who, &lines[i], &b, limit) {
+        b = match step(alloc, hearing, &lines[i], &b, limit) {
             Ok(next) => next,
             Err(stop) => return Err(stopped(stop, behind + i + 1)),
         };
@@ -92,21 +92,21 @@ fn line_behind(s: &Sheet) -> usize
 /// Only the positions with the opening words, where they were heard.
 fn after_opening(
     alloc: Global,
-    d: Dialect,
-    who: Side,
+    hearing: Hearing,
     opens: &Option<Words>,
     listed: Belief,
     limit: usize,
 ) -> Result<Belief, StepStop>
     requires { length listed ≤ limit }
-    ensures value { IfOk result (λ b. b ≡ spec.after_opening d who opens.now listed) }
+    ensures value { IfOk result
+        (λ b. b ≡ spec.after_opening hearing.dialect hearing.side opens.now listed) }
     ensures small { IfOk result (λ b. length b ≤ limit) }
     ensures too_many { result ≡ Err stop.TooMany →
-        limit < length (spec.after_opening d who opens.now listed) }
+        limit < length (spec.after_opening hearing.dialect hearing.side opens.now listed) }
 {
     match opens {
         None => Ok(listed),
-        Some(w) => step(alloc, d, who, &Line::Opens(*w), &listed, limit),
+        Some(w) => step(alloc, hearing, &Line::Opens(*w), &listed, limit),
     }
 }
 
@@ -122,19 +122,23 @@ pub fn believe(alloc: Global, s: &Sheet, limit: usize) -> Result<Belief, BeliefS
     ensures within { OnOk result (AllWithin limit s.now) }
     ensures stop { IfErr result (IsStop s.now limit) }
 {
-    let d = s.dialect();
-    let who = s.side();
+    let hearing = Hearing {
+        dialect: s.dialect(),
+        side: s.side(),
+    };
     let listed = match Belief::from_positions(alloc, s.list()) {
         Ok(listed) => listed,
         Err(_) => return Err(BeliefStop::NoMemory),
     };
     if listed.len() > limit {
-        return Err(BeliefStop::TooMany { line: list_line(d) });
+        return Err(BeliefStop::TooMany {
+            line: list_line(hearing.dialect),
+        });
     }
     let behind = line_behind(s);
-    let start = match after_opening(alloc, d, who, &s.opens(), listed, limit) {
+    let start = match after_opening(alloc, hearing, &s.opens(), listed, limit) {
         Ok(start) => start,
         Err(stop) => return Err(stopped(stop, behind)),
     };
-    go_through(alloc, d, who, start, s.entries(), limit, behind)
+    go_through(alloc, hearing, start, s.entries(), limit, behind)
 }

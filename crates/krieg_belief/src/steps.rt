@@ -12,6 +12,13 @@ use krieg_pack::{Belief, Packed, pack, trim, unpack};
 use krieg_words::{Dialect, Line, Words, after_told, after_told_if_legal, compare, opening, told};
 use std::alloc::Global;
 
+/// Who hears, and in which dialect he is told.
+#[derive(Clone, Copy)]
+pub(crate) struct Hearing {
+    pub dialect: Dialect,
+    pub side: Side,
+}
+
 /// Why a set was not made.
 #[derive(Clone, Copy, Debug, PartialEq, Eq)]
 pub(crate) enum StepStop {
@@ -29,13 +36,13 @@ fn has_opening(d: Dialect, w: &Words, p: &Position) -> bool
 }
 
 /// The position after the player's own move, where it may be made and has the words.
-fn after_done(d: Dialect, who: Side, mv: &Move, w: &Words, p: &Position) -> Option<Position>
-    ensures { result ≡ spec.after_done d who mv.now w.now p.now }
+fn after_done(hearing: Hearing, mv: &Move, w: &Words, p: &Position) -> Option<Position>
+    ensures { result ≡ spec.after_done hearing.dialect hearing.side mv.now w.now p.now }
 {
-    if p.side() != who {
+    if p.side() != hearing.side {
         return None;
     }
-    after_told_if_legal(d, w, p, *mv)
+    after_told_if_legal(hearing.dialect, w, p, *mv)
 }
 
 /// Adds the positions after those of the legal moves that have the words.
@@ -62,42 +69,42 @@ fn push_heard(
 #[tactic(auto, using(crate::proofs::Runs::listed))]
 fn push_next(
     alloc: Global,
-    d: Dialect,
-    who: Side,
+    hearing: Hearing,
     line: &Line,
     p: &Position,
     out: &mut Vec<Packed>,
 ) -> Result<(), NoMemory>
-    ensures { OnOk result (out.new.items ≡ out.old.items ++ spec.nexts d who line.now p.now) }
+    ensures { OnOk result (out.new.items
+        ≡ out.old.items ++ spec.nexts hearing.dialect hearing.side line.now p.now) }
 {
     match line {
         Line::Opens(w) => {
-            if has_opening(d, w, p) {
+            if has_opening(hearing.dialect, w, p) {
                 out.push(pack(p))?;
             }
             Ok(())
         }
         Line::Illegal(mv) => {
-            if has_move(p) && (p.side() == who && !is_legal(p, *mv)) {
+            if has_move(p) && (p.side() == hearing.side && !is_legal(p, *mv)) {
                 out.push(pack(p))?;
             }
             Ok(())
         }
         Line::Done(mv, w) => {
-            if let Some(next) = after_done(d, who, mv, w, p) {
+            if let Some(next) = after_done(hearing, mv, w, p) {
                 out.push(pack(&next))?;
             }
             Ok(())
         }
         Line::Heard(w) => {
-            if p.side() == who {
+            if p.side() == hearing.side {
                 return Ok(());
             }
             let moves = legal_moves(alloc, p)?;
-            push_heard(d, w, p, moves.as_slice(), out)
+            push_heard(hearing.dialect, w, p, moves.as_slice(), out)
         }
         Line::Early(_) => {
-            if has_move(p) && p.side() != who {
+            if has_move(p) && p.side() != hearing.side {
                 out.push(pack(p))?;
             }
             Ok(())
@@ -115,19 +122,19 @@ fn push_next(
 /// twice the limit and the replies to one position.
 pub(crate) fn step(
     alloc: Global,
-    d: Dialect,
-    who: Side,
+    hearing: Hearing,
     line: &Line,
     b: &Belief,
     limit: usize,
 ) -> Result<Belief, StepStop>
-    ensures value { IfOk result (λ n. n ≡ spec.step d who line.now b.now) }
+    ensures value { IfOk result (λ n. n ≡ spec.step hearing.dialect hearing.side line.now b.now) }
     ensures small { IfOk result (λ n. length n ≤ limit) }
-    ensures too_many { result ≡ Err stop.TooMany → limit < length (spec.step d who line.now b.now) }
+    ensures too_many { result ≡ Err stop.TooMany →
+        limit < length (spec.step hearing.dialect hearing.side line.now b.now) }
 {
     let mut out = Vec::new(alloc);
     for k in b.members() {
-        if push_next(alloc, d, who, line, &unpack(k), &mut out).is_err() {
+        if push_next(alloc, hearing, line, &unpack(k), &mut out).is_err() {
             return Err(StepStop::NoMemory);
         }
         if trim(&mut out, limit).is_err() {

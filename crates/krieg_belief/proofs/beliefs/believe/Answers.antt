@@ -10,21 +10,21 @@ returns-then-len-limit-clause-stop c =
     let listed : c.in-Ok.listed ≡ set_of s.list = c.in-Ok.ensures.value ∙ ap set_of c.list.ensures.value in
     let over : c.args.limit < length c.in-Ok.listed = omega (arith, c.len.ensures.value) in
     list_exceeds s c.args.limit c.list_line.result c.in-Ok.listed listed over
-    (c.list_line.ensures.value s.side (length s.list) ∙ ap (λ d. length (Rattle.krieg_sheet.specs.SheetText.head_lines d s.side (length s.list))) c.dialect-d.ensures.value)
+    (c.list_line.ensures.value s.side (length s.list) ∙ ap (λ d. length (Rattle.krieg_sheet.specs.SheetText.head_lines d s.side (length s.list))) c.dialect.ensures.value)
 
 pub returns-in-Err-after_opening-clause-stop : goal.returns-in-Err-after_opening-clause-stop
 returns-in-Err-after_opening-clause-stop c =
     let s = c.args.s.now in
     let listed : c.in-Ok.listed ≡ set_of s.list = c.in-Ok.ensures.value ∙ ap set_of c.list.ensures.value in
     let fits : length c.in-Ok.listed ≤ c.args.limit = omega (arith, c.len.ensures.value) in
-    let set : after_opening c.dialect-d.result c.side-who.result c.opens.result c.in-Ok.listed ≡ begun s = λ i. after_opening (c.dialect-d.ensures.value i) (c.side-who.ensures.value i) (c.opens.ensures.value i) (listed i) in
+    let set : after_opening c.dialect.result c.side.result c.opens.result c.in-Ok.listed ≡ begun s = λ i. after_opening (c.dialect.ensures.value i) (c.side.ensures.value i) (c.opens.ensures.value i) (listed i) in
     opening_exceeds s c.args.limit c.line_behind-behind.result c.in-Err-after_opening.stop c.stopped.result c.opens.ensures.sheet (subst (λ (ps : List Pos). length ps ≤ c.args.limit) listed fits)
     (λ e. subst (λ (ps : List Pos). c.args.limit < length ps) set (c.in-Err-after_opening.ensures.too_many (ap Err e))) c.line_behind-behind.ensures.value c.stopped.ensures
 
 starts : (c : goal.After-go_through) → c.in-Ok-after_opening.start ≡ begun c.args.s.now
 starts c =
     let listed : c.in-Ok.listed ≡ set_of c.args.s.now.list = c.in-Ok.ensures.value ∙ ap set_of c.list.ensures.value in
-    c.in-Ok-after_opening.ensures.value ∙ (λ i. after_opening (c.dialect-d.ensures.value i) (c.side-who.ensures.value i) (c.opens.ensures.value i) (listed i))
+    c.in-Ok-after_opening.ensures.value ∙ (λ i. after_opening (c.dialect.ensures.value i) (c.side.ensures.value i) (c.opens.ensures.value i) (listed i))
 
 fitting : (c : goal.After-go_through) → length (set_of c.args.s.now.list) ≤ c.args.limit
 fitting c =
@@ -35,8 +35,8 @@ fitting c =
 possible : (c : goal.After-go_through) → IfOk c.go_through.result (λ b. IsPossible c.args.s.now b)
 possible c =
     let s = c.args.s.now in
-    let behind : run c.dialect-d.result c.side-who.result c.entries.result.now c.in-Ok-after_opening.start ≡ run s.dialect s.side s.entries (begun s) =
-    λ i. run (c.dialect-d.ensures.value i) (c.side-who.ensures.value i) (c.entries.ensures.value i) (starts c i) in
+    let behind : run c.dialect.result c.side.result c.entries.result.now c.in-Ok-after_opening.start ≡ run s.dialect s.side s.entries (begun s) =
+    λ i. run (c.dialect.ensures.value i) (c.side.ensures.value i) (c.entries.ensures.value i) (starts c i) in
     if_ok _ (IsPossible s) c.go_through.result (λ b is. subst (IsPossible s) (sym (is ∙ behind)) (possible_all s c.entries.ensures.sheet)) c.go_through.ensures.value
 
 pub returns-clause-value : goal.returns-clause-value
@@ -54,7 +54,7 @@ returns-clause-within c =
     on_ok _ (AllWithin c.args.limit s) c.go_through.result
     (λ within. all_within s c.args.limit c.entries.ensures.sheet (fitting c)
     (subst (λ (T : Type 0). T)
-    (λ i. (n : ℕ) → n ≤ length (c.entries.ensures.value i) → length (run (c.dialect-d.ensures.value i) (c.side-who.ensures.value i) (take n (c.entries.ensures.value i)) (starts c i)) ≤ c.args.limit)
+    (λ i. (n : ℕ) → n ≤ length (c.entries.ensures.value i) → length (run (c.dialect.ensures.value i) (c.side.ensures.value i) (take n (c.entries.ensures.value i)) (starts c i)) ≤ c.args.limit)
     within))
     c.go_through.ensures.within
 
@@ -64,6 +64,6 @@ returns-clause-stop c =
     if_err _ (IsStop s c.args.limit) c.go_through.result
     (λ r late. entry_exceeds s c.args.limit c.line_behind-behind.result r c.entries.ensures.sheet (fitting c) c.line_behind-behind.ensures.value
     (subst (λ (T : Type 0). T)
-    (λ i. IsLateStop (c.dialect-d.ensures.value i) (c.side-who.ensures.value i) (c.entries.ensures.value i) (starts c i) c.args.limit c.line_behind-behind.result r)
+    (λ i. IsLateStop (c.dialect.ensures.value i) (c.side.ensures.value i) (c.entries.ensures.value i) (starts c i) c.args.limit c.line_behind-behind.result r)
     late))
     c.go_through.ensures.stop
