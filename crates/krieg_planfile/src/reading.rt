@@ -9,7 +9,7 @@ ghost use Rattle.krieg_planfile.specs.PlanFiles.{state_of, IsPlanFile};
 ghost use Rattle.krieg_planfile.specs.PlanSpelling.{SpellsPlan, PlanGrammar};
 ghost use Rattle.krieg_planfile.specs.PlanReading as spec;
 
-use crate::roots::read_roots;
+use crate::roots::{RootRules, read_roots};
 use krieg_board::{Position, Side};
 use krieg_fen::{Turn, read_listing};
 use krieg_plan::{MOST_NODES, MOST_ON_PATH, Plan, PlanFile};
@@ -98,17 +98,15 @@ fn read_end(from: &mut Cursor<'_>) -> Result<(), TextFault>
 fn read_roots_of_plan(
     alloc: Global,
     from: &mut Cursor<'_>,
-    version: u64,
-    waiting: bool,
-    d: Dialect,
+    rules: RootRules,
     left: &mut usize,
     k: u64,
 ) -> Result<Plan, TextFault>
     ensures { GivesOn (λ p. (plan_of p, left.new)) result from.new
-        (branches_by (node_at MOST_ON_PATH d) (spec.root_form version waiting d) k None left.old
-        from.old) }
+        (branches_by (node_at MOST_ON_PATH rules.dialect)
+        (spec.root_form rules.version rules.waiting rules.dialect) k None left.old from.old) }
 {
-    let roots = read_roots(alloc, from, version, waiting, d, left, k)?;
+    let roots = read_roots(alloc, from, rules, left, k)?;
     Ok(Plan::make(roots))
 }
 
@@ -128,8 +126,12 @@ fn read_claim(
     let worst = read_worst(from)? as u16;
     let count = read_root_count(from)?;
     let mut left = MOST_NODES;
-    let waiting = waits(side, &list);
-    let plan = read_roots_of_plan(alloc, from, version, waiting, dialect, &mut left, count)?;
+    let rules = RootRules {
+        version,
+        dialect,
+        waiting: waits(side, &list),
+    };
+    let plan = read_roots_of_plan(alloc, from, rules, &mut left, count)?;
     read_end(from)?;
     Ok(PlanFile {
         dialect,

@@ -17,6 +17,15 @@ use std::alloc::Global;
 /// is to move first.
 pub(crate) type RootKey = (Words, Option<Words>);
 
+/// By which rules the lines of roots are read.
+#[derive(Clone, Copy)]
+pub(crate) struct RootRules {
+    pub version: u64,
+    pub dialect: Dialect,
+    /// Whether the opponent is to move first.
+    pub waiting: bool,
+}
+
 fn root_with(key: Option<(Words, Words)>, single: Option<Words>) -> Option<RootKey>
     ensures { result ≡ spec.root_with key single }
 {
@@ -74,50 +83,42 @@ fn root_placed(waiting: bool, last: &Option<RootKey>, key: RootKey) -> Result<Ro
     }
 }
 
-fn root_form(
-    version: u64,
-    waiting: bool,
-    d: Dialect,
-    last: &Option<RootKey>,
-    line: &[u8],
-) -> Result<RootKey, TextKind>
-    ensures { result ≡ spec.root_form version waiting d last.now line.now }
+fn root_form(rules: RootRules, last: &Option<RootKey>, line: &[u8]) -> Result<RootKey, TextKind>
+    ensures { result
+        ≡ spec.root_form rules.version rules.waiting rules.dialect last.now line.now }
 {
-    root_placed(waiting, last, any_root_form(version, d, line)?)
+    let key = any_root_form(rules.version, rules.dialect, line)?;
+    root_placed(rules.waiting, last, key)
 }
 
 /// The next line, as that of a root, after the root with the last key.
 #[tactic(auto, using(krieg_text::proofs::ReadingLemmas::refused))]
 fn read_root_line(
     from: &mut Cursor<'_>,
-    version: u64,
-    waiting: bool,
-    d: Dialect,
+    rules: RootRules,
     last: &Option<RootKey>,
 ) -> Result<RootKey, TextFault>
     ensures { GivesOn (λ x. x) result from.new
-        (taken (spec.root_form version waiting d last.now) from.old) }
+        (taken (spec.root_form rules.version rules.waiting rules.dialect last.now) from.old) }
 {
     let line = from.number();
-    root_form(version, waiting, d, last, from.line()?).map_err(|kind| TextFault::At { line, kind })
+    root_form(rules, last, from.line()?).map_err(|kind| TextFault::At { line, kind })
 }
 
 /// The line of a root, after the root with the last key, and its node.
 fn read_root(
     alloc: Global,
     from: &mut Cursor<'_>,
-    version: u64,
-    waiting: bool,
-    d: Dialect,
+    rules: RootRules,
     left: &mut usize,
     last: &Option<RootKey>,
 ) -> Result<Root, TextFault>
     ensures { GivesOn (λ r. (root_of r, left.new)) result from.new
-        (nodes.branch_by (nodes.node_at MOST_ON_PATH d) (spec.root_form version waiting d) last.now
-        left.old from.old) }
+        (nodes.branch_by (nodes.node_at MOST_ON_PATH rules.dialect)
+        (spec.root_form rules.version rules.waiting rules.dialect) last.now left.old from.old) }
 {
-    let (opens, heard) = read_root_line(from, version, waiting, d, last)?;
-    let node = read_node(alloc, from, d, MOST_ON_PATH, left)?;
+    let (opens, heard) = read_root_line(from, rules, last)?;
+    let node = read_node(alloc, from, rules.dialect, MOST_ON_PATH, left)?;
     Ok(Root { opens, heard, node })
 }
 
@@ -126,20 +127,18 @@ fn read_root(
 pub(crate) fn read_roots(
     alloc: Global,
     from: &mut Cursor<'_>,
-    version: u64,
-    waiting: bool,
-    d: Dialect,
+    rules: RootRules,
     left: &mut usize,
     k: u64,
 ) -> Result<Vec<Root>, TextFault>
     ensures { GivesOn (λ v. (map root_of v.items, left.new)) result from.new
-        (nodes.branches_by (nodes.node_at MOST_ON_PATH d) (spec.root_form version waiting d) k None
-        left.old from.old) }
+        (nodes.branches_by (nodes.node_at MOST_ON_PATH rules.dialect)
+        (spec.root_form rules.version rules.waiting rules.dialect) k None left.old from.old) }
 {
     let mut roots = Vec::new(alloc);
     let mut last: Option<RootKey> = None;
     for i in 0..k {
-        let root = match read_root(alloc, from, version, waiting, d, left, &last) {
+        let root = match read_root(alloc, from, rules, left, &last) {
             Ok(root) => root,
             Err(fault) => return Err(fault),
         };

@@ -6,8 +6,8 @@ use Rattle.krieg_planfile.proofs.roots.read_roots.Goals as goal
 
 pub loop-i-preserved : goal.loop-i-preserved
 loop-i-preserved c =
-    let node = node_at MOST_ON_PATH c.args.d in
-    let form = root_form c.args.version c.args.waiting c.args.d in
+    let node = node_at MOST_ON_PATH c.args.rules.dialect in
+    let form = root_form c.args.rules.version c.args.rules.waiting c.args.rules.dialect in
     let r = c.in-Ok.root in
     let first : branch_by node form c.loop-i.last c.loop-i.left c.loop-i.from ≡ Ok ((root_of r, c.read_root.new.left), c.read_root.new.from) = search rules in
     let items : c.push.new.self.items ≡ c.loop-i.roots.items ++ r ∷ [] = search rules in
@@ -17,8 +17,8 @@ loop-i-preserved c =
 
 pub returns-in-Err : goal.returns-in-Err
 returns-in-Err c =
-    let node = node_at MOST_ON_PATH c.args.d in
-    let form = root_form c.args.version c.args.waiting c.args.d in
+    let node = node_at MOST_ON_PATH c.args.rules.dialect in
+    let form = root_form c.args.rules.version c.args.rules.waiting c.args.rules.dialect in
     let one : Root → (RootKey × NodeTree) × _ = λ r. (root_of r, c.read_root.new.left) in
     let view : Vec Root Global → List (RootKey × NodeTree) × _ = λ v. (map root_of v.items, c.read_root.new.left) in
     let first : GivesOn one (Err c.in-Err.fault) c.read_root.new.from (branch_by node form c.loop-i.last c.loop-i.left c.loop-i.from) = search rules in

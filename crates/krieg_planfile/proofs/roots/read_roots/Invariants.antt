@@ -6,5 +6,5 @@ use Rattle.krieg_planfile.proofs.roots.read_roots.Given as goal
 -- the rest, read after the roots that are there, gives the whole
 abbrev pub invariant-loop-i : goal.invariant-loop-i
 invariant-loop-i l =
-    with_front (node_at MOST_ON_PATH l.d) (root_form l.version l.waiting l.d) (map root_of l.roots.items) (branches_by (node_at MOST_ON_PATH l.d) (root_form l.version l.waiting l.d) (l.k - l.i) l.last l.left l.from)
-    ≡ branches_by (node_at MOST_ON_PATH l.d) (root_form l.version l.waiting l.d) l.k None l.initial.left l.initial.from
+    with_front (node_at MOST_ON_PATH l.rules.dialect) (root_form l.rules.version l.rules.waiting l.rules.dialect) (map root_of l.roots.items) (branches_by (node_at MOST_ON_PATH l.rules.dialect) (root_form l.rules.version l.rules.waiting l.rules.dialect) (l.k - l.i) l.last l.left l.from)
+    ≡ branches_by (node_at MOST_ON_PATH l.rules.dialect) (root_form l.rules.version l.rules.waiting l.rules.dialect) l.k None l.initial.left l.initial.from
