@@ -23,7 +23,7 @@ use crate::try_result::{LastTry, TryResult, all_refuse, stalemates_in_some};
 use krieg_board::Move;
 use krieg_game::Class;
 use krieg_pack::Belief;
-use krieg_search::is_within;
+use krieg_search::{PackedKey, is_within};
 use krieg_split::Parted;
 use krieg_words::{Words, compare};
 use std::alloc::Global;
@@ -82,14 +82,14 @@ fn is_class_shown(
     place: u16,
     moves: u8,
     classes: &[Class],
-    own: &Words,
-    reply: &Words,
+    key: &PackedKey,
 ) -> bool
     ensures { (d : Dialect) → result ≡ theory.is_shown (chess d)
         (theory.cited (claims_of d before.now) place) moves
-        (class_in (map class_pair classes.now) (own.now, reply.now)) }
+        (class_in (map class_pair classes.now) key.now) }
 {
-    match heard(classes, own, reply) {
+    let (own, reply) = key.words();
+    match heard(classes, &own, &reply) {
         Some(set) => is_shown(before, place, moves, set),
         None => is_shown(before, place, moves, &Belief::from_packed(Vec::new(alloc))),
     }
@@ -114,8 +114,7 @@ fn holds_by_parts(alloc: Global, before: &[Claim], fewer: u8, parted: &Parted, w
         Why::Stale => parted.stale,
         Why::Class(heard, place) => {
             let classes = parted.classes.as_slice();
-            let (own, reply) = heard.words();
-            fewer > 0 && is_class_shown(alloc, before, *place, fewer, classes, &own, &reply)
+            fewer > 0 && is_class_shown(alloc, before, *place, fewer, classes, heard)
         }
         Why::Refused(place) => is_shown(before, *place, fewer + 1, &parted.refused),
     }
