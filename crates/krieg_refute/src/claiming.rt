@@ -48,6 +48,14 @@ pub(crate) struct ClaimList {
     pub reasons: usize,
 }
 
+/// What stays the same while claims are written, with what the search has noted.
+#[derive(Clone, Copy)]
+pub(crate) struct Setting<'a> {
+    pub alloc: Global,
+    pub dialect: Dialect,
+    pub notes: &'a Notes,
+}
+
 /// What may be heard behind a try, with the set that is possible then.
 #[derive(Drop)]
 pub(crate) struct LostClass {
@@ -212,27 +220,29 @@ fn push(
     d: Dialect,
     table: &Table,
     claimed: &mut ClaimList,
-    set: u32,
-    moves: u8,
+    asked: Question,
     reasons: Vec<Reason>,
 ) -> Result<u16, SearchStop>
-    requires within { set < length table.now }
+    requires within { asked.set < length table.now }
     requires claimed { IsClaimList d table.now claimed.old }
-    requires next { IsNext d table.now claimed.old.places.keys (set_at table.now set) moves
-        (map reason_of reasons.items) }
-    ensures { IsPushed d table.now (set_at table.now set) moves claimed.old claimed.new result }
+    requires next { IsNext d table.now claimed.old.places.keys (set_at table.now asked.set)
+        asked.moves (map reason_of reasons.items) }
+    ensures { IsPushed d table.now (set_at table.now asked.set) asked.moves
+        claimed.old claimed.new result }
 {
-    let positions = claimed.positions.saturating_add(table.belief(set).len());
+    let positions = claimed
+        .positions
+        .saturating_add(table.belief(asked.set).len());
     let count = claimed.reasons.saturating_add(reasons.len());
     if !are_few(claimed.claims.len() + 1, positions, count) {
         return Err(SearchStop::Large);
     }
     claimed.claims.push(Draft {
-        moves,
-        set,
+        moves: asked.moves,
+        set: asked.set,
         reasons,
     })?;
-    add_place(&mut claimed.places, Question { set, moves })?;
+    add_place(&mut claimed.places, asked)?;
     claimed.positions = positions;
     claimed.reasons = count;
     Ok(claimed.claims.len() as u16)
@@ -242,9 +252,7 @@ fn push(
 /// put behind all that it cites.
 #[cycle(claim)]
 pub(crate) fn claim(
-    alloc: Global,
-    d: Dialect,
-    notes: &Notes,
+    setting: &Setting<'_>,
     table: &mut Table,
     claimed: &mut ClaimList,
     asked: Question,
@@ -252,55 +260,51 @@ pub(crate) fn claim(
     requires some { 0 < asked.moves }
     requires within { asked.set < length table.old }
     requires members { is_nil (set_at table.old asked.set) ≡ false }
-    requires paid { IsPaidFor d false table.old }
-    requires noted { AreNotes d false table.old notes.now }
+    requires paid { IsPaidFor setting.now.dialect false table.old }
+    requires noted { AreNotes setting.now.dialect false table.old setting.now.notes.now }
     requires lost { IsLost table.old (set_at table.old asked.set) asked.moves }
-    requires claimed { IsClaimList d table.old claimed.old }
-    ensures { Claims d result (set_at table.old asked.set) asked.moves table.old table.new
-        claimed.old claimed.new }
+    requires claimed { IsClaimList setting.now.dialect table.old claimed.old }
+    ensures { Claims setting.now.dialect result (set_at table.old asked.set) asked.moves
+        table.old table.new claimed.old claimed.new }
 {
     table.know_once();
     if let Some(index) = claimed.places.get_index_of(&asked) {
         return Ok(index as u16 + 1);
     }
-    let reasons = reasons_of(alloc, d, notes, table, claimed, asked)?;
-    push(d, table, claimed, asked.set, asked.moves, reasons)
+    let reasons = reasons_of(setting, table, claimed, asked)?;
+    push(setting.dialect, table, claimed, asked, reasons)
 }
 
 /// The reasons of all tries of the set, by claims that stand before its own. What blocks the tries is as the search has noted it,
 /// or is found by one split more for each.
 #[cycle(claim)]
 fn reasons_of(
-    alloc: Global,
-    d: Dialect,
-    notes: &Notes,
+    setting: &Setting<'_>,
     table: &mut Table,
     claimed: &mut ClaimList,
     asked: Question,
 ) -> Result<Vec<Reason>, SearchStop>
     requires some { 0 < asked.moves }
     requires within { asked.set < length table.old }
-    requires paid { IsPaidFor d false table.old }
-    requires noted { AreNotes d false table.old notes.now }
+    requires paid { IsPaidFor setting.now.dialect false table.old }
+    requires noted { AreNotes setting.now.dialect false table.old setting.now.notes.now }
     requires lost { IsLost table.old (set_at table.old asked.set) asked.moves }
-    requires claimed { IsClaimList d table.old claimed.old }
-    ensures { Reasons d result (set_at table.old asked.set) asked.moves
-        (theory.tries (chess d) (set_at table.old asked.set)) table.old table.new
+    requires claimed { IsClaimList setting.now.dialect table.old claimed.old }
+    ensures { Reasons setting.now.dialect result (set_at table.old asked.set) asked.moves
+        (theory.tries (chess setting.now.dialect) (set_at table.old asked.set)) table.old table.new
         claimed.old claimed.new }
 {
-    if let Some(row) = notes.of(asked.set, asked.moves) {
-        return reasons_for(alloc, d, notes, table, claimed, asked, row);
+    if let Some(row) = setting.notes.of(asked.set, asked.moves) {
+        return reasons_for(setting, table, claimed, asked, row);
     }
-    let row = row_of(alloc, d, table, asked)?;
-    reasons_for(alloc, d, notes, table, claimed, asked, row.as_slice())
+    let row = row_of(setting.alloc, setting.dialect, table, asked)?;
+    reasons_for(setting, table, claimed, asked, row.as_slice())
 }
 
 /// The reasons of tries by what blocks each.
 #[cycle(claim)]
 fn reasons_for(
-    alloc: Global,
-    d: Dialect,
-    notes: &Notes,
+    setting: &Setting<'_>,
     table: &mut Table,
     claimed: &mut ClaimList,
     asked: Question,
@@ -308,18 +312,18 @@ fn reasons_for(
 ) -> Result<Vec<Reason>, SearchStop>
     requires some { 0 < asked.moves }
     requires within { asked.set < length table.old }
-    requires paid { IsPaidFor d false table.old }
-    requires noted { AreNotes d false table.old notes.now }
+    requires paid { IsPaidFor setting.now.dialect false table.old }
+    requires noted { AreNotes setting.now.dialect false table.old setting.now.notes.now }
     requires lost { IsLost table.old (set_at table.old asked.set) asked.moves }
-    requires claimed { IsClaimList d table.old claimed.old }
-    requires row { IsRow d false table.old asked row.now }
-    ensures { Reasons d result (set_at table.old asked.set) asked.moves
-        (theory.tries (chess d) (set_at table.old asked.set)) table.old table.new
+    requires claimed { IsClaimList setting.now.dialect table.old claimed.old }
+    requires row { IsRow setting.now.dialect false table.old asked row.now }
+    ensures { Reasons setting.now.dialect result (set_at table.old asked.set) asked.moves
+        (theory.tries (chess setting.now.dialect) (set_at table.old asked.set)) table.old table.new
         claimed.old claimed.new }
 {
-    let mut reasons = Vec::with_capacity(alloc, row.len())?;
+    let mut reasons = Vec::with_capacity(setting.alloc, row.len())?;
     for note in row {
-        let why = why(alloc, d, notes, table, claimed, asked, note)?;
+        let why = why(setting, table, claimed, asked, note)?;
         reasons.push(Reason { mv: note.mv, why })?;
     }
     Ok(reasons)
@@ -328,9 +332,7 @@ fn reasons_for(
 /// Why the try does not begin to win the set, by what blocks it.
 #[cycle(claim)]
 fn why(
-    alloc: Global,
-    d: Dialect,
-    notes: &Notes,
+    setting: &Setting<'_>,
     table: &mut Table,
     claimed: &mut ClaimList,
     asked: Question,
@@ -338,14 +340,15 @@ fn why(
 ) -> Result<Why, SearchStop>
     requires some { 0 < asked.moves }
     requires within { asked.set < length table.old }
-    requires paid { IsPaidFor d false table.old }
-    requires noted { AreNotes d false table.old notes.now }
+    requires paid { IsPaidFor setting.now.dialect false table.old }
+    requires noted { AreNotes setting.now.dialect false table.old setting.now.notes.now }
     requires lost { IsLost table.old (set_at table.old asked.set) asked.moves }
-    requires claimed { IsClaimList d table.old claimed.old }
-    requires legal { legal_in_some (chess d) (set_at table.old asked.set) note.now.mv ≡ true }
-    requires blocked { IsBlock d false table.old (set_at table.old asked.set) asked.moves
-        note.now.mv note.now.block }
-    ensures { Blocks d result (set_at table.old asked.set) asked.moves note.now.mv
+    requires claimed { IsClaimList setting.now.dialect table.old claimed.old }
+    requires legal { legal_in_some (chess setting.now.dialect) (set_at table.old asked.set)
+        note.now.mv ≡ true }
+    requires blocked { IsBlock setting.now.dialect false table.old (set_at table.old asked.set)
+        asked.moves note.now.mv note.now.block }
+    ensures { Blocks setting.now.dialect result (set_at table.old asked.set) asked.moves note.now.mv
         table.old table.new claimed.old claimed.new }
 {
     let moves = asked.moves;
@@ -356,11 +359,11 @@ fn why(
                 set,
                 moves: moves - 1,
             };
-            let place = claim(alloc, d, notes, table, claimed, less)?;
+            let place = claim(setting, table, claimed, less)?;
             Ok(Why::Class(heard, place))
         }
         Block::Refused(set) => {
-            let place = claim(alloc, d, notes, table, claimed, Question { set, moves })?;
+            let place = claim(setting, table, claimed, Question { set, moves })?;
             Ok(Why::Refused(place))
         }
     }

@@ -8,7 +8,7 @@ ghost use Rattle.krieg_refute.specs.RefuteAnswers as side;
 ghost use Rattle.krieg_refute.specs.RefuteAnswers.{IsOneSide, IsDenied, IsTaken};
 ghost use Rattle.krieg_refute.specs.Claiming.{IsLost, is_lost_opening, AreClaims};
 
-use crate::claiming::{ClaimList, claim, is_lost};
+use crate::claiming::{ClaimList, Setting, claim, is_lost};
 use crate::claims::claims_of;
 use crate::refutation::Claim;
 use indexmap::IndexSet;
@@ -79,14 +79,12 @@ fn claims_for(
         positions: 0,
         reasons: 0,
     };
-    claim(
+    let setting = Setting {
         alloc,
-        d,
-        &notes,
-        &mut table,
-        &mut claimed,
-        Question { set, moves },
-    )?;
+        dialect: d,
+        notes: &notes,
+    };
+    claim(&setting, &mut table, &mut claimed, Question { set, moves })?;
     drop(notes);
     drop(claimed.places);
     Ok(claims_of(alloc, table, claimed.claims)?)

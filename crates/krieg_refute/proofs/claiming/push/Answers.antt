@@ -14,14 +14,14 @@ returns-then-not-are_few c =
     let d = c.args.d in
     let T = c.args.table.now in
     let w = c.args.claimed.now in
-    let one : Claim = record { moves = c.args.moves; set = set_at T c.args.set; reasons = c.args.reasons } in
-    let a : Question = record { set = c.args.set; moves = c.args.moves } in
+    let one : Claim = record { moves = c.args.asked.moves; set = set_at T c.args.asked.set; reasons = c.args.reasons } in
+    let a : Question = c.args.asked in
     let own = c.requires.claimed in
     let cs = claims_over T w.claims.items in
-    let is = claims_are d T w.places.keys cs one a c.requires.within own.numbered own.stands own.are c.requires.next (λ i. set_at T c.args.set) (λ i. c.args.moves) in
+    let is = claims_are d T w.places.keys cs one a c.requires.within own.numbered own.stands own.are c.requires.next (λ i. set_at T c.args.asked.set) (λ i. c.args.asked.moves) in
     let had = own.positions_part in
     let members = c.len.ensures.value ∙ ap length c.belief.ensures in
-    let positions : c.saturating_add-positions.result ≡ min (positions_in (chess d) (claims_of d cs) + length (set_at T c.args.set)) 18446744073709551615 = c.saturating_add-positions.ensures ∙ (λ i. min (had i + members i) 18446744073709551615) in
+    let positions : c.saturating_add-positions.result ≡ min (positions_in (chess d) (claims_of d cs) + length (set_at T c.args.asked.set)) 18446744073709551615 = c.saturating_add-positions.ensures ∙ (λ i. min (had i + members i) 18446744073709551615) in
     let given = own.reasons_part in
     let new : c.len-2.result ≡ length c.args.reasons.items = c.len-2.ensures ∙ search rules in
     let reasons : c.saturating_add-count.result ≡ min (reasons_in (chess d) (claims_of d cs) + length c.args.reasons.items) 18446744073709551615 = c.saturating_add-count.ensures ∙ (λ i. min (given i + new i) 18446744073709551615) in
@@ -32,7 +32,7 @@ returns-then-not-are_few c =
 
 pub add_place-requires : goal.add_place-requires
 add_place-requires c = λ i.
-    c.requires.next.fresh (in_map {Y = List Pos × ℕ} (λ (k : Question). (set_at c.args.table.now k.set, k.moves)) c.args.claimed.now.places.keys (record { set = c.args.set; moves = c.args.moves }) i)
+    c.requires.next.fresh (in_map {Y = List Pos × ℕ} (λ (k : Question). (set_at c.args.table.now k.set, k.moves)) c.args.claimed.now.places.keys c.args.asked i)
 
 pub returns : goal.returns
 returns c =
@@ -41,18 +41,18 @@ returns c =
     let w = c.args.claimed.now in
     let keys = w.places.keys in
     let cs = claims_over T w.claims.items in
-    let B = set_at T c.args.set in
-    let draft : Draft = record { moves = c.args.moves; set = c.args.set; reasons = c.args.reasons } in
+    let B = set_at T c.args.asked.set in
+    let draft : Draft = record { moves = c.args.asked.moves; set = c.args.asked.set; reasons = c.args.reasons } in
     let one = claim_over T draft in
-    let a : Question = record { set = c.args.set; moves = c.args.moves } in
+    let a : Question = c.args.asked in
     let own = c.requires.claimed in
     let next = c.requires.next in
     let set : B ≡ B = refl in
     let k = c.in_ok-add_place.ensures in
     let more = c.in_ok-push.ensures.items in
     let p : claims_over T c.push.new.self.items ≡ cs ++ one ∷ [] = ap (claims_over T) more ∙ map-append (claim_over T) w.claims.items (draft ∷ []) in
-    let is = claims_are d T keys cs one a c.requires.within own.numbered own.stands own.are next set (λ i. c.args.moves) in
-    let pairs : pairs_in T c.add_place.new.places.keys ≡ pairs_in T keys ++ (set_at T c.args.set, c.args.moves) ∷ [] = ap (pairs_in T) k ∙ pairs_more d T keys cs one a c.requires.within own.numbered own.stands own.are next set (λ i. c.args.moves) in
+    let is = claims_are d T keys cs one a c.requires.within own.numbered own.stands own.are next set (λ i. c.args.asked.moves) in
+    let pairs : pairs_in T c.add_place.new.places.keys ≡ pairs_in T keys ++ (set_at T c.args.asked.set, c.args.asked.moves) ∷ [] = ap (pairs_in T) k ∙ pairs_more d T keys cs one a c.requires.within own.numbered own.stands own.are next set (λ i. c.args.asked.moves) in
     let had = own.positions_part in
     let members = c.len.ensures.value ∙ ap length c.belief.ensures in
     let positions : c.saturating_add-positions.result ≡ min (positions_in (chess d) (claims_of d cs) + length B) 18446744073709551615 = c.saturating_add-positions.ensures ∙ (λ i. min (had i + members i) 18446744073709551615) in
@@ -65,8 +65,8 @@ returns c =
     let has_claims : c.len-4.result ≡ length c.push.new.self.items = c.len-4.ensures ∙ search rules in
     let last : c.len-4.result ≡ length (claims_over T c.push.new.self.items) = has_claims ∙ sym (length-map c.push.new.self.items (claim_over T)) in (
       record {
-        numbered = λ x i. all_numbered d T keys cs one a c.requires.within own.numbered own.stands own.are next set (λ i. c.args.moves) x (subst (In x) k i);
-        stands = subst (Stands (chess d) []) (sym pairs) (stand d T keys cs one a c.requires.within own.numbered own.stands own.are next set (λ i. c.args.moves));
+        numbered = λ x i. all_numbered d T keys cs one a c.requires.within own.numbered own.stands own.are next set (λ i. c.args.asked.moves) x (subst (In x) k i);
+        stands = subst (Stands (chess d) []) (sym pairs) (stand d T keys cs one a c.requires.within own.numbered own.stands own.are next set (λ i. c.args.asked.moves));
         within = All-same (λ (x : Draft). x.set < length T) _ _ more (All-push (λ (x : Draft). x.set < length T) w.claims.items draft own.within c.requires.within);
         are = ap (claims_of d) p ∙ is ∙ ap (written.claims_of (chess d)) (sym pairs);
         positions_part = few.0 ∙ ap (λ (xs : List Claim). positions_in (chess d) (claims_of d xs)) (sym p);
@@ -74,6 +74,6 @@ returns c =
         few = subst (λ (xs : List Claim). AreFew (chess d) most_claims most_claimed (claims_of d xs)) (sym p) few.2;
       },
       pairs,
-      place_is d T keys cs one a c.requires.within own.numbered own.stands own.are next set (λ i. c.args.moves) c.len-4.result (last ∙ ap length p)
-          ∙ ap (λ (R : List (List Pos × ℕ)). place_of (chess d) R (set_at T c.args.set, c.args.moves)) (sym pairs),
+      place_is d T keys cs one a c.requires.within own.numbered own.stands own.are next set (λ i. c.args.asked.moves) c.len-4.result (last ∙ ap length p)
+          ∙ ap (λ (R : List (List Pos × ℕ)). place_of (chess d) R (set_at T c.args.asked.set, c.args.asked.moves)) (sym pairs),
     )
