@@ -7,7 +7,7 @@ use Rattle.krieg_board.specs.declared.men.Side.TheVariants.{White, Black}
 use Rattle.krieg_board.specs.declared.limits.TheConstants.{MOST_MOVES, MOST_UNITS}
 use Rattle.krieg_text.specs.Decimals.{number_between}
 use Rattle.krieg_fen.specs.declared.forms.TheConstants.{MOST_LISTED}
-use Rattle.krieg_args.specs.declared.command.TheConstants.{MOST_ASKS, MOST_SEED}
+use Rattle.krieg_args.specs.declared.command.TheConstants.{MOST_ASKS, MOST_SEED, MOST_FIND_MOVES, MOST_FIND_UNITS}
 use Rattle.krieg_args.specs.declared.command.Command.{Command}
 use Rattle.krieg_args.specs.declared.command.Command.TheVariants.{Solve, Check, Refute, Deny, Believe, Why, Umpire, San, Unsan, Play, Lead, Next, Find, Make, Job}
 use Rattle.krieg_args.specs.declared.command.Made.{Made}
@@ -25,6 +25,14 @@ moves_of word = number 1 MOST_MOVES word
 -- BUDGET: units of work
 abbrev pub budget_of : List ℕ → Option ℕ
 budget_of word = number 1 MOST_UNITS word
+
+-- MOVES of `find`, which goes further
+abbrev pub find_moves_of : List ℕ → Option ℕ
+find_moves_of word = number 1 MOST_FIND_MOVES word
+
+-- BUDGET of `find`
+abbrev pub find_budget_of : List ℕ → Option ℕ
+find_budget_of word = number 1 MOST_FIND_UNITS word
 
 -- LIMIT: the positions of a set, which a text can list
 abbrev pub limit_of : List ℕ → Option ℕ
@@ -65,13 +73,21 @@ infixl 10 ◌>>=◌
 abbrev pub ◌>>=◌ : {A B : Type 0} → Option A → (A → Option B) → Option B
 x >>= f = option_and_then f x
 
--- the numbers of a search: moves, budget and limit
-abbrev pub search_numbers : List ℕ → List ℕ → List ℕ → Option (ℕ × ℕ × ℕ)
-search_numbers moves budget limit = do
-  m ← moves_of moves
-  b ← budget_of budget
-  l ← limit_of limit
+-- moves, budget and limit of a search, where each word is one
+abbrev pub numbers : Option ℕ → Option ℕ → Option ℕ → Option (ℕ × ℕ × ℕ)
+numbers moves budget limit = do
+  m ← moves
+  b ← budget
+  l ← limit
   Some (m, b, l)
+
+-- the numbers of `solve` and of `refute`
+abbrev pub search_numbers : List ℕ → List ℕ → List ℕ → Option (ℕ × ℕ × ℕ)
+search_numbers moves budget limit = numbers (moves_of moves) (budget_of budget) (limit_of limit)
+
+-- the numbers of `find`
+abbrev pub find_numbers : List ℕ → List ℕ → List ℕ → Option (ℕ × ℕ × ℕ)
+find_numbers moves budget limit = numbers (find_moves_of moves) (find_budget_of budget) (limit_of limit)
 
 -- for a plan
 abbrev pub solve : ℕ × ℕ × ℕ → Command
@@ -140,7 +156,7 @@ command_of _ = None
 
 -- The command of these words of the program krieg_find: the three numbers of a search.
 abbrev pub find_of : List (List ℕ) → Option Command
-find_of (moves ∷ budget ∷ limit ∷ []) = option_map find (search_numbers moves budget limit)
+find_of (moves ∷ budget ∷ limit ∷ []) = option_map find (find_numbers moves budget limit)
 find_of _ = None
 
 -- whether the command reads an input

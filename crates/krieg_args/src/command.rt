@@ -11,6 +11,12 @@ pub const MOST_ASKS: u64 = 4_096;
 /// The greatest number of a made input and of a made job.
 pub const MOST_SEED: u64 = 4_294_967_295;
 
+/// The most own moves that `find` may be asked for.
+pub const MOST_FIND_MOVES: u8 = 100;
+
+/// The most units of work that `find` may be given.
+pub const MOST_FIND_UNITS: u64 = 4_000_000_000;
+
 /// What a made input is.
 #[derive(Clone, Copy, Debug, PartialEq, Eq)]
 pub enum Made {
@@ -89,12 +95,12 @@ pub enum Command {
     },
     /// `next`: what a player does next who follows a plan and heard these lines.
     Next,
-    /// `MOVES BUDGET LIMIT`, the words of the program `krieg_find`: a plan for a sheet as for `solve`, mostly with far fewer
-    /// units of work.
+    /// `MOVES BUDGET LIMIT`, the words of the program `krieg_find`: a plan for a sheet as for `solve`, within more moves if it is
+    /// asked for, and mostly with far fewer units of work.
     Find {
-        /// From 1 to [`MOST_MOVES`].
+        /// From 1 to [`MOST_FIND_MOVES`].
         moves: u64,
-        /// From 1 to [`MOST_UNITS`].
+        /// From 1 to [`MOST_FIND_UNITS`].
         budget: u64,
         /// From 1 to [`MOST_LISTED`].
         limit: u64,
@@ -138,6 +144,18 @@ fn budget_of(word: &str) -> Option<u64>
     ensures { result ≡ spec.budget_of word.now }
 {
     number(1, MOST_UNITS, word)
+}
+
+fn find_moves_of(word: &str) -> Option<u64>
+    ensures { result ≡ spec.find_moves_of word.now }
+{
+    number(1, u64::from(MOST_FIND_MOVES), word)
+}
+
+fn find_budget_of(word: &str) -> Option<u64>
+    ensures { result ≡ spec.find_budget_of word.now }
+{
+    number(1, MOST_FIND_UNITS, word)
 }
 
 fn limit_of(word: &str) -> Option<u64>
@@ -199,11 +217,29 @@ fn is_file(word: &str) -> bool
     !word.is_empty()
 }
 
-/// The numbers of a search, for a plan or for a refutation: moves, budget and limit.
+/// Moves, budget and limit of a search, where each word is one.
+fn numbers(moves: Option<u64>, budget: Option<u64>, limit: Option<u64>) -> Option<(u64, u64, u64)>
+    ensures { result ≡ spec.numbers moves budget limit }
+{
+    Some((moves?, budget?, limit?))
+}
+
+/// The numbers of `solve` and of `refute`.
 fn search_numbers(moves: &str, budget: &str, limit: &str) -> Option<(u64, u64, u64)>
     ensures { result ≡ spec.search_numbers moves.now budget.now limit.now }
 {
-    Some((moves_of(moves)?, budget_of(budget)?, limit_of(limit)?))
+    numbers(moves_of(moves), budget_of(budget), limit_of(limit))
+}
+
+/// The numbers of `find`.
+fn find_numbers(moves: &str, budget: &str, limit: &str) -> Option<(u64, u64, u64)>
+    ensures { result ≡ spec.find_numbers moves.now budget.now limit.now }
+{
+    numbers(
+        find_moves_of(moves),
+        find_budget_of(budget),
+        limit_of(limit),
+    )
 }
 
 fn solve(numbers: (u64, u64, u64)) -> Command
@@ -357,7 +393,7 @@ pub fn find_of(words: &[String]) -> Option<Command>
     ensures { result ≡ spec.find_of (map string_bytes words.now) }
 {
     match words {
-        [moves, budget, limit] => Some(find(search_numbers(moves, budget, limit)?)),
+        [moves, budget, limit] => Some(find(find_numbers(moves, budget, limit)?)),
         _ => None,
     }
 }

@@ -16,5 +16,7 @@
 mod command;
 mod files;
 
-pub use command::{Command, MOST_ASKS, MOST_SEED, Made, command_of, find_of};
+pub use command::{
+    Command, MOST_ASKS, MOST_FIND_MOVES, MOST_FIND_UNITS, MOST_SEED, Made, command_of, find_of,
+};
 pub use files::{SeatFiles, lead_files, seat_files};
