@@ -4,7 +4,7 @@ use Rattle.std.specs.Prelude.{◌⊎◌, slice_get, if◌then◌else◌}
 use Rattle.std.specs.List.{All, list_any}
 use Rattle.std.proofs.lemmas.Bool.{both_ways, and_parts, cases_Bool}
 use Rattle.std.proofs.lemmas.List.Elements.{All-head, All-tail, All-nil, All-cons}
-use Rattle.krieg_cli.proofs.Common.{same_hand, is_same_side, Pos, IsValid, Side, MOST_MOVES, MOST_LISTED, Dialect, HaveOneHand, In, is_nil, same, wins, mates, all_starts, wins_root, IsCanonPlan, RootKey, root_lt, chess, outset, starts, PlanTrees, MOST_NODES, AreAlike, waits, IsFit, IsBest, IsOwnTurn, IsOthersTurn, file_of}
+use Rattle.krieg_cli.proofs.Common.{same_hand, is_same_side, Pos, IsValid, Side, MOST_FIND_MOVES, MOST_LISTED, Dialect, HaveOneHand, In, is_nil, same, wins, mates, all_starts, wins_root, IsCanonPlan, RootKey, root_lt, chess, outset, starts, PlanTrees, MOST_NODES, AreAlike, waits, IsFit, IsBest, IsOwnTurn, IsOthersTurn, file_of}
 use Rattle.krieg_moves.proofs.Hands.{same_hand_alike}
 use Rattle.krieg_theory.specs.Plans.{is_over}
 use Rattle.krieg_theory.proofs.Keys.{key_occurs}
@@ -99,7 +99,7 @@ module _ (d : Dialect) (who : Side) where
       absurd (both_ways _ (no_win plan s.0 s.1) (all_at (λ s. wins_root (chess d) (outset d who) plan s.0 s.1 0) (starts d who p) won s started))
   some_moves S plan (suc w) some c mated = omega arith
 
-  pub can_be_written : (S : List Pos) (n w : ℕ) (plan : PlanTrees) → is_nil S ≡ false → length S ≤ MOST_LISTED → HaveOneHand who S → All IsValid S → n ≤ MOST_MOVES → IsBest d who S n w plan → IsFit MOST_NODES plan →
+  pub can_be_written : (S : List Pos) (n w : ℕ) (plan : PlanTrees) → is_nil S ≡ false → length S ≤ MOST_LISTED → HaveOneHand who S → All IsValid S → n ≤ MOST_FIND_MOVES → IsBest d who S n w plan → IsFit MOST_NODES plan →
       CanBeWritten (file_of d who S w plan)
   can_be_written S n w plan some few hand valid few_moves best fit =
       let told = plan_told d who S (valid_of S valid) (waits who S) plan (turn_is who S hand) best.canonical in

@@ -117,11 +117,11 @@ pub use Rattle.krieg_robot.specs.declared.led.LeadFault.{LeadFault}
 pub use Rattle.krieg_robot.specs.declared.led.Led.{Led}
 pub use Rattle.krieg_make.specs.MadeSessions.{made_session}
 pub use Rattle.krieg_make.specs.MadeSheets.{made_list, made_sheet}
-pub use Rattle.krieg_args.specs.Command.{asks_of, budget_of, command_of, command_of_name, command_of_one, command_of_three, find, find_of, lead, lead_from, limit_of, made_input, make, moves_of, number, place_of, play, refute, search_numbers, seed_of, solve, takes_input, ◌>>=◌}
+pub use Rattle.krieg_args.specs.Command.{asks_of, budget_of, command_of, command_of_name, command_of_one, command_of_three, find, find_budget_of, find_moves_of, find_numbers, find_of, lead, lead_from, limit_of, made_input, make, moves_of, number, numbers, place_of, play, refute, search_numbers, seed_of, solve, takes_input, ◌>>=◌}
 pub use Rattle.krieg_args.specs.declared.command.Command.{Command}
 pub use Rattle.krieg_args.specs.declared.command.Command.TheVariants.{Believe, Check, Deny, Find, Job, Lead, Make, Next, Play, Refute, San, Solve, Umpire, Unsan, Why}
 pub use Rattle.krieg_args.specs.declared.command.Made.{Made}
-pub use Rattle.krieg_args.specs.declared.command.TheConstants.{MOST_SEED}
+pub use Rattle.krieg_args.specs.declared.command.TheConstants.{MOST_FIND_MOVES, MOST_FIND_UNITS, MOST_SEED}
 pub use Rattle.krieg_cli.specs.Asked.{IsGiven, Leaves, OfPossible, has_no_turn}
 pub use Rattle.krieg_cli.specs.Believe.{Believed}
 unfoldable pub use Rattle.krieg_cli.specs.Check.{worst_text}
@@ -141,7 +141,7 @@ pub use Rattle.krieg_cli.specs.Live.{LivesBy}
 pub use Rattle.krieg_cli.specs.Make.{Makes}
 pub use Rattle.krieg_cli.specs.Next.{Says}
 pub use Rattle.krieg_cli.specs.Outcome.{HasOutcome, IsInRange, LiveOutcome}
-pub use Rattle.krieg_cli.specs.Parts.{Decides, LeavesSeats, SearchedBy, SolvedBy, ending_of, of_lead, of_part, of_play, of_search}
+pub use Rattle.krieg_cli.specs.Parts.{AreTerms, Decides, LeavesSeats, SearchedBy, SolvedBy, ending_of, of_lead, of_part, of_play, of_search}
 pub use Rattle.krieg_cli.specs.Play.{HasBegun, PlaysFrom, PlaysWhole}
 pub use Rattle.krieg_cli.specs.Refusal.{OfText, refusal_status, text_status}
 pub use Rattle.krieg_cli.specs.Refute.{CanBeListed, Claimed, IsDenialText, Refuted, denial_file}
@@ -160,6 +160,7 @@ pub use Rattle.krieg_cli.specs.declared.commands.job.Finding.{Finding}
 pub use Rattle.krieg_cli.specs.declared.commands.job.Finding.TheVariants.{Plan}
 pub use Rattle.krieg_cli.specs.declared.commands.job.TheConstants.{JOB_MOVES}
 pub use Rattle.krieg_cli.specs.declared.commands.job.tally.Tally.{Tally}
+pub use Rattle.krieg_cli.specs.declared.commands.solve.Terms.{Terms}
 pub use Rattle.krieg_cli.specs.declared.ending.Ending.{Ending}
 pub use Rattle.krieg_cli.specs.declared.ending.Ending.TheVariants.{Answered, Refused, WriteFault}
 pub use Rattle.krieg_cli.specs.declared.input.TheConstants.{MOST_INPUT}

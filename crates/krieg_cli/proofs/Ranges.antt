@@ -3,7 +3,7 @@ use Rattle.std.proofs.Common.{◌≡◌, ℕ, ◌≤◌, Bool, true, false, List
 use Rattle.std.specs.Prelude.{codes, if◌then◌else◌}
 use Rattle.std.specs.Result.{result_ok}
 use Rattle.std.specs.Str.{bytes_eq}
-use Rattle.krieg_cli.proofs.Common.{number_between, MOST_LISTED, NumberFault, ◌>>=◌, command_of, command_of_name, command_of_one, command_of_three, find_of, search_numbers, solve, find, refute, make, play, lead, lead_from, number, moves_of, budget_of, limit_of, asks_of, place_of, made_input, seed_of, Command, Check, Deny, Believe, Why, Umpire, San, Unsan, Play, Lead, Next, Make, Job, Made, MOST_SEED, IsInRange, MOST_MOVES}
+use Rattle.krieg_cli.proofs.Common.{number_between, MOST_LISTED, NumberFault, ◌>>=◌, command_of, command_of_name, command_of_one, command_of_three, find_budget_of, find_moves_of, find_numbers, find_of, numbers, search_numbers, solve, find, refute, make, play, lead, lead_from, number, moves_of, budget_of, limit_of, asks_of, place_of, made_input, seed_of, Command, Check, Deny, Believe, Why, Umpire, San, Unsan, Play, Lead, Next, Make, Job, Made, MOST_SEED, IsInRange, MOST_MOVES, MOST_FIND_MOVES}
 use Rattle.krieg_text.proofs.Numbers.{between_spells}
 use Rattle.krieg_args.specs.Command as words
 
@@ -25,31 +25,36 @@ mapped : {X : Type 0} (name : X → Command) (o : Option X) → ((x : X) → IsI
 mapped name None each = none
 mapped name (Some x) each = alone (name x) (each x)
 
-at_most : (least most n : ℕ) (word : List ℕ) → most < 2 ^ 64 → number least most word ≡ Some n → n ≤ most
-at_most least most n word small e = go (number_between word least most) refl e
+-- the number of a word, where it is one, is in the range
+abbrev Within : ℕ → ℕ → Option ℕ → Type 0
+Within least most o = (n : ℕ) → o ≡ Some n → (least ≤ n) × (n ≤ most)
+
+within : (least most : ℕ) (word : List ℕ) → most < 2 ^ 64 → Within least most (number least most word)
+within least most word small n e = go (number_between word least most) refl e
   where
-    go : (r : Result ℕ NumberFault) → number_between word least most ≡ r → result_ok r ≡ Some n → n ≤ most
-    go (Ok m) is e = let same : m ≡ n = cc in let b = between_spells word least most m small is in omega (arith, b.1, same)
+    go : (r : Result ℕ NumberFault) → number_between word least most ≡ r → result_ok r ≡ Some n → (least ≤ n) × (n ≤ most)
+    go (Ok m) is e = let same : m ≡ n = cc in let b = between_spells word least most m small is in (omega (arith, b.0, same), omega (arith, b.1, same))
     go (Err f) is e = absurd cc
 
-at_least : (least most n : ℕ) (word : List ℕ) → most < 2 ^ 64 → number least most word ≡ Some n → least ≤ n
-at_least least most n word small e = go (number_between word least most) refl e
-  where
-    go : (r : Result ℕ NumberFault) → number_between word least most ≡ r → result_ok r ≡ Some n → least ≤ n
-    go (Ok m) is e = let same : m ≡ n = cc in let b = between_spells word least most m small is in omega (arith, b.0, same)
-    go (Err f) is e = absurd cc
+-- what the three numbers of a search must be, within that many moves at most
+abbrev AreRanged : ℕ → ℕ × ℕ × ℕ → Type 0
+AreRanged most n = (1 ≤ n.0) × (n.0 ≤ most) × (n.2 ≤ MOST_LISTED)
 
 -- the numbers of a search are in their ranges
-searching : (moves budget limit : List ℕ) (name : ℕ × ℕ × ℕ → Command) → ((n : ℕ × ℕ × ℕ) → (1 ≤ n.0) × (n.0 ≤ MOST_MOVES) × (n.2 ≤ MOST_LISTED) → IsInRange (name n)) →
-    Ranged (option_map name (search_numbers moves budget limit))
-searching moves budget limit name each = go (moves_of moves) refl (budget_of budget) (limit_of limit) refl
-  where
-    go : (m : Option ℕ) → moves_of moves ≡ m → (b : Option ℕ) → (l : Option ℕ) → limit_of limit ≡ l → Ranged (option_map name (m >>= λ m. b >>= λ b. l >>= λ l. Some (m, b, l)))
-    go None em b l el = none
-    go (Some m) em None l el = none
-    go (Some m) em (Some b) None el = none
-    go (Some m) em (Some b) (Some l) el =
-        alone (name (m, b, l)) (each (m, b, l) (at_least 1 MOST_MOVES m moves (omega arith) em, at_most 1 MOST_MOVES m moves (omega arith) em, at_most 1 MOST_LISTED l limit (omega arith) el))
+searching : (most : ℕ) (m b l : Option ℕ) (name : ℕ × ℕ × ℕ → Command) → Within 1 most m → Within 1 MOST_LISTED l → ((n : ℕ × ℕ × ℕ) → AreRanged most n → IsInRange (name n)) →
+    Ranged (option_map name (numbers m b l))
+searching most None b l name moves limit each = none
+searching most (Some m) None l name moves limit each = none
+searching most (Some m) (Some b) None name moves limit each = none
+searching most (Some m) (Some b) (Some l) name moves limit each = let inside = moves m refl in alone (name (m, b, l)) (each (m, b, l) (inside.0, inside.1, (limit l refl).1))
+
+-- those of `solve` and of `refute`
+by_search : (moves budget limit : List ℕ) (name : ℕ × ℕ × ℕ → Command) → ((n : ℕ × ℕ × ℕ) → AreRanged MOST_MOVES n → IsInRange (name n)) → Ranged (option_map name (search_numbers moves budget limit))
+by_search moves budget limit name = searching MOST_MOVES (moves_of moves) (budget_of budget) (limit_of limit) name (within 1 MOST_MOVES moves (omega arith)) (within 1 MOST_LISTED limit (omega arith))
+
+-- those of `find`
+by_find : (moves budget limit : List ℕ) (name : ℕ × ℕ × ℕ → Command) → ((n : ℕ × ℕ × ℕ) → AreRanged MOST_FIND_MOVES n → IsInRange (name n)) → Ranged (option_map name (find_numbers moves budget limit))
+by_find moves budget limit name = searching MOST_FIND_MOVES (find_moves_of moves) (find_budget_of budget) (limit_of limit) name (within 1 MOST_FIND_MOVES moves (omega arith)) (within 1 MOST_LISTED limit (omega arith))
 
 making : (what seed : List ℕ) → Ranged (make what seed)
 making what seed = go (made_input what) (seed_of seed) refl
@@ -57,14 +62,14 @@ making what seed = go (made_input what) (seed_of seed) refl
     go : (w : Option Made) (s : Option ℕ) → seed_of seed ≡ s → Ranged (w >>= λ w. s >>= λ s. Some (Make w s))
     go None s es = none
     go (Some w) None es = none
-    go (Some w) (Some s) es = λ c e. let same : Make w s ≡ c = cc in subst IsInRange same (at_most 0 MOST_SEED s seed (omega arith) es)
+    go (Some w) (Some s) es = λ c e. let same : Make w s ≡ c = cc in subst IsInRange same (within 0 MOST_SEED seed (omega arith) s es).1
 
 of_job : (word : List ℕ) → Ranged (option_map Job (seed_of word))
 of_job word = go (seed_of word) refl
   where
     go : (s : Option ℕ) → seed_of word ≡ s → Ranged (option_map Job s)
     go None es = none
-    go (Some s) es = λ c e. let same : Job s ≡ c = cc in subst IsInRange same (at_most 0 MOST_SEED s word (omega arith) es)
+    go (Some s) es = λ c e. let same : Job s ≡ c = cc in subst IsInRange same (within 0 MOST_SEED word (omega arith) s es).1
 
 playing : (asks win wout bin bout : List ℕ) → Ranged (play asks win wout bin bout)
 playing asks win wout bin bout = either _ (option_map Play (words.asks_of asks)) None (mapped Play (words.asks_of asks) (λ n. tt)) none
@@ -75,7 +80,7 @@ leading asks number tries told = either _ (lead_from asks number) None (go (asks
     go : (a : Option ℕ) (n : Option ℕ) → place_of number ≡ n → Ranged (a >>= λ a. n >>= λ n. Some (Lead a n))
     go None n en = none
     go (Some a) None en = none
-    go (Some a) (Some n) en = λ c e. let same : Lead a n ≡ c = cc in subst IsInRange same (at_least 1 MOST_LISTED n number (omega arith) en)
+    go (Some a) (Some n) en = λ c e. let same : Lead a n ≡ c = cc in subst IsInRange same (within 1 MOST_LISTED number (omega arith) n en).0
 
 of_name : (name : List ℕ) → Ranged (command_of_name name)
 of_name name =
@@ -93,8 +98,8 @@ of_one name word =
 
 of_three : (name moves budget limit : List ℕ) → Ranged (command_of_three name moves budget limit)
 of_three name moves budget limit =
-    either (bytes_eq name (codes "solve")) _ _ (searching moves budget limit solve (λ n h. (h.1, h.2)))
-    (either (bytes_eq name (codes "refute")) _ _ (searching moves budget limit refute (λ n h. h)) none)
+    either (bytes_eq name (codes "solve")) _ _ (by_search moves budget limit solve (λ n h. (h.1, h.2)))
+    (either (bytes_eq name (codes "refute")) _ _ (by_search moves budget limit refute (λ n h. h)) none)
 
 pub in_range : (ws : List (List ℕ)) (c : Command) → command_of ws ≡ Some c → IsInRange c
 in_range [] = none
@@ -107,7 +112,7 @@ in_range (name ∷ asks ∷ win ∷ wout ∷ bin ∷ bout ∷ []) = either (byte
 in_range (a ∷ b ∷ c ∷ d ∷ e ∷ f ∷ g ∷ more) = none
 
 pub find_in_range : (ws : List (List ℕ)) (c : Command) → find_of ws ≡ Some c → IsInRange c
-find_in_range (moves ∷ budget ∷ limit ∷ []) = searching moves budget limit find (λ n h. (h.1, h.2))
+find_in_range (moves ∷ budget ∷ limit ∷ []) = by_find moves budget limit find (λ n h. (h.1, h.2))
 find_in_range [] = none
 find_in_range (a ∷ []) = none
 find_in_range (a ∷ b ∷ []) = none

@@ -7,7 +7,7 @@ use Rattle.krieg_plan.specs.declared.limits.TheConstants.{MOST_NODES, MOST_ON_PA
 use Rattle.krieg_planfile.specs.PlanReading as plan
 use Rattle.krieg_refute.specs.declared.refutation.TheConstants.{MOST_CLAIMS, MOST_CLAIMED}
 use Rattle.krieg_refutefile.specs.RefutationText as refutation
-use Rattle.krieg_args.specs.declared.command.TheConstants.{MOST_ASKS, MOST_SEED}
+use Rattle.krieg_args.specs.declared.command.TheConstants.{MOST_ASKS, MOST_SEED, MOST_FIND_MOVES, MOST_FIND_UNITS}
 use Rattle.krieg_cli.specs.declared.input.TheConstants.{MOST_INPUT}
 use Rattle.krieg_cli.specs.declared.commands.job.TheConstants.{JOB_MOVES}
 
@@ -17,11 +17,14 @@ pub record AreLimits : Type 0 where
   pub input : MOST_INPUT ≡ 67108864
   -- the positions that a text lists, and those of a set: a LIMIT, and the NUMBER of `lead`
   pub listed : MOST_LISTED ≡ 200000
-  -- the own moves that a search or a refutation is asked for, and those of a job
+  -- the own moves that `solve` and `refute` are asked for, and those of a job
   pub moves : MOST_MOVES ≡ 6
   pub job : JOB_MOVES ≡ 1
-  -- the units of a BUDGET, and of each search and check of a job
+  -- the units that a command is given, and each search and check of a job
   pub budget : MOST_UNITS ≡ 50000000
+  -- the own moves that `find` is asked for instead, and the units that it is given
+  pub find_moves : MOST_FIND_MOVES ≡ 100
+  pub find_budget : MOST_FIND_UNITS ≡ 4000000000
   -- how often players are asked
   pub asks : MOST_ASKS ≡ 4096
   -- the number of a made input

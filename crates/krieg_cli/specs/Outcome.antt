@@ -3,7 +3,7 @@ use Rattle.std.specs.Prelude.{ℕ, ◌≤◌, List, Result}
 use Rattle.krieg_fen.specs.declared.forms.TheConstants.{MOST_LISTED}
 use Rattle.krieg_args.specs.declared.command.Command.{Command}
 use Rattle.krieg_args.specs.declared.command.Command.TheVariants.{Solve, Check, Refute, Deny, Believe, Why, Umpire, San, Unsan, Play, Lead, Next, Find, Make, Job}
-use Rattle.krieg_args.specs.declared.command.TheConstants.{MOST_SEED}
+use Rattle.krieg_args.specs.declared.command.TheConstants.{MOST_SEED, MOST_FIND_MOVES}
 use Rattle.krieg_cli.specs.Solve.{Solves}
 use Rattle.krieg_cli.specs.Find.{Finds}
 use Rattle.krieg_cli.specs.Check.{Checks}
@@ -28,7 +28,7 @@ LiveOutcome = Command → List ℕ → Result (List ℕ) Refusal → Type 0
 -- move at least, listed positions are numbered from 1, and the number of a made input is within the greatest.
 abbrev pub IsInRange : Command → Type 0
 IsInRange (Solve moves budget limit) = (moves ≤ MOST_MOVES) × (limit ≤ MOST_LISTED)
-IsInRange (Find moves budget limit) = (moves ≤ MOST_MOVES) × (limit ≤ MOST_LISTED)
+IsInRange (Find moves budget limit) = (moves ≤ MOST_FIND_MOVES) × (limit ≤ MOST_LISTED)
 IsInRange (Refute moves budget limit) = (1 ≤ moves) × (moves ≤ MOST_MOVES) × (limit ≤ MOST_LISTED)
 IsInRange (Lead asks number) = 1 ≤ number
 IsInRange (Make what number) = number ≤ MOST_SEED

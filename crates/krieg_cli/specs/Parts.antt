@@ -1,5 +1,5 @@
 -- What no public clause cites: the parts of the work answer a value, or the ending of a run that has none.
-use Rattle.std.specs.Prelude.{◌≡◌, ◌⊎◌, ℕ, Bool, true, false, List, Some, Result, Ok, Err, Vec}
+use Rattle.std.specs.Prelude.{◌≡◌, ◌≤◌, ◌⊎◌, ℕ, Bool, true, false, List, Some, Result, Ok, Err, Vec}
 use Rattle.std.specs.declared.alloc.Global.{Global}
 use Rattle.krieg_board.specs.Pos.{Pos}
 use Rattle.krieg_text.specs.declared.fault.TextFault.{TextFault}
@@ -16,6 +16,9 @@ use Rattle.krieg_seats.specs.Accounts.{Account}
 use Rattle.krieg_play.specs.Played.{Sides}
 use Rattle.krieg_args.specs.declared.command.Command.{Command}
 use Rattle.krieg_args.specs.declared.command.Command.TheVariants.{Play, Lead, Refute}
+use Rattle.krieg_fen.specs.declared.forms.TheConstants.{MOST_LISTED}
+use Rattle.krieg_args.specs.declared.command.TheConstants.{MOST_FIND_MOVES}
+use Rattle.krieg_cli.specs.declared.commands.solve.Terms.{Terms}
 use Rattle.krieg_cli.specs.Play.{HasBegun}
 use Rattle.krieg_cli.specs.Lead.{HasLedText}
 use Rattle.krieg_cli.specs.Live.{calls_seats}
@@ -111,6 +114,11 @@ Decides view (Ok x) Outcome = Outcome (Ok (view x))
 Decides view (Err (Refused refusal)) Outcome = Outcome (Err refusal)
 Decides view (Err NoMemory) Outcome = Unit {0}
 Decides view (Err _) Outcome = ⊥
+
+-- what may be asked of a search: no more moves than `find` takes, and no more positions than a text lists
+pub record AreTerms (t : Terms) : Type 0 where
+  pub most : t.moves ≤ MOST_FIND_MOVES
+  pub few : t.limit ≤ MOST_LISTED
 
 -- What a search makes of positions, of a sheet and of a text: that of `find`, which may cut tries, or that of `solve`.
 

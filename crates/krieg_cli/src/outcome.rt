@@ -5,6 +5,7 @@ ghost use Rattle.krieg_cli.specs.Live.{LivesBy};
 ghost use Rattle.krieg_cli.specs.Outcome as spec;
 
 use crate::answers::{Answer, in_pieces, whole};
+use crate::commands::solve::Terms;
 use crate::commands::{
     believe, check, deny, job, lead, make, next, play, refute, san, solve, umpire, unsan, why,
 };
@@ -34,12 +35,28 @@ fn whole_outcome(
             moves,
             budget,
             limit,
-        } => { solve::answer(alloc, false, *moves, *budget, *limit, text) }
+        } => {
+            let terms = Terms {
+                cut: false,
+                moves: *moves,
+                budget: *budget,
+                limit: *limit,
+            };
+            solve::answer(alloc, terms, text)
+        }
         Command::Find {
             moves,
             budget,
             limit,
-        } => { solve::answer(alloc, true, *moves, *budget, *limit, text) }
+        } => {
+            let terms = Terms {
+                cut: true,
+                moves: *moves,
+                budget: *budget,
+                limit: *limit,
+            };
+            solve::answer(alloc, terms, text)
+        }
         Command::Check { budget } => check::answer(alloc, *budget, text),
         Command::Refute { .. } => unreachable!(),
         Command::Deny { budget } => deny::answer(alloc, *budget, text),

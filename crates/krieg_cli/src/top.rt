@@ -198,10 +198,11 @@ pub fn run<S: Source, O: Sink, E: Sink>(
 
 /// Does all that the program `krieg_find` does, over streams, and gives the status with which it ends.
 ///
-/// Its words are `MOVES BUDGET LIMIT`, in the ranges of `solve`. Of a sheet `out` gets what `solve` writes: the plan file of the
-/// canonical plan that mates from every position that is still possible within the fewest own moves, or the line `none MOVES`
-/// exactly where no plan mates within that number. Only the units differ: mostly far fewer are taken, and there is no least number
-/// of them that an answer takes.
+/// Its words are `MOVES BUDGET LIMIT`, in ranges that go further than those of `solve`: [`MOST_FIND_MOVES`](krieg_args::MOST_FIND_MOVES)
+/// and [`MOST_FIND_UNITS`](krieg_args::MOST_FIND_UNITS). Of a sheet `out` gets what `solve` writes: the plan file of the canonical
+/// plan that mates from every position that is still possible within the fewest own moves, or the line `none MOVES` exactly where
+/// no plan mates within that number. Only the units differ: mostly far fewer are taken, and there is no least number of them that an
+/// answer takes.
 ///
 /// The status tells how it ended, and is that of [`run`] by the same causes:
 ///

@@ -1,5 +1,5 @@
 //! The program `krieg_find`: a start of `find` over the standard streams. It reads a sheet, and writes what `krieg solve` writes with
-//! the same words, mostly for far fewer units.
+//! the same words, mostly for far fewer units. It takes more moves, and more units.
 //!
 //! ```
 //! ./krieg find 1 64 1 < examples/rook.sheet   # a plan that plays h1h8, and status 0

@@ -9,14 +9,15 @@ ghost use Rattle.krieg_plan.specs.Plans.{plan_of};
 ghost use Rattle.krieg_planfile.specs.PlanFiles.{CanBeWritten};
 ghost use Rattle.krieg_planfile.specs.PlanReading.{plan_at};
 ghost use Rattle.krieg_planfile.specs.PlanText.{plan_text};
-ghost use Rattle.krieg_cli.specs.Parts.{Decides, SearchedBy, SolvedBy, SolvesBy};
+ghost use Rattle.krieg_cli.specs.Parts.{Decides, AreTerms, SearchedBy, SolvedBy, SolvesBy};
 ghost use Rattle.krieg_cli.specs.Solve as spec;
 
 use crate::commands::asked::{asked, listed};
 use crate::commands::counted::counted;
 use crate::ending::Ending;
 use crate::input::MOST_INPUT;
-use krieg_board::{MOST_MOVES, NoMemory, Position, Side, Units};
+use krieg_args::MOST_FIND_MOVES;
+use krieg_board::{NoMemory, Position, Side, Units};
 use krieg_fen::MOST_LISTED;
 use krieg_pack::Belief;
 use krieg_plan::{MOST_NODES, Plan, PlanFile};
@@ -25,6 +26,19 @@ use krieg_search::{Answer, SearchStop, find, solve};
 use krieg_sheet::{Sheet, read_sheet};
 use krieg_words::Dialect;
 use std::alloc::Global;
+
+/// What the words ask of a search for the best plan.
+#[derive(Clone, Copy)]
+pub(crate) struct Terms {
+    /// Whether tries may be cut, as `find` does.
+    pub cut: bool,
+    /// Within how many own moves the plan is to mate.
+    pub moves: u64,
+    /// How many units the search may take.
+    pub budget: u64,
+    /// How many positions may be possible.
+    pub limit: u64,
+}
 
 /// The text of the plan file of a plan for the listed positions.
 fn file_text(
@@ -71,7 +85,7 @@ fn told(
     moves: u64,
     answer: Answer,
 ) -> Result<Vec<u8>, NoMemory>
-    requires most { moves ≤ MOST_MOVES }
+    requires most { moves ≤ MOST_FIND_MOVES }
     requires some { is_nil set.now ≡ false }
     requires few { length set.now ≤ MOST_LISTED }
     requires hand { HaveOneHand who set.now }
@@ -90,80 +104,66 @@ fn told(
 /// What the search for the best plan finds that may cut tries, or the one that cuts none.
 fn search(
     alloc: Global,
-    cut: bool,
+    terms: Terms,
     d: Dialect,
     who: Side,
     set: &Belief,
-    moves: u8,
     units: &mut Units,
 ) -> Result<Answer, SearchStop>
-    requires most { moves ≤ MOST_MOVES }
+    requires terms { AreTerms terms }
     requires turn { IsOwnTurn who set.now ⊎ IsOthersTurn who set.now }
-    ensures answer { IsAnswer d who set.now moves MOST_NODES result }
-    ensures units { MatchBool cut (IsChargedAtMost d who set.now moves result units.old units.new)
-        (IsCharged d who set.now moves result units.old units.new) }
+    ensures answer { IsAnswer d who set.now terms.moves MOST_NODES result }
+    ensures units { MatchBool terms.cut
+        (IsChargedAtMost d who set.now terms.moves result units.old units.new)
+        (IsCharged d who set.now terms.moves result units.old units.new) }
 {
-    if cut {
+    let moves = terms.moves as u8;
+    if terms.cut {
         find(alloc, d, who, set, moves, MOST_NODES, units)
     } else {
         solve(alloc, d, who, set, moves, MOST_NODES, units)
     }
 }
 
-/// What a search for the best plan for the set comes to, within so many moves and units.
+/// What a search for the best plan for the set comes to.
 fn searched(
     alloc: Global,
-    cut: bool,
+    terms: Terms,
     d: Dialect,
     who: Side,
     set: &Belief,
-    moves: u64,
-    budget: u64,
 ) -> Result<Vec<u8>, Ending>
-    requires most { moves ≤ MOST_MOVES }
+    requires terms { AreTerms terms }
     requires some { is_nil set.now ≡ false }
     requires few { length set.now ≤ MOST_LISTED }
     requires hand { HaveOneHand who set.now }
-    ensures { Decides (λ answer. answer.items) result (SearchedBy cut d who set.now moves budget) }
+    ensures { let found = SearchedBy terms.cut d who set.now terms.moves terms.budget in
+        Decides (λ answer. answer.items) result found }
 {
-    let mut units = Units::new(budget);
-    let answer = search(alloc, cut, d, who, set, moves as u8, &mut units)?;
-    Ok(told(alloc, d, who, set, moves, answer)?)
+    let mut units = Units::new(terms.budget);
+    let answer = search(alloc, terms, d, who, set, &mut units)?;
+    Ok(told(alloc, d, who, set, terms.moves, answer)?)
 }
 
-/// What `solve` answers to a sheet, or `find`, whose search may cut tries. The sheet is let go before the search.
-fn solved(
-    alloc: Global,
-    cut: bool,
-    sheet: Sheet,
-    moves: u64,
-    budget: u64,
-    limit: u64,
-) -> Result<Vec<u8>, Ending>
-    requires most { moves ≤ MOST_MOVES }
-    requires few { limit ≤ MOST_LISTED }
-    ensures { Decides (λ answer. answer.items) result (SolvedBy cut moves budget limit sheet) }
+/// What `solve` or `find` answers to a sheet, which is let go before the search.
+fn solved(alloc: Global, terms: Terms, sheet: Sheet) -> Result<Vec<u8>, Ending>
+    requires terms { AreTerms terms }
+    ensures { let found = SolvedBy terms.cut terms.moves terms.budget terms.limit sheet in
+        Decides (λ answer. answer.items) result found }
 {
-    let set = asked(alloc, &sheet, limit, sheet.is_over())?;
+    let set = asked(alloc, &sheet, terms.limit, sheet.is_over())?;
     let (dialect, side) = (sheet.dialect(), sheet.side());
     drop(sheet);
-    searched(alloc, cut, dialect, side, &set, moves, budget)
+    searched(alloc, terms, dialect, side, &set)
 }
 
-/// What `solve` answers to the text of a sheet, or `find`, whose search may cut tries.
-pub(crate) fn answer(
-    alloc: Global,
-    cut: bool,
-    moves: u64,
-    budget: u64,
-    limit: u64,
-    text: Vec<u8>,
-) -> Result<Vec<u8>, Ending>
-    requires most { moves ≤ MOST_MOVES }
-    requires few { limit ≤ MOST_LISTED }
-    ensures { Decides (λ answer. answer.items) result (SolvesBy cut moves budget limit text.items) }
+/// What `solve` or `find` answers to the text of a sheet.
+pub(crate) fn answer(alloc: Global, terms: Terms, text: Vec<u8>) -> Result<Vec<u8>, Ending>
+    requires terms { AreTerms terms }
+    ensures { let found = SolvesBy terms.cut terms.moves terms.budget terms.limit text.items in
+        Decides (λ answer. answer.items) result found }
 {
     let sheet = read_sheet(alloc, &text)?;
     drop(text);
-    solved(alloc, cut, sheet, moves, budget, limit)
+    solved(alloc, terms, sheet)
 }
