@@ -3,12 +3,16 @@
 It knows no rules: whether a position is valid and a move legal, the program says."""
 
 import pathlib
+import re
 import subprocess
 import sys
 
 TOP = pathlib.Path(__file__).resolve().parent.parent
 KRIEG = TOP / "krieg"
 CRATES = TOP / "crates"
+EXAMPLES = TOP / "examples"
+# Folders of plans that are judged and neither drawn nor played: each has a table of its own.
+UNDRAWN = {"endings", "mastered"}
 # Whether the programs themselves are called, which saves time: behind a first call of ./krieg, which builds them where they are stale.
 is_built = False
 
@@ -80,3 +84,22 @@ def parts(sheet):
 def sheet(head, positions, entries=()):
     """The text of a sheet of these parts."""
     return "\n".join([*head, f"list {len(positions)}", *positions, *entries, "end", ""])
+
+
+def studies(ending):
+    """Each file of a study with this ending. The whole endings and what is mastered of them are no studies."""
+    return sorted(path for path in EXAMPLES.rglob(f"*{ending}") if path.parent.name not in UNDRAWN)
+
+
+def rows(text):
+    """The rows of the tables of a page that begin with a name: the name, and the row's cells by the heads of its table."""
+    heads = []
+    for line in text.split("\n"):
+        cells = [cell.strip() for cell in line[1:-1].split("|")] if line.startswith("| ") else []
+        name = re.match(r"\[?`([a-z0-9/-]+)`", cells[0]) if cells else None
+        if not cells or cells[0] == "Name":
+            heads = cells
+        elif heads and name:
+            if len(cells) != len(heads):
+                sys.exit(f"{pathlib.Path(sys.argv[0]).name}: {name[1]}: its row has {len(cells)} cells")
+            yield name[1], dict(zip(heads, cells))
