@@ -112,10 +112,10 @@ def checkout(folder, krieg):
     (folder / "crates/krieg/out/built").touch()
 
 
-def run(krieg, words, text, folder=None):
-    """What the program answers to the text under these words, in that folder."""
+def run(krieg, words, text, folder=None, seconds=SECONDS):
+    """What the program answers to the text under these words, in that folder and within so many seconds."""
     try:
-        done = subprocess.run([krieg, *words], input=text, capture_output=True, cwd=folder, timeout=SECONDS)
+        done = subprocess.run([krieg, *words], input=text, capture_output=True, cwd=folder, timeout=seconds)
     except subprocess.TimeoutExpired:
         return Answer(None, b"", b"")
     return Answer(done.returncode, done.stdout, done.stderr)
