@@ -1,15 +1,15 @@
 //! Mate by a player who sees the position, as far as it is found out.
 //!
-//! `some_is_no_mate` tells that a set is lost: some member is no mate in time even for a player who sees it. `some_flees` tells that
-//! a try fails in a set whatever is heard: in some member a reply leads to such a position. What is found of a position is kept by a `Sight`, which looks at no more
-//! positions than it was given. Where it does not find out, it tells nothing: only the answer `true` is claimed.
+//! `some_is_no_mate` tells that a set is lost: some member is no mate in time even for a player who sees it. `some_flees` tells
+//! that a try fails in a set whatever is heard: in some member a reply leads to such a position. What is found of a position
+//! is kept by a `Sight`, which looks at no more positions than it was given. Where it does not find out, it tells nothing: only
+//! the answer `true` is claimed.
 //!
 //! `Seen` in `specs/` says what such a mate is, and `laws` that it is that of `krieg_theory`, whatever the dialect.
 //! `seeing` looks for it move by move, and `memo` has what is known: of a position the greatest number of moves within
 //! which it was found to be no mate, and the least within which it may be one. `flight` asks it of the replies to a try.
 //!
-//! It calls itself for each move: that takes less than 1,400 bytes of the stack, or less than 1,900 in a program that
-//! Rattle's own compiler builds.
+//! It calls itself for each move: that takes less than 2,000 bytes of the stack in a program that LLVM builds.
 //!
 //! ```
 //! let mut sight = Sight::new(alloc, 1_000_000);
