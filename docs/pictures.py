@@ -23,6 +23,8 @@ Reason = collections.namedtuple("Reason", "move kind heard cited")
 # So wide is a line of words at most, and so many keys stand above a board at most. So many moves are named below one, and so many claims.
 WRAP, NOTE = 32, 38
 KEYS, MOVES, CITED = 3, 4, 6
+# So many boards of a game stand in a row.
+ROW = 6
 
 
 class Fault(Exception):
@@ -281,29 +283,39 @@ def judged(krieg, head, start, tries):
 
 
 def game_boards(krieg, head, start, tries):
-    """The boards of a game as a row."""
+    """The boards of a game in their order, none with another behind it: one for each move that was done, with its number as in books, and a
+    last one."""
     sheet = [head[0].replace("session", "sheet"), head[1]]
     said, vain, made, position = judged(krieg, head, start, tries), [], [], start
     for (side, move), words in zip(tries, said):
         if not words.startswith("ok "):
             vain.append(f"{side} {move} {words}")
             continue
-        made.append((vain, position, move, f"{side} {move}", words.removeprefix("ok ")))
+        number = 1 + (len(made) + (start.split()[1] == "b")) // 2
+        notes = textwrap.wrap(words.removeprefix("ok "), NOTE)
+        made.append(Board(vain, [men(position)], move, f"{number} {side} {move}", notes, [], []))
         entry = [*sheet, f"side {side}", "list 1", position, f"try {move} {words}", "end", ""]
         vain, position = [], believed(krieg, "\n".join(entry), f"behind {move}")[0]
-    row = Board(vain, [men(position)], None, "so it stands", [position.split(" ", 1)[1]], [], [])
-    for vain, position, move, bold, words in reversed(made):
-        row = Board(vain, [men(position)], move, bold, textwrap.wrap(words, NOTE), [], [row])
-    return row
+    return [*made, Board(vain, [men(position)], None, "so it stands", [position.split(" ", 1)[1]], [], [])]
+
+
+def in_rows(boards, name):
+    """Boards in rows, each as the first of its row with the others behind it. The name stands above each row."""
+    rows = []
+    for first in range(0, len(boards), ROW):
+        row = None
+        for one in reversed(boards[first : first + ROW]):
+            row = one._replace(edges=[row] if row else [])
+        rows.append(row._replace(above=[f"{name}, on"] * bool(name and rows) + [name] * bool(name and not rows) + row.above))
+    return rows
 
 
 def games_picture(krieg, text):
     head, games = read_games(text)
     rows = []
     for number, (start, tries) in enumerate(games, 1):
-        row = game_boards(krieg, head, start, tries)
-        rows.append(row._replace(above=[f"game {number}"] * (len(games) > 1) + row.above))
-    return tree("Games, each as a row of boards" if len(rows) > 1 else "A game as a row of boards", [], rows)
+        rows += in_rows(game_boards(krieg, head, start, tries), f"game {number}" if len(games) > 1 else "")
+    return tree("Games, each as rows of boards" if len(games) > 1 else "A game as rows of boards", [], rows)
 
 
 def sheet_picture(krieg, text):

@@ -1,4 +1,4 @@
-"""What the scripts beside this file share: calls of the program, positions by squares, and the listed positions of a sheet.
+"""What the scripts beside this file share: their pages, calls of the program, positions by squares, and the listed positions of a sheet.
 
 It knows no rules: whether a position is valid and a move legal, the program says."""
 
@@ -8,11 +8,15 @@ import subprocess
 import sys
 
 TOP = pathlib.Path(__file__).resolve().parent.parent
+sys.path.insert(0, str(TOP / "docs"))
+from usage import show_help
 KRIEG = TOP / "krieg"
 CRATES = TOP / "crates"
 EXAMPLES = TOP / "examples"
 # Folders of plans that are judged and neither drawn nor played: each has a table of its own.
 UNDRAWN = {"endings", "mastered"}
+# What is said of a word that stands where a try does and is none.
+NO_TRY = "a try is two squares, as g1f3 for Nf3 and e7e8q for e8=Q; castling is the king's move, as e1g1"
 # Whether the programs themselves are called, which saves time: behind a first call of ./krieg, which builds them where they are stale.
 is_built = False
 
@@ -42,6 +46,11 @@ def answer(words, text):
     if status != 0:
         sys.exit(f"{pathlib.Path(sys.argv[0]).name}: krieg {' '.join(words)}: {err}")
     return out
+
+
+def is_try(word):
+    """Whether a word is a move of the formats."""
+    return re.fullmatch("(?:[a-h][1-8]){2}[qrbn]?", word) is not None
 
 
 def men(position):
