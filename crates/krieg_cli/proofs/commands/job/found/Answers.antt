@@ -6,8 +6,8 @@ use Rattle.krieg_cli.proofs.Jobs.{search_stopped}
 use Rattle.krieg_cli.proofs.Searching.{stop_told}
 use Rattle.krieg_cli.proofs.commands.job.found.Goals as goal
 
-pub solve-requires-clause-turn : goal.solve-requires-clause-turn
-solve-requires-clause-turn c = one_turn_of White White c.args.set.now c.requires
+pub solve-requires : goal.solve-requires
+solve-requires c = record { turn = one_turn_of White White c.args.set.now c.requires }
 
 pub returns-in_err-answer : goal.returns-in_err-answer
 returns-in_err-answer c =
