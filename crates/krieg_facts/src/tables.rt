@@ -1,12 +1,14 @@
 // Facts of a table of sets by number, with what is known of each.
 
+ghost use Rattle.std.specs.Prelude.{◌≡◌, ◌<◌, true, length};
+ghost use Rattle.krieg_table.specs.Table.{IsNext};
+
 use crate::answer::Answer;
 use crate::moves::say_moves;
 use crate::scene::Scene;
 use crate::sets::say_members;
 use crate::stop::Stop;
 use crate::terms::{count_of, halves, move_of, small_of};
-use krieg_board::MOST_MOVES;
 use krieg_pack::Belief;
 use krieg_table::{SetResult, Table};
 
@@ -30,6 +32,14 @@ fn say_known(table: &Table, id: u32, moves: u8, answer: &mut Answer) -> Result<(
     }
 }
 
+/// Whether a result with so many moves may be noted next: the set is known to be lost with each smaller number, and nothing else of it.
+fn is_next(table: &Table, id: u32, moves: u8) -> bool
+    requires { id < length table.now }
+    ensures { result ≡ true → IsNext table.now id moves }
+{
+    moves > 0 && table.lost(id) == moves - 1 && table.win(id).is_none()
+}
+
 /// Notes it.
 fn say_noted(table: &mut Table, id: u32, text: &str, answer: &mut Answer) -> Result<(), Stop> {
     let (moves, what) = halves(text, " ")?;
@@ -38,7 +48,7 @@ fn say_noted(table: &mut Table, id: u32, text: &str, answer: &mut Answer) -> Res
         _ => SetResult::Wins(move_of(what)?),
     };
     let moves = small_of(moves)?;
-    if (id as usize) >= table.len() || moves == 0 || moves > MOST_MOVES {
+    if (id as usize) >= table.len() || !is_next(table, id, moves) {
         return Err(Stop::Unread);
     }
     table.note(id, moves, known);
