@@ -12,15 +12,19 @@ use crate::ranks::board_of;
 use krieg_board::{BadPosition, Bits, Position, Rights, Side, Square};
 use krieg_text::cut;
 use std::marker::Model;
+use thiserror::Error;
 
 /// Why a text is no position: the first of these faults that it has.
-#[derive(Clone, Copy, Debug, PartialEq, Eq)]
+#[derive(Clone, Copy, Debug, PartialEq, Eq, Error)]
 pub enum FenFault {
     /// It has neither four nor six fields.
+    #[error("neither four nor six fields")]
     Fields,
     /// The first field, from 1 on, that is outside its grammar.
+    #[error("field {0} is outside its grammar")]
     Field(u8),
     /// The position that it spells is not valid.
+    #[error("{0}")]
     Bad(BadPosition),
 }
 

@@ -6,7 +6,7 @@ ghost use Rattle.krieg_text.specs.declared.fault.TextFault.TheVariants.{NoMemory
 
 use crate::fen::{FenFault, read_position};
 use krieg_board::{Position, Side, same_hand};
-use krieg_text::{Cursor, TextFault, TextKind, behind, is_name, read_count};
+use krieg_text::{LineSource, TextFault, TextKind, behind, is_name, read_count};
 
 /// The most positions that a text may list.
 pub const MOST_LISTED: u64 = 200_000;
@@ -99,22 +99,22 @@ pub fn listed_form(
 }
 
 /// The next line, as the side whose text it is.
-#[tactic(auto, using(krieg_text::proofs::ReadingLemmas::refused))]
-pub fn read_side(from: &mut Cursor<'_>) -> Result<Side, TextFault>
-    ensures value { GivesOn (λ s. s) result from.new (taken spec.side_form from.old) }
-    ensures rest { Passed from.old from.new }
+pub fn read_side<S: LineSource>(from: &mut S) -> Result<Side, TextFault>
+    ensures value { GivesOn (λ s. s) result (S.place from.new)
+        (taken spec.side_form (S.place from.old)) }
+    ensures rest { Passed (S.place from.old) (S.place from.new) }
     ensures memory { IfErr result (λ e. e ≢ OutOfMemory) }
 {
-    let line = from.number();
-    side_form(from.line()?).map_err(|kind| TextFault::At { line, kind })
+    from.next(side_form)
 }
 
 /// The next line, as the number of listed positions, from 1 to `MOST_LISTED`.
 #[tactic(auto, unfolding(crate::specs::Forms::list_form))]
-pub(crate) fn read_list_line(from: &mut Cursor<'_>) -> Result<u64, TextFault>
-    ensures value { GivesOn (λ n. n) result from.new (taken spec.list_form from.old) }
+pub fn read_list_line<S: LineSource>(from: &mut S) -> Result<u64, TextFault>
+    ensures value { GivesOn (λ n. n) result (S.place from.new)
+        (taken spec.list_form (S.place from.old)) }
     ensures range { IfOk result (λ n. (1 ≤ n) × (n ≤ MOST_LISTED)) }
-    ensures rest { Passed from.old from.new }
+    ensures rest { Passed (S.place from.old) (S.place from.new) }
     ensures memory { IfErr result (λ e. e ≢ OutOfMemory) }
 {
     read_count(from, b"list ", 1, MOST_LISTED)

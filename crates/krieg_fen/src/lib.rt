@@ -31,9 +31,10 @@ pub use board_text::Ranks;
 pub use fen::{FenFault, read_position};
 pub use fen_text::{put_position, write_position};
 pub use forms::{
-    MOST_LISTED, Turn, listed_form, position_form, read_side, side_line, side_mark, start_form,
+    MOST_LISTED, Turn, listed_form, position_form, read_list_line, read_side, side_line, side_mark,
+    start_form,
 };
-pub use list::{read_list, read_listing};
+pub use list::{read_list, read_listed, read_listing};
 pub use list_text::{
     put_list, put_list_head, put_list_line, put_listed, put_listing, put_next, put_side_line,
 };

@@ -1,4 +1,5 @@
 ghost use Rattle.std.specs.Prelude.{◌≡◌, ◌≢◌, ◌<◌, ◌+◌, ◌^◌, ◌++◌, ℕ, List, IfOk, IfErr, OnOk, Ok, None, length, slice_get};
+ghost use Rattle.std.specs.Option.{option_copied};
 ghost use Rattle.krieg_board.specs.Pos.{Pos};
 ghost use Rattle.krieg_fen.specs.Forms as spec;
 ghost use Rattle.krieg_fen.specs.Listing.{SpellList, IsListed, ListGrammar};
@@ -9,41 +10,43 @@ ghost use Rattle.krieg_fen.specs.declared.forms.Turn.TheVariants.{Either};
 
 use crate::forms::{Turn, listed_form, read_list_line, read_side};
 use krieg_board::{Position, Side};
-use krieg_text::{Cursor, Lines, TextFault};
+use krieg_text::{Cursor, LineSource, Lines, TextFault};
 use std::alloc::Global;
 
-/// The next line, as a position that may stand after those of the list.
-#[tactic(auto, using(krieg_text::proofs::ReadingLemmas::refused))]
-fn next_listed(
-    from: &mut Cursor<'_>,
+/// The next line, as a position that may stand in a list after its first one, or be the first.
+pub fn read_listed<S: LineSource>(
+    from: &mut S,
     turn: Turn,
     who: Side,
-    list: &[Position],
+    first: Option<&Position>,
 ) -> Result<Position, TextFault>
-    ensures value { GivesOn (λ p. p) result from.new
-        (taken (spec.listed_form turn who (slice_get list.now 0)) from.old) }
-    ensures rest { Passed from.old from.new }
+    ensures value { GivesOn (λ p. p) result (S.place from.new)
+        (taken (spec.listed_form turn who (option_copied first.entry)) (S.place from.old)) }
+    ensures rest { Passed (S.place from.old) (S.place from.new) }
+    ensures memory { IfErr result (λ e. e ≢ OutOfMemory) }
 {
-    let line = from.number();
-    listed_form(turn, who, list.first(), from.line()?).map_err(|kind| TextFault::At { line, kind })
+    match first {
+        None => from.next(|line| listed_form(turn, who, None, line)),
+        Some(first) => from.next(|line| listed_form(turn, who, Some(first), line)),
+    }
 }
 
 /// The next `n` lines as positions with one hand.
 #[tactic(auto, using(crate::proofs::Listing::listing, krieg_text::proofs::ReadingLemmas::passed))]
-fn list_at(
+fn list_at<S: LineSource>(
     alloc: Global,
-    from: &mut Cursor<'_>,
+    from: &mut S,
     turn: Turn,
     n: usize,
     who: Side,
 ) -> Result<Vec<Position>, TextFault>
-    ensures value { GivesOn (λ v. v.items) result from.new
-        (spec.positions_at turn who None n from.old) }
-    ensures rest { Passed from.old from.new }
+    ensures value { GivesOn (λ v. v.items) result (S.place from.new)
+        (spec.positions_at turn who None n (S.place from.old)) }
+    ensures rest { Passed (S.place from.old) (S.place from.new) }
 {
     let mut list: Vec<Position> = Vec::new(alloc);
     for i in 0..n {
-        match next_listed(from, turn, who, &list) {
+        match read_listed(from, turn, who, list.first()) {
             Ok(position) => list.push(position)?,
             Err(fault) => return Err(fault),
         }
@@ -92,14 +95,14 @@ pub fn read_list(
 /// The kinds of its faults are `Syntax`, also where a line is missing, `Count`, `Position`, `Differs` and,
 /// where the turn must be the side's own, `OutOfPlace`.
 #[tactic(auto, using(krieg_text::proofs::ReadingLemmas::passed), unfolding(crate::specs::Forms::listing_at))]
-pub fn read_listing(
+pub fn read_listing<S: LineSource>(
     alloc: Global,
-    from: &mut Cursor<'_>,
+    from: &mut S,
     turn: Turn,
 ) -> Result<(Side, Vec<Position>), TextFault>
-    ensures value { GivesOn (λ x. (x.0, x.1.items)) result from.new
-        (spec.listing_at turn from.old) }
-    ensures rest { Passed from.old from.new }
+    ensures value { GivesOn (λ x. (x.0, x.1.items)) result (S.place from.new)
+        (spec.listing_at turn (S.place from.old)) }
+    ensures rest { Passed (S.place from.old) (S.place from.new) }
 {
     let side = read_side(from)?;
     let count = read_list_line(from)?;

@@ -7,9 +7,11 @@ ghost use Rattle.krieg_board.specs.declared.men.Move.{Move as BoardMove};
 
 use krieg_board::{Move, NoMemory, Promo, Square, square_at};
 use krieg_text::Text;
+use thiserror::Error;
 
 /// The text is no move text.
-#[derive(Clone, Copy, Debug, PartialEq, Eq)]
+#[derive(Clone, Copy, Debug, PartialEq, Eq, Error)]
+#[error("no move")]
 pub struct MoveFault;
 
 /// The square that a letter from `a` to `h` and a digit from `1` to `8` name.

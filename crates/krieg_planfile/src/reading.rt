@@ -13,7 +13,7 @@ use crate::roots::{RootRules, read_roots};
 use krieg_board::{Position, Side};
 use krieg_fen::{Turn, read_listing};
 use krieg_plan::{MOST_NODES, MOST_ON_PATH, Plan, PlanFile};
-use krieg_text::{Cursor, TextFault, TextKind, is_name, read_count, read_version};
+use krieg_text::{Cursor, LineSource, TextFault, TextKind, is_name, read_count, read_version};
 use krieg_words::{Dialect, read_dialect_line};
 use std::alloc::Global;
 

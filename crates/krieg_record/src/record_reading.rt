@@ -14,7 +14,7 @@ use crate::san_reading::{SanFault, read_san};
 use krieg_board::{Move, NoMemory, Position, Side};
 use krieg_fen::start_form;
 use krieg_moves::after;
-use krieg_text::{Cursor, TextFault, TextKind, behind, is_name, version_form};
+use krieg_text::{Cursor, LineSource, TextFault, TextKind, behind, is_name, version_form};
 use std::alloc::Global;
 
 /// A line after the start.

@@ -14,7 +14,7 @@ use crate::session::Session;
 use krieg_board::{Position, Side};
 use krieg_fen::{position_form, read_move, start_form};
 use krieg_referee::{Event, Stop};
-use krieg_text::{Cursor, TextFault, TextKind, behind, is_name};
+use krieg_text::{Cursor, LineSource, TextFault, TextKind, behind, is_name};
 use krieg_words::{Dialect, read_version_lines};
 use std::alloc::Global;
 

@@ -12,10 +12,9 @@ pub use Rattle.krieg_text.specs.Languages.{Many, One, ◌⨾◌}
 pub use Rattle.krieg_text.specs.Lines.{AreLines, is_line, lines, with_ends}
 unfoldable pub use Rattle.krieg_text.specs.Names.{behind}
 pub use Rattle.krieg_text.specs.Outcomes.{◌>>=◌}
-pub use Rattle.krieg_text.specs.Reading.{Place, Step, goes_on, line_at, on, place, stops, whole}
+pub use Rattle.krieg_text.specs.Reading.{GivesOn, Place, Step, goes_on, on, place, stops, taken, whole}
 pub use Rattle.krieg_text.specs.Writing.{HasLines, alone, joined}
 pub use Rattle.krieg_text.specs.declared.fault.TextFault.{TextFault}
-pub use Rattle.krieg_text.specs.declared.fault.TextFault.TheVariants.{At}
 pub use Rattle.krieg_text.specs.declared.fault.TextKind.{TextKind}
 pub use Rattle.krieg_text.specs.declared.fault.TextKind.TheVariants.{OutOfPlace}
 unfoldable pub use Rattle.krieg_fen.specs.FenText.{position_text}

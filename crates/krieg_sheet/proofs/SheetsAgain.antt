@@ -8,7 +8,7 @@ use Rattle.std.proofs.lemmas.List.{append-nil}
 use Rattle.std.proofs.lemmas.List.Elements.{All-tail}
 use Rattle.krieg_sheet.proofs.Common.{is_same_side, Pos, Side, TextFault, OutOfPlace, ◌>>=◌, position_text, lines, Place, place, whole, Either, listing_at, list_head, Said, line_text, line_in, Dialect, Line, Opens, Illegal, Done, Heard, Early, Over, version_lines, SheetState, new_sheet, entered, first_turn, over_at_first, turn_after, over_after, may_stand, are_in_place, turn_of, is_over, is_in_place, OpeningFits, IsOpening, IsTold, IsSheet, may_follow, followed_by, placed, next_form, entries_at, sheet_at, sheet_version_at, opens_lines, sheet_text, told_lines, SpellsSheet}
 use Rattle.krieg_fen.proofs.Listings.{listing_reads}
-use Rattle.krieg_text.proofs.Takings.{Read, read_whole}
+use Rattle.krieg_text.proofs.Takings.{Read, read_whole, taken_again}
 use Rattle.krieg_text.proofs.LineTexts.{lines_again}
 use Rattle.krieg_words.proofs.VersionSpellings.{version_reads}
 use Rattle.krieg_words.proofs.LineLaws.{line_again}
@@ -59,11 +59,15 @@ end_again : (s : SheetState) → Ok None ≡ next_form s (codes "end")
 unfolding next_form
 end_again s = refl
 
+entries_on : (s : SheetState) (n : ℕ) (t : List ℕ) (rest : List (List ℕ)) (l : Line) → Ok (Some l) ≡ next_form s t → entries_at s (place n (t ∷ rest)) ≡ entries_at (followed_by s l) (place (n + 1) rest)
+entries_on s n t rest l is =
+    sym (entries_more s (place n (t ∷ rest)) (place (n + 1) rest) l (entries_at s (place n (t ∷ rest))) (taken_again (next_form s) n t rest (Some l) (sym is)) refl)
+
 entries_again : (ls : List Line) (s : SheetState) (n : ℕ) → All (IsTold s.dialect) ls → are_in_place s.side (turn_of s) (is_over s) ls ≡ true →
     Read (entries_at s (place n (map (line_text s.dialect) ls ++ (codes "end" ∷ [])))) (with_more s (s.entries ++ ls)) []
 entries_again [] s n told stand = record {
   number = n + 1;
-  is = entries_last s (place n (codes "end" ∷ [])) (place (n + 1) []) (codes "end") refl (end_again s) ∙ ap (λ (ls : List Line). Ok (with_more s ls, place (n + 1) [])) (sym (append-nil s.entries));
+  is = entries_last s (place n (codes "end" ∷ [])) (place (n + 1) []) (entries_at s (place n (codes "end" ∷ []))) (taken_again (next_form s) n (codes "end") [] None (sym (end_again s))) refl ∙ ap (λ (ls : List Line). Ok (with_more s ls, place (n + 1) [])) (sym (append-nil s.entries));
 }
 entries_again (l ∷ ls) s n told stand =
     let p = and_parts (may_stand (is_same_side (turn_of s) s.side) (is_over s) l) (are_in_place s.side (turn_after (turn_of s) l) (over_after (is_over s) l) ls) stand in
@@ -75,7 +79,7 @@ entries_again (l ∷ ls) s n told stand =
     let rest = map (line_text s.dialect) ls ++ (codes "end" ∷ []) in
     record {
       number = more.number;
-      is = entries_more s (place n (line_text s.dialect l ∷ rest)) (place (n + 1) rest) (line_text s.dialect l) l refl (next_again s l (told 0 l (omega arith)) (may_by s l p.0))
+      is = entries_on s n (line_text s.dialect l) rest l (next_again s l (told 0 l (omega arith)) (may_by s l p.0))
           ∙ ap (λ (t : SheetState). entries_at t (place (n + 1) rest)) (followed_is s l p.0)
           ∙ more.is ∙ ap (λ (es : List Line). Ok (with_more s es, place more.number [])) (append_assoc s.entries (l ∷ []) ls);
     }
@@ -89,7 +93,7 @@ body_again d who list (Some w) ls n fits is told stand =
     let rest = map (line_text d) ls ++ (codes "end" ∷ []) in
     record {
       number = more.number;
-      is = entries_more (new_sheet d who list None) (place n (line_text d (Opens w) ∷ rest)) (place (n + 1) rest) (line_text d (Opens w)) (Opens w) refl (next_again (new_sheet d who list None) (Opens w) (is, ap Opens fits) refl) ∙ more.is;
+      is = entries_on (new_sheet d who list None) n (line_text d (Opens w)) rest (Opens w) (next_again (new_sheet d who list None) (Opens w) (is, ap Opens fits) refl) ∙ more.is;
     }
 
 -- the lines before the list

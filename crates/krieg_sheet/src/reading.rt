@@ -1,7 +1,7 @@
-ghost use Rattle.std.specs.Prelude.{◌≡◌, true, IfSome, IfOk};
+ghost use Rattle.std.specs.Prelude.{◌≡◌, ◌+◌, true, IfSome, IfOk, OnOk, length};
 ghost use Rattle.krieg_text.specs.Lines.{lines};
 ghost use Rattle.krieg_text.specs.Formats.{IsReading};
-ghost use Rattle.krieg_text.specs.Reading.{whole, Gives, GivesOn, Passed};
+ghost use Rattle.krieg_text.specs.Reading.{taken, whole, Gives, GivesOn, Passed};
 ghost use Rattle.krieg_words.specs.Line.{LineFits};
 ghost use Rattle.krieg_sheet.specs.Places.{IsSheet};
 ghost use Rattle.krieg_sheet.specs.SheetReading as spec;
@@ -9,7 +9,7 @@ ghost use Rattle.krieg_sheet.specs.SheetSpelling.{SpellsSheet, SheetGrammar};
 
 use crate::sheet::Sheet;
 use krieg_fen::{Turn, read_listing};
-use krieg_text::{Cursor, TextFault, TextKind, is_name};
+use krieg_text::{Cursor, LineSource, TextFault, TextKind, is_name};
 use krieg_words::{Dialect, Line, read_line_in, read_version_lines};
 use std::alloc::Global;
 
@@ -44,16 +44,25 @@ fn next_form(sheet: &Sheet, text: &[u8]) -> Result<Option<Line>, TextKind>
     }
 }
 
+/// The next line, as `end` or a line that may follow what was read.
+fn read_entry(from: &mut Cursor<'_>, sheet: &Sheet) -> Result<Option<Line>, TextFault>
+    ensures value { GivesOn (λ o. o) result from.new
+        (taken (spec.next_form sheet.now) from.old) }
+    ensures fits { IfOk result (λ o. IfSome o (λ l. LineFits sheet.now.dialect l)) }
+    ensures may { IfOk result (λ o. IfSome o (λ l. spec.may_follow sheet.now l ≡ true)) }
+    ensures fewer { OnOk result (length from.new.left + 1 ≡ length from.old.left) }
+{
+    from.next(|line| next_form(sheet, line))
+}
+
 /// Reads lines into the sheet, up to `end`.
 #[tactic(auto, using(crate::proofs::Entries::entries))]
 fn read_entries(from: &mut Cursor<'_>, sheet: &mut Sheet) -> Result<(), TextFault>
     ensures { GivesOn (λ _. sheet.new) result from.new (spec.entries_at sheet.old from.old) }
 {
     'entries: loop {
-        let number = from.number();
-        let line = from.line()?;
-        match next_form(sheet, line) {
-            Err(kind) => return Err(TextFault::At { line: number, kind }),
+        match read_entry(from, sheet) {
+            Err(fault) => return Err(fault),
             Ok(None) => return Ok(()),
             Ok(Some(entry)) => sheet.follow(entry)?,
         }

@@ -16,17 +16,22 @@ use krieg_board::{Position, Side};
 use krieg_words::{Dialect, Line, Words, know_line, know_words};
 use std::alloc::{AllocFailed, Global};
 use std::marker::Model;
+use thiserror::Error;
 
 /// Why a sheet or an entry is refused.
-#[derive(Clone, Copy, Debug, PartialEq, Eq)]
+#[derive(Clone, Copy, Debug, PartialEq, Eq, Error)]
 pub enum SheetFault {
     /// There is no position, or there are more than 200,000.
+    #[error("no position, or more than 200,000")]
     Count,
     /// The position with this number, from 0, is the first whose hand differs from that of the first one.
+    #[error("position {0} has another hand than the first")]
     Differs(usize),
     /// The line may not stand after the last entry.
+    #[error("a line that may not stand after the last entry")]
     OutOfPlace,
     /// Memory was not found.
+    #[error("memory was not found")]
     NoMemory,
 }
 

@@ -94,3 +94,9 @@ abbrev pub GivesOn : {X Y : Type 0} → (X → Y) → Result X TextFault → Pla
 GivesOn view (Ok x) new read = read ≡ Ok (view x, new)
 GivesOn view (Err NoMemory) new read = Unit {0}
 GivesOn view (Err (At line kind)) new read = (read ≡ Err (At line kind)) × IsRefusedAt line new
+
+-- What a reader of the next line answered, where form says what it may make of a line: for each function that computes the
+-- same, it is what that function gives of the next line.
+abbrev pub GivesTaken : {A : Type 0} → (List ℕ → Result A TextKind → Type 0) → Result A TextFault → Place → Place → Type 0
+GivesTaken {A} form answer old new =
+    (reads : List ℕ → Result A TextKind) → ((l : List ℕ) (r : Result A TextKind) → form l r → r ≡ reads l) → GivesOn (λ x. x) answer new (taken reads old)

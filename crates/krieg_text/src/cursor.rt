@@ -1,10 +1,10 @@
-ghost use Rattle.std.specs.Prelude.{◌≡◌, ◌<◌, ◌≤◌, ◌+◌, ◌^◌, ◌≢◌, IfOk, IfErr, OnOk, OnErr, Ok, Err, None, length, slice_get};
-ghost use Rattle.std.specs.Option.{option_copied};
+ghost use Rattle.std.specs.Prelude.{◌≡◌, ◌<◌, ◌≤◌, ◌+◌, ◌^◌, ◌≢◌, IfOk, IfErr, OnOk, OnErr, Ok, Err, length};
 ghost use Rattle.krieg_text.specs.Reading.{begin, place, line_at, ended, Passed};
 ghost use Rattle.krieg_text.specs.declared.fault.TextFault.TheVariants.{NoMemory as OutOfMemory};
 
 use crate::fault::{TextFault, TextKind};
 use crate::lines::{Lines, lines_of};
+use crate::source::{LineSource, at_line};
 use std::marker::Model;
 
 /// A reader of a text line by line: the lines that are left, and the number of the first of them.
@@ -77,13 +77,6 @@ impl<'a> Cursor<'a> {
         }
     }
 
-    /// The next line, which stays.
-    pub fn peek(&self) -> Option<&'a [u8]>
-        ensures { option_copied result ≡ slice_get self.now.left 0 }
-    {
-        self.source.peek()
-    }
-
     /// The number of the next line.
     pub fn number(&self) -> usize
         ensures value { result ≡ self.now.number }
@@ -91,12 +84,22 @@ impl<'a> Cursor<'a> {
     {
         self.number
     }
+}
 
-    /// That no line is left: one that is there is a fault of kind `Syntax`.
+impl<'a> LineSource for Cursor<'a> {
+    ghost place = { λ c. c };
+
+    #[tactic(auto, using(crate::proofs::ReadingLemmas::formed))]
+    fn next<A, F: FnOnce(&[u8]) -> Result<A, TextKind> + Drop>(
+        &mut self,
+        form: F,
+    ) -> Result<A, TextFault> {
+        let line = self.number;
+        at_line(line, form(self.line()?))
+    }
+
     #[tactic(auto, using(crate::proofs::ReadingLemmas::ends))]
-    pub fn end(&self) -> Result<(), TextFault>
-        ensures { result ≡ ended tt self.now.number self.now.left }
-    {
+    fn end(&self) -> Result<(), TextFault> {
         if self.source.is_empty() {
             Ok(())
         } else {

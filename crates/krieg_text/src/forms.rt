@@ -3,10 +3,10 @@ ghost use Rattle.krieg_text.specs.Forms as spec;
 ghost use Rattle.krieg_text.specs.Reading.{taken, Passed, GivesOn};
 ghost use Rattle.krieg_text.specs.declared.fault.TextFault.TheVariants.{NoMemory as OutOfMemory};
 
-use crate::cursor::Cursor;
 use crate::fault::{TextFault, TextKind};
 use crate::names::behind;
 use crate::number::{NumberFault, read_number_between};
+use crate::source::LineSource;
 
 /// The number from `least` to `most` that stands after the name. A plain decimal outside the range is of
 /// the kind `outside`, and everything else is `Syntax`.
@@ -50,32 +50,28 @@ pub fn count_form(name: &[u8], least: u64, most: u64, text: &[u8]) -> Result<u64
 }
 
 /// The next line, as a format's name and its version.
-#[tactic(auto, using(crate::proofs::ReadingLemmas::refused))]
-pub fn read_version(from: &mut Cursor<'_>, name: &[u8], newest: u64) -> Result<u64, TextFault>
-    ensures value { GivesOn (λ n. n) result from.new
-        (taken (spec.version_form name.now newest) from.old) }
+pub fn read_version<S: LineSource>(from: &mut S, name: &[u8], newest: u64) -> Result<u64, TextFault>
+    ensures value { GivesOn (λ n. n) result (S.place from.new)
+        (taken (spec.version_form name.now newest) (S.place from.old)) }
     ensures range { IfOk result (λ n. (1 ≤ n) × (n ≤ newest)) }
-    ensures rest { Passed from.old from.new }
+    ensures rest { Passed (S.place from.old) (S.place from.new) }
     ensures memory { IfErr result (λ e. e ≢ OutOfMemory) }
 {
-    let line = from.number();
-    version_form(name, newest, from.line()?).map_err(|kind| TextFault::At { line, kind })
+    from.next(|line| version_form(name, newest, line))
 }
 
 /// The next line, as a name and a number from `least` to `most`.
-#[tactic(auto, using(crate::proofs::ReadingLemmas::refused))]
-pub fn read_count(
-    from: &mut Cursor<'_>,
+pub fn read_count<S: LineSource>(
+    from: &mut S,
     name: &[u8],
     least: u64,
     most: u64,
 ) -> Result<u64, TextFault>
-    ensures value { GivesOn (λ n. n) result from.new
-        (taken (spec.count_form name.now least most) from.old) }
+    ensures value { GivesOn (λ n. n) result (S.place from.new)
+        (taken (spec.count_form name.now least most) (S.place from.old)) }
     ensures range { IfOk result (λ n. (least ≤ n) × (n ≤ most)) }
-    ensures rest { Passed from.old from.new }
+    ensures rest { Passed (S.place from.old) (S.place from.new) }
     ensures memory { IfErr result (λ e. e ≢ OutOfMemory) }
 {
-    let line = from.number();
-    count_form(name, least, most, from.line()?).map_err(|kind| TextFault::At { line, kind })
+    from.next(|line| count_form(name, least, most, line))
 }

@@ -1,7 +1,7 @@
 //! The toolkit of all texts: reading line by line, numbers and names, what is wrong with a line, and writing.
 //!
-//! It knows no chess. A text is cut into lines (`lines`), which a `Cursor` takes one by one and counts, and each line has
-//! a form (`forms`): a name and what stands after it. A reader answers a value or a `TextFault`: the first line that is
+//! It knows no chess. A text is cut into lines (`lines`), which a `LineSource`, as a `Cursor`, gives one by one, each read
+//! by a form (`forms`): a name and what stands after it. A reader answers a value or a `TextFault`: the first line that is
 //! not accepted, and what is wrong with it. A writer named `put_*` adds to a `Text`, which leaves a byte vector as it was
 //! where memory runs out.
 //!
@@ -24,6 +24,7 @@ mod lines;
 mod names;
 mod number;
 mod pieces;
+mod source;
 mod writing;
 
 pub use cursor::Cursor;
@@ -35,4 +36,5 @@ pub use number::{
     NumberFault, has_digits_only, is_plain, put_number, read_number, read_number_between,
 };
 pub use pieces::cut;
+pub use source::LineSource;
 pub use writing::Text;

@@ -9,13 +9,16 @@ ghost use Rattle.krieg_text.specs.Writing.{PutsText, Appends};
 use crate::writing::Text;
 use itoa::Buffer;
 use krieg_faults::NoMemory;
+use thiserror::Error;
 
 /// Why a text is no number within a range.
-#[derive(Clone, Copy, Debug, PartialEq, Eq)]
+#[derive(Clone, Copy, Debug, PartialEq, Eq, Error)]
 pub enum NumberFault {
     /// It is no plain decimal.
+    #[error("no plain decimal")]
     NotPlain,
     /// It is a plain decimal, of any length, outside the range.
+    #[error("a number outside its range")]
     OutOfRange,
 }
 

@@ -43,7 +43,7 @@ pub use pawn_tries::tries;
 pub use told_moves::{after_told, after_told_if_legal};
 pub use told_words::told;
 pub use versions::{
-    put_second_version, put_version_lines, read_dialect_line, read_version_lines,
+    put_dialect_line, put_second_version, put_version_lines, read_dialect_line, read_version_lines,
     version_line_count,
 };
 pub use word_numbers::{WORDS_LIMIT, words_at, words_number};

@@ -13,9 +13,11 @@ use crate::words_reading::words_in;
 use krieg_board::Move;
 use krieg_fen::read_move;
 use krieg_text::{behind, cut, is_name};
+use thiserror::Error;
 
 /// The text is no line of the dialect.
-#[derive(Clone, Copy, Debug, PartialEq, Eq)]
+#[derive(Clone, Copy, Debug, PartialEq, Eq, Error)]
+#[error("no line of the dialect")]
 pub struct LineFault;
 
 fn done_in(d: Dialect, mv: &Move, text: Option<&[u8]>) -> Option<Line>

@@ -17,9 +17,11 @@ use krieg_board::Square;
 use krieg_checks::{Kinds, NO_KINDS};
 use krieg_fen::read_square;
 use krieg_text::{behind, is_name, read_number_between};
+use thiserror::Error;
 
 /// The text is no words of the dialect.
-#[derive(Clone, Copy, Debug, PartialEq, Eq)]
+#[derive(Clone, Copy, Debug, PartialEq, Eq, Error)]
+#[error("no words of the dialect")]
 pub struct WordsFault;
 
 fn square_in(text: Option<&[u8]>) -> Option<Square>

@@ -1,20 +1,24 @@
-use Rattle.std.proofs.Common.{rules, ◌≡◌, ◌∷◌, [], ◌++◌, Ok, Err, arith, Vec, Global}
+use Rattle.std.proofs.Common.{rules, ◌≡◌, ◌∷◌, [], ◌++◌, None, Ok, Err, arith, Vec, Global}
 use Rattle.std.specs.Prelude.{slice_get}
-use Rattle.krieg_fen.proofs.Common.{Pos, Position, taken, GivesOn, listed_form}
+use Rattle.krieg_fen.proofs.Common.{Pos, Position, taken, GivesOn, listed_form, positions_at}
 use Rattle.krieg_fen.proofs.Listing.{listed_ok, listed_gives}
 use Rattle.krieg_text.proofs.ReadingLemmas.{passed_then}
 use Rattle.krieg_fen.proofs.list.list_at.Goals as goal
 
 pub returns-in-Err-clause-value : goal.returns-in-Err-clause-value
-returns-in-Err-clause-value c =
-    let given : GivesOn {X = Pos} (λ p. p) (Err c.in-Err.fault) c.next_listed.new.from (taken (listed_form c.args.turn c.args.who (slice_get c.loop-i.list.items 0)) c.loop-i.from) = search rules in
-    listed_gives {X = Vec Position Global} (λ v. v.items) c.args.turn c.args.who c.loop-i.list.items c.args.n c.loop-i.i c.loop-i.from c.next_listed.new.from c.in-Err.fault _ (omega arith) given c.loop-i.invariant.read
+returns-in-Err-clause-value g c =
+    let at = g.S.LineSource.place in
+    let new = at c.read_listed.new.from in
+    let given : GivesOn {X = Pos} (λ p. p) (Err c.in-Err.fault) new (taken (listed_form c.args.turn c.args.who (slice_get c.loop-i.list.items 0)) (at c.loop-i.from)) = search rules in
+    listed_gives {X = Vec Position Global} (λ v. v.items) c.args.turn c.args.who c.loop-i.list.items c.args.n c.loop-i.i (at c.loop-i.from) new c.in-Err.fault (positions_at c.args.turn c.args.who None c.args.n (g.S.LineSource.place c.args.from.now)) (omega arith) given c.loop-i.invariant.read
 
 pub loop-i-preserved : goal.loop-i-preserved
-loop-i-preserved c =
-    let read : taken (listed_form c.args.turn c.args.who (slice_get c.loop-i.list.items 0)) c.loop-i.from ≡ Ok (c.in-Ok.position, c.next_listed.new.from) = search rules in
+loop-i-preserved g c =
+    let at = g.S.LineSource.place in
+    let new = at c.read_listed.new.from in
+    let read : taken (listed_form c.args.turn c.args.who (slice_get c.loop-i.list.items 0)) (at c.loop-i.from) ≡ Ok (c.in-Ok.position, new) = search rules in
     let pushed : c.push.new.self.items ≡ c.loop-i.list.items ++ c.in-Ok.position ∷ [] = search rules in
     record {
-      read = rw pushed (listed_ok c.args.turn c.args.who c.loop-i.list.items c.args.n c.loop-i.i c.loop-i.from c.next_listed.new.from c.in-Ok.position _ (omega arith) read c.loop-i.invariant.read);
-      rest = passed_then c.args.from.now c.loop-i.from c.next_listed.new.from c.loop-i.invariant.rest c.next_listed.ensures.rest;
+      read = rw pushed (listed_ok c.args.turn c.args.who c.loop-i.list.items c.args.n c.loop-i.i (at c.loop-i.from) new c.in-Ok.position (positions_at c.args.turn c.args.who None c.args.n (g.S.LineSource.place c.args.from.now)) (omega arith) read c.loop-i.invariant.read);
+      rest = passed_then (at c.args.from.now) (at c.loop-i.from) new c.loop-i.invariant.rest c.read_listed.ensures.rest;
     }
