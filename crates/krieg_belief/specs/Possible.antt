@@ -5,14 +5,14 @@ use Rattle.krieg_board.specs.Hand.{same_hand}
 use Rattle.krieg_board.specs.declared.men.Side.{Side}
 use Rattle.krieg_sheet.specs.Sheets.{SheetState, new_sheet}
 use Rattle.krieg_sheet.specs.SheetText.{head_lines, opens_lines}
-use Rattle.krieg_sheet.specs.Games.{Consistent}
+use Rattle.krieg_sheet.specs.Games.{IsConsistent}
 use Rattle.krieg_theory.specs.Sets.{In}
 use Rattle.krieg_pack.specs.Members.{IsAscending}
 
 -- the positions that are consistent with the sheet, each once, in order: there is one such list
 pub record IsPossible (s : SheetState) (ps : List Pos) : Type 0 where
   pub ascending : IsAscending ps
-  pub exact : (q : Pos) → In q ps ↔ Consistent s q
+  pub exact : (q : Pos) → In q ps ↔ IsConsistent s q
 
 -- any two of the positions have the same hand of that side
 abbrev pub HaveOneHand : Side → List Pos → Type 0

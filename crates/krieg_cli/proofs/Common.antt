@@ -35,7 +35,7 @@ pub use Rattle.krieg_referee.specs.Hearing.{lines_for}
 pub use Rattle.krieg_referee.specs.declared.verdict.Event.{Event}
 pub use Rattle.krieg_referee.specs.declared.verdict.Stop.TheVariants.{AsksUsed, Ended, Left}
 pub use Rattle.krieg_referee.specs.declared.verdict.Verdict.{Verdict}
-pub use Rattle.krieg_sheet.specs.Games.{Consistent, Gives}
+pub use Rattle.krieg_sheet.specs.Games.{IsConsistent, Gives}
 pub use Rattle.krieg_sheet.specs.Places.{IsSheet}
 unfoldable pub use Rattle.krieg_sheet.specs.SheetReading.{sheet_at}
 unfoldable pub use Rattle.krieg_sheet.specs.SheetText.{sheet_text}

@@ -2,7 +2,7 @@
 use Rattle.std.proofs.Common.{◌≡◌, true, List, [], ◌∷◌, None, refl, sym, ap, subst, ◌∙◌, arith}
 use Rattle.std.specs.List.{All, Contains}
 use Rattle.std.proofs.lemmas.List.Elements.{All-nil, All-contains}
-use Rattle.krieg_cli.proofs.Common.{is_same_side, Pos, IsValid, Side, Move, Dialect, Line, Opens, Illegal, Done, Heard, Early, Over, In, SheetState, new_sheet, Gives, Consistent, IsSheet, first_turn, turn_behind, turn_of, is_my_turn, IsPossible, IsOwnTurn}
+use Rattle.krieg_cli.proofs.Common.{is_same_side, Pos, IsValid, Side, Move, Dialect, Line, Opens, Illegal, Done, Heard, Early, Over, In, SheetState, new_sheet, Gives, IsConsistent, IsSheet, first_turn, turn_behind, turn_of, is_my_turn, IsPossible, IsOwnTurn}
 use Rattle.krieg_moves.proofs.Hands.{same_hand_alike}
 use Rattle.krieg_moves.proofs.KeepsValid.{valid_after}
 use Rattle.krieg_moves.proofs.Turns.{side_after}
@@ -29,7 +29,7 @@ list_alone s sheet = record { listed = sheet.listed; valid = sheet.valid; fits =
 turn_listed : (s : SheetState) → IsSheet s → (p : Pos) → Contains s.list p → p.side ≡ first_turn s.list
 turn_listed s sheet p at = go s.list refl at
   where
-    alone : (q : Pos) → Contains s.list q → Consistent (new_sheet s.dialect s.side s.list None) q
+    alone : (q : Pos) → Contains s.list q → IsConsistent (new_sheet s.dialect s.side s.list None) q
     alone q at = record { start = q; replies = []; is_listed = at; opens = tt; gives = (refl, refl) }
 
     go : (list : List Pos) → s.list ≡ list → Contains list p → p.side ≡ first_turn list

@@ -7,7 +7,7 @@ use Rattle.krieg_text.specs.Lines.{lines}
 use Rattle.krieg_text.specs.Reading.{whole}
 use Rattle.krieg_referee.specs.Games.{last}
 use Rattle.krieg_referee.specs.Hearing.{strip}
-use Rattle.krieg_sheet.specs.Games.{Consistent}
+use Rattle.krieg_sheet.specs.Games.{IsConsistent}
 use Rattle.krieg_sheet.specs.Sheets.{SheetState}
 use Rattle.krieg_sheet.specs.SheetReading.{sheet_at}
 use Rattle.krieg_sheet.specs.SheetText.{answer_text}
@@ -48,7 +48,7 @@ pub record IsUmpired (given : List ℕ) (s : SessionState) (who : Side) (text : 
 -- the text is read as the player's sheet of the session, and the position in which the game stands is consistent with it
 pub record IsHeard (s : SessionState) (who : Side) (text : List ℕ) : Type 0 where
   pub read : whole sheet_at (lines text) ≡ Ok (heard_sheet s who)
-  pub consistent : Consistent (heard_sheet s who) (standing s)
+  pub consistent : IsConsistent (heard_sheet s who) (standing s)
 
 -- `umpire` read a session, and wrote a text that is read as the player's sheet of it; the text is the same for the session
 -- without the other player's tries that are not done

@@ -30,12 +30,12 @@ theirs Black White Black h k = refl
 theirs Black Black turn h k = absurd cc
 
 -- some moves of the opponent give these lines from p, in a game that ends in q
-record Given (d : Dialect) (p : Pos) (ls : List Line) (who : Side) (q : Pos) : Type 0 where
+record HiddenGame (d : Dialect) (p : Pos) (ls : List Line) (who : Side) (q : Pos) : Type 0 where
   replies : List Move
   gives : Gives d p ls who replies q
 
-step : (d : Dialect) (who : Side) (p : Pos) (e : Event) (ls : List Line) (q : Pos) → Given d (next p e.who e.mv) (map (told_line d) ls) who q →
-    Given d p (map (told_line d) (cons_option (line_for who (judged p e)) ls)) who q
+step : (d : Dialect) (who : Side) (p : Pos) (e : Event) (ls : List Line) (q : Pos) → HiddenGame d (next p e.who e.mv) (map (told_line d) ls) who q →
+    HiddenGame d p (map (told_line d) (cons_option (line_for who (judged p e)) ls)) who q
 unfolding verdict
 step d who p e ls q g = by_tests (is_ended p) (is_same_side e.who p.side) (is_legal p e.mv) (is_same_side e.who who) refl refl refl refl g
   where
@@ -46,8 +46,8 @@ step d who p e ls q g = by_tests (is_ended p) (is_same_side e.who p.side) (is_le
     heard_by own x = cond own (Some (own_line e.mv x)) (others_line x)
 
     by_tests : (ended turn legal own : Bool) → is_ended p ≡ ended → is_same_side e.who p.side ≡ turn → is_legal p e.mv ≡ legal → is_same_side e.who who ≡ own →
-        Given d (position_after (v ended turn legal) p e.mv) (map (told_line d) ls) who q →
-        Given d p (map (told_line d) (cons_option (heard_by own (v ended turn legal)) ls)) who q
+        HiddenGame d (position_after (v ended turn legal) p e.mv) (map (told_line d) ls) who q →
+        HiddenGame d p (map (told_line d) (cons_option (heard_by own (v ended turn legal)) ls)) who q
     by_tests true turn legal true he ht hl ho g = record { replies = g.replies; gives = (he, g.gives) }
     by_tests true turn legal false he ht hl ho g = g
     by_tests false false legal true he ht hl ho g = record { replies = g.replies; gives = (he, not_mine e.who who p.side ht ho, g.gives) }
@@ -57,7 +57,7 @@ step d who p e ls q g = by_tests (is_ended p) (is_same_side e.who p.side) (is_le
     by_tests false true true true he ht hl ho g = record { replies = g.replies; gives = (mine e.who who p.side ht ho, hl, refl, g.gives) }
     by_tests false true true false he ht hl ho g = record { replies = e.mv ∷ g.replies; gives = (theirs e.who who p.side ht ho, hl, refl, g.gives) }
 
-given : (d : Dialect) (who : Side) (p : Pos) (events : List Event) → Given d p (map (told_line d) (lines_for who (judge p events))) who (last p events)
+given : (d : Dialect) (who : Side) (p : Pos) (events : List Event) → HiddenGame d p (map (told_line d) (lines_for who (judge p events))) who (last p events)
 given d who p [] = record { replies = []; gives = (refl, refl) }
 given d who p (e ∷ es) = step d who p e (lines_for who (judge (next p e.who e.mv) es)) (last (next p e.who e.mv) es) (given d who (next p e.who e.mv) es)
 

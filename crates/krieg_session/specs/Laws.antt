@@ -11,7 +11,7 @@ use Rattle.krieg_words.specs.declared.dialects.Dialect.{Dialect}
 use Rattle.krieg_referee.specs.declared.verdict.Event.{Event}
 use Rattle.krieg_referee.specs.Games.{last}
 use Rattle.krieg_referee.specs.Hearing.{heard}
-use Rattle.krieg_sheet.specs.Games.{Consistent}
+use Rattle.krieg_sheet.specs.Games.{IsConsistent}
 use Rattle.krieg_sheet.specs.Places.{IsSheet}
 use Rattle.krieg_sheet.specs.SheetReading.{sheet_at}
 use Rattle.krieg_sheet.specs.SheetText.{sheet_text}
@@ -40,7 +40,7 @@ SheetsAreInPlace = (d : Dialect) (p : Pos) (events : List Event) (who : Side) �
 
 -- the position in which the game stands is one of those that the player must reckon with
 abbrev pub LastIsConsistent : Type 0
-LastIsConsistent = (d : Dialect) (p : Pos) (events : List Event) (who : Side) → Consistent (sheet_of d p events who) (last p events)
+LastIsConsistent = (d : Dialect) (p : Pos) (events : List Event) (who : Side) → IsConsistent (sheet_of d p events who) (last p events)
 
 -- a written session spells that session
 abbrev pub SessionsAreReadBack : Type 0

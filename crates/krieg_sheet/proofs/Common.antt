@@ -33,7 +33,7 @@ pub use Rattle.krieg_words.specs.Words.{Said}
 pub use Rattle.krieg_words.specs.declared.dialects.Dialect.{Dialect}
 pub use Rattle.krieg_words.specs.declared.line.Line.{Line}
 pub use Rattle.krieg_words.specs.declared.line.Line.TheVariants.{Done, Early, Heard, Illegal, Opens, Over}
-pub use Rattle.krieg_sheet.specs.Games.{Consistent}
+pub use Rattle.krieg_sheet.specs.Games.{IsConsistent}
 pub use Rattle.krieg_sheet.specs.Lists.{differs, list_fault, other_hand}
 pub use Rattle.krieg_sheet.specs.Places.{IsKept, IsOpening, IsSheet, IsTold, OpeningFits}
 unfoldable pub use Rattle.krieg_sheet.specs.SheetReading.{next_form, sheet_at, sheet_version_at}

@@ -3,7 +3,7 @@ use Rattle.std.proofs.Common.{◌≡◌, ℕ, zero, suc, ◌+◌, ◌<◌, true,
 use Rattle.std.specs.Prelude.{slice_index_or}
 use Rattle.std.specs.List.{Contains}
 use Rattle.std.proofs.lemmas.List.Elements.{All-contains}
-use Rattle.krieg_sheet.proofs.Common.{other, is_same_side, Pos, same_hand, IsValid, Side, White, Black, Move, after, Dialect, Line, Opens, Illegal, Done, Heard, Early, Over, SheetState, other_hand, list_fault, Consistent, IsSheet}
+use Rattle.krieg_sheet.proofs.Common.{other, is_same_side, Pos, same_hand, IsValid, Side, White, Black, Move, after, Dialect, Line, Opens, Illegal, Done, Heard, Early, Over, SheetState, other_hand, list_fault, IsConsistent, IsSheet}
 use Rattle.krieg_board.proofs.MenLemmas.{same_side_eq}
 use Rattle.krieg_moves.proofs.Hands.{Alike, same_hand_alike, alike_same_hand, alike_same, alike_back, alike_through, alike_own}
 use Rattle.krieg_moves.proofs.KeepsValid.{valid_after}
@@ -52,7 +52,7 @@ gives_alike d (Heard w ∷ ls) who p p' (r ∷ rs) (r' ∷ rs') q q' e v v' g g'
     (valid_after p r v g.1) (valid_after p' r' v' g'.1) g.3 g'.3
 gives_alike d (Opens w ∷ ls) who p p' rs rs' q q' e v v' g g' = absurd g
 
-pub one_hand : (s : SheetState) → IsSheet s → (p q : Pos) → Consistent s p → Consistent s q → same_hand p q s.side ≡ true
+pub one_hand : (s : SheetState) → IsSheet s → (p q : Pos) → IsConsistent s p → IsConsistent s q → same_hand p q s.side ≡ true
 one_hand s sheet p q c c' =
     alike_same_hand s.side p q
     (gives_alike s.dialect s.entries s.side c.start c'.start c.replies c'.replies p q

@@ -1,6 +1,6 @@
 -- The reader of sheets keeps to the grammar of sheets, and so keeps the promises of a reader.
-use Rattle.std.proofs.Common.{◌≡◌, inl, inr, ℕ, Bool, true, false, cond, List, ◌++◌, Option, Some, None, Result, Ok, Err, refl, sym, ap, subst, ◌∙◌}
-use Rattle.std.specs.Prelude.{◌⊎◌, codes}
+use Rattle.std.proofs.Common.{◌≡◌, inl, inr, ℕ, Bool, true, false, cond, List, Option, Some, None, Result, Ok, Err, refl, sym, ap, subst, ◌∙◌}
+use Rattle.std.specs.Prelude.{codes}
 use Rattle.std.specs.Str.{bytes_eq}
 use Rattle.std.proofs.lemmas.Slice.Eq.{bytes_eq-Decides}
 use Rattle.krieg_sheet.proofs.Common.{TextFault, TextKind, OutOfPlace, Either, behind, ◌>>=◌, Always, IsReading, listing_at, One, Many, ◌⨾◌, ListingGrammar, Step, goes_on, stops, whole, line_in, SpellVersion, version_at, Dialect, Line, Opens, Illegal, Done, Heard, Early, Over, IsSheet, may_follow, followed_by, placed, next_form, led, entry_form, sheet_at, sheet_version_at, SpellsSheet, SheetGrammar, SheetState, new_sheet}

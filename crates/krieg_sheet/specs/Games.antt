@@ -34,7 +34,7 @@ OpensWith d None p = Unit {0}
 OpensWith d (Some w) p = told d (opening p) ≡ w
 
 -- q is consistent with the sheet: some hidden game from a listed position gives what the sheet says, and ends in q
-pub record Consistent (s : SheetState) (q : Pos) : Type 0 where
+pub record IsConsistent (s : SheetState) (q : Pos) : Type 0 where
   pub start : Pos
   pub replies : List Move
   pub is_listed : Contains s.list start

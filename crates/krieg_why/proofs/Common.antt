@@ -23,7 +23,7 @@ unfoldable pub use Rattle.krieg_referee.specs.Verdicts.{verdict}
 pub use Rattle.krieg_referee.specs.Verdicts.{is_done, next, position_after}
 pub use Rattle.krieg_referee.specs.declared.verdict.Event.{Event}
 pub use Rattle.krieg_referee.specs.declared.verdict.Verdict.{Verdict}
-pub use Rattle.krieg_sheet.specs.Games.{Consistent, Gives, OpensWith}
+pub use Rattle.krieg_sheet.specs.Games.{IsConsistent, Gives, OpensWith}
 pub use Rattle.krieg_sheet.specs.Places.{IsSheet}
 pub use Rattle.krieg_sheet.specs.Sheets.{SheetState}
 pub use Rattle.krieg_session.specs.SessionText.{event_line}

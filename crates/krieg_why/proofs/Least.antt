@@ -6,7 +6,7 @@ use Rattle.std.specs.Ordering.{is_lt, is_le, ordering_then}
 use Rattle.std.specs.Cmp.Lexicographic.{slice_cmp}
 use Rattle.std.specs.declared.cmp.Ordering.{Ordering}
 use Rattle.std.specs.declared.cmp.Ordering.TheVariants.{Less, Equal, Greater}
-use Rattle.krieg_why.proofs.Common.{move_cmp, Pos, Side, Move, opening, told, told_line, Dialect, Line, Opens, judge, last, lines_for, SheetState, Gives, OpensWith, Consistent, IsPossible, In, Ascending, position_cmp, IsAscending, ShownState, last_of, Explains, IsLeast, AreShown, their_moves, shown_cmp, Tale, stands_of, begun, tale_cmp, tale_lt, tell, tell_all, AreStarts, events_by, shown_of}
+use Rattle.krieg_why.proofs.Common.{move_cmp, Pos, Side, Move, opening, told, told_line, Dialect, Line, Opens, judge, last, lines_for, SheetState, Gives, OpensWith, IsConsistent, IsPossible, In, Ascending, position_cmp, IsAscending, ShownState, last_of, Explains, IsLeast, AreShown, their_moves, shown_cmp, Tale, stands_of, begun, tale_cmp, tale_lt, tell, tell_all, AreStarts, events_by, shown_of}
 use Rattle.krieg_theory.proofs.Lists.{in_map, map_in}
 use Rattle.krieg_belief.proofs.HiddenGames.{AreEntries}
 use Rattle.krieg_why.proofs.Orders.{Le, and_moves, then_equal}
@@ -99,7 +99,7 @@ module _ (s : SheetState) (ps : List Pos) (starts : AreStarts s ps) (entries : A
           ap (λ (rs : List Move). is_le (ordering_then (position_cmp y.start z.start) (slice_cmp move_cmp rs zs))) game.replies ∙ not_greater (tale_cmp y (and_moves (begun z.start) zs)) le
 
   -- every position that is possible has a game in the layer
-  pub possible_stands : (q : Pos) → Consistent s q → (y : Tale) × In y layer × (y.stands ≡ q)
+  pub possible_stands : (q : Pos) → IsConsistent s q → (y : Tale) × In y layer × (y.stands ≡ q)
   possible_stands q c =
       let t = tell_has s.dialect s.side s.entries 0 (map begun ps) (begun_layer ps starts.ascending) (begun c.start)
       (in_map begun ps c.start (starts.all c.start c.is_listed c.opens)) c.replies q c.gives in
