@@ -1,7 +1,7 @@
 -- Lines that owe little.
 use Rattle.std.proofs.Common.{◌≡◌, inl, inr, ℕ, ◌<◌, ◌^◌, Bool, true, false, cond, List, Option, Some, None, Result, Ok, Err, refl, sym, ap, subst, ◌∙◌}
 use Rattle.std.specs.Prelude.{◌⊎◌}
-use Rattle.krieg_format.proofs.Common.{TextKind, Syntax, number_form, is_beyond_form, IsFormed, Has, Always, One, ◌>>=◌, Pieces, Line, formed, literal_form, literal, number_line, unless, tested, which, telling}
+use Rattle.krieg_format.proofs.Common.{TextKind, Syntax, number_form, is_beyond_form, IsFormed, Has, Always, One, ◌>>=◌, Pieces, Line, formed, word_form, literal, number_line, unless, tested, which, telling}
 use Rattle.std.specs.Str.{bytes_eq}
 use Rattle.std.proofs.lemmas.Slice.Eq.{bytes_eq-Decides}
 use Rattle.krieg_text.proofs.FormSpellings.{number_is, number_read}
@@ -27,7 +27,7 @@ formed_some form t x e = (t, subst IsFormed (sym e) tt, x)
 
 -- a word
 pub literal_law : (word : List ℕ) → IsLine (literal word)
-literal_law word = formed_law (record { found = λ l u e. is_word l u (bytes_eq l word) (bytes_eq-Decides l word).0 e; only = λ l u s. ap (literal_form word) s ∙ ap (λ t. cond t (Ok tt) (Err Syntax)) (same word) })
+literal_law word = formed_law (record { found = λ l u e. is_word l u (bytes_eq l word) (bytes_eq-Decides l word).0 e; only = λ l u s. ap (word_form word) s ∙ ap (λ t. cond t (Ok tt) (Err Syntax)) (same word) })
   where
     is_word : (l : List ℕ) (u : Unit {0}) (t : Bool) → (t ≡ true → l ≡ word) → ◌≡◌ {A = Result (Unit {0}) TextKind} (cond t (Ok tt) (Err Syntax)) (Ok u) → l ≡ word
     is_word l u true is h = is refl

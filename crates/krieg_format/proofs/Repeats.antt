@@ -1,11 +1,16 @@
 -- Code that takes one item after another in a loop: what it has, and what is read after it, is what the whole gives.
 use Rattle.std.proofs.Common.{◌≡◌, ℕ, suc, ◌+◌, ◌-◌, ◌<◌, ◌≤◌, List, [], ◌∷◌, ◌++◌, Result, Ok, Err, refl, sym, ap, ◌∙◌, append_assoc, arith}
 use Rattle.std.proofs.lemmas.List.{append-nil}
-use Rattle.krieg_format.proofs.Common.{TextFault, At, NoMemory, ◌>>=◌, Place, LineReader, GivesOn, repeated}
+use Rattle.krieg_format.proofs.Common.{TextFault, At, NoMemory, TextKind, ◌>>=◌, Place, LineReader, taken, GivesOn, repeated}
 
 -- the items of the list, and those that are read after them
 abbrev pub with_front : {A : Type 0} → List A → Result (List A × Place) TextFault → Result (List A × Place) TextFault
 with_front list r = r >>= λ o. Ok (list ++ o.0, o.1)
+
+-- one line that is read alone
+pub line_gives : {X A : Type 0} (view : X → A) (form : List ℕ → Result A TextKind) (answer : Result X TextFault) (p q : Place) → GivesOn view answer q (taken form p) →
+    GivesOn view answer q (◌>>=◌ {B = A × Place} (taken form p) (λ x. Ok (x.0, x.1)))
+line_gives view form answer p q given = grind arith
 
 module _ {S A : Type 0} (item : S → LineReader A) (next : S → A → S) where
   abbrev rest : S → ℕ → A × Place → Result (List A × Place) TextFault

@@ -1,11 +1,9 @@
 -- Lines that descriptions of formats are made of, and lines that tell which lines may follow.
-use Rattle.std.specs.Prelude.{◌≡◌, ◌≤◌, if◌then◌else◌, ℕ, List, [], ◌∷◌, ◌++◌, Option, Some, None, Result, Ok, Err}
-use Rattle.std.specs.Str.{bytes_eq}
+use Rattle.std.specs.Prelude.{◌≡◌, ◌≤◌, ℕ, List, [], ◌∷◌, ◌++◌, Option, Some, None, Result, Ok, Err}
 use Rattle.krieg_text.specs.declared.fault.TextKind.{TextKind}
-use Rattle.krieg_text.specs.declared.fault.TextKind.TheVariants.{Syntax}
 use Rattle.krieg_text.specs.Decimals.{number_text}
 use Rattle.krieg_text.specs.FirstBad.{Has}
-use Rattle.krieg_text.specs.Forms.{number_form}
+use Rattle.krieg_text.specs.Forms.{number_form, word_form}
 use Rattle.krieg_text.specs.Languages.{Language, One}
 use Rattle.krieg_text.specs.Outcomes.{◌>>=◌}
 use Rattle.krieg_text.specs.Reading.{LineReader, taken}
@@ -31,13 +29,9 @@ pub record Part (A : Type 0) (G : A → Language) : Type 1 where
 abbrev pub formed : {A : Type 0} → (form : List ℕ → Result A TextKind) → (List ℕ → A → Type 0) → (A → Pieces) → (A → Type 0) → Line A (Has form)
 formed form says text fits = record { form = form; says = says; text = text; fits = fits }
 
--- this word and no other
-abbrev pub literal_form : List ℕ → List ℕ → Result (Unit {0}) TextKind
-literal_form word line = if bytes_eq line word then Ok tt else Err Syntax
-
 -- a line with the one value that it may have
-abbrev pub literal : (word : List ℕ) → Line (Unit {0}) (Has (literal_form word))
-literal word = formed (literal_form word) (λ l u. l ≡ word) (λ u. alone word) (λ u. Unit {0})
+abbrev pub literal : (word : List ℕ) → Line (Unit {0}) (Has (word_form word))
+literal word = formed (word_form word) (λ l u. l ≡ word) (λ u. alone word) (λ u. Unit {0})
 
 -- a name and a number from least to most; a plain decimal outside is of the kind that is told
 abbrev pub number_line : (outside : TextKind) (name : List ℕ) (least most : ℕ) → Line ℕ (Has (number_form outside name least most))

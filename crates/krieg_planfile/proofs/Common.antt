@@ -20,7 +20,7 @@ pub use Rattle.krieg_text.specs.Lines.{AreLines, ended_line, is_line, lines, ont
 unfoldable pub use Rattle.krieg_text.specs.Names.{behind}
 pub use Rattle.krieg_text.specs.Names.{cut}
 pub use Rattle.krieg_text.specs.Outcomes.{◌>>=◌}
-pub use Rattle.krieg_text.specs.Reading.{Gives, GivesOn, LineReader, Place, line_at, on, place, taken, whole}
+pub use Rattle.krieg_text.specs.Reading.{Gives, GivesOn, LineReader, Place, ended, on, place, taken, whole}
 pub use Rattle.krieg_text.specs.Writing.{HasLines, Pieces, PutsLines, Written, alone, joined, put_lines}
 pub use Rattle.krieg_text.specs.declared.fault.TextFault.{TextFault}
 pub use Rattle.krieg_text.specs.declared.fault.TextFault.TheVariants.{At, NoMemory}

@@ -2,7 +2,7 @@
 use Rattle.std.proofs.Common.{◌≡◌, ℕ, zero, suc, ◌+◌, ◌-◌, ◌≤◌, Bool, true, false, ◌&&◌, max, List, [], ◌∷◌, ◌++◌, map, length, Option, Some, None, Result, Ok, Err, refl, sym, ap, subst, ◌∙◌, arith, append_assoc}
 use Rattle.std.proofs.lemmas.Bool.{and_from}
 use Rattle.std.proofs.lemmas.List.{map-append}
-use Rattle.krieg_planfile.proofs.Common.{Move, TextKind, Deep, ◌>>=◌, Place, taken, Pieces, joined, Try, Maybe, Just, Edges, size, size_other, depth, depth_other, depth_edges, edge_keys, Dialect, Key, key_lt, as_edges, NodeTree, is_ascending, is_ordered, is_ordered_other, are_ordered, Play, play_form, on_form, follows, NodeReader, other_by, branch_by, branches_by, below_by, deep_form, node_at, edge_count, is_just, play_line, on_line, node_lines, other_lines, edges_lines, branches_lines, IsToldKey, IsTold, IsToldOther, AreToldBranches}
+use Rattle.krieg_planfile.proofs.Common.{Move, TextFault, TextKind, Deep, ◌>>=◌, Place, taken, GivesOn, Pieces, joined, Try, Maybe, Just, size, size_other, depth, depth_other, depth_edges, edge_keys, Dialect, Key, key_lt, as_edges, NodeTree, is_ascending, is_ordered, is_ordered_other, are_ordered, Play, play_form, on_form, follows, NodeReader, other_by, branch_by, branches_by, below_by, deep_form, node_at, edge_count, is_just, play_line, on_line, node_lines, other_lines, edges_lines, branches_lines, IsToldKey, IsTold, IsToldOther, AreToldBranches}
 use Rattle.krieg_text.proofs.Locality.{ok_is}
 use Rattle.krieg_text.proofs.Takings.{steps, taken_at}
 use Rattle.krieg_theory.specs.Tree as tree
@@ -162,11 +162,12 @@ module _ (d : Dialect) (room : ℕ) (node : NodeReader) (spell : Spell d room no
       })
 
 deep_never : (left : ℕ) (text : List ℕ) (x : NodeTree × ℕ) → deep_form left text ≡ Ok x → ⊥
-deep_never left text x e = never (play_form left text) e
-  where
-    never : (r : Result Play TextKind) → ◌>>=◌ {B = NodeTree × ℕ} r (λ play. Err Deep) ≡ Ok x → ⊥
-    never (Ok play) h = cc
-    never (Err kind) h = cc
+deep_never left text x e = grind arith
+
+-- it is refused, whatever a node is to the reader
+pub deep_gives : {X : Type 0} (view : X → NodeTree × ℕ) (left : ℕ) (answer : Result X TextFault) (p q : Place) → GivesOn {X = X} (λ x. x) answer q (taken {A = X} (λ l. ◌>>=◌ {B = X} (play_form left l) (λ play. Err Deep)) p) →
+    GivesOn view answer q (taken (deep_form left) p)
+deep_gives view left answer p q given = grind arith
 
 pub node_spells : (room : ℕ) (d : Dialect) (left : ℕ) (p q : Place) (n : NodeTree) (more : ℕ) → node_at room d left p ≡ Ok ((n, more), q) → NodeRead d room left p.left n more q
 unfolding node_at

@@ -1,15 +1,14 @@
 -- The plan file that lines spell, read line by line.
 use Rattle.std.specs.Prelude.{ℕ, ◌==◌, Bool, ◌&&◌, not, List, codes, Option, Some, None, is_some, Result, Ok, Err, if◌then◌else◌}
-use Rattle.std.specs.Str.{bytes_eq}
 use Rattle.krieg_board.specs.Pos.{Pos}
 use Rattle.krieg_board.specs.declared.men.Side.{Side}
 use Rattle.krieg_text.specs.declared.fault.TextKind.{TextKind}
-use Rattle.krieg_text.specs.declared.fault.TextKind.TheVariants.{Syntax, OutOfPlace}
+use Rattle.krieg_text.specs.declared.fault.TextKind.TheVariants.{OutOfPlace}
 use Rattle.krieg_fen.specs.declared.forms.Turn.{Turn}
 use Rattle.krieg_fen.specs.declared.forms.Turn.TheVariants.{Either, Own}
 use Rattle.krieg_text.specs.Formats.{named}
 use Rattle.krieg_fen.specs.Forms.{listing_at}
-use Rattle.krieg_text.specs.Forms.{version_form, count_form}
+use Rattle.krieg_text.specs.Forms.{version_form, count_form, word_form}
 use Rattle.krieg_text.specs.Outcomes.{◌>>=◌}
 use Rattle.krieg_text.specs.Reading.{LineReader, taken}
 use Rattle.krieg_words.specs.Words.{Said}
@@ -66,7 +65,7 @@ roots_form line = count_form (codes "roots ") 1 MOST_NODES line
 
 -- the last line
 unfoldable pub end_form : List ℕ → Result (Unit {0}) TextKind
-end_form line = if bytes_eq line (codes "end") then Ok tt else Err Syntax
+end_form line = word_form (codes "end") line
 
 -- version 1 is for the player's own turn alone
 abbrev pub turn_in : ℕ → Turn

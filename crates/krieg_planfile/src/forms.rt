@@ -8,7 +8,9 @@ ghost use Rattle.krieg_planfile.specs.NodeForms as spec;
 use krieg_board::Move;
 use krieg_fen::read_move;
 use krieg_plan::MOST_NODES;
-use krieg_text::{Cursor, NumberFault, TextFault, TextKind, behind, cut, read_number_between};
+use krieg_text::{
+    Cursor, LineSource, NumberFault, TextFault, TextKind, behind, cut, read_number_between,
+};
 use krieg_words::{Dialect, Words, compare, read_words_in};
 
 /// What the line of a node says: its try, whether there is a node for the illegal case, and how many edges
@@ -68,7 +70,8 @@ fn any_play_form(line: &[u8]) -> Result<Play, TextKind>
     }
 }
 
-fn play_form(left: usize, line: &[u8]) -> Result<Play, TextKind>
+/// What the line of a node says, where so many nodes may still come.
+pub(crate) fn play_form(left: usize, line: &[u8]) -> Result<Play, TextKind>
     ensures { result ≡ spec.play_form left line.now }
 {
     let play = any_play_form(line)?;
@@ -80,12 +83,10 @@ fn play_form(left: usize, line: &[u8]) -> Result<Play, TextKind>
 }
 
 /// The next line, as that of a node, where so many nodes may still come.
-#[tactic(auto, using(krieg_text::proofs::ReadingLemmas::refused))]
 pub(crate) fn read_play(from: &mut Cursor<'_>, left: usize) -> Result<Play, TextFault>
     ensures { GivesOn (λ x. x) result from.new (taken (spec.play_form left) from.old) }
 {
-    let line = from.number();
-    play_form(left, from.line()?).map_err(|kind| TextFault::At { line, kind })
+    from.next(|line| play_form(left, line))
 }
 
 /// The text without the space at its end.
@@ -171,7 +172,6 @@ fn on_form(
 }
 
 /// The next line, as that of an edge, after the edge with the last key.
-#[tactic(auto, using(krieg_text::proofs::ReadingLemmas::refused))]
 pub(crate) fn read_on(
     from: &mut Cursor<'_>,
     d: Dialect,
@@ -179,6 +179,5 @@ pub(crate) fn read_on(
 ) -> Result<(Words, Words), TextFault>
     ensures { GivesOn (λ x. x) result from.new (taken (spec.on_form d last.now) from.old) }
 {
-    let line = from.number();
-    on_form(d, last, from.line()?).map_err(|kind| TextFault::At { line, kind })
+    from.next(|line| on_form(d, last, line))
 }

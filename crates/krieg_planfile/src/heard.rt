@@ -1,13 +1,13 @@
-ghost use Rattle.std.specs.Prelude.{◌≡◌};
+ghost use Rattle.std.specs.Prelude.{◌≡◌, ◌+◌, OnOk, length};
 ghost use Rattle.krieg_text.specs.Lines.{lines};
-ghost use Rattle.krieg_text.specs.Reading.{Gives};
+ghost use Rattle.krieg_text.specs.Reading.{taken, Gives, GivesOn};
 ghost use Rattle.krieg_planfile.specs.HeardReading as spec;
 ghost use Rattle.krieg_planfile.specs.HeardStates.{heard_state_of};
 ghost use Rattle.krieg_planfile.specs.HeardSpelling.{IsHeardReading};
 
 use crate::reading::read_plan_lines;
 use krieg_plan::PlanFile;
-use krieg_text::{Cursor, TextFault, TextKind};
+use krieg_text::{Cursor, LineSource, TextFault, TextKind};
 use krieg_words::{Dialect, Line, read_line_in};
 use std::alloc::Global;
 
@@ -30,6 +30,14 @@ fn heard_line(d: Dialect, text: &[u8]) -> Result<Line, TextKind>
     }
 }
 
+/// The next line, in that dialect.
+fn read_heard_line(from: &mut Cursor<'_>, d: Dialect) -> Result<Line, TextFault>
+    ensures value { GivesOn (λ l. l) result from.new (taken (spec.heard_form d) from.old) }
+    ensures fewer { OnOk result (length from.new.left + 1 ≡ length from.old.left) }
+{
+    from.next(|line| heard_line(d, line))
+}
+
 /// All lines that are left, in that dialect.
 #[tactic(auto, using(crate::proofs::HeardLines::heard_lines))]
 fn read_heard(alloc: Global, from: &mut Cursor<'_>, d: Dialect) -> Result<Vec<Line>, TextFault>
@@ -38,13 +46,12 @@ fn read_heard(alloc: Global, from: &mut Cursor<'_>, d: Dialect) -> Result<Vec<Li
 {
     let mut heard = Vec::new(alloc);
     'lines: loop {
-        let line = from.number();
-        let Ok(text) = from.line() else {
+        if from.end().is_ok() {
             return Ok(heard);
-        };
-        match heard_line(d, text) {
-            Ok(told) => heard.push(told)?,
-            Err(kind) => return Err(TextFault::At { line, kind }),
+        }
+        match read_heard_line(from, d) {
+            Ok(line) => heard.push(line)?,
+            Err(fault) => return Err(fault),
         }
     }
 }

@@ -1,28 +1,32 @@
-ghost use Rattle.std.specs.Prelude.{◌≡◌, None, IfErr, ◌≢◌, map, option_map};
+ghost use Rattle.std.specs.Prelude.{◌≡◌, None, Err, IfErr, ◌≢◌, map, option_map};
+ghost use Rattle.krieg_text.specs.Outcomes.{◌>>=◌ as and_then};
 ghost use Rattle.krieg_text.specs.Reading.{taken, GivesOn};
+ghost use Rattle.krieg_text.specs.declared.fault.TextKind.TheVariants.{Deep};
 ghost use Rattle.krieg_plan.specs.Nodes.{tree_of, edge_of, as_other, as_edges};
-ghost use Rattle.krieg_planfile.specs.NodeForms.{on_form};
+ghost use Rattle.krieg_planfile.specs.NodeForms.{play_form, on_form};
 ghost use Rattle.krieg_planfile.specs.NodeReading as spec;
 
-use crate::forms::{Play, read_on, read_play};
+use crate::forms::{Play, play_form, read_on, read_play};
 use krieg_plan::{Edge, Node};
-use krieg_text::{Cursor, TextFault, TextKind};
+use krieg_text::{Cursor, LineSource, TextFault, TextKind};
 use krieg_words::{Dialect, Words};
 use std::alloc::Global;
 
 /// The line of a node that has too many nodes above it. It is never taken.
+fn deep_form(left: usize, line: &[u8]) -> Result<Box<Node>, TextKind>
+    ensures { result ≡ and_then (play_form left line.now) (λ play. Err Deep) }
+{
+    play_form(left, line)?;
+    Err(TextKind::Deep)
+}
+
+/// The next line, as that of a node with too many nodes above it.
+#[tactic(auto, using(crate::proofs::NodeSpellings::deep_gives))]
 fn read_too_deep(from: &mut Cursor<'_>, left: usize) -> Result<Box<Node>, TextFault>
     ensures { GivesOn (λ b. (tree_of b.value, left)) result from.new
         (taken (spec.deep_form left) from.old) }
 {
-    let line = from.number();
-    match read_play(from, left) {
-        Ok(_) => Err(TextFault::At {
-            line,
-            kind: TextKind::Deep,
-        }),
-        Err(fault) => Err(fault),
-    }
+    from.next(|line| deep_form(left, line))
 }
 
 /// A node, where `room` nodes may stand on a path from here on, and `left` may still come in all.

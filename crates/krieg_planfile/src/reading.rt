@@ -13,7 +13,7 @@ use crate::roots::{RootRules, read_roots};
 use krieg_board::{Position, Side};
 use krieg_fen::{Turn, read_listing};
 use krieg_plan::{MOST_NODES, MOST_ON_PATH, Plan, PlanFile};
-use krieg_text::{Cursor, LineSource, TextFault, TextKind, is_name, read_count, read_version};
+use krieg_text::{Cursor, LineSource, TextFault, read_count, read_version, read_word};
 use krieg_words::{Dialect, read_dialect_line};
 use std::alloc::Global;
 
@@ -73,24 +73,12 @@ fn read_root_count(from: &mut Cursor<'_>) -> Result<u64, TextFault>
     read_count(from, b"roots ", 1, MOST_NODES as u64)
 }
 
-#[tactic(auto, unfolding(crate::specs::PlanReading::end_form))]
-fn end_form(line: &[u8]) -> Result<(), TextKind>
-    ensures { result ≡ spec.end_form line.now }
-{
-    if is_name(b"end", line) {
-        Ok(())
-    } else {
-        Err(TextKind::Syntax)
-    }
-}
-
 /// The next line, as `end`.
-#[tactic(auto, using(krieg_text::proofs::ReadingLemmas::refused))]
+#[tactic(auto, unfolding(crate::specs::PlanReading::end_form))]
 fn read_end(from: &mut Cursor<'_>) -> Result<(), TextFault>
     ensures { GivesOn (λ u. u) result from.new (taken spec.end_form from.old) }
 {
-    let line = from.number();
-    end_form(from.line()?).map_err(|kind| TextFault::At { line, kind })
+    read_word(from, b"end")
 }
 
 /// A plan of `k` roots, with no more nodes than `left`.

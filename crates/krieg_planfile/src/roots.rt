@@ -9,7 +9,7 @@ ghost use Rattle.krieg_planfile.specs.PlanReading as spec;
 use crate::forms::key_in;
 use crate::nodes::read_node;
 use krieg_plan::{MOST_ON_PATH, Root, compare_heard};
-use krieg_text::{Cursor, TextFault, TextKind, behind};
+use krieg_text::{Cursor, LineSource, TextFault, TextKind, behind};
 use krieg_words::{Dialect, Words, compare, read_words_in};
 use std::alloc::Global;
 
@@ -92,7 +92,6 @@ fn root_form(rules: RootRules, last: &Option<RootKey>, line: &[u8]) -> Result<Ro
 }
 
 /// The next line, as that of a root, after the root with the last key.
-#[tactic(auto, using(krieg_text::proofs::ReadingLemmas::refused))]
 fn read_root_line(
     from: &mut Cursor<'_>,
     rules: RootRules,
@@ -101,8 +100,7 @@ fn read_root_line(
     ensures { GivesOn (λ x. x) result from.new
         (taken (spec.root_form rules.version rules.waiting rules.dialect last.now) from.old) }
 {
-    let line = from.number();
-    root_form(rules, last, from.line()?).map_err(|kind| TextFault::At { line, kind })
+    from.next(|line| root_form(rules, last, line))
 }
 
 /// The line of a root, after the root with the last key, and its node.

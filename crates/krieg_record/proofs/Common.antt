@@ -33,7 +33,7 @@ pub use Rattle.krieg_text.specs.Languages.{Behind, Language, One, UpToLast}
 pub use Rattle.krieg_text.specs.Lines.{AreLines, is_line, lines}
 unfoldable pub use Rattle.krieg_text.specs.Names.{behind}
 pub use Rattle.krieg_text.specs.Outcomes.{◌>>=◌}
-pub use Rattle.krieg_text.specs.Reading.{Gives, LineReader, Step, goes_on, stops, taken, up_to_last, whole}
+pub use Rattle.krieg_text.specs.Reading.{Gives, GivesOn, LineReader, Place, Step, goes_on, stops, taken, up_to_last, whole}
 pub use Rattle.krieg_text.specs.Writing.{joined, put_lines}
 pub use Rattle.krieg_text.specs.declared.fault.TextFault.{TextFault}
 pub use Rattle.krieg_text.specs.declared.fault.TextKind.{TextKind}

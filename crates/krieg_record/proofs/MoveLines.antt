@@ -3,10 +3,11 @@ use Rattle.std.proofs.Common.{◌≡◌, ◌⊎◌, inl, inr, ℕ, Bool, true, f
 use Rattle.std.specs.Prelude.{codes}
 use Rattle.std.specs.Str.{bytes_eq}
 use Rattle.std.proofs.lemmas.Slice.Eq.{bytes_eq-Decides}
-use Rattle.krieg_record.proofs.Common.{is_same_side, Pos, Side, White, Black, Move, after, is_legal, TextKind, behind, ◌>>=◌, Step, SanFault, RecordLine, Played, End, Means, after_all, marked_by, marked, in_turn, move_by, move_form, line_form, led, step_form, SpellsMove, side_mark, meant}
+use Rattle.krieg_record.proofs.Common.{is_same_side, Pos, Side, White, Black, Move, after, is_legal, TextFault, TextKind, behind, ◌>>=◌, Place, Step, taken, up_to_last, GivesOn, SanFault, RecordLine, Played, End, Means, after_all, marked_by, marked, in_turn, move_by, move_form, line_form, led, step_form, SpellsMove, side_mark, meant}
 use Rattle.krieg_board.proofs.MenLemmas.{same_side_eq, same_side_self}
 use Rattle.krieg_text.proofs.Formats.{IsStep, IsItemForm}
 use Rattle.krieg_text.proofs.NameLemmas.{behind_spells, behind_again}
+use Rattle.krieg_text.proofs.Takings.{taken_at, loop_refused}
 use Rattle.krieg_record.specs.declared.san_reading.SanFault.TheVariants as fault
 use Rattle.krieg_record.proofs.Meanings.{meant_means, meant_only}
 
@@ -105,24 +106,24 @@ played_legal p line m e = go (line_is p line (Played m) e)
     go (inr h) = let is = h.1 in let same : m ≡ h.0 = cc in ap (is_legal p) same ∙ h.2.only.matches.legal
 
 -- what the lines of the moves spell, and the last line
-abbrev pub Spelled : Pos → List Move → List ℕ → Move → Type 0
-Spelled start before line m = SpellsMove (after_all start before) line m
+abbrev pub MoveLine : Pos → List Move → List ℕ → Move → Type 0
+MoveLine start before line m = SpellsMove (after_all start before) line m
 
-abbrev pub Ended : List Move → List ℕ → Unit {0} → Type 0
-Ended before line u = line ≡ codes "end"
+abbrev pub EndLine : List Move → List ℕ → Unit {0} → Type 0
+EndLine before line u = line ≡ codes "end"
 
-pub step_is : (start : Pos) (ms : List Move) (line : List ℕ) (step : Step (List Move) (List Move × Unit {0})) → step_form start ms line ≡ Ok step → IsStep (Spelled start) Ended ms line step
+pub step_is : (start : Pos) (ms : List Move) (line : List ℕ) (step : Step (List Move) (List Move × Unit {0})) → step_form start ms line ≡ Ok step → IsStep (MoveLine start) EndLine ms line step
 step_is start ms line step e = go (line_form (after_all start ms) line) refl e
   where
-    by : (l : RecordLine) → led ms l ≡ step → ((l ≡ End) × (line ≡ codes "end")) ⊎ ((m : Move) × (l ≡ Played m) × SpellsMove (after_all start ms) line m) → IsStep (Spelled start) Ended ms line step
-    by l same (inl h) = subst (IsStep (Spelled start) Ended ms line) (ap (led ms) (sym h.0) ∙ same) (refl, h.1)
-    by l same (inr h) = subst (IsStep (Spelled start) Ended ms line) (ap (led ms) (sym h.1) ∙ same) (h.0, refl, h.2)
+    by : (l : RecordLine) → led ms l ≡ step → ((l ≡ End) × (line ≡ codes "end")) ⊎ ((m : Move) × (l ≡ Played m) × SpellsMove (after_all start ms) line m) → IsStep (MoveLine start) EndLine ms line step
+    by l same (inl h) = subst (IsStep (MoveLine start) EndLine ms line) (ap (led ms) (sym h.0) ∙ same) (refl, h.1)
+    by l same (inr h) = subst (IsStep (MoveLine start) EndLine ms line) (ap (led ms) (sym h.1) ∙ same) (h.0, refl, h.2)
 
-    go : (r : Result RecordLine TextKind) → line_form (after_all start ms) line ≡ r → (r >>= λ l. Ok (led ms l)) ≡ Ok step → IsStep (Spelled start) Ended ms line step
+    go : (r : Result RecordLine TextKind) → line_form (after_all start ms) line ≡ r → (r >>= λ l. Ok (led ms l)) ≡ Ok step → IsStep (MoveLine start) EndLine ms line step
     go (Err kind) is h = absurd cc
     go (Ok l) is h = let same : led ms l ≡ step = cc in by l same (line_is (after_all start ms) line l is)
 
-pub moves_form : (start : Pos) → IsItemForm (step_form start) (Spelled start) Ended
+pub moves_form : (start : Pos) → IsItemForm (step_form start) (MoveLine start) EndLine
 moves_form start = record {
   found = step_is start;
   one = λ ms line m s.
@@ -137,4 +138,12 @@ pub after_more : (p : Pos) (ms : List Move) (m : Move) → after_all p (ms ++ m 
 after_more p [] m = refl
 after_more p (x ∷ ms) m = after_more (after p x) ms m
 
-pub ruleset reads = (after_more, played_legal)
+pub taken_legal : (p : Pos) (from new : Place) (m : Move) → taken (line_form p) from ≡ Ok (Played m, new) → is_legal p m ≡ true
+taken_legal p from new m e = let t = taken_at (line_form p) from new (Played m) e in played_legal p t.text m t.is
+
+-- a line behind moves that is refused
+pub moves_bad : {X : Type 0} (view : X → List Move × Unit {0}) (start p : Pos) (ms : List Move) (from new : Place) (e : TextFault) (all : Result ((List Move × Unit {0}) × Place) TextFault) → p ≡ after_all start ms →
+    GivesOn {X = RecordLine} (λ l. l) (Err e) new (taken (line_form p) from) → up_to_last (step_form start) ms from.number from.left ≡ all → GivesOn view (Err e) new all
+moves_bad view start p ms from new e all is given so = loop_refused (step_form start) (line_form p) ms (led ms) (λ l. ap (λ q. line_form q l >>= λ x. Ok (led ms x)) (sym is)) view from new e all given so
+
+pub ruleset reads = (after_more, taken_legal, moves_bad)

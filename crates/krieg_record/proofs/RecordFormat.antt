@@ -6,7 +6,7 @@ use Rattle.krieg_record.proofs.Common.{Pos, Version, Always, version_form, Langu
 use Rattle.krieg_fen.proofs.FormSpellings.{starts_form}
 use Rattle.krieg_text.proofs.FormSpellings.{number_is, number_read}
 use Rattle.krieg_text.proofs.Formats.{IsForm, IsFormat, IsFormatIf, line_format, last_part, part_then, items_format}
-use Rattle.krieg_record.proofs.MoveLines.{Spelled, Ended, moves_form}
+use Rattle.krieg_record.proofs.MoveLines.{MoveLine, EndLine, moves_form}
 
 -- the same values from the same lines, said otherwise
 said_as : {A : Type 0} (r : LineReader A) (K J : A → Type 0) (S T : A → Language) → IsFormatIf r K S →
@@ -43,7 +43,7 @@ record_format =
     part_then (taken record_version) _ (λ n. n ≡ 1) (λ n. One (λ line. line ≡ codes "krieg record 1")) _ (λ r. 1) Always version_format (λ n h.
     part_then (taken start_form) _ Always (λ p. One (Behind (codes "start ") (λ t. Spells t p))) _ (λ r. r.start) (λ r. (1 ≡ n) × Unit {0}) (line_format start_form _ starts_form) (λ p k.
     said_as _ (λ r. (r.start ≡ p) × ((1 ≡ n) × Unit {0})) (λ r. (r.start ≡ p) × ((1 ≡ n) × Unit {0})) (λ r. SpellsMoves p r.moves) (λ r. SpellsMoves r.start r.moves)
-    (last_part (moves_at p) Always (λ x. UpToLast (Spelled p) Ended [] x.0 x.1) (λ x. record { start = p; moves = x.0 }) (λ r. (r.moves, tt)) (λ r. (r.start ≡ p) × ((1 ≡ n) × Unit {0}))
+    (last_part (moves_at p) Always (λ x. UpToLast (MoveLine p) EndLine [] x.0 x.1) (λ x. record { start = p; moves = x.0 }) (λ r. (r.moves, tt)) (λ r. (r.start ≡ p) × ((1 ≡ n) × Unit {0}))
     (λ x j. (refl, (sym h, tt))) (λ r j. tt) (λ x. refl) (λ r j. ap (λ (t : Pos). record { start = t; moves = r.moves }) (sym j.0))
     (items_format (step_form p) _ _ (moves_form p)))
     (λ r j ls s. (j, subst (λ (t : Pos). SpellsMoves t r.moves ls) (sym j.0) s))

@@ -9,7 +9,7 @@ use Rattle.krieg_text.proofs.FormGrammars.{form_of}
 use Rattle.krieg_text.proofs.LoopGrammars.{Goes, HasLoopForm, loop_keeps}
 use Rattle.krieg_record.specs.declared.san_reading.SanFault.TheVariants as fault
 use Rattle.krieg_record.proofs.Meanings.{meant_means}
-use Rattle.krieg_record.proofs.MoveLines.{Spelled, Ended, marks_again, line_again, step_is, moves_form}
+use Rattle.krieg_record.proofs.MoveLines.{MoveLine, EndLine, marks_again, line_again, step_is, moves_form}
 use Rattle.krieg_record.proofs.RecordFormat.{versions_form}
 
 turn_goes : (t : Bool) (r : Result Move SanFault) → (r ≡ Err fault.Syntax → ⊥) → ((m : Move) × (in_turn t r ≡ Ok m)) ⊎ ((kind : TextKind) × (is_beyond_form kind ≡ true) × (in_turn t r ≡ Err kind))
@@ -52,7 +52,7 @@ step_form_is start = record {
   some = (codes "end", refl);
 }
   where
-    keeps : (ms more : List Move) (line : List ℕ) → IsStep (Spelled start) Ended ms line (goes_on more) → IsMoveLine line
+    keeps : (ms more : List Move) (line : List ℕ) → IsStep (MoveLine start) EndLine ms line (goes_on more) → IsMoveLine line
     keeps ms more line s = let m = s.2.only.matches in record { who = (after_all start ms).side; text = s.2.text; is = s.2.is; form = (m.notation, m.says) }
 
 version_form_is : HasForm record_version Always untold (λ u line. line ≡ codes "krieg record 1")

@@ -8,12 +8,12 @@ use Rattle.krieg_text.proofs.LineTexts.{line_append, lines_again}
 use Rattle.krieg_fen.proofs.ListSpellings.{written_spells}
 use Rattle.krieg_text.proofs.Writings.{put_lines_is}
 use Rattle.krieg_record.proofs.Sans.{san_only}
-use Rattle.krieg_record.proofs.MoveLines.{Spelled, Ended, after_more}
+use Rattle.krieg_record.proofs.MoveLines.{MoveLine, EndLine, after_more}
 use Rattle.krieg_record.proofs.RecordFormat.{record_format}
 use Rattle.krieg_record.proofs.SanLines.{san_line}
 
 moves_spelled : (start : Pos) (before ms : List Move) (p : Pos) → after_all start before ≡ p → AreLegal p ms →
-    UpToLast (Spelled start) Ended before ms tt (map joined (move_lines p ms ++ ((codes "end" ∷ []) ∷ [])))
+    UpToLast (MoveLine start) EndLine before ms tt (map joined (move_lines p ms ++ ((codes "end" ∷ []) ∷ [])))
 moves_spelled start before [] p e legal = (refl, refl)
 moves_spelled start before (m ∷ ms) p e legal = (
   subst (λ (q : Pos). SpellsMove q (joined (move_line p m)) m) (sym e) (record { text = san_text p m; is = refl; only = san_only p m legal.0 }),

@@ -1,4 +1,4 @@
-ghost use Rattle.std.specs.Prelude.{◌≡◌, ◌<◌, ◌∷◌, ◌++◌, [], IfOk, OnOk, IsTrue, Some};
+ghost use Rattle.std.specs.Prelude.{◌≡◌, ◌+◌, ◌<◌, ◌∷◌, ◌++◌, [], IfOk, OnOk, IsTrue, Some, length};
 ghost use Rattle.krieg_text.specs.Formats.{Always, IsReading};
 ghost use Rattle.krieg_text.specs.Lines.{lines};
 ghost use Rattle.krieg_text.specs.Reading.{taken, whole, Gives, GivesOn, Passed};
@@ -14,7 +14,7 @@ use crate::san_reading::{SanFault, read_san};
 use krieg_board::{Move, NoMemory, Position, Side};
 use krieg_fen::start_form;
 use krieg_moves::after;
-use krieg_text::{Cursor, LineSource, TextFault, TextKind, behind, is_name, version_form};
+use krieg_text::{Cursor, LineSource, TextFault, TextKind, behind, is_name, read_version};
 use std::alloc::Global;
 
 /// A line after the start.
@@ -26,28 +26,18 @@ enum RecordLine {
 }
 
 #[tactic(auto, unfolding(crate::specs::RecordReading::record_version))]
-fn record_version(text: &[u8]) -> Result<u64, TextKind>
-    ensures { result ≡ spec.record_version text.now }
-{
-    version_form(b"krieg record ", 1, text)
-}
-
-#[tactic(auto, using(krieg_text::proofs::ReadingLemmas::refused))]
 fn read_record_version(from: &mut Cursor<'_>) -> Result<u64, TextFault>
     ensures value { GivesOn (λ n. n) result from.new (taken spec.record_version from.old) }
     ensures rest { Passed from.old from.new }
 {
-    let line = from.number();
-    record_version(from.line()?).map_err(|kind| TextFault::At { line, kind })
+    read_version(from, b"krieg record ", 1)
 }
 
-#[tactic(auto, using(krieg_text::proofs::ReadingLemmas::refused))]
 fn read_start_line(from: &mut Cursor<'_>) -> Result<Position, TextFault>
     ensures value { GivesOn (λ p. p) result from.new (taken forms.start_form from.old) }
     ensures rest { Passed from.old from.new }
 {
-    let line = from.number();
-    start_form(from.line()?).map_err(|kind| TextFault::At { line, kind })
+    from.next(|line| start_form(line))
 }
 
 /// The move, where the side is to move. Where it is not, the text is read for its form alone.
@@ -103,6 +93,14 @@ fn play(mv: &Move, p: &mut Position, moves: &mut Vec<Move>) -> Result<(), NoMemo
     Ok(())
 }
 
+/// The next line, where that position stands.
+fn read_record_line(from: &mut Cursor<'_>, p: &Position) -> Result<RecordLine, TextFault>
+    ensures value { GivesOn (λ l. l) result from.new (taken (spec.line_form p.now) from.old) }
+    ensures fewer { OnOk result (length from.new.left + 1 ≡ length from.old.left) }
+{
+    from.next(|line| line_form(p, line))
+}
+
 /// The moves up to the last line.
 #[tactic(auto, using(crate::proofs::MoveLines::reads))]
 fn read_moves(
@@ -115,10 +113,8 @@ fn read_moves(
     let mut moves: Vec<Move> = Vec::new(alloc);
     let mut p = *start;
     'moves: loop {
-        let number = from.number();
-        let line = from.line()?;
-        match line_form(&p, line) {
-            Err(kind) => return Err(TextFault::At { line: number, kind }),
+        match read_record_line(from, &p) {
+            Err(fault) => return Err(fault),
             Ok(RecordLine::End) => {
                 moves.shrink_to_fit();
                 return Ok(moves);

@@ -9,17 +9,22 @@ use crate::notation::{Movement, Notation};
 use crate::notation_reading::notation_of;
 use krieg_board::{Kind, Move, Position, Promo, Side, Square, lowest, without_lowest};
 use krieg_moves::{Wing, after_if_legal, arrival};
+use thiserror::Error;
 
 /// Why a text means no move.
-#[derive(Clone, Copy, Debug, PartialEq, Eq)]
+#[derive(Clone, Copy, Debug, PartialEq, Eq, Error)]
 pub enum SanFault {
     /// It is not of the form.
+    #[error("not of the form of a move")]
     Syntax,
     /// It is of the form, and may mean no legal move.
+    #[error("no legal move")]
     Unknown,
     /// It may mean two legal moves or more.
+    #[error("two legal moves or more")]
     Several,
     /// Memory was not found. `read_san` takes none, and never answers it.
+    #[error("memory was not found")]
     NoMemory,
 }
 

@@ -12,17 +12,16 @@ pub use Rattle.krieg_text.specs.Decimals.{number_between, number_text}
 pub use Rattle.krieg_text.specs.FirstBad.{Has, is_beyond_form}
 pub use Rattle.krieg_text.specs.Formats.{Always, IsReading}
 unfoldable pub use Rattle.krieg_text.specs.Forms.{number_form}
-pub use Rattle.krieg_text.specs.Forms.{ranged}
-pub use Rattle.krieg_text.specs.Lines.{is_line, lines, onto_line}
+pub use Rattle.krieg_text.specs.Forms.{ranged, word_form}
+pub use Rattle.krieg_text.specs.Lines.{is_line, lines}
 unfoldable pub use Rattle.krieg_text.specs.Names.{behind}
 pub use Rattle.krieg_text.specs.Names.{cut}
 pub use Rattle.krieg_text.specs.Outcomes.{◌>>=◌}
-pub use Rattle.krieg_text.specs.Reading.{Gives, GivesOn, IsRefusedAt, Place, ended, on, place, taken, whole}
+pub use Rattle.krieg_text.specs.Reading.{Gives, GivesOn, Place, taken, whole}
 pub use Rattle.krieg_text.specs.Writing.{Pieces, Written, Wrote, alone, joined, put_lines}
 pub use Rattle.krieg_text.specs.declared.fault.TextFault.{TextFault}
-pub use Rattle.krieg_text.specs.declared.fault.TextFault.TheVariants.{At, NoMemory}
 pub use Rattle.krieg_text.specs.declared.fault.TextKind.{TextKind}
-pub use Rattle.krieg_text.specs.declared.fault.TextKind.TheVariants.{Count, Differs, Large, OutOfPlace, Syntax, Version}
+pub use Rattle.krieg_text.specs.declared.fault.TextKind.TheVariants.{Count, Differs, Large, OutOfPlace, Version}
 pub use Rattle.krieg_text.specs.declared.number.NumberFault.{NumberFault}
 pub use Rattle.krieg_text.specs.declared.number.NumberFault.TheVariants.{NotPlain, OutOfRange}
 unfoldable pub use Rattle.krieg_fen.specs.Forms.{position_form, side_form}
@@ -31,7 +30,6 @@ pub use Rattle.krieg_fen.specs.ListText.{position_line}
 unfoldable pub use Rattle.krieg_fen.specs.MoveText.{move_text}
 pub use Rattle.krieg_fen.specs.MoveText.{move_of}
 pub use Rattle.krieg_fen.specs.declared.forms.Turn.TheVariants.{Own}
-pub use Rattle.krieg_format.specs.Lines.{literal_form}
 pub use Rattle.krieg_format.specs.Readers.{reader, repeated}
 pub use Rattle.krieg_format.specs.Tables.{table}
 pub use Rattle.krieg_format.specs.Written.{EachFits, Fits, each_text, written}
@@ -61,13 +59,12 @@ pub use Rattle.krieg_refute.specs.declared.refutation.TheConstants.{MOST_CLAIMED
 pub use Rattle.krieg_refute.specs.declared.refutation.Why.{Why}
 pub use Rattle.krieg_refute.specs.declared.refutation.Why.TheVariants.{Class, Lives, Refused, Stale}
 unfoldable pub use Rattle.krieg_refutefile.specs.LineForms.{claim_form, cut_last, reason_form}
-pub use Rattle.krieg_refutefile.specs.LineForms.{both_numbers, citing_form, class_form, class_with, onto_front, place_form, reason_by, sizes_by, sizes_form, why_form}
-pub use Rattle.krieg_refutefile.specs.OwnedLines.{HaveBytes, at_line, behind_line, lines_back}
-pub use Rattle.krieg_refutefile.specs.Parts.{AreTold, IsTold, claim_at, claims_at, last_in, last_move, list_at, listed_at, member_at, reason_at, reasons_at, set_at, totals_of}
+pub use Rattle.krieg_refutefile.specs.LineForms.{both_numbers, citing_form, claim_line, class_form, class_with, numbered, onto_front, place_form, reason_by, reason_line, sizes_by, sizes_form, why_form, why_pieces}
+pub use Rattle.krieg_refutefile.specs.Parts.{AreTold, IsTold, claim_at, claim_lines, claims_at, head_lines, last_in, last_move, list_at, listed_at, member_at, reason_at, reasons_at, set_at, totals_of}
 unfoldable pub use Rattle.krieg_refutefile.specs.RefutationFormat.{SpellsRefutation, refutation_at}
 pub use Rattle.krieg_refutefile.specs.RefutationFormat.{RefutationGrammar, claim_format, claims_format, list_format, none_yet, reasons_format, refutation_format, set_format}
 pub use Rattle.krieg_refutefile.specs.RefutationLines.{AreSizes, Totals, a_claim, a_claims, a_dialect, a_list, a_moves, a_position, a_reason, a_side, a_tries, a_version, argued, ascending, cites_below, listed, where_not, with_claim}
 unfoldable pub use Rattle.krieg_refutefile.specs.RefutationText.{refutation_text}
-pub use Rattle.krieg_refutefile.specs.RefutationText.{claim_line, claim_lines, head_lines, numbered, reason_line, refutation_lines, text_bound, why_pieces}
+pub use Rattle.krieg_refutefile.specs.RefutationText.{text_bound}
 pub use Rattle.krieg_refutefile.specs.Refutations.{ClaimState, NoneMates, RefutationState, claim_from, claim_state_of, claims_in, file_of, is_refutation, reason_from, refutation_price, state_from, state_of, why_from}
 pub use Rattle.krieg_refutefile.specs.Writable.{AreToldClaims, CanBeWritten, CitesBelow, IsToldClaim, IsToldReason, IsToldWhy, IsTurnOf, positions_in, reasons_in}

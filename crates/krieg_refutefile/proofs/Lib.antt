@@ -6,7 +6,6 @@ mod RefutationLaws
 mod WrittenLines
 mod WrittenClaims
 mod InPieces
-mod OwnedLines
 mod Chains
 mod Writables
 mod Loops

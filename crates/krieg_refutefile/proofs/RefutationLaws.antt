@@ -1,7 +1,7 @@
 -- A refutation file: what is read is what is spelled, and a fault is the first bad line.
 use Rattle.std.proofs.Common.{◌≡◌, ℕ, ◌≤◌, Bool, true, false, List, ◌++◌, Option, Some, None, Result, Ok, refl, sym, ap, ◌∙◌, arith}
 use Rattle.std.specs.Prelude.{codes}
-use Rattle.krieg_refutefile.proofs.Common.{Pos, Side, White, TextFault, TextKind, Version, Count, Differs, OutOfPlace, Large, number_text, is_beyond_form, Has, number_form, Always, IsReading, whole, Gives, joined, side_form, position_form, unnamed_dialect, dialect_form, Dialect, literal_form, RefutationState, a_version, a_moves, a_list, a_claims, a_tries, a_dialect, a_side, a_position, a_claim, a_reason, where_not, listed, Totals, set_format, claim_format, refutation_format, refutation_at, SpellsRefutation, RefutationGrammar, claim_line}
+use Rattle.krieg_refutefile.proofs.Common.{Pos, Side, White, TextFault, TextKind, Version, Count, Differs, OutOfPlace, Large, number_text, is_beyond_form, Has, number_form, Always, IsReading, whole, Gives, joined, side_form, position_form, unnamed_dialect, dialect_form, Dialect, word_form, RefutationState, a_version, a_moves, a_list, a_claims, a_tries, a_dialect, a_side, a_position, a_claim, a_reason, where_not, listed, Totals, set_format, claim_format, refutation_format, refutation_at, SpellsRefutation, RefutationGrammar, claim_line}
 use Rattle.krieg_text.proofs.FormSpellings.{number_read}
 use Rattle.krieg_fen.proofs.FormSpellings.{positions, side_spells, side_again}
 use Rattle.krieg_fen.proofs.ListGrammars.{lone_kings, kings_valid, written_form}
@@ -79,7 +79,7 @@ refutation_owes = (
               λ first. (tested_law a_position _ (listed_beyond who first) position_law, some_position),
               λ list. (
                 which_law a_claims (number_law Count (codes "claims ") 1 20000 (omega arith)) _ _ (some_number Count (codes "claims ") 1 20000 (omega arith) (omega arith)),
-                λ c. (λ s. claim_owes d s, λ claims. (literal_law (codes "end"), formed_some (literal_form (codes "end")) (codes "end") tt refl)),
+                λ c. (λ s. claim_owes d s, λ claims. (literal_law (codes "end"), formed_some (word_form (codes "end")) (codes "end") tt refl)),
                 λ c y ls e. each_length c _ _ _ y.0 _ e.first,
               ),
             ),

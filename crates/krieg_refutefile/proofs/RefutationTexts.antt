@@ -1,7 +1,7 @@
 -- The text of a refutation spells it, and is read as it again.
-use Rattle.std.proofs.Common.{◌≡◌, true, List, [], Ok, refl, subst, arith}
+use Rattle.std.proofs.Common.{◌≡◌, true, Ok, refl, arith}
 use Rattle.std.specs.Prelude.{codes}
-use Rattle.krieg_refutefile.proofs.Common.{Version, Count, lines, is_line, whole, Pieces, put_lines, dialect_line, Dialect, Wild16, Anytry, reader, table, RefutationState, claim_format, refutation_format, refutation_at, SpellsRefutation, a_list, a_claims, a_tries, a_dialect, a_position, a_claim, a_reason, Totals, refutation_text, CanBeWritten}
+use Rattle.krieg_refutefile.proofs.Common.{Version, Count, lines, is_line, whole, dialect_line, Dialect, Wild16, Anytry, RefutationState, claim_format, refutation_format, refutation_at, SpellsRefutation, a_list, a_claims, a_tries, a_dialect, a_position, a_claim, a_reason, Totals, refutation_text, CanBeWritten}
 use Rattle.krieg_fen.proofs.CleanTexts.{position_line, side_is}
 use Rattle.krieg_fen.proofs.ListSpellings.{written_spells}
 use Rattle.krieg_words.specs.declared.dialects.Dialect.TheVariants.{Plain}
@@ -11,7 +11,6 @@ use Rattle.krieg_refutefile.proofs.ClaimLines.{claim_written}
 use Rattle.krieg_refutefile.proofs.ReasonLines.{reason_written}
 use Rattle.krieg_refutefile.proofs.RefutationLaws.{refutation_owes}
 use Rattle.krieg_refutefile.proofs.Writables.{fits_from}
-use Rattle.krieg_refutefile.proofs.WrittenLines.{lines_are}
 
 dialect_written : IsWritten a_dialect
 dialect_written d f = (refl, clean d)
@@ -56,8 +55,8 @@ writes = (
 
 pub spelled : (s : RefutationState) → CanBeWritten s → SpellsRefutation s (lines (refutation_text s))
 unfolding SpellsRefutation refutation_text
-spelled s w = subst (λ (ls : List Pieces). table refutation_format s (lines (put_lines [] ls))) (lines_are s) (text_says refutation_format writes s (fits_from s w))
+spelled s w = text_says refutation_format writes s (fits_from s w)
 
 pub again : (s : RefutationState) → CanBeWritten s → whole refutation_at (lines (refutation_text s)) ≡ Ok s
 unfolding refutation_at refutation_text
-again s w = subst (λ (ls : List Pieces). whole (reader refutation_format) (lines (put_lines [] ls)) ≡ Ok s) (lines_are s) (text_again refutation_format refutation_owes writes s (fits_from s w))
+again s w = text_again refutation_format refutation_owes writes s (fits_from s w)

@@ -1,11 +1,12 @@
 -- How long the text of a refutation may be: an input has room for it.
-use Rattle.std.proofs.Common.{◌≡◌, ℕ, ◌+◌, ◌*◌, ◌<◌, ◌≤◌, ◌^◌, lit≤, List, [], ◌∷◌, ◌++◌, map, length, Ok, arith, length-append}
+use Rattle.std.proofs.Common.{◌≡◌, ℕ, ◌+◌, ◌*◌, ◌<◌, ◌≤◌, ◌^◌, lit≤, List, [], ◌∷◌, ◌++◌, map, length, Ok, ap, arith, length-append}
 use Rattle.std.specs.Prelude.{codes}
 use Rattle.std.specs.List.{All, flat_map}
 use Rattle.std.proofs.lemmas.List.Elements.{All-head, All-tail}
-use Rattle.krieg_refutefile.proofs.Common.{Move, number_text, whole, Pieces, alone, joined, position_line, move_text, words_text, Dialect, MOST_CLAIMS, MOST_CLAIMED, Reason, Why, Lives, Stale, Class, Refused, refutation_at, ClaimState, RefutationState, numbered, why_pieces, reason_line, claim_line, claim_lines, head_lines, refutation_lines, refutation_text, text_bound, CitesBelow, IsToldWhy, IsToldReason, AreToldClaims, positions_in, reasons_in, CanBeWritten}
+use Rattle.krieg_refutefile.proofs.Common.{Move, number_text, whole, Pieces, alone, joined, put_lines, position_line, move_text, words_text, Dialect, MOST_CLAIMS, MOST_CLAIMED, Reason, Why, Lives, Stale, Class, Refused, refutation_at, ClaimState, RefutationState, numbered, why_pieces, reason_line, claim_line, claim_lines, head_lines, refutation_text, text_bound, CitesBelow, IsToldWhy, IsToldReason, AreToldClaims, positions_in, reasons_in, CanBeWritten}
 use Rattle.krieg_refutefile.proofs.RefutationLaws.{refutation_reading}
 use Rattle.krieg_refutefile.proofs.Writables.{cites_any, spelled_can}
+use Rattle.krieg_refutefile.proofs.WrittenLines.{refutation_lines, lines_are}
 use Rattle.krieg_planfile.proofs.TextSizes.{append_short, words_short, number_short, move_short, size, size_append, text_size, positions_short, dialect_short, side_line_short}
 
 -- ---- lines
@@ -74,6 +75,7 @@ text_short s w =
     let claims : List Pieces = flat_map (claim_lines d) s.claims in
     let count : Pieces = numbered (codes "claims ") (length s.claims) in
     let text = text_size (refutation_lines s) in
+    let same = ap (λ (ls : List Pieces). length (put_lines [] ls)) (lines_are s) in
     let head = head_short s w in
     let list = positions_short s.list in
     let counted = numbered_short (codes "claims ") 5 (length s.claims) (omega arith) (omega (arith, w.few_claims)) (omega (arith, w.few_claims)) in
@@ -85,6 +87,7 @@ text_short s w =
     omega (
       arith,
       text,
+      same,
       head,
       list,
       counted,

@@ -3,8 +3,9 @@ use Rattle.std.proofs.Common.{◌≡◌, ℕ, ◌+◌, List, [], ◌∷◌, ◌+
 use Rattle.std.specs.List.{All, flat_map}
 use Rattle.std.proofs.lemmas.List.{append-nil, length-map}
 use Rattle.std.proofs.lemmas.List.Elements.{All-nil, All-cons, All-weaker}
-use Rattle.krieg_refutefile.proofs.Common.{Pos, Side, alone, put_lines, position_line, Dialect, Claim, IsTold, AreTold, numbered, claim_lines, head_lines, refutation_lines, claim_state_of, state_from, IsToldReason, AreToldClaims}
+use Rattle.krieg_refutefile.proofs.Common.{Pos, Side, alone, put_lines, position_line, Dialect, Claim, IsTold, AreTold, numbered, claim_lines, head_lines, refutation_text, claim_state_of, state_from, IsToldReason, AreToldClaims}
 use Rattle.krieg_text.proofs.Writings.{lines_then}
+use Rattle.krieg_refutefile.proofs.WrittenLines.{lines_are}
 
 pub flat_last : {A B : Type 0} (f : A → List B) (xs : List A) (x : A) → flat_map f (xs ++ x ∷ []) ≡ flat_map f xs ++ f x
 flat_last f [] x = append-nil (f x)
@@ -22,7 +23,8 @@ are_told d own (c ∷ cs) told =
 
 -- the parts of a refutation, one after another, are its lines
 pub all_lines : (d : Dialect) (who : Side) (n k m : ℕ) (L : List Pos) (cs : List Claim) (o a b c e f : List ℕ) → k ≡ length L → m ≡ length cs → o ≡ [] → a ≡ put_lines o (head_lines d who n k) → b ≡ put_lines a (map position_line L)
-    → c ≡ put_lines b (numbered (codes "claims ") m ∷ []) → e ≡ put_lines c (flat_map (λ x. claim_lines d (claim_state_of x)) cs) → f ≡ put_lines e (alone (codes "end") ∷ []) → f ≡ put_lines [] (refutation_lines (state_from d who n L cs))
+    → c ≡ put_lines b (numbered (codes "claims ") m ∷ []) → e ≡ put_lines c (flat_map (λ x. claim_lines d (claim_state_of x)) cs) → f ≡ put_lines e (alone (codes "end") ∷ []) → f ≡ refutation_text (state_from d who n L cs)
+unfolding refutation_text
 all_lines d who n k m L cs o a b c e f listed claimed none head list count claims end =
     let hs = head_lines d who n (length L) in
     let ps = map position_line L in
@@ -36,4 +38,4 @@ all_lines d who n k m L cs o a b c e f listed claimed none head list count claim
     end ∙ ap (λ (t : List ℕ). put_lines t last) (claims ∙ ap (λ (t : List ℕ). put_lines t ks) (c' ∙ ap (λ (t : List ℕ). put_lines t one) (list ∙ ap (λ (t : List ℕ). put_lines t ps) a')))
     ∙ sym (lines_then (put_lines (put_lines (put_lines [] hs) ps) one) ks last) ∙ sym (lines_then (put_lines (put_lines [] hs) ps) one (ks ++ last))
     ∙ sym (lines_then (put_lines [] hs) ps (one ++ (ks ++ last))) ∙ sym (lines_then [] hs (ps ++ (one ++ (ks ++ last))))
-    ∙ (λ i. put_lines [] (hs ++ (ps ++ (count' i ++ (claims' i ++ last)))))
+    ∙ (λ i. put_lines [] (hs ++ (ps ++ (count' i ++ (claims' i ++ last))))) ∙ ap (put_lines []) (sym (lines_are (state_from d who n L cs)))

@@ -1,9 +1,8 @@
 pub mod Refutations
 pub mod Writable
 pub mod LineForms
-pub mod RefutationText
 pub mod RefutationLines
 pub mod RefutationFormat
+pub mod RefutationText
 pub mod Parts
 pub mod InPieces
-pub mod OwnedLines

@@ -1,4 +1,4 @@
--- The forms of the lines of a claim: what each gives, or the kind of its fault. A space is byte 32.
+-- The forms of the lines of a claim: what each gives, or the kind of its fault, and how they are written. A space is byte 32.
 use Rattle.std.specs.Prelude.{ℕ, ◌==◌, Bool, true, false, List, [], ◌∷◌, codes, Option, Some, None, Result, Ok, Err, if◌then◌else◌}
 use Rattle.std.specs.Str.{bytes_eq}
 use Rattle.krieg_board.specs.declared.limits.TheConstants.{MOST_MOVES}
@@ -7,12 +7,14 @@ use Rattle.krieg_text.specs.declared.fault.TextKind.{TextKind}
 use Rattle.krieg_text.specs.declared.fault.TextKind.TheVariants.{Syntax, Count, OutOfPlace}
 use Rattle.krieg_text.specs.declared.number.NumberFault.{NumberFault}
 use Rattle.krieg_text.specs.declared.number.NumberFault.TheVariants.{NotPlain, OutOfRange}
-use Rattle.krieg_text.specs.Decimals.{number_between}
+use Rattle.krieg_text.specs.Decimals.{number_between, number_text}
 use Rattle.krieg_text.specs.Formats.{named}
 use Rattle.krieg_text.specs.Forms.{ranged}
 use Rattle.krieg_text.specs.Names.{behind, cut}
 use Rattle.krieg_text.specs.Outcomes.{◌>>=◌}
-use Rattle.krieg_fen.specs.MoveText.{move_of}
+use Rattle.krieg_text.specs.Writing.{Pieces}
+use Rattle.krieg_fen.specs.MoveText.{move_of, move_text}
+use Rattle.krieg_words.specs.WordsText.{words_text}
 use Rattle.krieg_words.specs.declared.dialects.Dialect.{Dialect}
 use Rattle.krieg_game.specs.Keys.{Key}
 use Rattle.krieg_planfile.specs.NodeForms.{key_in}
@@ -98,3 +100,24 @@ reason_by d (Some m) (Some text) = why_form d text >>= λ why. Ok (record { mv =
 -- a move, a space, and what is after it
 unfoldable pub reason_form : Dialect → List ℕ → Result Reason TextKind
 reason_form d line = reason_by d (move_of (cut 32 line).0) (cut 32 line).1
+
+-- ---- how lines are written
+
+-- a name and a number
+abbrev pub numbered : List ℕ → ℕ → Pieces
+numbered name n = name ∷ number_text n ∷ []
+
+-- why the try does not win, behind its move
+abbrev pub why_pieces : Dialect → Why → Pieces
+why_pieces d Lives = codes " lives" ∷ []
+why_pieces d Stale = codes " stale" ∷ []
+why_pieces d (Class heard place) = codes " class " ∷ words_text d heard.0 ∷ codes " / " ∷ words_text d heard.1 ∷ codes " " ∷ number_text place ∷ []
+why_pieces d (Refused place) = codes " refused " ∷ number_text place ∷ []
+
+-- a move, and why it does not win
+abbrev pub reason_line : Dialect → Reason → Pieces
+reason_line d r = move_text r.mv ∷ why_pieces d r.why
+
+-- the number of moves and of positions
+abbrev pub claim_line : ℕ → ℕ → Pieces
+claim_line moves positions = codes "claim " ∷ number_text moves ∷ codes " " ∷ number_text positions ∷ []

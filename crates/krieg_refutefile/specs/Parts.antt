@@ -1,11 +1,15 @@
--- The readers of the parts of a refutation file, as its description has them.
-use Rattle.std.specs.Prelude.{ℕ, ◌-◌, List, length, slice_get, Option, Some, None, unwrap_or}
+-- The readers of the parts of a refutation file, as its description has them, and the lines of its parts.
+use Rattle.std.specs.Prelude.{ℕ, ◌-◌, List, [], ◌∷◌, ◌++◌, codes, map, length, slice_get, Option, Some, None, unwrap_or}
 use Rattle.std.specs.List.{All}
 use Rattle.std.specs.Option.{option_map}
 use Rattle.krieg_board.specs.Pos.{Pos}
 use Rattle.krieg_board.specs.declared.men.Side.{Side}
 use Rattle.krieg_board.specs.declared.men.Move.{Move}
 use Rattle.krieg_text.specs.Outcomes.{◌>>=◌}
+use Rattle.krieg_text.specs.Writing.{Pieces, alone}
+use Rattle.krieg_fen.specs.Forms.{side_line}
+use Rattle.krieg_fen.specs.ListText.{position_line}
+use Rattle.krieg_words.specs.Versions.{dialect_line}
 use Rattle.krieg_text.specs.Reading.{LineReader, taken}
 use Rattle.krieg_words.specs.declared.dialects.Dialect.{Dialect}
 use Rattle.krieg_refute.specs.declared.refutation.Reason.{Reason}
@@ -15,6 +19,7 @@ use Rattle.krieg_format.specs.Readers.{repeated, reader}
 use Rattle.krieg_refutefile.specs.Refutations.{ClaimState}
 use Rattle.krieg_refutefile.specs.RefutationFormat.{claim_format, none_yet}
 use Rattle.krieg_refutefile.specs.Writable.{IsToldWhy}
+use Rattle.krieg_refutefile.specs.LineForms.{numbered, claim_line, reason_line}
 use Rattle.krieg_refutefile.specs.RefutationLines as lines
 use Rattle.krieg_refutefile.specs.RefutationLines.{a_version, a_list, a_claims, a_dialect, a_position, a_reason, listed, ascending, argued, with_claim}
 use Rattle.krieg_refutefile.specs.declared.claims.Totals.{Totals}
@@ -80,3 +85,12 @@ IsTold d r = IsToldWhy d r.why
 -- all words of a claim can be told in the dialect
 abbrev pub AreTold : Dialect → ClaimState → Type 0
 AreTold d c = All (IsTold d) c.reasons
+
+-- a claim: its positions, and the reasons for its tries
+abbrev pub claim_lines : Dialect → ClaimState → List Pieces
+claim_lines d c = claim_line c.moves (length c.set) ∷ (map position_line c.set ++ (numbered (codes "tries ") (length c.reasons) ∷ map (reason_line d) c.reasons))
+
+-- what stands before the listed positions
+abbrev pub head_lines : Dialect → Side → ℕ → ℕ → List Pieces
+head_lines d who moves listed =
+    numbered (codes "krieg refutation ") 1 ∷ alone (dialect_line d) ∷ alone (side_line who) ∷ numbered (codes "moves ") moves ∷ numbered (codes "list ") listed ∷ []

@@ -28,8 +28,7 @@ use Rattle.krieg_refute.specs.declared.refutation.Reason.{Reason}
 use Rattle.krieg_format.specs.Lines.{Line, formed, number_line, literal}
 use Rattle.krieg_refutefile.specs.Refutations.{ClaimState}
 use Rattle.krieg_refutefile.specs.Writable.{IsToldReason}
-use Rattle.krieg_refutefile.specs.LineForms.{claim_form, reason_form}
-use Rattle.krieg_refutefile.specs.RefutationText.{claim_line, reason_line}
+use Rattle.krieg_refutefile.specs.LineForms.{claim_form, reason_form, claim_line, reason_line}
 
 -- ---- lines
 

@@ -12,12 +12,11 @@ ghost use Rattle.krieg_refutefile.specs.RefutationLines.{a_tries, a_position, a_
 ghost use Rattle.krieg_refutefile.specs.Refutations.{claim_state_of};
 
 use crate::forms::{Sizes, claim_form, reason_form};
-use crate::owned_cursor::OwnedCursor;
 use krieg_board::{Move, Position};
 use krieg_fen::position_form;
 use krieg_pack::{Belief, Packed, pack};
 use krieg_refute::{Claim, MOST_CLAIMED, Reason, Why};
-use krieg_text::{TextFault, TextKind, count_form};
+use krieg_text::{LineSource, OwnedCursor, TextFault, TextKind, count_form};
 use krieg_words::Dialect;
 use std::alloc::Global;
 
@@ -51,14 +50,11 @@ fn member_form(set: &[Packed], line: &[u8]) -> Result<Packed, TextKind>
 }
 
 /// The next line, as a position after the last one of the set.
-#[tactic(auto, using(krieg_text::proofs::ReadingLemmas::refused))]
+#[tactic(auto, using(krieg_format::proofs::Repeats::line_gives))]
 fn next_member(from: &mut OwnedCursor, set: &[Packed]) -> Result<Packed, TextFault>
     ensures { GivesOn (λ p. p) result from.new (spec.member_at (last_in set.now) from.old) }
 {
-    let line = from.number();
-    let member = member_form(set, from.line()?);
-    from.pass();
-    member.map_err(|kind| TextFault::At { line, kind })
+    from.next(|line| member_form(set, line))
 }
 
 /// The next `n` lines as ascending positions.
@@ -120,7 +116,7 @@ fn argued_form(d: Dialect, own: usize, reasons: &[Reason], line: &[u8]) -> Resul
 }
 
 /// The next line, as a reason of the claim with the number `own`, after the last one of the reasons.
-#[tactic(auto, using(krieg_text::proofs::ReadingLemmas::refused))]
+#[tactic(auto, using(krieg_format::proofs::Repeats::line_gives))]
 fn next_reason(
     from: &mut OwnedCursor,
     d: Dialect,
@@ -130,10 +126,7 @@ fn next_reason(
     ensures { GivesOn (λ r. r) result from.new
         (spec.reason_at d own (last_move reasons.now) from.old) }
 {
-    let line = from.number();
-    let reason = argued_form(d, own, reasons, from.line()?);
-    from.pass();
-    reason.map_err(|kind| TextFault::At { line, kind })
+    from.next(|line| argued_form(d, own, reasons, line))
 }
 
 /// The next `n` lines as reasons of the claim with the number `own`, in the order of their moves.
@@ -172,15 +165,11 @@ fn sizes_after(positions: usize, line: &[u8]) -> Result<Sizes, TextKind>
 }
 
 /// The next line, as the sizes of a claim behind claims of so many positions.
-#[tactic(auto, using(krieg_text::proofs::ReadingLemmas::refused))]
 fn read_sizes(from: &mut OwnedCursor, positions: usize) -> Result<Sizes, TextFault>
     ensures { GivesOn (λ h. h) result from.new
         (taken (with_test a_claim.form (λ h. in_all positions h.1)) from.old) }
 {
-    let line = from.number();
-    let sizes = sizes_after(positions, from.line()?);
-    from.pass();
-    sizes.map_err(|kind| TextFault::At { line, kind })
+    from.next(|line| sizes_after(positions, line))
 }
 
 /// The number of reasons of a claim, behind claims of so many reasons.
@@ -196,15 +185,11 @@ fn tries_after(reasons: usize, line: &[u8]) -> Result<usize, TextKind>
 }
 
 /// The next line, as the number of reasons of a claim behind claims of so many reasons.
-#[tactic(auto, using(krieg_text::proofs::ReadingLemmas::refused))]
 fn read_tries(from: &mut OwnedCursor, reasons: usize) -> Result<usize, TextFault>
     ensures { GivesOn (λ n. n) result from.new
         (taken (with_test a_tries.form (in_all reasons)) from.old) }
 {
-    let line = from.number();
-    let tries = tries_after(reasons, from.line()?);
-    from.pass();
-    tries.map_err(|kind| TextFault::At { line, kind })
+    from.next(|line| tries_after(reasons, line))
 }
 
 /// The next lines as a claim, behind claims of these totals.

@@ -6,12 +6,13 @@
 //! and moves ascend, and that what is cited stands before; whether the claims hold is for `deny` of krieg_refute.
 //!
 //! The rules are the definitions of `specs/`: what a refutation is to contracts and when it refutes (`Refutations`), which
-//! have a text (`Writable`), the forms of the lines of a claim (`LineForms`), the one written form (`RefutationText`), and the
-//! format, described once in the terms of krieg_format: its lines (`RefutationLines`), and their order, of which its reader,
-//! the lines that spell a file and the grammar are read off (`RefutationFormat`). `Parts`, `InPieces` and `OwnedLines` are parts of the work.
+//! have a text (`Writable`), the forms of the lines of a claim and how they are written (`LineForms`), and the format,
+//! described once in the terms of krieg_format: its lines (`RefutationLines`), their order, of which its reader, the lines
+//! that spell a file and the grammar are read off (`RefutationFormat`), and the one written form, which is read off as well
+//! (`RefutationText`). `Parts` and `InPieces` are parts of the work.
 //!
 //! A text is written into `Pieces` of 8 KiB: it is never copied, and takes the memory of the claims that are let go while it grows.
-//! One that is read is cut into pieces as well (`owned_cursor`), each of which is let go once its lines are read.
+//! One that is read is cut into pieces as well (`OwnedCursor` of krieg_text), each of which is let go once its lines are read.
 //!
 //! ```
 //! let text = b"krieg refutation 1\ndialect wild16\nside w\nmoves 1\nlist 1\n7k/8/8/8/8/8/8/K7 w - -\nclaims 1\n\
@@ -30,7 +31,6 @@
 
 mod claims;
 mod forms;
-mod owned_cursor;
 mod pieces;
 mod reading;
 mod writing;

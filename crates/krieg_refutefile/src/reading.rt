@@ -1,108 +1,45 @@
-ghost use Rattle.std.specs.Prelude.{◌≡◌, ◌≤◌, IfOk, map};
+ghost use Rattle.std.specs.Prelude.{◌≡◌, IfOk, map};
 ghost use Rattle.std.specs.Option.{option_copied};
 ghost use Rattle.krieg_text.specs.Formats.{Always, IsReading};
-ghost use Rattle.krieg_text.specs.Forms.{number_form};
 ghost use Rattle.krieg_text.specs.Lines.{lines};
 ghost use Rattle.krieg_text.specs.Reading.{taken, whole, Gives, GivesOn};
-ghost use Rattle.krieg_format.specs.Lines.{tested};
-ghost use Rattle.krieg_refutefile.specs.OwnedLines as own;
 ghost use Rattle.krieg_refutefile.specs.Parts as parts;
 ghost use Rattle.krieg_refutefile.specs.RefutationFormat.{refutation_at, SpellsRefutation, RefutationGrammar};
-ghost use Rattle.krieg_refutefile.specs.RefutationLines.{a_dialect, a_side, a_moves, an_end, a_position, listed};
+ghost use Rattle.krieg_refutefile.specs.RefutationLines.{a_moves};
 ghost use Rattle.krieg_refutefile.specs.Refutations.{state_of, claim_state_of};
 ghost use Rattle.krieg_refutefile.specs.Writable.{CanBeWritten};
 
 use crate::claims::read_claims;
-use crate::owned_cursor::OwnedCursor;
 use krieg_board::{MOST_MOVES, Position, Side};
-use krieg_fen::{MOST_LISTED, Turn, listed_form, read_side};
+use krieg_fen::{Turn, read_list_line, read_listed, read_side};
 use krieg_pack::{Packed, pack};
 use krieg_refute::{Claim, MOST_CLAIMS, Refutation};
-use krieg_text::{TextFault, TextKind, is_name, number_form};
+use krieg_text::{LineSource, OwnedCursor, TextFault, read_count, read_version, read_word};
 use krieg_words::{Dialect, read_dialect_line};
 use std::alloc::Global;
 
-// ---- lines of one number, and of one word
+// ---- what stands before the listed positions
 
-/// The next line, as a name and a number from `least` to `most`. A plain decimal outside the range is of the kind `outside`.
-#[tactic(auto, using(krieg_text::proofs::ReadingLemmas::refused))]
-fn next_number(
-    from: &mut OwnedCursor,
-    outside: TextKind,
-    name: &[u8],
-    least: u64,
-    most: u64,
-) -> Result<u64, TextFault>
-    ensures value { GivesOn (λ n. n) result from.new
-        (taken (number_form outside name.now least most) from.old) }
-    ensures range { IfOk result (λ n. (least ≤ n) × (n ≤ most)) }
-{
-    let line = from.number();
-    let number = number_form(outside, name, least, most, from.line()?);
-    from.pass();
-    number.map_err(|kind| TextFault::At { line, kind })
-}
-
-/// The fault, at the line with that number.
-fn at_line(line: usize, fault: TextFault) -> TextFault
-    ensures { result ≡ own.at_line line fault }
-{
-    match fault {
-        TextFault::At { line: _, kind } => TextFault::At { line, kind },
-        TextFault::NoMemory => TextFault::NoMemory,
-    }
-}
-
-/// The next line, as the dialect. It has a line here, as in version 2 of the other formats, whose version 1 names none.
-#[tactic(auto, using(crate::proofs::OwnedLines::alone))]
-fn next_dialect(from: &mut OwnedCursor) -> Result<Dialect, TextFault>
-    ensures { GivesOn (λ d. d) result from.new (taken a_dialect.form from.old) }
-{
-    let line = from.number();
-    let dialect = read_dialect_line(&mut from.alone(), 2);
-    from.pass();
-    dialect.map_err(|fault| at_line(line, fault))
-}
-
-/// The next line, as the side whose plans are denied.
-#[tactic(auto, using(crate::proofs::OwnedLines::alone))]
-fn next_side(from: &mut OwnedCursor) -> Result<Side, TextFault>
-    ensures { GivesOn (λ s. s) result from.new (taken a_side.form from.old) }
-{
-    let line = from.number();
-    let side = read_side(&mut from.alone());
-    from.pass();
-    side.map_err(|fault| at_line(line, fault))
-}
-
-/// The format's name with its one version, and the dialect.
+/// The format's name with its one version, and the dialect. It has a line here, as in version 2 of the other formats, whose
+/// version 1 names none.
 fn read_heading(from: &mut OwnedCursor) -> Result<Dialect, TextFault>
     ensures { GivesOn (λ d. d) result from.new (parts.heading_at from.old) }
 {
-    next_number(from, TextKind::Version, b"krieg refutation ", 1, 1)?;
-    next_dialect(from)
+    read_version(from, b"krieg refutation ", 1)?;
+    read_dialect_line(from, 2)
 }
 
 /// The next line, as the number of own moves that is denied.
 fn read_moves(from: &mut OwnedCursor) -> Result<u8, TextFault>
     ensures { GivesOn (λ n. n) result from.new (taken a_moves.form from.old) }
 {
-    let moves = next_number(from, TextKind::Count, b"moves ", 1, u64::from(MOST_MOVES))?;
+    let moves = read_count(from, b"moves ", 1, u64::from(MOST_MOVES))?;
     Ok(moves as u8)
 }
 
 // ---- the listed positions
 
-/// The position of a line, after the first of the list.
-#[tactic(auto, unfolding(krieg_fen::specs::Forms::listed_form, krieg_fen::specs::Forms::position_form))]
-fn listed(who: Side, first: Option<&Position>, line: &[u8]) -> Result<Position, TextKind>
-    ensures { result ≡ (tested a_position (listed who (option_copied first.entry))).form line.now }
-{
-    listed_form(Turn::Own, who, first, line)
-}
-
 /// The next line, as a position that may stand in the list after its first.
-#[tactic(auto, using(krieg_text::proofs::ReadingLemmas::refused))]
 fn next_listed(
     from: &mut OwnedCursor,
     who: Side,
@@ -111,10 +48,7 @@ fn next_listed(
     ensures { GivesOn (λ p. p) result from.new
         (parts.listed_at who (option_copied first.entry) from.old) }
 {
-    let line = from.number();
-    let position = listed(who, first, from.line()?);
-    from.pass();
-    position.map_err(|kind| TextFault::At { line, kind })
+    read_listed(from, Turn::Own, who, first)
 }
 
 /// The next `n` lines as positions with one hand, in which the side is to move.
@@ -142,10 +76,11 @@ fn read_list(
 }
 
 /// The number of listed positions, and these.
+#[tactic(auto, unfolding(krieg_fen::specs::Forms::list_form))]
 fn read_listing(alloc: Global, from: &mut OwnedCursor, who: Side) -> Result<Vec<Packed>, TextFault>
     ensures { GivesOn (λ v. v.items) result from.new (parts.listing_at who from.old) }
 {
-    let n = next_number(from, TextKind::Count, b"list ", 1, MOST_LISTED)?;
+    let n = read_list_line(from)?;
     read_list(alloc, from, who, n as usize)
 }
 
@@ -160,29 +95,8 @@ fn read_all_claims(
     ensures { GivesOn (λ v. map claim_state_of v.items) result from.new
         (parts.all_claims_at d from.old) }
 {
-    let n = next_number(from, TextKind::Count, b"claims ", 1, MOST_CLAIMS as u64)?;
+    let n = read_count(from, b"claims ", 1, MOST_CLAIMS as u64)?;
     read_claims(alloc, from, d, n as usize)
-}
-
-fn end_form(line: &[u8]) -> Result<(), TextKind>
-    ensures { result ≡ an_end.form line.now }
-{
-    if is_name(b"end", line) {
-        Ok(())
-    } else {
-        Err(TextKind::Syntax)
-    }
-}
-
-/// The next line, as `end`.
-#[tactic(auto, using(krieg_text::proofs::ReadingLemmas::refused))]
-fn read_end(from: &mut OwnedCursor) -> Result<(), TextFault>
-    ensures { GivesOn (λ u. u) result from.new (taken an_end.form from.old) }
-{
-    let line = from.number();
-    let end = end_form(from.line()?);
-    from.pass();
-    end.map_err(|kind| TextFault::At { line, kind })
 }
 
 /// The lines of a refutation.
@@ -191,11 +105,11 @@ fn read_parts(alloc: Global, from: &mut OwnedCursor) -> Result<Refutation, TextF
     ensures { GivesOn (λ f. state_of f) result from.new (refutation_at from.old) }
 {
     let dialect = read_heading(from)?;
-    let side = next_side(from)?;
+    let side = read_side(from)?;
     let moves = read_moves(from)?;
     let list = read_listing(alloc, from, side)?;
     let claims = read_all_claims(alloc, from, dialect)?;
-    read_end(from)?;
+    read_word(from, b"end")?;
     Ok(Refutation {
         dialect,
         side,

@@ -5,12 +5,13 @@ ghost use Rattle.krieg_text.specs.Reading.{whole};
 ghost use Rattle.krieg_text.specs.Writing.{PutsPieces, PutsLines, Wrote, alone, put_lines};
 ghost use Rattle.krieg_fen.specs.ListText.{position_line};
 ghost use Rattle.krieg_words.specs.ToldWords.{Fits};
-ghost use Rattle.krieg_words.specs.Versions.{dialect_line};
 ghost use Rattle.krieg_refute.specs.declared.refutation.Why.TheVariants.{Class};
 ghost use Rattle.krieg_refutefile.specs.RefutationFormat.{refutation_at, SpellsRefutation};
+ghost use Rattle.krieg_refutefile.specs.LineForms as line;
 ghost use Rattle.krieg_refutefile.specs.RefutationText as spec;
 ghost use Rattle.krieg_refutefile.specs.Refutations.{state_of, state_from, claim_state_of};
 ghost use Rattle.krieg_refutefile.specs.Writable.{IsToldWhy, CanBeWritten};
+ghost use Rattle.krieg_refutefile.specs.Parts as parts;
 ghost use Rattle.krieg_refutefile.specs.Parts.{IsTold, AreTold};
 
 use crate::pieces::Pieces;
@@ -19,30 +20,21 @@ use krieg_fen::{Ranks, put_move, put_next, put_side_line};
 use krieg_pack::{Belief, Packed, unpack};
 use krieg_refute::{Claim, PackedKey, Reason, Refutation, Why};
 use krieg_text::{Text, put_number};
-use krieg_words::{Dialect, dialect_name, put_words_in};
+use krieg_words::{Dialect, put_dialect_line, put_words_in};
 use std::alloc::Global;
 
 /// Adds the line of a name and a number.
 fn put_numbered(name: &[u8], n: usize, text: &mut Text) -> Result<(), NoMemory>
-    ensures { PutsLines result text.old text.new (spec.numbered name.now n ∷ []) }
+    ensures { PutsLines result text.old text.new (line.numbered name.now n ∷ []) }
 {
     text.put(name)?;
     put_number(n as u64, text)?;
     text.end_line()
 }
 
-/// Adds the line of the dialect.
-fn put_dialect(d: Dialect, text: &mut Text) -> Result<(), NoMemory>
-    ensures { PutsLines result text.old text.new (alone (dialect_line d) ∷ []) }
-{
-    text.put(b"dialect ")?;
-    text.put(dialect_name(d))?;
-    text.end_line()
-}
-
 /// Adds the line before the positions of a claim.
 fn put_sizes(moves: u8, positions: usize, text: &mut Text) -> Result<(), NoMemory>
-    ensures { PutsLines result text.old text.new (spec.claim_line moves positions ∷ []) }
+    ensures { PutsLines result text.old text.new (line.claim_line moves positions ∷ []) }
 {
     text.put(b"claim ")?;
     put_number(u64::from(moves), text)?;
@@ -55,7 +47,7 @@ fn put_sizes(moves: u8, positions: usize, text: &mut Text) -> Result<(), NoMemor
 fn put_class(d: Dialect, heard: &PackedKey, place: u16, text: &mut Text) -> Result<(), NoMemory>
     requires own { Fits d heard.now.0 }
     requires reply { Fits d heard.now.1 }
-    ensures { PutsPieces result text.old text.new (spec.why_pieces d (Class heard.now place)) }
+    ensures { PutsPieces result text.old text.new (line.why_pieces d (Class heard.now place)) }
 {
     let (own, reply) = heard.words();
     text.put(b" class ")?;
@@ -69,7 +61,7 @@ fn put_class(d: Dialect, heard: &PackedKey, place: u16, text: &mut Text) -> Resu
 /// Adds what a reason says behind its move.
 fn put_why(d: Dialect, why: &Why, text: &mut Text) -> Result<(), NoMemory>
     requires { IsToldWhy d why.now }
-    ensures { PutsPieces result text.old text.new (spec.why_pieces d why.now) }
+    ensures { PutsPieces result text.old text.new (line.why_pieces d why.now) }
 {
     match why {
         Why::Lives => text.put(b" lives"),
@@ -85,7 +77,7 @@ fn put_why(d: Dialect, why: &Why, text: &mut Text) -> Result<(), NoMemory>
 /// Adds the line of a reason.
 fn put_reason(d: Dialect, reason: &Reason, text: &mut Text) -> Result<(), NoMemory>
     requires { IsToldWhy d reason.now.why }
-    ensures { PutsLines result text.old text.new (spec.reason_line d reason.now ∷ []) }
+    ensures { PutsLines result text.old text.new (line.reason_line d reason.now ∷ []) }
 {
     put_move(reason.mv, text)?;
     put_why(d, &reason.why, text)?;
@@ -100,10 +92,10 @@ fn put_head(
     listed: usize,
     text: &mut Text,
 ) -> Result<(), NoMemory>
-    ensures { PutsLines result text.old text.new (spec.head_lines d side moves listed) }
+    ensures { PutsLines result text.old text.new (parts.head_lines d side moves listed) }
 {
     put_numbered(b"krieg refutation ", 1, text)?;
-    put_dialect(d, text)?;
+    put_dialect_line(d, text)?;
     put_side_line(side, text)?;
     put_numbered(b"moves ", usize::from(moves), text)?;
     put_numbered(b"list ", listed, text)
@@ -114,7 +106,7 @@ fn put_head(
 /// Adds the line of a name and a number.
 #[tactic(auto, using(crate::proofs::InPieces::added))]
 fn put_number_line(name: &[u8], n: usize, text: &mut Pieces) -> Result<(), NoMemory>
-    ensures { Wrote result text.new (put_lines text.old (spec.numbered name.now n ∷ [])) }
+    ensures { Wrote result text.new (put_lines text.old (line.numbered name.now n ∷ [])) }
 {
     let mut last = text.take_last()?;
     put_numbered(name, n, &mut last)?;
@@ -146,7 +138,7 @@ fn put_members(members: &[Packed], text: &mut Pieces) -> Result<(), NoMemory>
 /// Adds the line of a reason.
 fn put_reason_line(d: Dialect, reason: &Reason, text: &mut Pieces) -> Result<(), NoMemory>
     requires { IsToldWhy d reason.now.why }
-    ensures { Wrote result text.new (put_lines text.old (spec.reason_line d reason.now ∷ [])) }
+    ensures { Wrote result text.new (put_lines text.old (line.reason_line d reason.now ∷ [])) }
 {
     let mut last = text.take_last()?;
     put_reason(d, reason, &mut last)?;
@@ -157,7 +149,7 @@ fn put_reason_line(d: Dialect, reason: &Reason, text: &mut Pieces) -> Result<(),
 #[tactic(auto, using(krieg_text::proofs::Writings::writings))]
 fn put_reasons(d: Dialect, reasons: &[Reason], text: &mut Pieces) -> Result<(), NoMemory>
     requires { All (IsTold d) reasons.now }
-    ensures { Wrote result text.new (put_lines text.old (map (spec.reason_line d) reasons.now)) }
+    ensures { Wrote result text.new (put_lines text.old (map (line.reason_line d) reasons.now)) }
 {
     for reason in reasons {
         put_reason_line(d, reason, text)?;
@@ -169,7 +161,7 @@ fn put_reasons(d: Dialect, reasons: &[Reason], text: &mut Pieces) -> Result<(), 
 #[tactic(auto, using(crate::proofs::InPieces::added))]
 fn put_claim_line(claim: &Claim, text: &mut Pieces) -> Result<(), NoMemory>
     ensures { Wrote result text.new
-        (put_lines text.old (spec.claim_line claim.now.moves (length claim.now.set) ∷ [])) }
+        (put_lines text.old (line.claim_line claim.now.moves (length claim.now.set) ∷ [])) }
 {
     let mut last = text.take_last()?;
     put_sizes(claim.moves, claim.set.len(), &mut last)?;
@@ -181,7 +173,7 @@ fn put_claim_line(claim: &Claim, text: &mut Pieces) -> Result<(), NoMemory>
 fn put_claim(d: Dialect, claim: &Claim, text: &mut Pieces) -> Result<(), NoMemory>
     requires { AreTold d (claim_state_of claim.now) }
     ensures { Wrote result text.new
-        (put_lines text.old (spec.claim_lines d (claim_state_of claim.now))) }
+        (put_lines text.old (parts.claim_lines d (claim_state_of claim.now))) }
 {
     put_claim_line(claim, text)?;
     put_members(claim.set.members(), text)?;
@@ -194,7 +186,7 @@ fn put_claim(d: Dialect, claim: &Claim, text: &mut Pieces) -> Result<(), NoMemor
 fn put_claims(d: Dialect, claims: &[Claim], text: &mut Pieces) -> Result<(), NoMemory>
     requires { All (λ c. AreTold d (claim_state_of c)) claims.now }
     ensures { Wrote result text.new
-        (put_lines text.old (flat_map (λ c. spec.claim_lines d (claim_state_of c)) claims.now)) }
+        (put_lines text.old (flat_map (λ c. parts.claim_lines d (claim_state_of c)) claims.now)) }
 {
     for claim in claims {
         put_claim(d, claim, text)?;
@@ -207,7 +199,7 @@ fn put_claims(d: Dialect, claims: &[Claim], text: &mut Pieces) -> Result<(), NoM
 fn move_claims(d: Dialect, claims: Vec<Claim>, text: &mut Pieces) -> Result<(), NoMemory>
     requires { All (λ c. AreTold d (claim_state_of c)) claims.items }
     ensures { Wrote result text.new
-        (put_lines text.old (flat_map (λ c. spec.claim_lines d (claim_state_of c)) claims.items)) }
+        (put_lines text.old (flat_map (λ c. parts.claim_lines d (claim_state_of c)) claims.items)) }
 {
     for claim in claims {
         put_claim(d, &claim, text)?;
@@ -225,7 +217,7 @@ fn begin(
     listed: usize,
     text: &mut Pieces,
 ) -> Result<(), NoMemory>
-    ensures { Wrote result text.new (put_lines text.old (spec.head_lines d side moves listed)) }
+    ensures { Wrote result text.new (put_lines text.old (parts.head_lines d side moves listed)) }
 {
     let mut last = text.take_last()?;
     put_head(d, side, moves, listed, &mut last)?;
@@ -259,7 +251,7 @@ fn move_set(set: Belief, claims: &[Claim], text: &mut Pieces) -> Result<(), NoMe
 /// The lines of the refutation.
 fn refutation_lines(alloc: Global, f: &Refutation) -> Result<Pieces, NoMemory>
     requires { All (λ c. AreTold f.now.dialect (claim_state_of c)) f.now.claims.items }
-    ensures { IfOk result (λ text. text ≡ put_lines [] (spec.refutation_lines (state_of f.now))) }
+    ensures { IfOk result (λ text. text ≡ spec.refutation_text (state_of f.now)) }
 {
     let mut text = Pieces::new(alloc);
     begin(f.dialect, f.side, f.moves, f.list.len(), &mut text)?;
@@ -281,7 +273,7 @@ fn denial_lines(
 ) -> Result<Pieces, NoMemory>
     requires { All (λ c. AreTold d (claim_state_of c)) claims.items }
     ensures { IfOk result (λ text. text
-        ≡ put_lines [] (spec.refutation_lines (state_from d side moves set claims.items))) }
+        ≡ spec.refutation_text (state_from d side moves set claims.items)) }
 {
     let mut text = Pieces::new(alloc);
     begin(d, side, moves, set.len(), &mut text)?;
@@ -297,7 +289,7 @@ fn denial_lines(
 /// The refutation is within the limits of a text, its listed positions have one hand of its side, which is to move, and its
 /// words can be told in the dialect. Its claims cite those before them alone, and the moves of their reasons ascend. Whether
 /// the claims hold is not asked.
-#[tactic(auto, using(crate::proofs::Sizes::text_short), unfolding(crate::specs::RefutationText::refutation_text))]
+#[tactic(auto, using(crate::proofs::Sizes::text_short))]
 pub fn write_refutation(alloc: Global, f: &Refutation) -> Result<Pieces, NoMemory>
     requires { CanBeWritten (state_of f.now) }
     ensures value { IfOk result (λ text. text ≡ spec.refutation_text (state_of f.now)) }
@@ -315,7 +307,6 @@ pub fn write_refutation(alloc: Global, f: &Refutation) -> Result<Pieces, NoMemor
 /// The text of the refutation with these claims that lists the members of the set: what `write_refutation` gives.
 ///
 /// Each set is let go once its lines stand, and the text takes the memory that comes free: at no time are both there whole.
-#[tactic(auto, unfolding(crate::specs::RefutationText::refutation_text))]
 pub fn write_denial(
     alloc: Global,
     d: Dialect,

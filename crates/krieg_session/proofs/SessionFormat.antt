@@ -2,8 +2,8 @@
 use Rattle.std.proofs.Common.{◌≡◌, inl, ℕ, true, List, [], ◌∷◌, ◌++◌, map, Option, Some, None, Result, Ok, Err, refl, sym, ap, subst, ◌∙◌}
 use Rattle.std.specs.Prelude.{codes, IfOk}
 use Rattle.std.proofs.lemmas.List.Elements.{All-nil, All-cons, All-head, All-tail}
-use Rattle.krieg_session.proofs.Common.{Pos, Side, White, Black, Move, TextFault, TextKind, ◌>>=◌, behind, lines, is_line, AreLines, position_text, move_of, move_text, IsOnBoard, Spells, taken, whole, Step, goes_on, stops, position_form, start_form, side_mark, joined, Has, behind_or, Always, IsReading, Behind, One, UpToLast, Dialect, version_lines, version_at, SpellVersion, Event, Stop, Ended, Left, AsksUsed, SessionState, tried, white_try, try_form, last_lines, last_form, unless_last, line_form, led, event_form, events_at, session_at, session_version_at, start_at, SpellsTry, SpellsSession, SessionGrammar, SpellsStart, StartGrammar, event_line, last_text, session_lines, session_text, sheet_of, AreTries, IsGame, SessionsAreReadBack, SheetsAreReadBack, SessionLine, Try, Last}
-use Rattle.krieg_text.specs.Reading.{Gives}
+use Rattle.krieg_session.proofs.Common.{Pos, Side, White, Black, Move, TextFault, TextKind, ◌>>=◌, behind, lines, is_line, AreLines, position_text, move_of, move_text, IsOnBoard, Spells, taken, up_to_last, whole, Step, goes_on, stops, position_form, start_form, side_mark, joined, Has, behind_or, Always, IsReading, Behind, One, UpToLast, Dialect, version_lines, version_at, SpellVersion, Event, Stop, Ended, Left, AsksUsed, SessionState, tried, white_try, try_form, last_lines, last_form, unless_last, line_form, led, event_form, events_at, session_at, session_version_at, start_at, SpellsTry, SpellsSession, SessionGrammar, SpellsStart, StartGrammar, event_line, last_text, session_lines, session_text, sheet_of, AreTries, IsGame, SessionsAreReadBack, SheetsAreReadBack, SessionLine, Try, Last}
+use Rattle.krieg_text.specs.Reading.{Gives, GivesOn, Place}
 use Rattle.krieg_fen.proofs.CleanTexts.{move_line, position_line, mark_line}
 use Rattle.krieg_fen.proofs.FormSpellings.{positions, starts_form}
 use Rattle.krieg_text.proofs.Formats.{IsFormat, word_is, line_format, last_part, part_then, IsStep, IsItemForm, items_format, whole_found, whole_only, reading}
@@ -15,6 +15,7 @@ use Rattle.krieg_text.proofs.LineTexts.{line_append, lines_append, lines_again}
 use Rattle.krieg_fen.proofs.ListSpellings.{written_spells}
 use Rattle.krieg_fen.proofs.MoveTexts.{move_spells, move_again}
 use Rattle.krieg_text.proofs.NameLemmas.{behind_spells, behind_again}
+use Rattle.krieg_text.proofs.Takings.{loop_refused}
 use Rattle.krieg_text.proofs.Writings.{put_lines_is, joined_alone}
 use Rattle.krieg_words.proofs.VersionFormats.{version_format, version_keeps}
 use Rattle.krieg_words.proofs.VersionTexts.{version_are}
@@ -154,6 +155,11 @@ session_keeps =
     then_keeps (taken start_form) _ Always (One (Has start_form)) Always untold _ (line_keeps start_form Always untold (λ u. Has start_form) (form_of start_form _ _ some_start)) (λ p h.
     made_keeps events_at (λ x. record { dialect = d; start = p; events = x.0; stop = x.1 }) Always untold _ Always untold (λ x h. tt) (λ x. refl)
     (loop_keeps event_form (λ es. Unit {0}) Always _ _ lines_form [] tt)))
+
+-- a line behind tries that is refused
+pub events_bad : {X : Type 0} (view : X → List Event × Option Stop) (es : List Event) (from new : Place) (e : TextFault) (all : Result ((List Event × Option Stop) × Place) TextFault) →
+    GivesOn {X = SessionLine} (λ l. l) (Err e) new (taken line_form from) → up_to_last event_form es from.number from.left ≡ all → GivesOn view (Err e) new all
+events_bad view es from new e all given so = loop_refused event_form line_form es (led es) (λ l. refl) view from new e all given so
 
 pub session_reading : {X : Type 0} (view : X → SessionState) (answer : Result X TextFault) (ls : List (List ℕ)) → Gives view answer (whole session_at ls) → IsReading view session_at Always SpellsSession SessionGrammar ls answer
 session_reading view answer ls given = reading view answer session_at Always SpellsSession Always SessionGrammar session_format session_keeps ls given

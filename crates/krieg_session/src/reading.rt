@@ -1,4 +1,4 @@
-ghost use Rattle.std.specs.Prelude.{◌≡◌, ◌≢◌, IfOk, IfErr};
+ghost use Rattle.std.specs.Prelude.{◌≡◌, ◌≢◌, ◌+◌, IfOk, IfErr, OnOk, length};
 ghost use Rattle.krieg_text.specs.Lines.{lines};
 ghost use Rattle.krieg_fen.specs.MoveText.{move_of};
 ghost use Rattle.krieg_text.specs.Formats.{Always, IsReading};
@@ -35,13 +35,11 @@ fn read_session_version(from: &mut Cursor<'_>) -> Result<Dialect, TextFault>
     read_version_lines(from, b"krieg session ")
 }
 
-#[tactic(auto, using(krieg_text::proofs::ReadingLemmas::refused))]
 fn read_start_line(from: &mut Cursor<'_>) -> Result<Position, TextFault>
     ensures value { GivesOn (λ p. p) result from.new (taken forms.start_form from.old) }
     ensures rest { Passed from.old from.new }
 {
-    let line = from.number();
-    start_form(from.line()?).map_err(|kind| TextFault::At { line, kind })
+    from.next(|line| start_form(line))
 }
 
 fn tried(who: Side, text: &[u8]) -> Result<Event, TextKind>
@@ -101,7 +99,16 @@ fn line_form(text: &[u8]) -> Result<SessionLine, TextKind>
     }
 }
 
+/// The next line, as the last line or a try.
+fn read_session_line(from: &mut Cursor<'_>) -> Result<SessionLine, TextFault>
+    ensures value { GivesOn (λ l. l) result from.new (taken spec.line_form from.old) }
+    ensures fewer { OnOk result (length from.new.left + 1 ≡ length from.old.left) }
+{
+    from.next(line_form)
+}
+
 /// Reads the tries up to the last line, and why the game stopped. Memory for more tries is given back.
+#[tactic(auto, using(crate::proofs::SessionFormat::events_bad))]
 fn read_events(
     alloc: Global,
     from: &mut Cursor<'_>,
@@ -110,10 +117,8 @@ fn read_events(
 {
     let mut events: Vec<Event> = Vec::new(alloc);
     'events: loop {
-        let number = from.number();
-        let line = from.line()?;
-        match line_form(line) {
-            Err(kind) => return Err(TextFault::At { line: number, kind }),
+        match read_session_line(from) {
+            Err(fault) => return Err(fault),
             Ok(SessionLine::Last(stop)) => {
                 events.shrink_to_fit();
                 return Ok((events, stop));
@@ -154,13 +159,11 @@ pub fn read_session(alloc: Global, text: &[u8]) -> Result<Session, TextFault>
     read_lines(alloc, text)
 }
 
-#[tactic(auto, using(krieg_text::proofs::ReadingLemmas::refused))]
 fn read_position_line(from: &mut Cursor<'_>) -> Result<Position, TextFault>
     ensures value { GivesOn (λ p. p) result from.new (spec.start_at from.old) }
     ensures memory { IfErr result (λ e. e ≢ OutOfMemory) }
 {
-    let line = from.number();
-    position_form(from.line()?).map_err(|kind| TextFault::At { line, kind })
+    from.next(|line| position_form(line))
 }
 
 fn read_one_line(text: &[u8]) -> Result<Position, TextFault>

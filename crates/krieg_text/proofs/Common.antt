@@ -9,6 +9,7 @@ pub use Rattle.krieg_text.specs.Lines.{AreLines, EndsFull, EndsLines, ended_line
 unfoldable pub use Rattle.krieg_text.specs.Names.{behind}
 pub use Rattle.krieg_text.specs.Names.{cut}
 pub use Rattle.krieg_text.specs.Outcomes.{◌>>=◌}
+pub use Rattle.krieg_text.specs.OwnedLines.{HaveBytes, behind_line, lines_back}
 pub use Rattle.krieg_text.specs.Pieces.{pieces}
 pub use Rattle.krieg_text.specs.Reading.{Gives, GivesOn, IsRefusedAt, LineReader, Passed, Place, Step, ended, goes_on, line_at, next_line, on, place, reached, stops, taken, up_to_last, whole}
 pub use Rattle.krieg_text.specs.Writing.{Pieces, alone, joined, put, put_lines}

@@ -6,6 +6,7 @@ pub mod Numbers
 pub mod Writings
 pub mod Free
 pub mod ReadingLemmas
+pub mod OwnedLines
 pub mod Locality
 pub mod Loops
 pub mod Grammars

@@ -1,5 +1,6 @@
--- The forms of lines with a number: what each gives, or the kind of its fault.
-use Rattle.std.specs.Prelude.{ℕ, List, Option, Some, None, Result, Ok, Err}
+-- The forms of lines with a number and of lines of one word: what each gives, or the kind of its fault.
+use Rattle.std.specs.Prelude.{ℕ, List, Option, Some, None, Result, Ok, Err, if◌then◌else◌}
+use Rattle.std.specs.Str.{bytes_eq}
 use Rattle.krieg_text.specs.declared.fault.TextKind.{TextKind}
 use Rattle.krieg_text.specs.declared.fault.TextKind.TheVariants.{Version, Syntax, Count}
 use Rattle.krieg_text.specs.declared.number.NumberFault.{NumberFault}
@@ -29,3 +30,7 @@ version_form name newest text = number_form Version name 1 newest text
 -- a name and a number of things
 abbrev pub count_form : List ℕ → ℕ → ℕ → List ℕ → Result ℕ TextKind
 count_form name least most text = number_form Count name least most text
+
+-- this word and no other
+abbrev pub word_form : List ℕ → List ℕ → Result (Unit {0}) TextKind
+word_form word text = if bytes_eq text word then Ok tt else Err Syntax

@@ -5,6 +5,7 @@ pub mod Pieces
 pub mod Names
 pub mod Decimals
 pub mod Reading
+pub mod OwnedLines
 pub mod Languages
 pub mod Formats
 pub mod FirstBad

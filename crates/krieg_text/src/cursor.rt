@@ -1,5 +1,5 @@
 ghost use Rattle.std.specs.Prelude.{◌≡◌, ◌<◌, ◌≤◌, ◌+◌, ◌^◌, ◌≢◌, IfOk, IfErr, OnOk, OnErr, Ok, Err, length};
-ghost use Rattle.krieg_text.specs.Reading.{begin, place, line_at, ended, Passed};
+ghost use Rattle.krieg_text.specs.Reading.{begin, place, line_at, Passed};
 ghost use Rattle.krieg_text.specs.declared.fault.TextFault.TheVariants.{NoMemory as OutOfMemory};
 
 use crate::fault::{TextFault, TextKind};
@@ -58,7 +58,7 @@ impl<'a> Cursor<'a> {
 
     /// The next line. Where none is left, the text is not complete.
     #[tactic(auto, using(crate::proofs::ReadingLemmas::passed))]
-    pub fn line(&mut self) -> Result<&'a [u8], TextFault>
+    fn line(&mut self) -> Result<&'a [u8], TextFault>
         ensures ok { IfOk result (λ l. line_at self.old ≡ Ok (l.now, self.new)) }
         ensures err { IfErr result (λ e. (line_at self.old ≡ Err e) × (e ≢ OutOfMemory)) }
         ensures fewer { OnOk result (length self.new.left + 1 ≡ length self.old.left) }

@@ -4,14 +4,14 @@ ghost use Rattle.krieg_text.specs.Reading.{taken, Passed, GivesOn};
 ghost use Rattle.krieg_text.specs.declared.fault.TextFault.TheVariants.{NoMemory as OutOfMemory};
 
 use crate::fault::{TextFault, TextKind};
-use crate::names::behind;
+use crate::names::{behind, is_name};
 use crate::number::{NumberFault, read_number_between};
 use crate::source::LineSource;
 
 /// The number from `least` to `most` that stands after the name. A plain decimal outside the range is of
 /// the kind `outside`, and everything else is `Syntax`.
 #[tactic(auto, unfolding(crate::specs::Forms::number_form))]
-pub fn number_form(
+fn number_form(
     outside: TextKind,
     name: &[u8],
     least: u64,
@@ -33,7 +33,7 @@ pub fn number_form(
 
 /// The version, from 1 to `newest`, that stands after a format's name. Another plain decimal is of the
 /// kind `Version`.
-pub fn version_form(name: &[u8], newest: u64, text: &[u8]) -> Result<u64, TextKind>
+fn version_form(name: &[u8], newest: u64, text: &[u8]) -> Result<u64, TextKind>
     ensures exact { result ≡ spec.version_form name.now newest text.now }
     ensures range { IfOk result (λ n. (1 ≤ n) × (n ≤ newest)) }
 {
@@ -47,6 +47,17 @@ pub fn count_form(name: &[u8], least: u64, most: u64, text: &[u8]) -> Result<u64
     ensures range { IfOk result (λ n. (least ≤ n) × (n ≤ most)) }
 {
     number_form(TextKind::Count, name, least, most, text)
+}
+
+/// That the line is this word and no other.
+fn word_form(word: &[u8], text: &[u8]) -> Result<(), TextKind>
+    ensures { result ≡ spec.word_form word.now text.now }
+{
+    if is_name(word, text) {
+        Ok(())
+    } else {
+        Err(TextKind::Syntax)
+    }
 }
 
 /// The next line, as a format's name and its version.
@@ -74,4 +85,14 @@ pub fn read_count<S: LineSource>(
     ensures memory { IfErr result (λ e. e ≢ OutOfMemory) }
 {
     from.next(|line| count_form(name, least, most, line))
+}
+
+/// The next line, as this word and no other.
+pub fn read_word<S: LineSource>(from: &mut S, word: &[u8]) -> Result<(), TextFault>
+    ensures value { GivesOn (λ u. u) result (S.place from.new)
+        (taken (spec.word_form word.now) (S.place from.old)) }
+    ensures rest { Passed (S.place from.old) (S.place from.new) }
+    ensures memory { IfErr result (λ e. e ≢ OutOfMemory) }
+{
+    from.next(|line| word_form(word, line))
 }

@@ -1,8 +1,6 @@
 -- The lines of a text that stands in pieces, and where one stands behind the next line.
 use Rattle.std.specs.Prelude.{◌<◌, ℕ, ◌+◌, List, [], ◌∷◌, ◌++◌, length, take, drop, Vec}
 use Rattle.std.specs.declared.alloc.Global.{Global}
-use Rattle.krieg_text.specs.declared.fault.TextFault.{TextFault}
-use Rattle.krieg_text.specs.declared.fault.TextFault.TheVariants.{At, NoMemory}
 use Rattle.krieg_text.specs.Lines.{lines}
 use Rattle.krieg_text.specs.Reading.{Place, place}
 
@@ -19,8 +17,3 @@ HaveBytes (piece ∷ pieces) = (0 < length piece.items) × HaveBytes pieces
 -- behind the next line, if there is one
 abbrev pub behind_line : Place → Place
 behind_line p = place (p.number + length (take 1 p.left)) (drop 1 p.left)
-
--- a fault at the line with that number
-abbrev pub at_line : ℕ → TextFault → TextFault
-at_line number NoMemory = NoMemory
-at_line number (At line kind) = At number kind

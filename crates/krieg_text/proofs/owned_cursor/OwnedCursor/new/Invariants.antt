@@ -1,6 +1,6 @@
 use Rattle.std.proofs.Common.{◌≡◌, ◌⊎◌, ◌<◌, length, ◌++◌, []}
-use Rattle.krieg_refutefile.proofs.Common.{lines, lines_back, HaveBytes}
-use Rattle.krieg_refutefile.proofs.owned_cursor.OwnedCursor.new.Given as goal
+use Rattle.krieg_text.proofs.Common.{lines, lines_back, HaveBytes}
+use Rattle.krieg_text.proofs.owned_cursor.OwnedCursor.new.Given as goal
 
 -- the text that is left and the pieces that were cut off have its lines
 abbrev pub invariant-loop-begin : goal.invariant-loop-begin

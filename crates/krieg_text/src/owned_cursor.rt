@@ -1,11 +1,13 @@
 ghost use Rattle.std.specs.Prelude.{◌≡◌, ◌<◌, ◌≤◌, ◌-◌, ◌≢◌, ◌++◌, length, take, drop, IfOk, IfErr, IfSome, Ok, Err};
 ghost use Rattle.krieg_text.specs.Lines.{lines};
-ghost use Rattle.krieg_text.specs.Reading.{begin, place, line_at, ended};
+ghost use Rattle.krieg_text.specs.Reading.{begin, line_at};
 ghost use Rattle.krieg_text.specs.declared.fault.TextFault.TheVariants.{NoMemory as OutOfMemory};
-ghost use Rattle.krieg_refutefile.specs.OwnedLines.{behind_line};
+ghost use Rattle.krieg_text.specs.OwnedLines.{behind_line};
 
-use krieg_board::NoMemory;
-use krieg_text::{Cursor, TextFault, TextKind, lines_of};
+use crate::fault::{TextFault, TextKind};
+use crate::lines::lines_of;
+use crate::source::{LineSource, at_line};
+use krieg_faults::NoMemory;
 use memchr::{memchr, memrchr};
 use std::alloc::Global;
 use std::marker::Model;
@@ -18,7 +20,7 @@ const LEAST_PIECE: usize = 131_072;
 ///
 /// In contracts it is a `Place`, as a `Cursor` is.
 #[derive(Drop)]
-pub(crate) struct OwnedCursor {
+pub struct OwnedCursor {
     /// The piece with the next line, and where that begins in it.
     piece: Vec<u8>,
     at: usize,
@@ -32,7 +34,7 @@ impl Model for OwnedCursor {
     ghost use Rattle.std.specs.Prelude.{◌≡◌, ◌⊎◌, ◌<◌, ◌≤◌, ◌+◌, ◌^◌, ◌++◌, [], length, drop};
     ghost use Rattle.krieg_text.specs.Lines.{lines};
     ghost use Rattle.krieg_text.specs.Reading.{Place, place};
-    ghost use Rattle.krieg_refutefile.specs.OwnedLines.{lines_back, HaveBytes};
+    ghost use Rattle.krieg_text.specs.OwnedLines.{lines_back, HaveBytes};
 
     ghost Value = { Place };
 
@@ -93,7 +95,7 @@ fn cut_off(alloc: Global, text: &mut Vec<u8>, begin: usize) -> Result<Vec<u8>, N
 
 impl OwnedCursor {
     /// Stands before the first line, which has number 1.
-    pub(crate) fn new(alloc: Global, text: Vec<u8>) -> Result<OwnedCursor, NoMemory>
+    pub fn new(alloc: Global, text: Vec<u8>) -> Result<OwnedCursor, NoMemory>
         ensures { IfOk result (λ c. c ≡ begin text.items) }
     {
         let mut piece = text;
@@ -109,15 +111,8 @@ impl OwnedCursor {
         })
     }
 
-    /// The number of the next line.
-    pub(crate) fn number(&self) -> usize
-        ensures { result ≡ self.now.number }
-    {
-        self.number
-    }
-
     /// The next line, which stays. Where none is left, the text is not complete.
-    pub(crate) fn line(&self) -> Result<&[u8], TextFault>
+    fn line(&self) -> Result<&[u8], TextFault>
         ensures ok { IfOk result (λ l. line_at self.now ≡ Ok (l.now, behind_line self.now)) }
         ensures err { IfErr result (λ e. (line_at self.now ≡ Err e) × (e ≢ OutOfMemory)) }
     {
@@ -129,15 +124,8 @@ impl OwnedCursor {
             })
     }
 
-    /// The next line alone, as the first one of a text.
-    pub(crate) fn alone(&self) -> Cursor<'_>
-        ensures { result ≡ place 1 (take 1 self.now.left) }
-    {
-        Cursor::new(&self.piece[self.at..next_begin(&self.piece, self.at)])
-    }
-
     /// Leaves the next line behind, if there is one.
-    pub(crate) fn pass(&mut self)
+    fn pass(&mut self)
         ensures { self.new ≡ behind_line self.old }
     {
         if self.at == self.piece.len() {
@@ -152,12 +140,24 @@ impl OwnedCursor {
             }
         }
     }
+}
 
-    /// That no line is left: one that is there is a fault of kind `Syntax`.
-    #[tactic(auto, using(krieg_text::proofs::ReadingLemmas::ends))]
-    pub(crate) fn end(&self) -> Result<(), TextFault>
-        ensures { result ≡ ended tt self.now.number self.now.left }
-    {
+impl LineSource for OwnedCursor {
+    ghost place = { λ c. c };
+
+    #[tactic(auto, using(crate::proofs::ReadingLemmas::formed))]
+    fn next<A, F: FnOnce(&[u8]) -> Result<A, TextKind> + Drop>(
+        &mut self,
+        form: F,
+    ) -> Result<A, TextFault> {
+        let line = self.number;
+        let read = form(self.line()?);
+        self.pass();
+        at_line(line, read)
+    }
+
+    #[tactic(auto, using(crate::proofs::ReadingLemmas::ends))]
+    fn end(&self) -> Result<(), TextFault> {
         if self.at < self.piece.len() {
             Err(TextFault::At {
                 line: self.number,

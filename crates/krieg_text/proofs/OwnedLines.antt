@@ -2,8 +2,7 @@
 use Rattle.std.proofs.Common.{eqb-true, ◌≡◌, ◌≢◌, ◌⊎◌, inl, inr, ℕ, zero, suc, ◌+◌, ◌-◌, ◌<◌, ◌≤◌, Bool, true, false, cond, eqb, List, [], ◌∷◌, ◌++◌, length, get_or, take, drop, Vec, Result, Ok, Err, refl, sym, ap, ◌∙◌, append_assoc, arith, add-one, length-take, length-drop, length-append}
 use Rattle.std.proofs.lemmas.List.{append-nil, drop-drop, take_rest, take_all, drop_all}
 use Rattle.std.specs.declared.alloc.Global.{Global}
-use Rattle.krieg_refutefile.proofs.Common.{lines, onto_line, TextFault, At, NoMemory, TextKind, Syntax, ◌>>=◌, Place, place, on, taken, GivesOn, IsRefusedAt, lines_back, HaveBytes, behind_line, at_line}
-use Rattle.krieg_text.proofs.Locality.{ok_is}
+use Rattle.krieg_text.proofs.Common.{lines, onto_line, place, lines_back, HaveBytes, behind_line}
 use Rattle.krieg_text.proofs.LineCuts.{lines_cut, lines_whole, left_lines}
 
 -- ---- two parts of a text
@@ -106,37 +105,3 @@ module _ (n : ℕ) (ls rest more : List (List ℕ)) (some : 0 < length ls) (is :
 
 pub left_some : (bs : List ℕ) (more : List (List ℕ)) → 0 < length bs → lines bs ++ more ≢ []
 left_some bs more some e = let have = have_lines bs some in absurd (omega (arith, have, ap length e, length-append (lines bs) more))
-
--- ---- a reader of the next line alone
-
-module _ {A : Type 0} (form : List ℕ → Result A TextKind) where
-  -- the line l with that number, after which the lines ls stand
-  abbrev of_line : ℕ → Result A TextKind → List (List ℕ) → Result (A × Place) TextFault
-  of_line n t ls = on n t >>= λ x. Ok (x, place (n + 1) ls)
-
-  line_ok : (n : ℕ) (t : Result A TextKind) (ls : List (List ℕ)) (x : A) (q : Place) → of_line 1 t [] ≡ Ok (x, q) → of_line n t ls ≡ Ok (x, place (n + 1) ls)
-  line_ok n (Ok y) ls x q e = ap (λ (z : A). Ok (z, place (n + 1) ls)) (ap (λ (z : A × Place). z.0) (ok_is {A = A × Place} (y, place 2 []) (x, q) e))
-  line_ok n (Err kind) ls x q e = absurd cc
-
-  line_err : (n : ℕ) (t : Result A TextKind) (ls : List (List ℕ)) (line : ℕ) (kind : TextKind) → of_line 1 t [] ≡ Err (At line kind) → of_line n t ls ≡ Err (At n kind)
-  line_err n (Ok y) ls line kind e = absurd cc
-  line_err n (Err other) ls line kind e = let same : other ≡ kind = cc in ap (λ (k : TextKind). Err (At n k)) same
-
-  alone_ok : (n : ℕ) (ls : List (List ℕ)) (x : A) (q : Place) → taken form (place 1 (take 1 ls)) ≡ Ok (x, q) → taken form (place n ls) ≡ Ok (x, behind_line (place n ls))
-  alone_ok n [] x q e = absurd cc
-  alone_ok n (l ∷ ls) x q e = line_ok n (form l) ls x q e
-
-  alone_err : (n : ℕ) (ls : List (List ℕ)) (line : ℕ) (kind : TextKind) → taken form (place 1 (take 1 ls)) ≡ Err (At line kind)
-      → (taken form (place n ls) ≡ Err (At n kind)) × IsRefusedAt n (behind_line (place n ls))
-  alone_err n [] line kind e = let same : Syntax ≡ kind = cc in (ap (λ (k : TextKind). Err (At n k)) same, inr (omega arith, refl))
-  alone_err n (l ∷ ls) line kind e = (line_err n (form l) ls line kind e, inl refl)
-
-  pub alone_reads : (p q : Place) (x : A) → GivesOn (λ y. y) (Ok x) q (taken form (place 1 (take 1 p.left))) → GivesOn (λ y. y) (Ok x) (behind_line p) (taken form p)
-  alone_reads p q x e = alone_ok p.number p.left x q e
-
-  pub alone_fails : (p q : Place) (fault : TextFault) → GivesOn {X = A} (λ y. y) (Err fault) q (taken form (place 1 (take 1 p.left)))
-      → GivesOn {X = A} (λ y. y) (Err (at_line p.number fault)) (behind_line p) (taken form p)
-  alone_fails p q NoMemory e = tt
-  alone_fails p q (At line kind) e = alone_err p.number p.left line kind e.0
-
-pub ruleset alone = (alone_reads, alone_fails)

@@ -1,7 +1,7 @@
 use Rattle.std.proofs.Common.{rules, ◌≡◌, ◌<◌, ◌+◌, length, take, get_or, sym, ◌∙◌, arith, length-take}
 use Rattle.std.proofs.lemmas.List.{get_or-take}
-use Rattle.krieg_refutefile.proofs.OwnedLines.{lines_parts}
-use Rattle.krieg_refutefile.proofs.owned_cursor.last_begin.Goals as goal
+use Rattle.krieg_text.proofs.OwnedLines.{lines_parts}
+use Rattle.krieg_text.proofs.owned_cursor.last_begin.Goals as goal
 
 pub returns : goal.returns
 returns c =

@@ -1,8 +1,8 @@
 use Rattle.std.proofs.Common.{rules, ◌<◌, length, drop, ◌++◌, ap, ◌∙◌, arith, length-drop}
-use Rattle.krieg_refutefile.proofs.Common.{lines, Place, ended, lines_back}
+use Rattle.krieg_text.proofs.Common.{lines, Place, ended, lines_back}
 use Rattle.krieg_text.proofs.ReadingLemmas.{ended_some}
-use Rattle.krieg_refutefile.proofs.OwnedLines.{left_some}
-use Rattle.krieg_refutefile.proofs.owned_cursor.OwnedCursor.end.Goals as goal
+use Rattle.krieg_text.proofs.OwnedLines.{left_some}
+use Rattle.krieg_text.proofs.owned_cursor.OwnedCursorLineSource.end.Goals as goal
 
 pub returns-then-self-len : goal.returns-then-self-len
 returns-then-self-len c =

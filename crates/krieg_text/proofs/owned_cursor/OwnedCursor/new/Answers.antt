@@ -1,8 +1,8 @@
 use Rattle.std.proofs.Common.{rules, ◌≡◌, inl, ◌<◌, length, take, drop, ◌++◌, [], ◌∷◌, sym, subst, ap, ◌∙◌, append_assoc, arith, length-take, length-drop}
-use Rattle.krieg_refutefile.proofs.Common.{lines, lines_back, HaveBytes}
+use Rattle.krieg_text.proofs.Common.{lines, lines_back, HaveBytes}
 use Rattle.krieg_text.proofs.LineCuts.{length_lines_le}
-use Rattle.krieg_refutefile.proofs.OwnedLines.{back_last, bytes_more}
-use Rattle.krieg_refutefile.proofs.owned_cursor.OwnedCursor.new.Goals as goal
+use Rattle.krieg_text.proofs.OwnedLines.{back_last, bytes_more}
+use Rattle.krieg_text.proofs.owned_cursor.OwnedCursor.new.Goals as goal
 
 pub loop-begin-preserved : goal.loop-begin-preserved
 loop-begin-preserved c =

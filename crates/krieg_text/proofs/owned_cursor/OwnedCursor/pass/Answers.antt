@@ -1,8 +1,8 @@
 use Rattle.std.proofs.Common.{rules, ◌≡◌, inl, inr, ◌<◌, ◌+◌, length, drop, ◌++◌, [], ◌∷◌, sym, subst, ap, ◌∙◌, arith, length-drop}
 use Rattle.std.proofs.lemmas.List.{drop_all}
-use Rattle.krieg_refutefile.proofs.Common.{lines, place, lines_back, HaveBytes, behind_line}
-use Rattle.krieg_refutefile.proofs.OwnedLines.{have_lines, behind, behind_number, back_last, bytes_last}
-use Rattle.krieg_refutefile.proofs.owned_cursor.OwnedCursor.pass.Goals as goal
+use Rattle.krieg_text.proofs.Common.{lines, place, lines_back, HaveBytes, behind_line}
+use Rattle.krieg_text.proofs.OwnedLines.{have_lines, behind, behind_number, back_last, bytes_last}
+use Rattle.krieg_text.proofs.owned_cursor.OwnedCursor.pass.Goals as goal
 
 pub invariant_of-self : goal.invariant_of-self
 invariant_of-self c =
