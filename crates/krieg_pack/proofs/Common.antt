@@ -25,8 +25,11 @@ pub use Rattle.krieg_pack.specs.Decoding.{man_of, mark_of, rights_of, side_of}
 unfoldable pub use Rattle.krieg_pack.specs.Members.{set_of}
 pub use Rattle.krieg_pack.specs.Members.{IsAscending, IsSetOf}
 pub use Rattle.krieg_pack.specs.Order.{position_cmp, position_eq, position_lt}
+unfoldable pub use Rattle.krieg_pack.specs.OneMan.{are, fields_of, one_man}
+pub use Rattle.krieg_pack.specs.OneMan.{at, members_of, same_fields}
 pub use Rattle.krieg_pack.specs.OrderLaws.{position_total}
 unfoldable pub use Rattle.krieg_pack.specs.Packing.{packed, plane, unpacked}
 pub use Rattle.krieg_pack.specs.Packing.{IsPacked, code_at, state}
 pub use Rattle.krieg_pack.specs.SameNumbers.{same_position}
 pub use Rattle.krieg_pack.specs.declared.packed.Packed.TheInside.{Inside}
+pub use Rattle.krieg_pack.specs.declared.one_man.OneMan.{OneMan}

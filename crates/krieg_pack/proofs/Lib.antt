@@ -9,3 +9,5 @@ pub mod Membership
 pub mod Sorting
 pub mod Counts
 pub mod PositionSets
+mod OneMen
+mod Keeping

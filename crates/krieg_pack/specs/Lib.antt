@@ -8,3 +8,6 @@ pub mod CodesBack
 pub mod SameNumbers
 pub mod OrderLaws
 pub mod Hashing
+pub mod OneMan
+pub mod Kept
+pub mod KeptForm

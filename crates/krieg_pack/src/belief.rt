@@ -85,6 +85,14 @@ impl Belief {
         Ok(Belief::from_packed(packed))
     }
 
+    /// The set of the packed positions, which ascend.
+    pub(crate) fn ascending(members: Vec<Packed>) -> Belief
+        requires { IsAscending members.items }
+        ensures { result ≡ members.items }
+    {
+        Belief { members }
+    }
+
     /// The same set once more.
     pub fn copy(&self) -> Result<Belief, NoMemory>
         ensures { IfOk result (λ b. b ≡ self.now) }

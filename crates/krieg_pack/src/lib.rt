@@ -23,9 +23,12 @@
 mod belief;
 mod buffer;
 mod codes;
+mod kept;
+mod one_man;
 mod packed;
 mod planes;
 
 pub use belief::Belief;
 pub use buffer::{TooMany, trim};
+pub use kept::KeptSet;
 pub use packed::{Packed, order, pack, unpack};

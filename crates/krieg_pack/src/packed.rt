@@ -35,13 +35,13 @@ use std::marker::Model;
 /// numbers that differs, and equal just where the positions are.
 #[derive(Clone, Copy)]
 pub struct Packed {
-    ones: u64,
-    twos: u64,
-    fours: u64,
-    eights: u64,
-    rights: u8,
-    mark: u8,
-    side: u8,
+    pub(crate) ones: u64,
+    pub(crate) twos: u64,
+    pub(crate) fours: u64,
+    pub(crate) eights: u64,
+    pub(crate) rights: u8,
+    pub(crate) mark: u8,
+    pub(crate) side: u8,
 }
 
 // A belief keeps some hundred thousand of them.
