@@ -19,9 +19,11 @@
 //! ```
 #![tactic(auto)]
 
+mod open_set;
 mod results;
 mod set_result;
 mod table;
 
+pub use open_set::OpenSet;
 pub use set_result::{SetResult, Win};
 pub use table::{MOST_SETS, Table};

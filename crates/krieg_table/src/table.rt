@@ -1,18 +1,21 @@
-ghost use Rattle.std.specs.Prelude.{◌≡◌, ◌<◌, ◌≤◌, ℕ, [], length, None, Some, IfOk, IfSome, OnOk, OnErr, option_map};
+ghost use Rattle.std.specs.Prelude.{◌≡◌, ◌<◌, ◌≤◌, ℕ, [], length, None, Some, IfOk, IfSome, OnOk, OnErr, is_some, option_map};
 ghost use Rattle.krieg_board.specs.declared.men.Move.{Move as Try};
 ghost use Rattle.krieg_theory.specs.Sets.{In};
+ghost use Rattle.krieg_pack.specs.Kept.{is_listed};
 ghost use Rattle.krieg_pack.specs.Order.{position_lt};
 ghost use Rattle.krieg_costs.specs.Sums.{IsOnce};
 ghost use Rattle.krieg_accounts.specs.Stored.{stored, pairs};
 ghost use Rattle.krieg_table.specs.SetRows.{sets, set_at, known_at, number_of, interned, with_result};
 ghost use Rattle.krieg_table.specs.Entries.{try_of, entries};
+ghost use Rattle.krieg_table.specs.Opened.{IsOpened};
 ghost use Rattle.krieg_table.specs.Table.{IsInterned, IsNext, IsNoted};
 
+use crate::open_set::OpenSet;
 use crate::results::Results;
 use crate::set_result::{SetResult, Win};
 use indexmap::IndexMap;
 use krieg_board::NoMemory;
-use krieg_pack::Belief;
+use krieg_pack::{Belief, KeptSet};
 use std::alloc::Global;
 use std::marker::Model;
 
@@ -25,7 +28,7 @@ pub const MOST_SETS: usize = 100_000_000;
 /// the list of its rows: each a set with what is known of it. `entries` has the same results by sets.
 #[derive(Drop)]
 pub struct Table {
-    rows: IndexMap<Belief, Results>,
+    rows: IndexMap<KeptSet, Results>,
 }
 
 impl Model for Table {
@@ -76,19 +79,33 @@ impl Table {
         ensures err { OnErr result (self.new ≡ self.old) }
         ensures new_alone { OnErr result (In b (sets self.old) → ⊥) }
     {
-        let row = self.rows.entry(b)?;
+        let row = self.rows.entry(KeptSet::of(b))?;
         let id = row.index();
         row.or_insert(Results::none());
         Ok(id as u32)
     }
 
-    /// The set with that number.
-    pub fn belief(&self, id: u32) -> &Belief
+    /// The set with that number, opened, so that it can be looked at.
+    pub fn open(&self, alloc: Global, id: u32) -> Result<OpenSet, NoMemory>
         requires { id < length self.now }
-        ensures { result.now ≡ set_at self.now id }
+        ensures { IfOk result (λ o. IsOpened o (set_at self.now id)) }
     {
         match self.rows.get_index(id as usize) {
-            Some((b, _)) => b,
+            Some((kept, _)) => Ok(OpenSet {
+                made: kept.made(alloc)?,
+            }),
+            None => unreachable!(),
+        }
+    }
+
+    /// The set with that number, where it is kept as a list.
+    pub(crate) fn listed(&self, id: u32) -> Option<&Belief>
+        requires { id < length self.now }
+        ensures value { IfSome result (λ b. b.now ≡ set_at self.now id) }
+        ensures there { is_some result ≡ is_listed (set_at self.now id) }
+    {
+        match self.rows.get_index(id as usize) {
+            Some((kept, _)) => kept.listed(),
             None => unreachable!(),
         }
     }
@@ -141,6 +158,10 @@ impl Table {
     pub fn into_sets(self, alloc: Global) -> Result<Vec<Belief>, NoMemory>
         ensures { IfOk result (λ v. v.items ≡ sets self) }
     {
-        Ok(self.rows.into_keys().collect(alloc)?)
+        let mut sets = Vec::with_capacity(alloc, self.rows.len())?;
+        for kept in self.rows.into_keys() {
+            sets.push(kept.open(alloc)?)?;
+        }
+        Ok(sets)
     }
 }
