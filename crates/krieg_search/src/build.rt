@@ -94,11 +94,12 @@ impl Builder {
         }
         self.left -= 1;
         let win = win_of(&self.table, set, moves);
+        let opened = self.table.open(alloc, set)?;
         let Parted {
             refused,
             classes,
             ..
-        } = split_again(alloc, d, self.table.belief(set), win.mv)?;
+        } = split_again(alloc, d, opened.of(&self.table, set), win.mv)?;
         let edges = self.build_edges(alloc, d, classes, win.moves - 1, deep - 1)?;
         let no = self.build_other(alloc, d, refused, win.moves, deep - 1)?;
         Ok(Node::make(alloc, win.mv, no, edges)?)

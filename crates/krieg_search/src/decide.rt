@@ -11,6 +11,7 @@ use crate::notes::Notes;
 use crate::openings::{Opening, find_openings};
 use crate::search::{MOST_LEVELS, Search};
 use crate::stop::SearchStop;
+use crate::uncut::Uncut;
 use crate::way::Way;
 use krieg_board::{Side, Units};
 use krieg_pack::Belief;
@@ -88,6 +89,7 @@ pub fn decide(
         lost_sets: LostSets::new(way.alloc),
         table: Table::new(way.alloc),
         units: Units::new(had),
+        uncut: Uncut::new(way.alloc),
     };
     let Some(openings) = find_openings(
         way.alloc,

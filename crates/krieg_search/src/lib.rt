@@ -64,6 +64,7 @@ mod search;
 mod stop;
 mod try_list;
 mod turn;
+mod uncut;
 mod way;
 mod within;
 

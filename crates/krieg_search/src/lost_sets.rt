@@ -1,5 +1,4 @@
-ghost use Rattle.std.specs.Prelude.{◌≡◌, ◌<◌, true, length};
-ghost use Rattle.krieg_table.specs.SetRows.{set_at};
+ghost use Rattle.std.specs.Prelude.{◌≡◌, ◌<◌, true};
 ghost use Rattle.krieg_search.specs.LostParts.{HasLostPart};
 
 use crate::way::Way;
@@ -53,7 +52,7 @@ fn hidden_squares(members: &[Packed]) -> u64 {
 }
 
 /// Whether the set with that number is found to be lost with so many moves, and to be a part of the other.
-fn is_lost_part(table: &Table, set: u32, b: &Belief, moves: u8) -> bool
+fn is_lost_part(alloc: Global, table: &Table, set: u32, b: &Belief, moves: u8) -> bool
     requires { 0 < moves }
     ensures { result ≡ true → HasLostPart table.now b.now moves }
 {
@@ -63,18 +62,30 @@ fn is_lost_part(table: &Table, set: u32, b: &Belief, moves: u8) -> bool
     if table.lost(set) < moves {
         return false;
     }
-    let part = table.belief(set);
-    !part.is_empty() && is_within(part, b)
+    let Ok(opened) = table.open(alloc, set) else {
+        return false;
+    };
+    let part = opened.of(table, set);
+    if part.is_empty() {
+        return false;
+    }
+    is_within(part, b)
 }
 
 /// Whether one of these sets is such a part. Behind each stand the squares of the other side's men, of which a part has no more.
-fn one_is_lost_part(table: &Table, sets: &IndexMap<u32, u64>, b: &Belief, moves: u8) -> bool
+fn one_is_lost_part(
+    alloc: Global,
+    table: &Table,
+    sets: &IndexMap<u32, u64>,
+    b: &Belief,
+    moves: u8,
+) -> bool
     requires { 0 < moves }
     ensures { result ≡ true → HasLostPart table.now b.now moves }
 {
     let hidden = hidden_squares(b.members());
     for (set, squares) in sets.iter() {
-        if squares & !hidden == 0 && is_lost_part(table, *set, b, moves) {
+        if squares & !hidden == 0 && is_lost_part(alloc, table, *set, b, moves) {
             return true;
         }
     }
@@ -100,10 +111,7 @@ impl LostSets {
 
     /// Adds the set with that number, where tries may be cut and there is memory for it.
     #[inline(never)]
-    pub(crate) fn add(&mut self, way: Way, table: &Table, set: u32)
-        requires { set < length table.now }
-    {
-        let b = table.belief(set);
+    pub(crate) fn add(&mut self, way: Way, set: u32, b: &Belief) {
         if !way.cut || b.is_empty() {
             return;
         }
@@ -117,19 +125,17 @@ impl LostSets {
         }
     }
 
-    /// Whether a set that is known to be lost with so many moves is found within the set with that number.
+    /// Whether a set that is known to be lost with so many moves is found within this one.
     #[inline(never)]
-    pub(crate) fn has_part(&self, table: &Table, set: u32, moves: u8) -> bool
-        requires some { 0 < moves }
-        requires within { set < length table.now }
-        ensures { result ≡ true → HasLostPart table.now (set_at table.now set) moves }
+    pub(crate) fn has_part(&self, alloc: Global, table: &Table, b: &Belief, moves: u8) -> bool
+        requires { 0 < moves }
+        ensures { result ≡ true → HasLostPart table.now b.now moves }
     {
-        let b = table.belief(set);
         if b.is_empty() {
             return false;
         }
         match self.by_men.get(&own_men(&b.get(0))) {
-            Some(sets) => one_is_lost_part(table, sets, b, moves),
+            Some(sets) => one_is_lost_part(alloc, table, sets, b, moves),
             None => false,
         }
     }

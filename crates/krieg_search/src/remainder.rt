@@ -5,7 +5,7 @@ ghost use Rattle.krieg_game.specs.Chess.{chess};
 ghost use Rattle.krieg_split.specs.Units.{IsPaid};
 ghost use Rattle.krieg_split.specs.Tallies.{tally_of};
 ghost use Rattle.krieg_search.specs.Tries.{IsTold, move_of};
-ghost use Rattle.krieg_search.specs.Remainders.{IsRemainder, IsPaidUnlessCut};
+ghost use Rattle.krieg_search.specs.Remainders.{FailsAtOnce, IsRemainder, IsPaidUnlessCut};
 
 use crate::try_list::Try;
 use crate::way::Way;
@@ -101,32 +101,30 @@ pub fn left_by(
     }
 }
 
-/// The same, where tries may be cut: then a try also fails at once where in some member a reply is found to leave a position
-/// that is no mate in time even for a player who sees it, and such a try takes nothing.
-fn left_unless_cut(
-    way: Way,
-    sight: &mut Sight,
-    b: &Belief,
-    mv: Move,
-    moves: u8,
-    units: &mut Units,
-) -> Result<Option<Remainder>, PartStop>
+/// Whether the try is found to be cut: tries may be, and in some member a reply leaves a position that is no mate in time even
+/// for a player who sees it. A last move is not.
+#[inline(never)]
+pub(crate) fn is_cut(way: Way, sight: &mut Sight, b: &Belief, tried: &Try, moves: u8) -> bool
     requires { 0 < moves }
-    ensures left { IfOk result (IsRemainder way.d way.cut b.now mv moves) }
-    ensures units { IsPaidUnlessCut way.cut result (made (chess way.d) b.now mv) units.old
-        units.new }
+    ensures may { result ≡ true → way.cut ≡ true }
+    ensures fails { result ≡ true → FailsAtOnce way.d way.cut b.now (move_of tried.now) moves }
 {
-    if way.cut && 1 < moves && some_flees(way.alloc, sight, b, &mv, moves - 1) {
-        return Ok(None);
+    if !way.cut {
+        return false;
     }
-    left_by(way.alloc, way.d, b, mv, moves, units)
+    if moves == 1 {
+        return false;
+    }
+    match tried {
+        Try::Plain(mv) => some_flees(way.alloc, sight, b, mv, moves - 1),
+        Try::Counted(_) => false,
+    }
 }
 
-/// The same for a try of which all may be counted already.
+/// What a try leaves that is not cut, of which all may be counted already.
 #[inline(never)]
 pub(crate) fn left_of(
     way: Way,
-    sight: &mut Sight,
     b: &Belief,
     tried: &Try,
     moves: u8,
@@ -139,7 +137,7 @@ pub(crate) fn left_of(
         units.old units.new }
 {
     match tried {
-        Try::Plain(mv) => left_unless_cut(way, sight, b, *mv, moves, units),
+        Try::Plain(mv) => left_by(way.alloc, way.d, b, *mv, moves, units),
         Try::Counted(tally) => left_by_tally(way.alloc, way.d, b, tally, units),
     }
 }

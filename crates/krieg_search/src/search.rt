@@ -7,6 +7,7 @@ ghost use Rattle.krieg_accounts.specs.Stretch.{CoversSet, CoversPair, CoversTry,
 ghost use Rattle.krieg_game.specs.Chess.{chess};
 ghost use Rattle.krieg_table.specs.SetRows.{set_at};
 ghost use Rattle.krieg_table.specs.Entries.{entries};
+ghost use Rattle.krieg_table.specs.Opened.{IsOpened};
 ghost use Rattle.krieg_table.specs.Table.{IsNext};
 ghost use Rattle.krieg_search.specs.Tries.{IsTold, move_of};
 ghost use Rattle.krieg_search.specs.Stretches.{IsAtWork, Searches, TellsSet, sets_of};
@@ -16,14 +17,15 @@ use crate::lost_sets::LostSets;
 use crate::notes::{Block, Notes, add};
 use crate::number::number_of;
 use crate::packed_key::PackedKey;
-use crate::remainder::{Remainder, left_of};
+use crate::remainder::{Remainder, is_cut, left_of};
 use crate::stop::SearchStop;
 use crate::try_list::{Try, move_of_try, tries_for};
+use crate::uncut::Uncut;
 use crate::way::Way;
 use krieg_board::Units;
 use krieg_game::Class;
 use krieg_sight::{Sight, some_is_no_mate};
-use krieg_table::{SetResult, Table};
+use krieg_table::{OpenSet, SetResult, Table};
 
 /// A search goes so many levels deep at most, which take less than 5 MB of the stack.
 pub(crate) const MOST_LEVELS: u16 = 10_000;
@@ -36,6 +38,15 @@ pub(crate) struct Search {
     pub lost_sets: LostSets,
     pub table: Table,
     pub units: Units,
+    pub uncut: Uncut,
+}
+
+/// What is asked of a set: whether it can be won within a number of moves. It is open meanwhile.
+#[derive(Drop)]
+struct Asked {
+    set: u32,
+    moves: u8,
+    opened: OpenSet,
 }
 
 /// A class that cannot be won: its words, and the number of its set.
@@ -46,19 +57,29 @@ pub(crate) struct LostClass {
 }
 
 impl Search {
-    /// Whether some member of the set is found to be no mate within `moves` even for a player who sees the position.
-    fn is_lost_by_sight(&mut self, way: Way, set: u32, moves: u8) -> bool
-        requires { set < length self.old.table }
+    /// Whether the set is found to be lost with so many moves: some member is no mate within them even for a player who sees the
+    /// position, or a part of the set is known to be lost.
+    fn is_found_lost(&mut self, way: Way, set: u32, moves: u8) -> bool
+        requires some { 0 < moves }
+        requires within { set < length self.old.table }
+        requires ready { IsAtWork way self.old }
         ensures lost { result ≡ true → can (chess way.d) moves (set_at self.old.table set) ≡ false }
         ensures table { self.new.table ≡ self.old.table }
         ensures notes { self.new.notes ≡ self.old.notes }
         ensures units { self.new.units ≡ self.old.units }
     {
-        some_is_no_mate(way.alloc, &mut self.sight, self.table.belief(set), moves)
+        let Ok(opened) = self.table.open(way.alloc, set) else {
+            return false;
+        };
+        let b = opened.of(&self.table, set);
+        if some_is_no_mate(way.alloc, &mut self.sight, b, moves) {
+            return true;
+        }
+        self.lost_sets.has_part(way.alloc, &self.table, b, moves)
     }
 
-    /// Notes that the set cannot be won within `moves`, where a part of it is found not to be, or where it is seen. It takes no units,
-    /// and is looked for only where tries may be cut.
+    /// Notes that the set cannot be won within `moves`, where it is found to be lost. It takes no units, and is looked for only
+    /// where tries may be cut.
     #[inline(never)]
     fn loses_at_once(&mut self, way: Way, set: u32, moves: u8) -> bool
         requires within { set < length self.old.table }
@@ -75,11 +96,7 @@ impl Search {
         if !way.cut {
             return false;
         }
-        if self.is_lost_by_sight(way, set, moves) {
-            self.table.note(set, moves, SetResult::Loses);
-            return true;
-        }
-        if self.lost_sets.has_part(&self.table, set, moves) {
+        if self.is_found_lost(way, set, moves) {
             self.table.note(set, moves, SetResult::Loses);
             return true;
         }
@@ -153,11 +170,18 @@ impl Search {
         ensures ready { OnOk result (IsAtWork way self.new) }
         ensures most { self.new.notes.most ≡ self.old.notes.most }
     {
-        let tries = tries_for(way.alloc, self.table.belief(set), moves, self.units.left())?;
+        let opened = self.table.open(way.alloc, set)?;
+        let b = opened.of(&self.table, set);
+        let tries = tries_for(way.alloc, b, moves, self.units.left())?;
         let mut row = self.notes.row(way.alloc, moves, tries.len())?;
+        let asked = Asked { set, moves, opened };
+        let mut marks = self.uncut.marks(set);
         for tried in &tries {
-            match self.block_of(way, set, tried, moves, deep)? {
-                Some(block) => add(&mut row, move_of_try(tried), block)?,
+            match self.block_of(way, &asked, tried, marks.is_marked(), deep)? {
+                Some(block) => {
+                    marks.pass(&block);
+                    add(&mut row, move_of_try(tried), block)?
+                }
                 None => {
                     let mv = move_of_try(tried);
                     self.table.note(set, moves, SetResult::Wins(mv));
@@ -165,52 +189,60 @@ impl Search {
                 }
             }
         }
+        self.uncut.keep(way, set, &marks);
+        self.lost_sets
+            .add(way, set, asked.opened.of(&self.table, set));
         self.table.note(set, moves, SetResult::Loses);
-        self.lost_sets.add(way, &self.table, set);
         self.notes.keep(set, moves, row)?;
         Ok(false)
     }
 
-    /// What blocks the try in the set with `moves`, or nothing where it begins to win all of it: it does not fail at once,
-    /// each class can be won with one move less, and then the members that refuse it with the same number.
+    /// What blocks the try in the set that is asked, or nothing where it begins to win all of it: it does not fail at once,
+    /// each class can be won with one move less, and then the members that refuse it with the same number. Whether it is cut is
+    /// not asked where it is known not to be.
     ///
     /// The classes are let go before these are searched.
     #[cycle(search)]
     fn block_of(
         &mut self,
         way: Way,
-        set: u32,
+        asked: &Asked,
         tried: &Try,
-        moves: u8,
+        uncut: bool,
         deep: u16,
     ) -> Result<Option<Block>, SearchStop>
-        requires some { 0 < moves }
-        requires within { set < length self.old.table }
+        requires some { 0 < asked.now.moves }
+        requires within { asked.now.set < length self.old.table }
+        requires opened { IsOpened asked.now.opened (set_at self.old.table asked.now.set) }
         requires ready { IsAtWork way self.old }
-        requires told { IsTold (set_at self.old.table set) moves tried.now }
-        requires legal { legal_in_some (chess way.d) (set_at self.old.table set)
+        requires told { IsTold (set_at self.old.table asked.now.set) asked.now.moves tried.now }
+        requires legal { legal_in_some (chess way.d) (set_at self.old.table asked.now.set)
             (move_of tried.now) ≡ true }
         ensures searched { Searches way result (TellsBlock way.d way.cut
-            self.new.table (set_at self.old.table set) moves (move_of tried.now) self.old.units
-            self.new.units)
-            (CoversTry (chess way.d) (set_at self.old.table set) moves (move_of tried.now))
-            (made (chess way.d) (set_at self.old.table set) (move_of tried.now))
+            self.new.table (set_at self.old.table asked.now.set) asked.now.moves (move_of tried.now)
+            self.old.units self.new.units)
+            (CoversTry (chess way.d) (set_at self.old.table asked.now.set) asked.now.moves
+            (move_of tried.now))
+            (made (chess way.d) (set_at self.old.table asked.now.set) (move_of tried.now))
             self.old self.new }
         ensures ready { OnOk result (IsAtWork way self.new) }
         ensures most { self.new.notes.most ≡ self.old.notes.most }
     {
+        let b = asked.opened.of(&self.table, asked.set);
+        if !uncut && is_cut(way, &mut self.sight, b, tried, asked.moves) {
+            return Ok(Some(Block::AtOnce));
+        }
         let Some(Remainder { classes, refused }) = left_of(
             way,
-            &mut self.sight,
-            self.table.belief(set),
+            b,
             tried,
-            moves,
+            asked.moves,
             &mut self.units,
         )?
         else {
             return Ok(Some(Block::AtOnce));
         };
-        let lost = self.first_lost(way, classes, moves - 1, deep)?;
+        let lost = self.first_lost(way, classes, asked.moves - 1, deep)?;
         if let Some(class) = lost {
             return Ok(Some(Block::Class(class.heard, class.set)));
         }
@@ -218,7 +250,7 @@ impl Search {
             return Ok(None);
         }
         let rest = number_of(&mut self.table, refused)?;
-        if self.can_win(way, rest, moves, deep)? {
+        if self.can_win(way, rest, asked.moves, deep)? {
             return Ok(None);
         }
         Ok(Some(Block::Refused(rest)))

@@ -24,7 +24,7 @@ build-split_again-requires t c =
     let T = c.args.self.now.table in
     let w = c.win_of-win.result in
     let n = c.win_of-win.ensures in
-    subst (λ (X : List Pos). made (chess c.args.d) X w.mv < 2 ^ 64) (sym c.belief.ensures) (paid_by c.args.d T (set_at T c.args.set) c.args.moves w.moves w.mv c.requires.paid n.some n.at_most n.stored)
+    subst (λ (X : List Pos). made (chess c.args.d) X w.mv < 2 ^ 64) (sym c.of.ensures) (paid_by c.args.d T (set_at T c.args.set) c.args.moves w.moves w.mv c.requires.paid n.some n.at_most n.stored)
 
 pub build-build_edges-requires : goal.build-build_edges-requires
 build-build_edges-requires t c =
@@ -35,7 +35,7 @@ build-build_edges-requires t c =
     let w = c.win_of-win.result in
     let n = c.win_of-win.ensures in
     let p = c.in_ok-refused.field-0 in
-    let q = subst (λ (X : List Pos). IsParted d X w.mv p) c.belief.ensures c.in_ok-refused.ensures in
+    let q = subst (λ (X : List Pos). IsParted d X w.mv p) c.of.ensures c.in_ok-refused.ensures in
     let long = c.if-deep-eq0.false in
     (omega arith, (c.requires.paid, classes_won d T B j w.moves w.mv c.requires.paid n.some n.at_most n.stored p q))
 
@@ -48,7 +48,7 @@ build-returns-in_err-edges t c =
     let w = c.win_of-win.result in
     let n = c.win_of-win.ensures in
     let p = c.in_ok-refused.field-0 in
-    let q = subst (λ (X : List Pos). IsParted d X w.mv p) c.belief.ensures c.in_ok-refused.ensures in
+    let q = subst (λ (X : List Pos). IsParted d X w.mv p) c.of.ensures c.in_ok-refused.ensures in
     let some : 0 < c.args.self.now.left = (let h = c.if-self-eq0.false in omega arith) in
     let long : 0 < c.args.deep = (let h = c.if-deep-eq0.false in omega arith) in
     too_large _ c.from_residual-in_err-edges.result c.in_err-edges.field-0.0 _ _ _ _ _ _ _ _ _ _ _ _ _ _ _ _ (λ x h. cc) c.from_residual-in_err-edges.ensures.1
@@ -63,7 +63,7 @@ build-build_other-requires t c =
     let w = c.win_of-win.result in
     let n = c.win_of-win.ensures in
     let p = c.in_ok-refused.field-0 in
-    let q = subst (λ (X : List Pos). IsParted d X w.mv p) c.belief.ensures c.in_ok-refused.ensures in
+    let q = subst (λ (X : List Pos). IsParted d X w.mv p) c.of.ensures c.in_ok-refused.ensures in
     let long = c.if-deep-eq0.false in
     let s = c.in_ok-edges.ensures.3 in
     let T1 = c.build_edges.new.self.table in
@@ -78,7 +78,7 @@ build-returns-in_err-no t c =
     let w = c.win_of-win.result in
     let n = c.win_of-win.ensures in
     let p = c.in_ok-refused.field-0 in
-    let q = subst (λ (X : List Pos). IsParted d X w.mv p) c.belief.ensures c.in_ok-refused.ensures in
+    let q = subst (λ (X : List Pos). IsParted d X w.mv p) c.of.ensures c.in_ok-refused.ensures in
     let some : 0 < c.args.self.now.left = (let h = c.if-self-eq0.false in omega arith) in
     let long : 0 < c.args.deep = (let h = c.if-deep-eq0.false in omega arith) in
     too_large _ c.from_residual-in_err-no.result c.in_err-no.field-0.0 _ _ _ _ _ _ _ _ _ _ _ _ _ _ _ _ (λ x h. cc) c.from_residual-in_err-no.ensures.1
@@ -93,7 +93,7 @@ build-returns t c =
     let w = c.win_of-win.result in
     let n = c.win_of-win.ensures in
     let p = c.in_ok-refused.field-0 in
-    let q = subst (λ (X : List Pos). IsParted d X w.mv p) c.belief.ensures c.in_ok-refused.ensures in
+    let q = subst (λ (X : List Pos). IsParted d X w.mv p) c.of.ensures c.in_ok-refused.ensures in
     let some : 0 < c.args.self.now.left = (let h = c.if-self-eq0.false in omega arith) in
     let long : 0 < c.args.deep = (let h = c.if-deep-eq0.false in omega arith) in
     let es = c.in_ok-edges.ensures in

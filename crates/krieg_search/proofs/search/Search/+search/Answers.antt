@@ -76,21 +76,21 @@ win_by_a_try-loop-tried-init t c = record {
 pub win_by_a_try-block_of-requires : goal.win_by_a_try-block_of-requires
 win_by_a_try-block_of-requires t c =
     let d = c.args.way.d in
-    let are = ap (map move_of) c.deref-tried-items.ensures.value ∙ c.in_ok-tries.ensures.moves d ∙ ap (tries_of (chess d)) c.belief.ensures in
+    let are = ap (map move_of) c.deref-tried-items.ensures.value ∙ c.in_ok-tries.ensures.moves d ∙ ap (tries_of (chess d)) c.of-b.ensures in
     let at = move_at c.deref-tried-items.result.now c.loop-tried.tried-index c.tried-item.result c.loop-tried-test.true c.tried-item.is in
     let a = c.loop-tried.invariant.trying in
     let legal = next_legal d c.args.way.cut are at.0 at.1 a in
     let w = c.requires.within in
     let same = a.searched.more.same c.args.set w in
     let size : length (set_at c.loop-tried.self.table c.args.set) ≡ length (set_at c.args.self.now.table c.args.set) = ap length same in
-    let told = told_at c.belief.result.now (set_at c.loop-tried.self.table c.args.set) c.args.moves c.deref-tried-items.result.now c.in_ok-tries.tries.items c.loop-tried.tried-index c.tried-item.result c.in_ok-tries.ensures.told c.deref-tried-items.ensures.value c.loop-tried-test.true c.tried-item.is (c.belief.ensures ∙ sym same) in
+    let told = told_at c.of-b.result.now (set_at c.loop-tried.self.table c.args.set) c.args.moves c.deref-tried-items.result.now c.in_ok-tries.tries.items c.loop-tried.tried-index c.tried-item.result c.in_ok-tries.ensures.told c.deref-tried-items.ensures.value c.loop-tried-test.true c.tried-item.is (c.of-b.ensures ∙ sym same) in
     let longer = a.searched.more.longer in
-    (omega (arith, size), (c.requires.next.some, (omega arith, (c.loop-tried.invariant.ready, (told, rw (sym same) at legal)))))
+    (omega (arith, size), (c.requires.next.some, (omega arith, (rw (sym same) at c.in_ok-opened.ensures, (c.loop-tried.invariant.ready, (told, rw (sym same) at legal))))))
 
 pub win_by_a_try-returns-in_err-block-clause-searched : goal.win_by_a_try-returns-in_err-block-clause-searched
 win_by_a_try-returns-in_err-block-clause-searched t c =
     let d = c.args.way.d in
-    let are = ap (map move_of) c.deref-tried-items.ensures.value ∙ c.in_ok-tries.ensures.moves d ∙ ap (tries_of (chess d)) c.belief.ensures in
+    let are = ap (map move_of) c.deref-tried-items.ensures.value ∙ c.in_ok-tries.ensures.moves d ∙ ap (tries_of (chess d)) c.of-b.ensures in
     let at = move_at c.deref-tried-items.result.now c.loop-tried.tried-index c.tried-item.result c.loop-tried-test.true c.tried-item.is in
     let a = c.loop-tried.invariant.trying in
     let l = at.0 in
@@ -104,7 +104,7 @@ win_by_a_try-returns-in_err-block-clause-searched t c =
 pub win_by_a_try-returns-in-None-clause-searched : goal.win_by_a_try-returns-in-None-clause-searched
 win_by_a_try-returns-in-None-clause-searched t c =
     let d = c.args.way.d in
-    let are = ap (map move_of) c.deref-tried-items.ensures.value ∙ c.in_ok-tries.ensures.moves d ∙ ap (tries_of (chess d)) c.belief.ensures in
+    let are = ap (map move_of) c.deref-tried-items.ensures.value ∙ c.in_ok-tries.ensures.moves d ∙ ap (tries_of (chess d)) c.of-b.ensures in
     let at = move_at c.deref-tried-items.result.now c.loop-tried.tried-index c.tried-item.result c.loop-tried-test.true c.tried-item.is in
     let x = move_of c.tried-item.result in
     let a = c.loop-tried.invariant.trying in
@@ -123,7 +123,7 @@ win_by_a_try-returns-in-None-clause-ready t c = (ready_from c.args.way.d c.args.
 pub win_by_a_try-loop-tried-preserved : goal.win_by_a_try-loop-tried-preserved
 win_by_a_try-loop-tried-preserved t c =
     let d = c.args.way.d in
-    let are = ap (map move_of) c.deref-tried-items.ensures.value ∙ c.in_ok-tries.ensures.moves d ∙ ap (tries_of (chess d)) c.belief.ensures in
+    let are = ap (map move_of) c.deref-tried-items.ensures.value ∙ c.in_ok-tries.ensures.moves d ∙ ap (tries_of (chess d)) c.of-b.ensures in
     let at = move_at c.deref-tried-items.result.now c.loop-tried.tried-index c.tried-item.result c.loop-tried-test.true c.tried-item.is in
     let a = c.loop-tried.invariant.trying in
     let v = rw (a.searched.more.same c.args.set c.requires.within, c.in-Some.is) at c.in_ok-block.ensures.searched in
@@ -138,7 +138,7 @@ win_by_a_try-loop-tried-preserved t c =
 pub win_by_a_try-note-requires-clause-next : goal.win_by_a_try-note-requires-clause-next
 win_by_a_try-note-requires-clause-next t c =
     let d = c.args.way.d in
-    let are = ap (map move_of) c.deref-tried-items.ensures.value ∙ c.in_ok-tries.ensures.moves d ∙ ap (tries_of (chess d)) c.belief.ensures in
+    let are = ap (map move_of) c.deref-tried-items.ensures.value ∙ c.in_ok-tries.ensures.moves d ∙ ap (tries_of (chess d)) c.of-b.ensures in
     let at = move_at c.deref-tried-items.result.now c.loop-tried.tried-index c.tried-item.result c.loop-tried-test.true c.tried-item.is in
     let a = c.loop-tried.invariant.trying in
     let v = rw (a.searched.more.same c.args.set c.requires.within, c.in-None.is) at c.in_ok-block.ensures.searched in
@@ -147,7 +147,7 @@ win_by_a_try-note-requires-clause-next t c =
 pub win_by_a_try-note-requires-2 : goal.win_by_a_try-note-requires-2
 win_by_a_try-note-requires-2 t c =
     let d = c.args.way.d in
-    let are = ap (map move_of) c.deref-tried-items.ensures.value ∙ c.in_ok-tries.ensures.moves d ∙ ap (tries_of (chess d)) c.belief.ensures in
+    let are = ap (map move_of) c.deref-tried-items.ensures.value ∙ c.in_ok-tries.ensures.moves d ∙ ap (tries_of (chess d)) c.of-b.ensures in
     let a = c.loop-tried.invariant.trying in
     let l : length (map move_of c.deref-tried-items.result.now) ≤ c.loop-tried.tried-index = rw length-map c.loop-tried-test.false in
     let longer = a.searched.more.longer in
@@ -157,7 +157,7 @@ win_by_a_try-note-requires-2 t c =
 pub win_by_a_try-returns-clause-searched : goal.win_by_a_try-returns-clause-searched
 win_by_a_try-returns-clause-searched t c =
     let d = c.args.way.d in
-    let are = ap (map move_of) c.deref-tried-items.ensures.value ∙ c.in_ok-tries.ensures.moves d ∙ ap (tries_of (chess d)) c.belief.ensures in
+    let are = ap (map move_of) c.deref-tried-items.ensures.value ∙ c.in_ok-tries.ensures.moves d ∙ ap (tries_of (chess d)) c.of-b.ensures in
     let a = c.loop-tried.invariant.trying in
     let l : length (map move_of c.deref-tried-items.result.now) ≤ c.loop-tried.tried-index = rw length-map c.loop-tried-test.false in
     let some = c.requires.next.some in
@@ -168,7 +168,7 @@ win_by_a_try-returns-clause-searched t c =
 pub win_by_a_try-returns-clause-ready : goal.win_by_a_try-returns-clause-ready
 win_by_a_try-returns-clause-ready t c =
     let d = c.args.way.d in
-    let are = ap (map move_of) c.deref-tried-items.ensures.value ∙ c.in_ok-tries.ensures.moves d ∙ ap (tries_of (chess d)) c.belief.ensures in
+    let are = ap (map move_of) c.deref-tried-items.ensures.value ∙ c.in_ok-tries.ensures.moves d ∙ ap (tries_of (chess d)) c.of-b.ensures in
     let a = c.loop-tried.invariant.trying.searched.more in
     let l : length (map move_of c.deref-tried-items.result.now) ≤ c.loop-tried.tried-index = rw length-map c.loop-tried-test.false in
     let more = noted_more c.note-2.ensures.noted in
@@ -185,20 +185,20 @@ win_by_a_try-returns-clause-ready t c =
 pub block_of-returns-in_err-lost-clause-searched : goal.block_of-returns-in_err-lost-clause-searched
 block_of-returns-in_err-lost-clause-searched t c =
     let d = c.args.way.d in
-    let a = tried_at d c.args.way.cut (move_of c.args.tried.now) c.args.moves c.args.self.now.units c.left_of.new.units c.belief.ensures c.in-Some.is c.requires.some c.requires.ready.0 c.requires.legal c.in_ok-classes.ensures.left c.in_ok-classes.ensures.units in
+    let a = tried_at d c.args.way.cut (move_of c.args.tried.now) c.args.asked.now.moves c.args.self.now.units c.left_of.new.units c.of-b.ensures c.in-Some.is c.requires.some c.requires.ready.0 c.requires.legal c.in_ok-classes.ensures.left c.in_ok-classes.ensures.units in
     stopped d c.args.way.cut c.from_residual-in_err-lost.result c.in_err-lost.field-0.0 _ _ _ _ _ _ (λ x h. cc) c.from_residual-in_err-lost.ensures.1 (covers_classes d c.args.way.cut a) (after_split d c.args.way.cut a) (omega arith) c.in_err-lost.ensures.searched
 
 pub block_of-returns-in-Some-lost-clause-searched : goal.block_of-returns-in-Some-lost-clause-searched
 block_of-returns-in-Some-lost-clause-searched t c =
     let d = c.args.way.d in
-    let a = tried_at d c.args.way.cut (move_of c.args.tried.now) c.args.moves c.args.self.now.units c.left_of.new.units c.belief.ensures c.in-Some.is c.requires.some c.requires.ready.0 c.requires.legal c.in_ok-classes.ensures.left c.in_ok-classes.ensures.units in
+    let a = tried_at d c.args.way.cut (move_of c.args.tried.now) c.args.asked.now.moves c.args.self.now.units c.left_of.new.units c.of-b.ensures c.in-Some.is c.requires.some c.requires.ready.0 c.requires.legal c.in_ok-classes.ensures.left c.in_ok-classes.ensures.units in
     let w = rw c.in-Some-lost.is at c.in_ok-lost.ensures.searched in
     (class_lost d c.args.way.cut a c.in-Some-lost.class w.0, after_classes d c.args.way.cut a w.1)
 
 pub block_of-returns-then-is_empty-clause-searched : goal.block_of-returns-then-is_empty-clause-searched
 block_of-returns-then-is_empty-clause-searched t c =
     let d = c.args.way.d in
-    let a = tried_at d c.args.way.cut (move_of c.args.tried.now) c.args.moves c.args.self.now.units c.left_of.new.units c.belief.ensures c.in-Some.is c.requires.some c.requires.ready.0 c.requires.legal c.in_ok-classes.ensures.left c.in_ok-classes.ensures.units in
+    let a = tried_at d c.args.way.cut (move_of c.args.tried.now) c.args.asked.now.moves c.args.self.now.units c.left_of.new.units c.of-b.ensures c.in-Some.is c.requires.some c.requires.ready.0 c.requires.legal c.in_ok-classes.ensures.left c.in_ok-classes.ensures.units in
     let w = rw c.in_default-lost.is at c.in_ok-lost.ensures.searched in
     let none = empty_is c.in-Some.field-0.refused c.is_empty.result c.is_empty.ensures c.if-is_empty.true in
     (none_refuses d c.args.way.cut a w.0 w.1 none, after_classes d c.args.way.cut a w.1)
@@ -206,7 +206,7 @@ block_of-returns-then-is_empty-clause-searched t c =
 pub block_of-can_win-requires : goal.block_of-can_win-requires
 block_of-can_win-requires t c =
     let d = c.args.way.d in
-    let a = tried_at d c.args.way.cut (move_of c.args.tried.now) c.args.moves c.args.self.now.units c.left_of.new.units c.belief.ensures c.in-Some.is c.requires.some c.requires.ready.0 c.requires.legal c.in_ok-classes.ensures.left c.in_ok-classes.ensures.units in
+    let a = tried_at d c.args.way.cut (move_of c.args.tried.now) c.args.asked.now.moves c.args.self.now.units c.left_of.new.units c.of-b.ensures c.in-Some.is c.requires.some c.requires.ready.0 c.requires.legal c.in_ok-classes.ensures.left c.in_ok-classes.ensures.units in
     let w = rw c.in_default-lost.is at c.in_ok-lost.ensures.searched in
     let n = some_is c.in-Some.field-0.refused c.is_empty.result c.is_empty.ensures c.if-is_empty.false in
     let i = c.in_ok-rest.ensures in
@@ -216,7 +216,7 @@ block_of-can_win-requires t c =
 pub block_of-returns-in_err-can_win-clause-searched : goal.block_of-returns-in_err-can_win-clause-searched
 block_of-returns-in_err-can_win-clause-searched t c =
     let d = c.args.way.d in
-    let a = tried_at d c.args.way.cut (move_of c.args.tried.now) c.args.moves c.args.self.now.units c.left_of.new.units c.belief.ensures c.in-Some.is c.requires.some c.requires.ready.0 c.requires.legal c.in_ok-classes.ensures.left c.in_ok-classes.ensures.units in
+    let a = tried_at d c.args.way.cut (move_of c.args.tried.now) c.args.asked.now.moves c.args.self.now.units c.left_of.new.units c.of-b.ensures c.in-Some.is c.requires.some c.requires.ready.0 c.requires.legal c.in_ok-classes.ensures.left c.in_ok-classes.ensures.units in
     let w = rw c.in_default-lost.is at c.in_ok-lost.ensures.searched in
     let n = some_is c.in-Some.field-0.refused c.is_empty.result c.is_empty.ensures c.if-is_empty.false in
     let i = c.in_ok-rest.ensures in
@@ -225,7 +225,7 @@ block_of-returns-in_err-can_win-clause-searched t c =
 pub block_of-returns-then-branch-clause-searched : goal.block_of-returns-then-branch-clause-searched
 block_of-returns-then-branch-clause-searched t c =
     let d = c.args.way.d in
-    let a = tried_at d c.args.way.cut (move_of c.args.tried.now) c.args.moves c.args.self.now.units c.left_of.new.units c.belief.ensures c.in-Some.is c.requires.some c.requires.ready.0 c.requires.legal c.in_ok-classes.ensures.left c.in_ok-classes.ensures.units in
+    let a = tried_at d c.args.way.cut (move_of c.args.tried.now) c.args.asked.now.moves c.args.self.now.units c.left_of.new.units c.of-b.ensures c.in-Some.is c.requires.some c.requires.ready.0 c.requires.legal c.in_ok-classes.ensures.left c.in_ok-classes.ensures.units in
     let w = rw c.in_default-lost.is at c.in_ok-lost.ensures.searched in
     let n = some_is c.in-Some.field-0.refused c.is_empty.result c.is_empty.ensures c.if-is_empty.false in
     let i = c.in_ok-rest.ensures in
@@ -235,7 +235,7 @@ block_of-returns-then-branch-clause-searched t c =
 pub block_of-returns-clause-searched : goal.block_of-returns-clause-searched
 block_of-returns-clause-searched t c =
     let d = c.args.way.d in
-    let a = tried_at d c.args.way.cut (move_of c.args.tried.now) c.args.moves c.args.self.now.units c.left_of.new.units c.belief.ensures c.in-Some.is c.requires.some c.requires.ready.0 c.requires.legal c.in_ok-classes.ensures.left c.in_ok-classes.ensures.units in
+    let a = tried_at d c.args.way.cut (move_of c.args.tried.now) c.args.asked.now.moves c.args.self.now.units c.left_of.new.units c.of-b.ensures c.in-Some.is c.requires.some c.requires.ready.0 c.requires.legal c.in_ok-classes.ensures.left c.in_ok-classes.ensures.units in
     let w = rw c.in_default-lost.is at c.in_ok-lost.ensures.searched in
     let n = some_is c.in-Some.field-0.refused c.is_empty.result c.is_empty.ensures c.if-is_empty.false in
     let i = c.in_ok-rest.ensures in

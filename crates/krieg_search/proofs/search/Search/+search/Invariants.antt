@@ -14,7 +14,7 @@ abbrev pub decreases-first_lost : goal.decreases-first_lost
 decreases-first_lost l = 8 * (l.moves * 2 ^ 64 + 2 ^ 64 - 1) + 5
 
 abbrev pub decreases-block_of : goal.decreases-block_of
-decreases-block_of l = 8 * (l.moves * 2 ^ 64 + length (set_at l.self.now.table l.set)) + 1
+decreases-block_of l = 8 * (l.asked.now.moves * 2 ^ 64 + length (set_at l.self.now.table l.asked.now.set)) + 1
 
 abbrev pub decreases-win_by_a_try : goal.decreases-win_by_a_try
 decreases-win_by_a_try l = 8 * (l.moves * 2 ^ 64 + length (set_at l.self.now.table l.set)) + 2
