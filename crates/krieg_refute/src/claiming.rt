@@ -132,7 +132,14 @@ fn block_of(
     requires legal { legal_in_some (chess d) (set_at table.old set) mv ≡ true }
     ensures { IfOk result (HasBlock d table.old table.new (set_at table.old set) mv moves) }
 {
-    let Some(Remainder { classes, refused }) = left_again(alloc, d, table.belief(set), mv, moves)?
+    let opened = table.open(alloc, set)?;
+    let Some(Remainder { classes, refused }) = left_again(
+        alloc,
+        d,
+        opened.of(table, set),
+        mv,
+        moves,
+    )?
     else {
         return Ok(Block::AtOnce);
     };
@@ -155,7 +162,8 @@ fn row_of(
     requires lost { IsLost table.old (set_at table.old asked.set) asked.moves }
     ensures { IfOk result (λ row. HasRow d table.old table.new asked row.items) }
 {
-    let tries = tries(alloc, table.belief(asked.set))?;
+    let opened = table.open(alloc, asked.set)?;
+    let tries = tries(alloc, opened.of(table, asked.set))?;
     let mut row = Vec::with_capacity(alloc, tries.len())?;
     for mv in &tries {
         let block = block_of(alloc, d, table, asked.set, *mv, asked.moves)?;
@@ -217,6 +225,7 @@ fn add_place(places: &mut IndexSet<Question>, asked: Question) -> Result<(), NoM
 
 /// Puts the claim of a set behind the others, and gives its place. `Large` comes where the claims are too many with it.
 fn push(
+    alloc: Global,
     d: Dialect,
     table: &Table,
     claimed: &mut ClaimList,
@@ -230,9 +239,9 @@ fn push(
     ensures { IsPushed d table.now (set_at table.now asked.set) asked.moves
         claimed.old claimed.new result }
 {
-    let positions = claimed
-        .positions
-        .saturating_add(table.belief(asked.set).len());
+    let opened = table.open(alloc, asked.set)?;
+    let members = opened.of(table, asked.set).len();
+    let positions = claimed.positions.saturating_add(members);
     let count = claimed.reasons.saturating_add(reasons.len());
     if !are_few(claimed.claims.len() + 1, positions, count) {
         return Err(SearchStop::Large);
@@ -272,7 +281,14 @@ pub(crate) fn claim(
         return Ok(index as u16 + 1);
     }
     let reasons = reasons_of(setting, table, claimed, asked)?;
-    push(setting.dialect, table, claimed, asked, reasons)
+    push(
+        setting.alloc,
+        setting.dialect,
+        table,
+        claimed,
+        asked,
+        reasons,
+    )
 }
 
 /// The reasons of all tries of the set, by claims that stand before its own. What blocks the tries is as the search has noted it,

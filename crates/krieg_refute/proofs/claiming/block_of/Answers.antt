@@ -18,10 +18,10 @@ left_again-requires-clause-paid c =
     let a = loss_paid (chess d) (chess_is_game d) (entries T) c.requires.paid.ready.sound B (j - 1) lost c.args.mv c.requires.legal in
     let b = c.requires.paid.paid refl in
     let fits : made (chess d) B c.args.mv < 2 ^ 64 = omega arith in
-    rw c.belief.ensures fits
+    rw c.of.ensures fits
 
 pub returns-in_default : goal.returns-in_default
-returns-in_default c = (adds_nothing c.args.table.now c.requires.paid.ready.counted, rw (c.in_default.is, c.belief.ensures) at c.in_ok-classes.ensures)
+returns-in_default c = (adds_nothing c.args.table.now c.requires.paid.ready.counted, rw (c.in_default.is, c.of.ensures) at c.in_ok-classes.ensures)
 
 pub returns-in-Some-2 : goal.returns-in-Some-2
 returns-in-Some-2 c =
@@ -29,7 +29,7 @@ returns-in-Some-2 c =
     let T = c.args.table.now in
     let B = set_at T c.args.set in
     let x = c.in-Some-2.class in
-    let a = rw (c.in-Some.is, c.belief.ensures) at c.in_ok-classes.ensures in
+    let a = rw (c.in-Some.is, c.of.ensures) at c.in_ok-classes.ensures in
     let h = rw c.in-Some-2.is at c.in_ok-class.ensures in
     let b = class_at d T B B c.args.mv c.args.moves c.requires.some refl c.requires.paid.ready c.requires.lost c.requires.legal c.in-Some.field-0 a (x.own, x.reply) (set_at c.first_lost.new.table x.set) h.first in
     (h.sets, subst (λ (key : Key). IsLostPart d c.first_lost.new.table B c.args.moves c.args.mv (LostClass key) (class (chess d) B c.args.mv key) x.set) (sym c.new.ensures) (record { blocks = b.0; within = h.within; at = sym b.1 }))
@@ -40,7 +40,7 @@ returns c =
     let T = c.args.table.now in
     let T1 = c.first_lost.new.table in
     let B = set_at T c.args.set in
-    let a = rw (c.in-Some.is, c.belief.ensures) at c.in_ok-classes.ensures in
+    let a = rw (c.in-Some.is, c.of.ensures) at c.in_ok-classes.ensures in
     let h = rw c.in_default-2.is at c.in_ok-class.ensures in
     let n = c.in_ok-number_of.ensures in (
       adds_then T T1 c.number_of.new.table h.0 (record { counted = n.counted; more = n.interned.more; noted = n.interned.noted }),

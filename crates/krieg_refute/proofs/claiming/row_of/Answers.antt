@@ -20,7 +20,7 @@ pub block_of-requires-clause-legal : goal.block_of-requires-clause-legal
 block_of-requires-clause-legal c =
     let d = c.args.d in
     let B = set_at c.args.table.now c.args.asked.set in
-    let are = c.deref-mv-items.ensures.value ∙ c.in_ok-tries.ensures d ∙ ap (tries (chess d)) c.belief.ensures in
+    let are = c.deref-mv-items.ensures.value ∙ c.in_ok-tries.ensures d ∙ ap (tries (chess d)) c.of.ensures in
     let same = c.loop-mv.invariant.sets.more.same c.args.asked.set c.requires.within in
     subst (λ (X : List Pos). legal_in_some (chess d) X c.mv-item.result ≡ true) (sym same)
     (legal_at (chess d) (chess_is_game d) B c.args.asked.moves c.deref-mv-items.result.now are c.loop-mv.mv-index c.mv-item.result c.loop-mv-test.true c.mv-item.is)
@@ -49,7 +49,7 @@ returns c =
     let T = c.args.table.now in
     let B = set_at T c.args.asked.set in
     let inv = c.loop-mv.invariant in
-    let are = c.deref-mv-items.ensures.value ∙ c.in_ok-tries.ensures d ∙ ap (tries (chess d)) c.belief.ensures in
+    let are = c.deref-mv-items.ensures.value ∙ c.in_ok-tries.ensures d ∙ ap (tries (chess d)) c.of.ensures in
     let longer = inv.sets.more.longer in
     let within = c.requires.within in
     let lost = result_can (chess d) (chess_is_game d) false (entries T) c.requires.paid.ready.sound B c.args.asked.moves None c.requires.lost in
