@@ -145,7 +145,7 @@ pub use Rattle.krieg_cli.specs.Parts.{AreTerms, Decides, LeavesSeats, SearchedBy
 pub use Rattle.krieg_cli.specs.Play.{HasBegun, PlaysFrom, PlaysWhole}
 pub use Rattle.krieg_cli.specs.Refusal.{OfText, refusal_status, text_status}
 pub use Rattle.krieg_cli.specs.Refute.{CanBeListed, Claimed, IsDenialText, Refuted, denial_file}
-pub use Rattle.krieg_cli.specs.Seated.{bench_sides}
+pub use Rattle.krieg_play.specs.Benches.{bench_sides}
 pub use Rattle.krieg_cli.specs.Solve.{IsBestFile, IsTooLarge, Searched, Tells, file_of, least_units, mates_all}
 pub use Rattle.krieg_cli.specs.Tally.{tally_of}
 pub use Rattle.krieg_cli.specs.Top.{Answers, ComesTo, Ends, Gets, IsRun, LeavesBench, Reports, Runs, RunsAlone, nobody}

@@ -13,7 +13,6 @@ pub mod Why
 pub mod Umpire
 pub mod San
 pub mod Unsan
-pub mod Seated
 pub mod Recorded
 pub mod Play
 pub mod Lead

@@ -14,10 +14,6 @@
 //!
 //! `commands` has a file for each command, `outcome` chooses among them, and `answers` has what they answer: one text, or one in pieces.
 //!
-//! `live` has the calls that hold boxed seats: `bench` has the seats of both sides, `telling` what one seat is asked and
-//! told, `team` the turns and reliefs of one side, `table` one pass over both sides, `game` a whole game. They stand here,
-//! over the definitions and lemmas of `krieg_play`, since every caller that is handed a bench stands in one crate.
-//!
 //! ```
 //! // The words are `umpire` and `all`, and the third line of the text is `w e2`.
 //! let mut input = MemSource::new(text, 1000, Vec::new(alloc));
@@ -33,7 +29,6 @@ mod commands;
 mod ending;
 mod input;
 mod laws;
-mod live;
 mod outcome;
 mod refusal;
 mod report;
@@ -41,8 +36,6 @@ mod top;
 
 pub use input::MOST_INPUT;
 pub use krieg_args::{SeatFiles, lead_files, seat_files};
-pub use krieg_play::PlayFault;
-pub(crate) use krieg_play::{Turn, fault_of, relieved_turn};
+pub use krieg_play::{Bench, PlayFault, Played, play};
 pub use laws::limits_law;
-pub use live::{Bench, Played, play};
 pub use top::{run, run_find};

@@ -1,5 +1,5 @@
 ghost use Rattle.std.specs.Prelude.{◌≡◌, false};
-ghost use Rattle.krieg_cli.specs.Seated.{bench_sides};
+ghost use Rattle.krieg_play.specs.Benches.{bench_sides};
 ghost use Rattle.krieg_cli.specs.Parts.{Decides, LeavesSeats, ending_of, bytes_of, is_in_pieces};
 ghost use Rattle.krieg_cli.specs.Live.{LivesBy};
 ghost use Rattle.krieg_cli.specs.Outcome as spec;
@@ -10,8 +10,8 @@ use crate::commands::{
     believe, check, deny, job, lead, make, next, play, refute, san, solve, umpire, unsan, why,
 };
 use crate::ending::Ending;
-use crate::live::Bench;
 use krieg_args::Command;
+use krieg_play::Bench;
 use krieg_seats::Seat;
 use std::alloc::Global;
 
@@ -24,11 +24,11 @@ fn whole_outcome(
 ) -> Result<Vec<u8>, Ending>
     requires range { spec.IsInRange command.now }
     requires one_text { is_in_pieces command.now ≡ false }
-    ensures outcome { let live = LivesBy (λ b. account b)
+    ensures outcome { let live = LivesBy (λ b. (⟦<dyn Seat as Seat>⟧ b.vtable).account b.value)
         (bench_sides bench.old) (bench_sides bench.new) in
         Decides (λ answer. answer.items) result (spec.HasOutcome live command.now text.items) }
-    ensures bench { LeavesSeats (λ b. account b) command.now (ending_of result) text.items
-        (bench_sides bench.old) (bench_sides bench.new) }
+    ensures bench { LeavesSeats (λ b. (⟦<dyn Seat as Seat>⟧ b.vtable).account b.value) command.now
+        (ending_of result) text.items (bench_sides bench.old) (bench_sides bench.new) }
 {
     match command {
         Command::Solve {
@@ -81,11 +81,11 @@ pub(crate) fn outcome(
     bench: &mut Bench,
 ) -> Result<Answer, Ending>
     requires { spec.IsInRange command.now }
-    ensures outcome { let live = LivesBy (λ b. account b)
+    ensures outcome { let live = LivesBy (λ b. (⟦<dyn Seat as Seat>⟧ b.vtable).account b.value)
         (bench_sides bench.old) (bench_sides bench.new) in
         Decides bytes_of result (spec.HasOutcome live command.now text.items) }
-    ensures bench { LeavesSeats (λ b. account b) command.now (ending_of result) text.items
-        (bench_sides bench.old) (bench_sides bench.new) }
+    ensures bench { LeavesSeats (λ b. (⟦<dyn Seat as Seat>⟧ b.vtable).account b.value) command.now
+        (ending_of result) text.items (bench_sides bench.old) (bench_sides bench.new) }
 {
     match command {
         Command::Refute {

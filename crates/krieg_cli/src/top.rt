@@ -3,7 +3,7 @@ ghost use Rattle.krieg_args.specs.declared.command.Command.{Command as Asked};
 ghost use Rattle.krieg_args.specs.Command.{takes_input};
 ghost use Rattle.krieg_cli.specs.World.{stream, world};
 ghost use Rattle.krieg_cli.specs.Outcome.{IsInRange};
-ghost use Rattle.krieg_cli.specs.Seated.{bench_sides};
+ghost use Rattle.krieg_play.specs.Benches.{bench_sides};
 ghost use Rattle.krieg_cli.specs.Parts.{ending_of};
 ghost use Rattle.krieg_cli.specs.Live.{LivesBy};
 ghost use Rattle.krieg_cli.specs.Top.{Ends, Runs, IsRun, RunsAlone, LeavesBench, nobody, asked_by, asked_to_find, reads};
@@ -18,10 +18,10 @@ ghost use Rattle.krieg_cli.specs.Complete.{Completes};
 use crate::answers::write_answer;
 use crate::ending::Ending;
 use crate::input::taken;
-use crate::live::Bench;
 use crate::outcome::outcome;
 use crate::report::report;
 use krieg_args::{Command, command_of, find_of};
+use krieg_play::Bench;
 use krieg_ports::{Sink, Source};
 use krieg_seats::Seat;
 use std::alloc::Global;
@@ -35,12 +35,14 @@ fn answer<S: Source, O: Sink>(
     bench: &mut Bench,
 ) -> Result<(), Ending>
     requires { IsInRange command.now }
-    ensures ends { let live = LivesBy (λ b. account b) (bench_sides bench.old)
+    ensures ends { let live = LivesBy (λ b. (⟦<dyn Seat as Seat>⟧ b.vtable).account b.value)
+        (bench_sides bench.old)
         (bench_sides bench.new) in
         let seen = world S.left S.faults O.got O.faults in
         Ends live (ending_of result) command.now (seen input.old out.old) (seen input.new out.new) }
     ensures bench { let seen = stream S.left S.faults in
-        LeavesBench (λ b. account b) (Some command.now) (ending_of result) (seen input.old)
+        LeavesBench (λ b. (⟦<dyn Seat as Seat>⟧ b.vtable).account b.value)
+        (Some command.now) (ending_of result) (seen input.old)
         (seen input.new)
         (bench_sides bench.old) (bench_sides bench.new) }
     ensures unread { takes_input command.now ≡ false → input.new ≡ input.old }
@@ -60,12 +62,14 @@ fn obey<S: Source, O: Sink>(
     bench: &mut Bench,
 ) -> Ending
     requires { (c : Asked) → asked ≡ Some c → IsInRange c }
-    ensures runs { let live = LivesBy (λ b. account b) (bench_sides bench.old)
+    ensures runs { let live = LivesBy (λ b. (⟦<dyn Seat as Seat>⟧ b.vtable).account b.value)
+        (bench_sides bench.old)
         (bench_sides bench.new) in
         let seen = world S.left S.faults O.got O.faults in
         Runs live result asked (seen input.old out.old) (seen input.new out.new) }
     ensures bench { let seen = stream S.left S.faults in
-        LeavesBench (λ b. account b) asked result (seen input.old) (seen input.new)
+        LeavesBench (λ b. (⟦<dyn Seat as Seat>⟧ b.vtable).account b.value)
+        asked result (seen input.old) (seen input.new)
         (bench_sides bench.old) (bench_sides bench.new) }
     ensures unread { reads asked ≡ false → input.new ≡ input.old }
 {
@@ -139,7 +143,8 @@ pub fn run<S: Source, O: Sink, E: Sink>(
 ) -> u8
     ensures ends { let seen = world S.left S.faults O.got O.faults in
         let heard = stream E.got E.faults in
-        IsRun (λ b. account b) (bench_sides bench.old) (bench_sides bench.new) (asked_by words.now)
+        IsRun (λ b. (⟦<dyn Seat as Seat>⟧ b.vtable).account b.value)
+        (bench_sides bench.old) (bench_sides bench.new) (asked_by words.now)
         result
         (seen input.old out.old) (seen input.new out.new) (heard err.old) (heard err.new) }
 
@@ -173,7 +178,8 @@ pub fn run<S: Source, O: Sink, E: Sink>(
 
     // Where the input is good and nothing is refused for a cause, there is an answer, or memory ran out.
     ensures completes { let seen = world S.left S.faults O.got O.faults in
-        Completes (λ b. account b) (bench_sides bench.old) (bench_sides bench.new)
+        Completes (λ b. (⟦<dyn Seat as Seat>⟧ b.vtable).account b.value)
+        (bench_sides bench.old) (bench_sides bench.new)
         (asked_by words.now) result
         (seen input.old out.old) (seen input.new out.new) }
 

@@ -16,18 +16,20 @@ pub use Rattle.krieg_referee.specs.Verdicts.{next}
 pub use Rattle.krieg_referee.specs.declared.verdict.Event.{Event}
 pub use Rattle.krieg_referee.specs.declared.verdict.Judged.{Judged}
 pub use Rattle.krieg_referee.specs.declared.verdict.Stop.{Stop}
-pub use Rattle.krieg_referee.specs.declared.verdict.Stop.TheVariants.{AsksUsed, Ended}
+pub use Rattle.krieg_referee.specs.declared.verdict.Stop.TheVariants.{AsksUsed, Ended, Left}
 pub use Rattle.krieg_seats.specs.Accounts.{Account, Asked, Told}
 pub use Rattle.krieg_seats.specs.declared.seat.Say.{Say}
 pub use Rattle.krieg_seats.specs.declared.seat.Say.TheVariants.{Leave, Try}
 pub use Rattle.krieg_seats.specs.declared.seat.SeatFault.{SeatFault}
 pub use Rattle.krieg_seats.specs.declared.seat.SeatFault.TheVariants.{Failed}
+pub use Rattle.krieg_play.specs.Benches.{roster_sides}
 pub use Rattle.krieg_play.specs.Broken.{Breaks, EndsAt, IsBroken, IsUntold, Refuses}
-pub use Rattle.krieg_play.specs.Calls.{AfterTelling, AfterTurn, BreaksOff, EndsTurn, FirstChanges, Relieves, TakesTurn, Tells, ToldAll, lines_to, once_more, one_try, relieved_turn, seat_counts}
+pub use Rattle.krieg_play.specs.Calls.{AfterTelling, AfterTurn, AsksTeam, BreaksOff, EndsTurn, FirstChanges, IsLastOnes, IsReady, Relieves, TakesTurn, Tells, TellsTeam, ToldAll, lines_to, once_more, one_try, relieved_turn, seat_counts}
 pub use Rattle.krieg_play.specs.Games.{AreOnTurn, IsGameFrom, events_of, tries_of, try_of}
 pub use Rattle.krieg_play.specs.Passes.{AfterAsk, AfterBoth, AfterPass, AsksOne, ComesTo, HasTried, Judges, Passes, PlaysOn, TellsBoth, fault_of, seat_count}
+pub use Rattle.krieg_play.specs.Players.{AsksOf, BothHear, Follows, IsStepped, TakesTurns, due_in, next_turn}
 pub use Rattle.krieg_play.specs.Played.{Courses, IsAskedWithin, IsPlayed, IsUnderway, IsWhole, LastAsk, Sides, StopsBy, all_relieved, by_side, last_ask, last_turns, leaver, lines_of, relieved, seats_of, seen, seen_team, sides, turns_so_far, turns_then, used_up}
-pub use Rattle.krieg_play.specs.Teams.{AreRelieved, BrokenCourse, Course, HasFailed, HasLeft, IsGone, IsRelieved, IsService, MayBeShort, Serves, Service, Stays, Team, Turns, all_asks, asks_of, entry_of, known_behind, now_of, said_of, team, turns_of, turns_since}
+pub use Rattle.krieg_play.specs.Teams.{AreRelieved, BrokenCourse, Course, HasFailed, HasLeft, IsGone, IsRelieved, IsService, MayBeShort, Serves, Service, Stays, Team, Turns, all_asks, asks_of, entry_of, known_behind, now_of, said_of, team, team_of, turns_of, turns_since}
 pub use Rattle.krieg_play.specs.declared.outcome.PlayFault.{PlayFault}
 pub use Rattle.krieg_play.specs.declared.outcome.PlayFault.TheVariants.{Seat, Vacant}
 pub use Rattle.krieg_play.specs.declared.turn.Turn.{Turn}

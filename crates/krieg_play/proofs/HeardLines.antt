@@ -3,7 +3,7 @@ use Rattle.std.proofs.Common.{◌≡◌, ℕ, List, [], ◌∷◌, map, refl, sy
 use Rattle.krieg_play.proofs.Common.{Pos, Side, opening, told_line, Wild16, Line, heard, lines_for, GameState, judge, Judged, events_of, IsGameFrom, lines_of, lines_to}
 use Rattle.krieg_words.specs.declared.line.Line.TheVariants as line
 
-told_wild : (l : Line) → told_line Wild16 l ≡ l
+pub told_wild : (l : Line) → told_line Wild16 l ≡ l
 told_wild (line.Opens w) = refl
 told_wild (line.Illegal m) = refl
 told_wild (line.Done m w) = refl

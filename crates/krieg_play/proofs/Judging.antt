@@ -1,7 +1,7 @@
 -- One more try of a game.
 use Rattle.std.proofs.Common.{◌≡◌, ℕ, ◌+◌, ◌≤◌, List, [], ◌∷◌, ◌++◌, length, length-append, refl, sym, ap, ◌∙◌, subst, inr, arith, Result, Ok, Err, Option, None, option_to_list}
 use Rattle.std.proofs.lemmas.List.Elements.{filter_map-append}
-use Rattle.krieg_play.proofs.Common.{Pos, Side, White, Black, opening, Line, Opens, next, GameState, judge, judged, last, line_for, lines_for, Event, Judged, Account, Turns, Stays, Course, events_of, AreOnTurn, IsGameFrom, Sides, by_side, Courses, lines_of, turns_so_far, last_turns, LastAsk, Breaks, lines_to, seat_count, HasTried, AfterBoth, TellsBoth, Judges, PlayFault}
+use Rattle.krieg_play.proofs.Common.{Pos, Side, White, Black, opening, Line, Opens, next, GameState, judge, judged, last, line_for, lines_for, Event, Judged, Account, Turns, Stays, Course, events_of, AreOnTurn, IsGameFrom, Sides, by_side, Courses, lines_of, turns_so_far, last_turns, LastAsk, Breaks, lines_to, seat_count, HasTried, AfterBoth, TellsBoth, Judges, PlayFault, next_turn}
 use Rattle.krieg_play.proofs.Courses.{course_grows, both_counted}
 use Rattle.krieg_play.proofs.HeardLines.{heard_is, lines_are}
 use Rattle.krieg_play.proofs.Tellings.{lone}
@@ -53,12 +53,12 @@ news_of start asks game game' j who g g' log_is =
 -- a try was judged, and both sides were told what they hear of it, or not
 pub record IsJudged {X : Type 0} (account : X → Account) (r : Result (Unit {0}) PlayFault) (start : Pos) (e : Event) (before now : Sides X) (game game' : GameState) : Type 0 where
   pub judgement : Judged
-  is_judged : judgement ≡ judged game.position e
-  log : game'.log ≡ game.log ++ judged game.position e ∷ []
-  position : game'.position ≡ next game.position e.who e.mv
-  spare : game'.spare + 1 ≡ game.spare
-  no_more : seat_count now ≤ seat_count before
-  tells : TellsBoth account r before now (λ who. lines_to start who game'.log) (by_side (option_to_list (line_for White judgement)) (option_to_list (line_for Black judgement)))
+  pub is_judged : judgement ≡ judged game.position e
+  pub log : game'.log ≡ game.log ++ judged game.position e ∷ []
+  pub position : game'.position ≡ next game.position e.who e.mv
+  pub spare : game'.spare + 1 ≡ game.spare
+  pub no_more : seat_count now ≤ seat_count before
+  pub tells : TellsBoth account r before now (λ who. lines_to start who game'.log) (by_side (option_to_list (line_for White judgement)) (option_to_list (line_for Black judgement)))
 
 module _ {X : Type 0} {account : X → Account} {r : Result (Unit {0}) PlayFault} {start : Pos} {e : Event} {before now : Sides X} {game game' : GameState} (i : IsJudged account r start e before now game game') {asks : ℕ} {entry : Sides X}
     (h : HasTried account start asks entry before game e) where
@@ -112,7 +112,7 @@ is_judged account r start e before now game game' j logged w b j_is log_is posit
       (subst (λ (o : Option Line). TellsBoth account r before now (λ who. lines_to start who logged) (by_side (option_to_list w) (option_to_list o))) b_is tells));
 }
 
-pub judges_ok : {X : Type 0} (account : X → Account) (r : Result (Unit {0}) PlayFault) (start : Pos) (e : Event) (before now : Sides X) (game game' : GameState) → r ≡ Ok tt →
+judges_ok : {X : Type 0} (account : X → Account) (r : Result (Unit {0}) PlayFault) (start : Pos) (e : Event) (before now : Sides X) (game game' : GameState) → r ≡ Ok tt →
     IsJudged account r start e before now game game' → Judges account (Ok None) start e before now game game'
 judges_ok {X} account r start e before now game game' r_is i asks entry h =
     let came = λ (then : Sides X) (turns : Side → Turns) (x : Result (Unit {0}) PlayFault). AfterBoth account x (news i h Black) then before now (lines_of start game') turns in
@@ -128,7 +128,7 @@ judges_ok {X} account r start e before now game game' r_is i asks entry h =
       in_time = inr (ask_of_try i h, subst (came h.sides_then _) r_is (told_then i h));
     }
 
-pub judges_err : {X : Type 0} (account : X → Account) (r : Result (Unit {0}) PlayFault) (fault : PlayFault) (start : Pos) (e : Event) (before now : Sides X) (game game' : GameState) → r ≡ Err fault →
+judges_err : {X : Type 0} (account : X → Account) (r : Result (Unit {0}) PlayFault) (fault : PlayFault) (start : Pos) (e : Event) (before now : Sides X) (game game' : GameState) → r ≡ Err fault →
     IsJudged account r start e before now game game' → Judges account (Err fault) start e before now game game'
 judges_err {X} account r fault start e before now game game' r_is i asks entry h =
     let came = λ (then : Sides X) (turns : Side → Turns) (x : Result (Unit {0}) PlayFault). AfterBoth account x (news i h Black) then before now (lines_of start game') turns in
@@ -143,3 +143,9 @@ judges_err {X} account r fault start e before now game game' r_is i asks entry h
       asked = (h.asked.0, omega (arith, h.asked.1, (stepped i h).places, h.is_game.places, i.spare, i.no_more, both_counted h.courses.white h.courses.black, both_counted told.white.1 told.black.1));
       at_once = inr (ask_of_try i h, news_are i h Black, (subst (came h.sides_then _) r_is (told_then i h)).0);
     }
+
+-- the turn after it
+pub judges : {X : Type 0} (account : X → Account) (r : Result (Unit {0}) PlayFault) (start : Pos) (e : Event) (before now : Sides X) (game game' : GameState) →
+    IsJudged account r start e before now game game' → Judges account (next_turn r) start e before now game game'
+judges account (Ok _) start e before now game game' i = judges_ok account (Ok tt) start e before now game game' refl i
+judges account (Err fault) start e before now game game' i = judges_err account (Err fault) fault start e before now game game' refl i

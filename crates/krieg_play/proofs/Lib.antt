@@ -8,6 +8,7 @@ pub mod HeardLines
 pub mod BothSides
 pub mod Judging
 pub mod Turning
+pub mod Rosters
 pub mod Stopping
 pub mod Opening
 pub mod Seen

@@ -3,7 +3,7 @@ use Rattle.std.proofs.Common.{◌≡◌, ℕ, ◌+◌, ◌-◌, ◌<◌, ◌≤�
 use Rattle.std.specs.List.{cons_option}
 use Rattle.std.proofs.lemmas.List.{append-nil}
 use Rattle.std.proofs.lemmas.List.Elements.{filter_map-append}
-use Rattle.krieg_play.proofs.Common.{Pos, Side, White, Black, Move, Line, GameState, Event, Judged, Account, SeatFault, Failed, Team, Turns, turns_since, turns_of, Stays, Course, events_of, tries_of, try_of, Sides, seats_of, relieved, all_relieved, used_up, IsAskedWithin, last_ask, Courses, lines_of, turns_so_far, last_turns, IsWhole, LastAsk, IsUnderway, Breaks, IsBroken, lines_to, AfterTurn, seat_count, HasTried, AfterAsk, AsksOne, Passes, Judges, fault_of, PlayFault, Turn, Tried, Relieved}
+use Rattle.krieg_play.proofs.Common.{Pos, Side, White, Black, Move, Line, GameState, Event, Account, SeatFault, Failed, Team, Turns, turns_since, turns_of, Stays, Course, events_of, tries_of, try_of, Sides, seats_of, relieved, all_relieved, used_up, IsAskedWithin, last_ask, Courses, lines_of, turns_so_far, last_turns, IsWhole, LastAsk, IsUnderway, Breaks, IsBroken, lines_to, AfterTurn, seat_count, HasTried, AfterAsk, AsksOne, Passes, Judges, fault_of, PlayFault, Turn, Tried, Relieved}
 use Rattle.krieg_play.specs.declared.turn.Turn.TheVariants.{Left}
 use Rattle.krieg_play.proofs.Courses.{course_starts, course_counts, both_counted, seated}
 use Rattle.krieg_play.proofs.BothSides.{white_breaks, black_breaks}
@@ -193,8 +193,3 @@ module _ {X : Type 0} (account : X → Account) (who : Side) (r : Result Turn Se
       let a = asked_so (Err fault) e asks entry u seats_is in
       subst (λ (x : PlayFault). IsBroken account start asks entry middle x) (sym p_is)
       (breaks_at account start asks entry before middle game a.whole a.fewer who fault turn a.asked a.so_far a.since (λ failed. only (e ∙ ap Err failed)))
-
--- the lines are those of the game's own log
-pub asks_at : {X : Type 0} (account : X → Account) (who : Side) (r : Result Turn SeatFault) (start : Pos) (before now : Sides X) (logged log : List Judged) → logged ≡ log →
-    AsksOne account who r before now (λ s. lines_to start s logged) → AsksOne account who r before now (λ s. lines_to start s log)
-asks_at account who r start before now logged log e h = subst (λ (ls : List Judged). AsksOne account who r before now (λ s. lines_to start s ls)) e h

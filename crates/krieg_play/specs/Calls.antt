@@ -1,5 +1,5 @@
 -- What no public clause cites: what each call of one side's seats makes of them.
-use Rattle.std.specs.Prelude.{◌≡◌, ℕ, ◌+◌, ◌<◌, ◌≤◌, ◌⊎◌, List, [], ◌∷◌, ◌++◌, Result, Ok, Err, Vec, vec_len, vec_capacity}
+use Rattle.std.specs.Prelude.{◌≡◌, ℕ, ◌+◌, ◌<◌, ◌≤◌, ◌⊎◌, List, [], ◌∷◌, ◌++◌, length, Result, Ok, Err, Vec, vec_len, vec_capacity}
 use Rattle.krieg_ports.specs.Faults.{Rose}
 use Rattle.krieg_board.specs.Pos.{Pos}
 use Rattle.krieg_board.specs.declared.men.Move.{Move}
@@ -9,7 +9,8 @@ use Rattle.krieg_words.specs.declared.line.Line.{Line}
 use Rattle.krieg_words.specs.declared.line.Line.TheVariants.{Opens}
 use Rattle.krieg_referee.specs.Hearing.{lines_for}
 use Rattle.krieg_referee.specs.declared.verdict.Judged.{Judged}
-use Rattle.krieg_seats.specs.Accounts.{Account}
+use Rattle.krieg_seats.specs.Accounts.{Account, Asked}
+use Rattle.krieg_seats.specs.declared.seat.Say.TheVariants.{Try, Leave}
 use Rattle.krieg_seats.specs.declared.seat.SeatFault.{SeatFault}
 use Rattle.krieg_seats.specs.declared.seat.SeatFault.TheVariants.{Failed, NoMemory}
 use Rattle.krieg_play.specs.Teams.{Team, Turns, Course, BrokenCourse, Stays, HasLeft, HasFailed, MayBeShort}
@@ -34,6 +35,13 @@ abbrev pub ToldAll : List Line → Result (Unit {0}) SeatFault → Account → A
 ToldAll lines (Ok _) before now = now ≡ record before { heard = before.heard ++ lines }
 ToldAll lines (Err Failed) before now = BreaksOff lines before now × Rose before.faults now.faults
 ToldAll lines (Err NoMemory) before now = BreaksOff lines before now × (before.faults ≤ now.faults)
+
+-- what asking a lone seat, which nobody relieves, makes of it
+abbrev pub AsksLone : Result Turn SeatFault → Account → Account → Type 0
+AsksLone (Ok (Tried m)) before now = Asked (Ok (Try m)) before now
+AsksLone (Ok Relieved) before now = ⊥
+AsksLone (Ok Left) before now = Asked (Ok Leave) before now
+AsksLone (Err fault) before now = Asked (Err fault) before now
 
 -- the first of the list changed so, and the others stay
 pub record FirstChanges {X : Type 0} (R : X → X → Type 0) (before now : List X) : Type 0 where
@@ -70,10 +78,11 @@ abbrev pub Tells : {X : Type 0} → (X → Account) → Result (Unit {0}) SeatFa
 Tells {X} account r before now lines due =
     (entry : Team X) (turns : Turns) → Course account Stays entry before lines due turns → AfterTelling account r entry now lines turns
 
--- a side that was asked once more, and one that said one more try
+-- a side that was asked once more
 abbrev pub once_more : Turns → Turns
 once_more turns = record turns { asks = turns.asks + 1 }
 
+-- a side that said one more try
 abbrev pub one_try : Move → Turns → Turns
 one_try m turns = record turns { tries = turns.tries ++ m ∷ [] }
 
@@ -102,3 +111,17 @@ relieved_turn (Err fault) = Err fault
 -- the last seat of the side left or failed
 abbrev pub IsLastOnes : Result Turn SeatFault → Type 0
 IsLastOnes r = (r ≡ Ok Left) ⊎ (r ≡ Err Failed)
+
+-- what asking a side makes of it, and of how many seats it has
+pub record AsksTeam {X : Type 0} (account : X → Account) (r : Result Turn SeatFault) (before now : Team X) (lines : List Line) : Type 0 where
+  pub takes : TakesTurn account r before now lines
+  pub fewer : r ≡ Ok Relieved → length now.seats < length before.seats
+  pub no_more : length now.seats ≤ length before.seats
+  pub kept : r ≡ Ok Left → length now.seats ≡ length before.seats
+  pub last : IsLastOnes r → length now.seats ≡ 1
+
+-- what telling a side lines that are due makes of it, and of how many seats it has
+pub record TellsTeam {X : Type 0} (account : X → Account) (r : Result (Unit {0}) SeatFault) (before now : Team X) (lines due : List Line) : Type 0 where
+  pub tells : Tells account r before now lines due
+  pub no_more : length now.seats ≤ length before.seats
+  pub last : r ≡ Err Failed → length now.seats ≡ 1

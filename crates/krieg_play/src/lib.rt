@@ -6,16 +6,33 @@
 //!
 //! The definitions of `specs/` know no boxes: they speak of any seats by what these mean. They say what a side
 //! did since it was in some state (`Teams`), which games are played by turns (`Games`), what a game is that is whole,
-//! when a seat was asked last, and what a game came to that was played (`Played`) or given up (`Broken`). `Calls` and
-//! `Passes` are parts of the work: what one call of a side makes of it, and of both.
+//! when a seat was asked last, and what a game came to that was played (`Played`) or given up (`Broken`). `Players`
+//! says what a turn makes of two players of any kind. `Calls` and `Passes` are parts of the work: what one call of a side makes
+//! of it, and of both.
 //!
-//! The calls that hold boxed seats, and `play` itself, stand in `krieg_cli`, in its module `live`, since every caller
-//! that is handed a bench stands in one crate with them. Here are the faults that they answer (`outcome`), what came of asking
-//! a side (`turn`, which is internal), and the lemmas by which they are proved.
+//! - `bench`: `Bench`, the seats of both sides; `game`: `play`, a whole game of theirs; `outcome`: why there is none.
+//! - `player`: `Player`, one side of a game as a turn needs it; `turns`: one turn of any two players, by which live games
+//!   go and those that a plan leads; `lone`: a seat as such a side; `turn`: what came of asking one.
+//! - `telling`: what one seat is asked and told; `team`: the turns and reliefs of one side; `table`: one pass over both
+//!   sides. These are internal.
 #![tactic(auto)]
 
+mod bench;
+mod game;
+mod lone;
 mod outcome;
+mod player;
+mod table;
+mod team;
+mod telling;
 mod turn;
+mod turns;
 
-pub use outcome::{PlayFault, fault_of};
-pub use turn::{Turn, relieved_turn};
+pub use bench::Bench;
+pub use game::{Played, play};
+pub use outcome::PlayFault;
+pub(crate) use outcome::fault_of;
+pub use player::Player;
+pub use turn::Turn;
+pub(crate) use turn::relieved_turn;
+pub use turns::{take_turn, tell_both};

@@ -17,7 +17,7 @@ pub enum PlayFault {
 }
 
 /// The fault of a call that met the fault of a seat of that side.
-pub fn fault_of(fault: SeatFault, who: Side) -> PlayFault
+pub(crate) fn fault_of(fault: SeatFault, who: Side) -> PlayFault
     ensures { result ≡ spec.fault_of fault who }
 {
     match fault {

@@ -17,7 +17,7 @@ pub enum Turn {
 }
 
 /// The turn of a side whose sitting seat was relieved.
-pub fn relieved_turn(answer: Result<(), SeatFault>) -> Result<Turn, SeatFault>
+pub(crate) fn relieved_turn(answer: Result<(), SeatFault>) -> Result<Turn, SeatFault>
     ensures { result ≡ spec.relieved_turn answer }
 {
     match answer {

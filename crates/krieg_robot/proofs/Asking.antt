@@ -4,9 +4,14 @@ use Rattle.std.specs.List.{cons_option}
 use Rattle.std.proofs.lemmas.Bool.{both_ways}
 use Rattle.std.proofs.lemmas.List.{append-nil}
 use Rattle.std.proofs.lemmas.List.Elements.{filter_map-append}
-use Rattle.krieg_robot.proofs.Common.{Rose, one_more, other, is_same_side, Pos, Side, White, Black, Move, GameState, Event, Line, Account, once_asked, Leave, events_of, tries_of, try_of, played_counts, once, Serves, HasLeft, PlanFile, next_try, Follower, follow_file, stand_of, say_of, said_so, stand_after, IsTried, AreTried, lines_of, LastAsk, IsBroken, TurnAsked, IsUnderway, HasTried, IsLeft, LeadFault, Seat, NoMemory}
+use Rattle.krieg_robot.proofs.Common.{Rose, one_more, other, is_same_side, Pos, Side, White, Black, Move, GameState, Event, Line, Account, once_asked, events_of, tries_of, try_of, played_counts, once, Serves, HasLeft, PlanFile, next_try, Follower, follow_file, stand_of, said_so, stand_after, IsTried, AreTried, lines_of, LastAsk, IsBroken, TurnAsked, fault_counts, lead_fault, IsUnderway, HasTried, IsLeft, LeadFault, Seat, NoMemory}
 use Rattle.krieg_board.proofs.MenLemmas.{same_side_eq, same_side_self, same_side_other}
-use Rattle.krieg_seats.specs.declared.seat.Say.TheVariants.{Try}
+use Rattle.krieg_seats.specs.declared.seat.SeatFault.{SeatFault}
+use Rattle.krieg_seats.specs.declared.seat.SeatFault.TheVariants.{Failed}
+use Rattle.krieg_seats.specs.declared.seat.SeatFault.TheVariants as fault
+use Rattle.krieg_play.specs.Passes.{fault_of}
+use Rattle.krieg_play.specs.declared.turn.Turn.TheVariants.{Tried}
+use Rattle.krieg_play.specs.declared.turn.Turn.TheVariants as turned
 use Rattle.krieg_play.specs.Teams.{Stays}
 use Rattle.krieg_play.proofs.Serving.{serves_none, tries_move, asked_in_vain, serves_more}
 use Rattle.krieg_robot.proofs.Moving.{is_other}
@@ -34,14 +39,6 @@ event who m = record { who = who; mv = m }
 
 -- ---- asking
 
-try_said : (o : Option Move) (m : Move) → Try m ≡ say_of o → o ≡ Some m
-try_said None m h = absurd cc
-try_said (Some x) m h = cc
-
-leave_said : (o : Option Move) → Leave ≡ say_of o → o ≡ None
-leave_said None h = refl
-leave_said (Some x) h = absurd cc
-
 heard_kept : (o : Option Move) (a : Account) → (said_so o a).heard ≡ a.heard
 heard_kept None a = refl
 heard_kept (Some m) a = refl
@@ -53,6 +50,10 @@ own_counts Black v x y h = h
 other_counts : (side : Side) (v : ℕ) (x y : Account) → HasLeft v x y → played_counts (Some side) side v x y
 other_counts White v x y h = h
 other_counts Black v x y h = h
+
+counts_asked : (fault : LeadFault) (a a' : Account) → fault_counts fault (once_asked a) a' → fault_counts fault a a'
+counts_asked Seat a a' h = h
+counts_asked NoMemory a a' h = h
 
 -- the opponent is asked once where it is his turn, and not at all otherwise
 asked_none : (who side : Side) → is_same_side who side ≡ false → 0 ≡ once who side
@@ -81,29 +82,29 @@ module _ {f : PlanFile} {start : Pos} {asks : ℕ} {entry a : Account} {s : Foll
   is_theirs : (who : Side) → is_same_side who f.side ≡ false → is_same_side who (other f.side) ≡ true
   is_theirs who not_own = ap (λ (x : Side). is_same_side x (other f.side)) (is_other who f.side not_own) ∙ same_side_self (other f.side)
 
-  asked_own : (who : Side) (m : Move) (s' : Follower) (a' : Account) → is_same_side who f.side ≡ true → who ≡ game.position.side → TurnAsked true (Ok (Try m)) s s' a a' →
+  asked_own : (who : Side) (m : Move) (s' : Follower) (a' : Account) → is_same_side who f.side ≡ true → who ≡ game.position.side → TurnAsked true (Ok (Tried m)) s s' a a' →
       HasTried f start asks entry a' s' game (event who m)
   asked_own who m s' a' own turn h =
       let es = events_of game.log in
-      let tries : next_try (stand_after f start es) ≡ Some m = ap next_try (sym stands) ∙ try_said (next_try (stand_of s)) m h.0 in
+      let tries : next_try (stand_after f start es) ≡ Some m = ap next_try (sym stands) ∙ h.0.0 in
       record {
         is_game = u.whole.is_game;
         on_turn = turn;
-        file_is = ap (λ (x : Follower). x.file) h.1 ∙ u.file_is;
-        follows = ap (λ (x : Follower). x.account.heard) h.1 ∙ (heard_kept (next_try (stand_of s)) (once_asked s.account) ∙ u.follows);
+        file_is = ap (λ (x : Follower). x.file) h.0.1 ∙ u.file_is;
+        follows = ap (λ (x : Follower). x.account.heard) h.0.1 ∙ (heard_kept (next_try (stand_of s)) (once_asked s.account) ∙ u.follows);
         tried = tried_more f start [] es (event who m) u.whole.tried (λ e. tries);
         vain = u.whole.vain;
-        serves = subst (λ (x : Account). Serves (theirs (es ++ event who m ∷ [])) (lines_of f start game) u.whole.vain entry x) (sym h.2)
+        serves = subst (λ (x : Account). Serves (theirs (es ++ event who m ∷ [])) (lines_of f start game) u.whole.vain entry x) (sym h.1)
             (subst (λ (ms : List Move). Serves ms (lines_of f start game) u.whole.vain entry a) (tries_same (other f.side) es (event who m) (not_theirs who own)) u.whole.serves);
-        stays = subst (Stays u.whole.vain entry) (sym h.2) u.whole.counts;
+        stays = subst (Stays u.whole.vain entry) (sym h.1) u.whole.counts;
         account_then = a;
         whole = u.whole;
         fewer = fewer;
-        since = subst (λ (ms : List Move). Serves ms [] 0 a a') (tries_same (other f.side) [] (event who m) (not_theirs who own)) (subst (Serves [] [] 0 a) (sym h.2) (serves_none a));
-        stays_since = subst (Stays 0 a) (sym h.2) (refl, refl, refl);
+        since = subst (λ (ms : List Move). Serves ms [] 0 a a') (tries_same (other f.side) [] (event who m) (not_theirs who own)) (subst (Serves [] [] 0 a) (sym h.1) (serves_none a));
+        stays_since = subst (Stays 0 a) (sym h.1) (refl, refl, refl);
       }
 
-  asked_other : (who : Side) (m : Move) (s' : Follower) (a' : Account) → is_same_side who f.side ≡ false → who ≡ game.position.side → TurnAsked false (Ok (Try m)) s s' a a' →
+  asked_other : (who : Side) (m : Move) (s' : Follower) (a' : Account) → is_same_side who f.side ≡ false → who ≡ game.position.side → TurnAsked false (Ok (Tried m)) s s' a a' →
       HasTried f start asks entry a' s' game (event who m)
   asked_other who m s' a' not_own turn h =
       let es = events_of game.log in
@@ -126,7 +127,7 @@ module _ {f : PlanFile} {start : Pos} {asks : ℕ} {entry a : Account} {s : Foll
         stays_since = (ap (λ (x : Account). x.faults) h.1, ap (λ (x : Account). x.leaves) h.1, refl);
       }
 
-  pub asked : (own : Bool) (who : Side) (m : Move) (s' : Follower) (a' : Account) → own ≡ is_same_side who s.file.side → who ≡ game.position.side → TurnAsked own (Ok (Try m)) s s' a a' →
+  pub asked : (own : Bool) (who : Side) (m : Move) (s' : Follower) (a' : Account) → own ≡ is_same_side who s.file.side → who ≡ game.position.side → TurnAsked own (Ok (Tried m)) s s' a a' →
       HasTried f start asks entry a' s' game (event who m)
   asked true who m s' a' e turn h = asked_own who m s' a' (mine_is who true e) turn h
   asked false who m s' a' e turn h = asked_other who m s' a' (mine_is who false e) turn h
@@ -138,7 +139,7 @@ module _ {f : PlanFile} {start : Pos} {asks : ℕ} {entry a : Account} {s : Foll
       (subst (λ (ls : List Line). Serves (theirs (events_of game.log) ++ []) ls (u.whole.vain + 1) entry a') (append-nil (lines_of f start game))
       (serves_more (theirs (events_of game.log)) [] (lines_of f start game) [] u.whole.vain 1 entry a a' u.whole.serves (asked_in_vain a a' asked said heard_is)))
 
-  pub left : (own : Bool) (who : Side) (s' : Follower) (a' : Account) → own ≡ is_same_side who s.file.side → who ≡ game.position.side → TurnAsked own (Ok Leave) s s' a a' →
+  pub left : (own : Bool) (who : Side) (s' : Follower) (a' : Account) → own ≡ is_same_side who s.file.side → who ≡ game.position.side → TurnAsked own (Ok turned.Left) s s' a a' →
       IsLeft f start asks entry a' game who
   left true who s' a' e turn h =
       let is : who ≡ f.side = same_side_eq who f.side (mine_is who true e) in
@@ -147,11 +148,11 @@ module _ {f : PlanFile} {start : Pos} {asks : ℕ} {entry a : Account} {s : Foll
           is_game = u.whole.is_game;
           tried = u.whole.tried;
           vain = u.whole.vain;
-          serves = subst (Serves (theirs (events_of game.log)) (lines_of f start game) u.whole.vain entry) (sym h.2) u.whole.serves;
-          counts = subst (λ (x : Side). played_counts (Some x) (other f.side) u.whole.vain entry a') (sym is) (own_counts f.side u.whole.vain entry a' (subst (Stays u.whole.vain entry) (sym h.2) u.whole.counts));
+          serves = subst (Serves (theirs (events_of game.log)) (lines_of f start game) u.whole.vain entry) (sym h.1) u.whole.serves;
+          counts = subst (λ (x : Side). played_counts (Some x) (other f.side) u.whole.vain entry a') (sym is) (own_counts f.side u.whole.vain entry a' (subst (Stays u.whole.vain entry) (sym h.1) u.whole.counts));
         };
         on_turn = turn;
-        no_try = λ _. ap next_try (sym stands) ∙ leave_said (next_try (stand_of s)) h.0;
+        no_try = λ _. ap next_try (sym stands) ∙ h.0.0;
       }
   left false who s' a' e turn h =
       let not_own = mine_is who false e in
@@ -185,18 +186,20 @@ module _ {f : PlanFile} {start : Pos} {asks : ℕ} {entry a : Account} {s : Foll
     at_once = inr (last_in_vain, breaks_by [] (lines_of f start game) [] (lines_of f start game) 0 a short (serves_none a) (refl, refl, refl) (append-nil (lines_of f start game)), omega (arith, asked));
   }
 
-  pub fails : (own : Bool) (who : Side) (fault : LeadFault) (s' : Follower) (a' : Account) → own ≡ is_same_side who s.file.side → who ≡ game.position.side → TurnAsked own (Err fault) s s' a a' →
-      IsBroken f start asks entry a' fault
-  fails true who Seat s' a' e turn h = absurd h
-  fails true who NoMemory s' a' e turn h =
+  -- the opponent was asked, and met a fault
+  theirs_fails : (fault : LeadFault) (who : Side) (a' : Account) → false ≡ is_same_side who s.file.side → who ≡ game.position.side → fault_counts fault (once_asked a) a' →
+      a' ≡ record (once_asked a) { faults = a'.faults } → IsBroken f start asks entry a' fault
+  theirs_fails fault who a' e turn counts is =
+      given_up fault a' 1
+      (record { serves = asked_in_vain a a' (ap (λ (x : Account). x.asks) is) (ap (λ (x : Account). x.said) is) (ap (λ (x : Account). x.heard) is); counts = counts_asked fault a a' counts; leaves = ap (λ (x : Account). x.leaves) is; few = omega arith })
+      (subst (λ (x : Side). 1 ≡ once x (other f.side)) turn (asked_once who (other f.side) (is_theirs who (mine_is who false e))))
+
+  pub fails : (own : Bool) (who : Side) (met : SeatFault) (s' : Follower) (a' : Account) → own ≡ is_same_side who s.file.side → who ≡ game.position.side → TurnAsked own (Err met) s s' a a' →
+      IsBroken f start asks entry a' (lead_fault (fault_of met who))
+  fails true who Failed s' a' e turn h = absurd h.0
+  fails true who fault.NoMemory s' a' e turn h =
       given_up NoMemory a' 0
-      (record { serves = subst (Serves [] [] 0 a) (sym h) (serves_none a); counts = subst (λ (x : Account). a.faults ≤ x.faults) (sym h) (omega arith); leaves = ap (λ (x : Account). x.leaves) h; few = omega arith })
+      (record { serves = subst (Serves [] [] 0 a) (sym h.1) (serves_none a); counts = subst (λ (x : Account). a.faults ≤ x.faults) (sym h.1) (omega arith); leaves = ap (λ (x : Account). x.leaves) h.1; few = omega arith })
       (subst (λ (x : Side). 0 ≡ once x (other f.side)) turn (asked_none who (other f.side) (not_theirs who (mine_is who true e))))
-  fails false who Seat s' a' e turn h =
-      given_up Seat a' 1
-      (record { serves = asked_in_vain a a' (ap (λ (x : Account). x.asks) h.1) (ap (λ (x : Account). x.said) h.1) (ap (λ (x : Account). x.heard) h.1); counts = h.0; leaves = ap (λ (x : Account). x.leaves) h.1; few = omega arith })
-      (subst (λ (x : Side). 1 ≡ once x (other f.side)) turn (asked_once who (other f.side) (is_theirs who (mine_is who false e))))
-  fails false who NoMemory s' a' e turn h =
-      given_up NoMemory a' 1
-      (record { serves = asked_in_vain a a' (ap (λ (x : Account). x.asks) h.1) (ap (λ (x : Account). x.said) h.1) (ap (λ (x : Account). x.heard) h.1); counts = h.0; leaves = ap (λ (x : Account). x.leaves) h.1; few = omega arith })
-      (subst (λ (x : Side). 1 ≡ once x (other f.side)) turn (asked_once who (other f.side) (is_theirs who (mine_is who false e))))
+  fails false who Failed s' a' e turn h = theirs_fails Seat who a' e turn h.1.0 h.1.1
+  fails false who fault.NoMemory s' a' e turn h = theirs_fails NoMemory who a' e turn h.1.0 h.1.1

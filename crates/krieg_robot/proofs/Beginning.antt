@@ -1,6 +1,6 @@
 -- How a game that a plan leads begins.
 use Rattle.std.proofs.Common.{◌≡◌, ℕ, List, [], ◌∷◌, ◌++◌, refl, sym, ap, subst, ◌∙◌, inl, arith, Result, Ok, Err}
-use Rattle.krieg_robot.proofs.Common.{other, Pos, Side, opening, told_line, Dialect, Line, Opens, GameState, heard, Stop, Account, new_account, PlanFile, Follower, IsLed, IsBroken, hearing, BothTold, IsUnderway, LeadFault, NoMemory}
+use Rattle.krieg_robot.proofs.Common.{other, Pos, Side, opening, told_line, Line, Opens, GameState, heard, Stop, Account, new_account, PlanFile, Follower, IsLed, IsBroken, hearing, BothTold, IsUnderway, LeadFault, NoMemory}
 use Rattle.krieg_play.proofs.Serving.{serves_none, only_hears}
 use Rattle.krieg_robot.proofs.Breaking.{IsShort, breaks_by}
 
@@ -37,32 +37,27 @@ game_is start game p l = λ i. record { position = sym p i; log = sym l i; spare
 
 -- both were told the opening words, or not
 pub record IsBegun (r : Result (Unit {0}) LeadFault) (start : Pos) (a a' : Account) (s s' : Follower) (game : GameState) : Type 0 where
-  pub d : Dialect
-  pub side : Side
-  pub own : Line
-  pub theirs : Line
+  pub line : Line
   pub fresh_is : s.account ≡ new_account
   pub position : game.position ≡ start
   pub log : game.log ≡ []
-  pub d_is : d ≡ s.file.dialect
-  pub own_is : own ≡ told_line d (Opens (opening start))
-  pub theirs_is : theirs ≡ told_line d (Opens (opening start))
-  pub tells : BothTold r side s s' (own ∷ []) a a' (theirs ∷ [])
+  pub line_is : line ≡ told_line s.file.dialect (Opens (opening start))
+  pub tells : BothTold r s.file.side s s' (line ∷ []) a a' (line ∷ [])
 
 module _ {r : Result (Unit {0}) LeadFault} {start : Pos} {a a' : Account} {s s' : Follower} {game : GameState} (b : IsBegun r start a a' s s' game) where
-  first_line : (l : Line) → l ≡ told_line b.d (Opens (opening start)) → (who : Side) → l ∷ [] ≡ heard s.file.dialect start [] who
-  first_line l e who = ap (λ (x : Line). x ∷ []) (e ∙ ap (λ (d : Dialect). told_line d (Opens (opening start))) b.d_is)
+  first_line : (who : Side) → b.line ∷ [] ≡ heard s.file.dialect start [] who
+  first_line who = ap (λ (x : Line). x ∷ []) b.line_is
 
   pub begins : r ≡ Ok tt → IsUnderway s.file start game.spare a a' s' game
   begins is =
-      let t = subst (λ (x : Result (Unit {0}) LeadFault). BothTold x b.side s s' (b.own ∷ []) a a' (b.theirs ∷ [])) is b.tells in
+      let t = subst (λ (x : Result (Unit {0}) LeadFault). BothTold x s.file.side s s' (b.line ∷ []) a a' (b.line ∷ [])) is b.tells in
       subst (IsUnderway s.file start game.spare a a' s') (game_is start game b.position b.log)
-      (begun_at s.file start game.spare a a' s' t.0.0 (t.0.1 ∙ (ap (λ (x : Account). x.heard ++ b.own ∷ []) b.fresh_is ∙ first_line b.own b.own_is s.file.side))
-      (t.1 ∙ ap (hearing a) (first_line b.theirs b.theirs_is (other s.file.side))))
+      (begun_at s.file start game.spare a a' s' t.0.0 (t.0.1 ∙ (ap (λ (x : Account). x.heard ++ b.line ∷ []) b.fresh_is ∙ first_line s.file.side))
+      (t.1 ∙ ap (hearing a) (first_line (other s.file.side))))
 
   pub breaks : (fault : LeadFault) → r ≡ Err fault → IsBroken s.file start game.spare a a' fault
   breaks fault is =
-      let p = (subst (λ (x : Result (Unit {0}) LeadFault). BothTold x b.side s s' (b.own ∷ []) a a' (b.theirs ∷ [])) is b.tells).0 in
+      let p = (subst (λ (x : Result (Unit {0}) LeadFault). BothTold x s.file.side s s' (b.line ∷ []) a a' (b.line ∷ [])) is b.tells).0 in
       unasked s.file start game.spare a a' fault p.told p.due
       (record {
         serves = only_hears a a' p.told (ap (λ (x : Account). x.asks) p.now_is) (ap (λ (x : Account). x.said) p.now_is) (ap (λ (x : Account). x.heard) p.now_is);
@@ -70,7 +65,7 @@ module _ {r : Result (Unit {0}) LeadFault} {start : Pos} {a a' : Account} {s s' 
         leaves = ap (λ (x : Account). x.leaves) p.now_is;
         few = omega arith;
       })
-      (p.split ∙ first_line b.theirs b.theirs_is (other s.file.side))
+      (p.split ∙ first_line (other s.file.side))
 
 -- a game for which there was no room
 pub never_begun : (f : PlanFile) (start : Pos) (n : ℕ) (a : Account) → IsBroken f start n a a NoMemory

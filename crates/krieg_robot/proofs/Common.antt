@@ -35,6 +35,7 @@ pub use Rattle.krieg_seats.specs.declared.seat.Say.{Say}
 pub use Rattle.krieg_seats.specs.declared.seat.Say.TheVariants.{Leave}
 pub use Rattle.krieg_play.specs.Games.{AreOnTurn, IsGameFrom, events_of, tries_of, try_of}
 pub use Rattle.krieg_play.specs.Played.{once, played_counts}
+pub use Rattle.krieg_play.specs.Players.{IsStepped, due_in}
 pub use Rattle.krieg_play.specs.Teams.{HasLeft, Serves}
 pub use Rattle.krieg_game.specs.Chess.{chess}
 pub use Rattle.krieg_game.specs.Keys.{Key}
@@ -50,7 +51,7 @@ pub use Rattle.krieg_robot.specs.Laws.{MatingPlanWins}
 pub use Rattle.krieg_robot.specs.Leading.{AreTried, Breaks, IsBroken, IsLed, IsTried, LastAsk, LeadStops, broken_counts, is_own_move, lines_of, own_moves, stand_after}
 pub use Rattle.krieg_robot.specs.Places.{behind, changed, node_on, stand_at}
 pub use Rattle.krieg_robot.specs.Stands.{At, Lost, Opened, Sent, Stand, Unopened, Won, after_try, at, follow, follow_on, is_mated, is_try, next_try, node_try, opened, step}
-pub use Rattle.krieg_robot.specs.Turns.{AfterPass, BothTold, HasTried, HearsPart, IsLeft, IsUnderway, Judges, LeadsOn, Passes, TurnAsked, fault_counts, hearing}
+pub use Rattle.krieg_robot.specs.Turns.{AfterPass, BothTold, HasTried, HearsPart, IsLeft, IsUnderway, LeadsOn, Passes, TurnAsked, fault_counts, hearing, lead, lead_fault, next_pass}
 pub use Rattle.krieg_robot.specs.declared.led.LeadFault.{LeadFault}
 pub use Rattle.krieg_robot.specs.declared.led.LeadFault.TheVariants.{NoMemory, Seat}
 pub use Rattle.krieg_robot.specs.declared.place.Change.{Change}

@@ -7,5 +7,6 @@ pub mod Winning
 mod Breaking
 mod Asking
 mod Judging
+mod Turning
 mod Passing
 mod Beginning

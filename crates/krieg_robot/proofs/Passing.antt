@@ -1,25 +1,6 @@
--- What a turn makes of a game that a plan leads, and how the game stops.
-use Rattle.std.proofs.Common.{◌≡◌, ◌<◌, Bool, true, false, sym, ap, subst, ◌∙◌, arith, Result, Ok, Err, Option, Some, None}
-use Rattle.krieg_robot.proofs.Common.{is_same_side, Side, Move, is_ended, GameState, Ended, Left, AsksUsed, Account, Say, Leave, Follower, TurnAsked, AfterPass, Passes, Judges, LeadsOn, LeadFault}
-use Rattle.krieg_seats.specs.declared.seat.Say.TheVariants.{Try}
-use Rattle.krieg_robot.proofs.Asking.{asked, left, fails, event}
-
--- ---- a turn
-
-pub passes_tried : (own : Bool) (who : Side) (m : Move) (r : Result Say LeadFault) (p : Result (Option Side) LeadFault) (a b c : Account) (s t u : Follower) (game game' : GameState) → own ≡ is_same_side who s.file.side → who ≡ game.position.side → 0 < game.spare → r ≡ Ok (Try m) →
-    TurnAsked own r s t a b → Judges p (event who m) b c t u game game' → Passes p a c s u game game'
-passes_tried own who m r p a b c s t u game game' own_is turn more r_is asks judges f start k entry h =
-    judges f start k entry (asked h more own who m t b own_is turn (subst (λ (x : Result Say LeadFault). TurnAsked own x s t a b) r_is asks))
-
-pub passes_left : (own : Bool) (who : Side) (r : Result Say LeadFault) (a b : Account) (s t : Follower) (game : GameState) → own ≡ is_same_side who s.file.side → who ≡ game.position.side → 0 < game.spare → r ≡ Ok Leave →
-    TurnAsked own r s t a b → Passes (Ok (Some who)) a b s t game game
-passes_left own who r a b s t game own_is turn more r_is asks f start k entry h =
-    left h more own who t b own_is turn (subst (λ (x : Result Say LeadFault). TurnAsked own x s t a b) r_is asks)
-
-pub passes_fault : (own : Bool) (who : Side) (fault : LeadFault) (r : Result Say LeadFault) (a b : Account) (s t : Follower) (game : GameState) → own ≡ is_same_side who s.file.side → who ≡ game.position.side → 0 < game.spare → r ≡ Err fault →
-    TurnAsked own r s t a b → Passes (Err fault) a b s t game game
-passes_fault own who fault r a b s t game own_is turn more r_is asks f start k entry h =
-    fails h more own who fault t b own_is turn (subst (λ (x : Result Say LeadFault). TurnAsked own x s t a b) r_is asks)
+-- What one turn after another makes of a game that a plan leads, and how the game stops.
+use Rattle.std.proofs.Common.{◌≡◌, ◌<◌, true, false, sym, ap, subst, ◌∙◌, arith, Result, Ok, Err, Option, Some, None}
+use Rattle.krieg_robot.proofs.Common.{Side, is_ended, GameState, Ended, Left, AsksUsed, Account, Follower, AfterPass, Passes, LeadsOn, LeadFault}
 
 -- ---- from turn to turn, until it stops
 

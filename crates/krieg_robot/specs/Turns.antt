@@ -1,5 +1,5 @@
 -- What no public clause cites: what each call of a game makes of the seat that follows a file, of its opponent and of their game.
-use Rattle.std.specs.Prelude.{◌≡◌, ℕ, ◌<◌, ◌≤◌, ◌⊎◌, Bool, true, false, List, [], ◌∷◌, ◌++◌, length, Option, Some, None, Result, Ok, Err}
+use Rattle.std.specs.Prelude.{◌≡◌, ℕ, ◌<◌, ◌≤◌, ◌⊎◌, Bool, true, false, List, [], ◌∷◌, ◌++◌, length, Option, Some, None, Result, Ok, Err, ⊤}
 use Rattle.krieg_ports.specs.Faults.{Rose}
 use Rattle.krieg_board.specs.Men.{other}
 use Rattle.krieg_board.specs.Pos.{Pos}
@@ -10,34 +10,58 @@ use Rattle.krieg_referee.specs.Hearing.{heard}
 use Rattle.krieg_referee.specs.Games.{GameState}
 use Rattle.krieg_referee.specs.declared.verdict.Event.{Event}
 use Rattle.krieg_referee.specs.declared.verdict.Stop.{Stop}
-use Rattle.krieg_seats.specs.Accounts.{Account, Asked, Fails, RunsShort, once_asked}
-use Rattle.krieg_seats.specs.declared.seat.Say.{Say}
+use Rattle.krieg_seats.specs.Accounts.{Account}
 use Rattle.krieg_seats.specs.declared.seat.SeatFault.{SeatFault}
 use Rattle.krieg_seats.specs.declared.seat.SeatFault.TheVariants as fault
+use Rattle.krieg_play.specs.Calls.{AsksLone}
 use Rattle.krieg_play.specs.Games.{events_of, tries_of, IsGameFrom}
 use Rattle.krieg_play.specs.Teams.{Serves, Stays}
+use Rattle.krieg_play.specs.declared.outcome.PlayFault.{PlayFault}
+use Rattle.krieg_play.specs.declared.outcome.PlayFault.TheVariants as play
+use Rattle.krieg_play.specs.declared.turn.Turn.{Turn}
+use Rattle.krieg_play.specs.declared.turn.Turn.TheVariants.{Tried, Relieved, Left}
 use Rattle.krieg_plan.specs.declared.plan.PlanFile.{PlanFile}
 use Rattle.krieg_robot.specs.Stands.{next_try}
-use Rattle.krieg_robot.specs.Followers.{Follower, stand_of, say_of, after_asked}
+use Rattle.krieg_robot.specs.Followers.{Follower, stand_of, after_asked}
 use Rattle.krieg_robot.specs.Leading.{stand_after, AreTried, lines_of, IsWhole, IsLed, IsBroken}
 use Rattle.krieg_robot.specs.declared.led.LeadFault.{LeadFault}
 use Rattle.krieg_robot.specs.declared.led.LeadFault.TheVariants.{Seat, NoMemory}
 
--- the fault of a call that met the fault of the opponent
-abbrev pub lead_fault : SeatFault → LeadFault
-lead_fault fault.Failed = Seat
-lead_fault fault.NoMemory = NoMemory
+-- the fault of a call that met the fault of a side's seat
+abbrev pub lead_fault : PlayFault → LeadFault
+lead_fault (play.Vacant who) = Seat
+lead_fault (play.Seat who) = Seat
+lead_fault play.NoMemory = NoMemory
+
+-- the answer of two players, as that of a plan
+abbrev pub lead : {A : Type 0} → Result A PlayFault → Result A LeadFault
+lead (Ok x) = Ok x
+lead (Err fault) = Err (lead_fault fault)
 
 -- ---- one call
 
+-- what asking the seat of the file makes of it: nobody relieves it, and it never fails
+abbrev pub AsksOwn : Result Turn SeatFault → Follower → Follower → Type 0
+AsksOwn (Ok (Tried m)) s s' = (next_try (stand_of s) ≡ Some m) × (s' ≡ after_asked s)
+AsksOwn (Ok Relieved) s s' = ⊥
+AsksOwn (Ok Left) s s' = (next_try (stand_of s) ≡ None) × (s' ≡ after_asked s)
+AsksOwn (Err fault.Failed) s s' = ⊥
+AsksOwn (Err fault.NoMemory) s s' = ⊤
+
+-- the seat of the file heard these lines
+abbrev pub OwnHears : Follower → Follower → List Line → Type 0
+OwnHears s s' own = (s'.file ≡ s.file) × (s'.account.heard ≡ s.account.heard ++ own)
+
+-- what telling it these lines makes of it
+abbrev pub HearsOwn : List Line → Result (Unit {0}) SeatFault → Follower → Follower → Type 0
+HearsOwn lines (Ok _) s s' = OwnHears s s' lines
+HearsOwn lines (Err fault.Failed) s s' = ⊥
+HearsOwn lines (Err fault.NoMemory) s s' = s' ≡ s
+
 -- what asking the side to move makes of both, where it is the side of the file or not
-abbrev pub TurnAsked : Bool → Result Say LeadFault → Follower → Follower → Account → Account → Type 0
-TurnAsked true (Ok say) s s' a a' = (say ≡ say_of (next_try (stand_of s))) × (s' ≡ after_asked s) × (a' ≡ a)
-TurnAsked true (Err Seat) s s' a a' = ⊥
-TurnAsked true (Err NoMemory) s s' a a' = a' ≡ a
-TurnAsked false (Ok say) s s' a a' = (s' ≡ s) × Asked (Ok say) a a'
-TurnAsked false (Err Seat) s s' a a' = Fails (once_asked a) a'
-TurnAsked false (Err NoMemory) s s' a a' = RunsShort (once_asked a) a'
+abbrev pub TurnAsked : Bool → Result Turn SeatFault → Follower → Follower → Account → Account → Type 0
+TurnAsked true r s s' a a' = AsksOwn r s s' × (a' ≡ a)
+TurnAsked false r s s' a a' = (s' ≡ s) × AsksLone r a a'
 
 -- the opponent once he heard these lines
 abbrev pub hearing : Account → List Line → Account
@@ -55,15 +79,6 @@ pub record HearsPart (fault : LeadFault) (lines : List Line) (a a' : Account) : 
   pub split : told ++ due ≡ lines
   pub now_is : a' ≡ record a { heard = a.heard ++ told; faults = a'.faults }
   pub counts : fault_counts fault a a'
-
--- what telling the opponent these lines makes of him
-abbrev pub OtherTold : Result (Unit {0}) LeadFault → List Line → Account → Account → Type 0
-OtherTold (Ok _) lines a a' = a' ≡ hearing a lines
-OtherTold (Err fault) lines a a' = HearsPart fault lines a a'
-
--- the seat of the file heard these lines
-abbrev pub OwnHears : Follower → Follower → List Line → Type 0
-OwnHears s s' own = (s'.file ≡ s.file) × (s'.account.heard ≡ s.account.heard ++ own)
 
 -- White is told before Black: where a call ends with a fault, Black heard nothing, or White heard all of his lines.
 abbrev pub IsToldFirst : Side → Follower → Follower → List Line → Account → Account → List Line → Type 0
@@ -105,6 +120,11 @@ pub record IsLeft (f : PlanFile) (start : Pos) (asks : ℕ) (entry now : Account
   pub on_turn : who ≡ game.position.side
   pub no_try : who ≡ f.side → next_try (stand_after f start (events_of game.log)) ≡ None
 
+-- the pass in which both were told, or not: nobody left
+abbrev pub next_pass : Result (Unit {0}) LeadFault → Result (Option Side) LeadFault
+next_pass (Ok _) = Ok None
+next_pass (Err fault) = Err fault
+
 -- what one pass makes of a game under way
 abbrev pub AfterPass : Result (Option Side) LeadFault → PlanFile → Pos → ℕ → Account → Account → Follower → GameState → Type 0
 AfterPass (Ok None) f start asks entry now seat game = IsUnderway f start asks entry now seat game
@@ -115,11 +135,6 @@ AfterPass (Err fault) f start asks entry now seat game = IsBroken f start asks e
 abbrev pub Passes : Result (Option Side) LeadFault → Account → Account → Follower → Follower → GameState → GameState → Type 0
 Passes r before now seat seat' game game' =
     (f : PlanFile) (start : Pos) (asks : ℕ) (entry : Account) → IsUnderway f start asks entry before seat game → AfterPass r f start asks entry now seat' game'
-
--- judging a try, from any game in which it was said
-abbrev pub Judges : Result (Option Side) LeadFault → Event → Account → Account → Follower → Follower → GameState → GameState → Type 0
-Judges r e before now seat seat' game game' =
-    (f : PlanFile) (start : Pos) (asks : ℕ) (entry : Account) → HasTried f start asks entry before seat game e → AfterPass r f start asks entry now seat' game'
 
 -- what a game came to
 abbrev pub ComesTo : Result Stop LeadFault → PlanFile → Pos → ℕ → Account → Account → GameState → Type 0

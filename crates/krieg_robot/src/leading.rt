@@ -21,6 +21,7 @@ use std::alloc::Global;
 fn lead_on(
     seat: &mut PlanSeat,
     other: &mut Box<dyn Seat>,
+    start: &Position,
     game: &mut Game,
 ) -> Result<Stop, LeadFault>
     ensures { LeadsOn result (account other.old) (account other.new) seat.old game.old game.new }
@@ -32,7 +33,7 @@ fn lead_on(
         if game.spare() == 0 {
             return Ok(Stop::AsksUsed);
         }
-        match take_turn(seat, other, game) {
+        match take_turn(seat, other, start, game) {
             Ok(None) => {}
             Ok(Some(who)) => return Ok(Stop::Left(who)),
             Err(fault) => return Err(fault),
@@ -53,12 +54,9 @@ fn lead_game(
     ensures { ComesTo result seat.old.file start.now game.old.spare (account other.old)
         (account other.new) game.new }
 {
-    let d = seat.file().dialect;
-    let side = seat.file().side;
-    let own = Some(told_line(d, Line::Opens(opening(start))));
-    let theirs = Some(told_line(d, Line::Opens(opening(start))));
-    match tell_both(seat, other, side, &own, &theirs) {
-        Ok(()) => lead_on(seat, other, game),
+    let line = told_line(seat.file().dialect, Line::Opens(opening(start)));
+    match tell_both(seat, other, &line, start, game.log()) {
+        Ok(()) => lead_on(seat, other, start, game),
         Err(fault) => Err(fault),
     }
 }

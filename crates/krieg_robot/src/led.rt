@@ -1,6 +1,6 @@
 // What leading a game came to.
+use krieg_play::PlayFault;
 use krieg_referee::{Game, Stop};
-use krieg_seats::SeatFault;
 
 /// A game that a plan led, and why it stopped.
 #[derive(Drop)]
@@ -20,16 +20,16 @@ pub enum LeadFault {
     NoMemory,
 }
 
-impl From<SeatFault> for LeadFault {
+impl From<PlayFault> for LeadFault {
     ghost use Rattle.std.specs.Prelude.{◌≡◌};
     ghost use Rattle.krieg_robot.specs.Turns.{lead_fault};
 
     ghost from_gives = { λ fault e. e ≡ lead_fault fault };
 
-    fn from(fault: SeatFault) -> LeadFault {
+    fn from(fault: PlayFault) -> LeadFault {
         match fault {
-            SeatFault::Failed => LeadFault::Seat,
-            SeatFault::NoMemory => LeadFault::NoMemory,
+            PlayFault::Vacant(_) | PlayFault::Seat(_) => LeadFault::Seat,
+            PlayFault::NoMemory => LeadFault::NoMemory,
         }
     }
 }

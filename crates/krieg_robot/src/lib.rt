@@ -4,8 +4,8 @@
 //!   player does next.
 //! - `leading`: `lead`, a game between such a seat and any other; `led` has what it came to.
 //! - `laws`: that a plan that mates wins each of these games.
-//! - `place`: where a seat stands, by the way that leads from a root of its plan to a node. `turns`: one turn of a
-//!   game. Both are internal.
+//! - `place`: where a seat stands, by the way that leads from a root of its plan to a node. `player`: such a seat as a
+//!   side of a game, as krieg_play takes its turns. `turns`: one turn of a game. These are internal.
 //!
 //! The rules are the definitions of `specs/`: where a player stands by what he heard (`Stands`), what a call makes
 //! of a seat (`Followers`), what a game came to (`Leading`), and the theorem (`Laws`). `Places` and `Turns` are parts
@@ -25,6 +25,7 @@ mod leading;
 mod led;
 mod next;
 mod place;
+mod player;
 mod seat;
 mod turns;
 

@@ -1,14 +1,16 @@
 // A seat that follows a plan file.
-ghost use Rattle.std.specs.Prelude.{◌≡◌, ◌≢◌, Err, IfOk, OnOk, OnErr, None};
+ghost use Rattle.std.specs.Prelude.{◌≡◌, ◌≢◌, Err, IfOk, OnOk, OnErr, None, option_to_list};
 ghost use Rattle.krieg_seats.specs.Accounts.{new_account, Asked, Told};
 ghost use Rattle.krieg_robot.specs.Stands as stand;
 ghost use Rattle.krieg_robot.specs.Followers as spec;
 ghost use Rattle.krieg_robot.specs.Followers.{stand_of, say_of, when_asked, after_asked, after_told};
+ghost use Rattle.krieg_robot.specs.Turns.{AsksOwn, HearsOwn};
 
 use crate::next::Next;
 use crate::place::{Change, Place, Step, change_by, next_of, next_try, node_on};
 use krieg_board::Move;
 use krieg_plan::PlanFile;
+use krieg_play::Turn;
 use krieg_seats::{Say, Seat, SeatFault};
 use krieg_words::Line;
 use std::alloc::Global;
@@ -173,5 +175,26 @@ impl Seat for PlanSeat {
         ensures { result.now ≡ self.now.account.heard }
     {
         &self.heard
+    }
+}
+
+/// Asks the seat, as the side of a game that it is.
+pub(crate) fn ask_own(seat: &mut PlanSeat) -> Result<Turn, SeatFault>
+    ensures { AsksOwn result seat.old seat.new }
+{
+    match seat.ask() {
+        Ok(Say::Try(mv)) => Ok(Turn::Tried(mv)),
+        Ok(Say::Leave) => Ok(Turn::Left),
+        Err(fault) => Err(fault),
+    }
+}
+
+/// Tells the seat a line, where there is one.
+pub(crate) fn tell_own(seat: &mut PlanSeat, line: Option<Line>) -> Result<(), SeatFault>
+    ensures { HearsOwn (option_to_list line) result seat.old seat.new }
+{
+    match line {
+        Some(line) => seat.tell(line),
+        None => Ok(()),
     }
 }

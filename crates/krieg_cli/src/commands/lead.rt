@@ -4,7 +4,7 @@ ghost use Rattle.krieg_planfile.specs.PlanFiles.{state_of};
 ghost use Rattle.krieg_play.specs.Calls.{FirstChanges};
 ghost use Rattle.krieg_robot.specs.Laws.{Mates};
 ghost use Rattle.krieg_robot.specs.Leading.{LedFrom, BrokenFrom, IsWon};
-ghost use Rattle.krieg_cli.specs.Seated.{bench_sides};
+ghost use Rattle.krieg_play.specs.Benches.{bench_sides};
 ghost use Rattle.krieg_cli.specs.Parts.{Decides, LeavesSeats, ending_of};
 ghost use Rattle.krieg_cli.specs.Parts as parts;
 ghost use Rattle.krieg_cli.specs.Lead as spec;
@@ -12,11 +12,11 @@ ghost use Rattle.krieg_args.specs.declared.command.Command.TheVariants.{Lead};
 
 use crate::commands::recorded::recorded;
 use crate::ending::Ending;
-use crate::live::Bench;
 use crate::refusal::Refusal;
 use krieg_board::{NoMemory, Side};
 use krieg_plan::PlanFile;
 use krieg_planfile::read_plan;
+use krieg_play::Bench;
 use krieg_robot::{LeadFault, Led, lead};
 use krieg_seats::Seat;
 use std::alloc::Global;
@@ -65,9 +65,11 @@ fn answer_to(
     requires turn { IsOneTurn file.list.items }
     requires some { 1 ≤ number }
     ensures outcome { Decides (λ answer. answer.items) result
-        (spec.LeadsFrom (λ b. account b) asks number
+        (spec.LeadsFrom (λ b. (⟦<dyn Seat as Seat>⟧ b.vtable).account b.value) asks number
         (bench_sides bench.old) (bench_sides bench.new) (state_of file)) }
-    ensures memory { result ≡ Err Ending.NoMemory → spec.HasLed (λ b. account b) asks number
+    ensures memory { result ≡ Err Ending.NoMemory
+        → spec.HasLed (λ b. (⟦<dyn Seat as Seat>⟧ b.vtable).account b.value)
+        asks number
         (bench_sides bench.old) (bench_sides bench.new) (state_of file) }
 {
     let number = number as usize;
@@ -100,10 +102,12 @@ pub(crate) fn answer(
     bench: &mut Bench,
 ) -> Result<Vec<u8>, Ending>
     requires { 1 ≤ number }
-    ensures outcome { Decides (λ answer. answer.items) result (spec.LeadsText (λ b. account b)
+    ensures outcome { Decides (λ answer. answer.items) result
+        (spec.LeadsText (λ b. (⟦<dyn Seat as Seat>⟧ b.vtable).account b.value)
         (bench_sides bench.old) (bench_sides bench.new)
         asks number text.items) }
-    ensures bench { LeavesSeats (λ b. account b) (Lead asks number) (ending_of result) text.items
+    ensures bench { LeavesSeats (λ b. (⟦<dyn Seat as Seat>⟧ b.vtable).account b.value)
+        (Lead asks number) (ending_of result) text.items
         (bench_sides bench.old) (bench_sides bench.new) }
 {
     let file = match read_plan(alloc, &text) {

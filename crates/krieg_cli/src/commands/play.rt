@@ -1,15 +1,14 @@
 ghost use Rattle.std.specs.Prelude.{◌≡◌};
-ghost use Rattle.krieg_cli.specs.Seated.{bench_sides};
+ghost use Rattle.krieg_play.specs.Benches.{bench_sides};
 ghost use Rattle.krieg_cli.specs.Parts.{Decides, LeavesSeats, ending_of};
 ghost use Rattle.krieg_cli.specs.Play as spec;
 ghost use Rattle.krieg_args.specs.declared.command.Command.TheVariants.{Play};
 
-use crate::PlayFault;
 use crate::commands::recorded::recorded;
 use crate::ending::Ending;
-use crate::live::{Bench, play};
 use crate::refusal::Refusal;
 use krieg_board::NoMemory;
+use krieg_play::{Bench, PlayFault, play};
 use krieg_seats::Seat;
 use krieg_session::read_start;
 use krieg_words::Dialect;
@@ -36,10 +35,12 @@ pub(crate) fn answer(
     text: Vec<u8>,
     bench: &mut Bench,
 ) -> Result<Vec<u8>, Ending>
-    ensures outcome { Decides (λ answer. answer.items) result (spec.Plays (λ b. account b)
+    ensures outcome { Decides (λ answer. answer.items) result
+        (spec.Plays (λ b. (⟦<dyn Seat as Seat>⟧ b.vtable).account b.value)
         (bench_sides bench.old) (bench_sides bench.new)
         asks text.items) }
-    ensures bench { LeavesSeats (λ b. account b) (Play asks) (ending_of result) text.items
+    ensures bench { LeavesSeats (λ b. (⟦<dyn Seat as Seat>⟧ b.vtable).account b.value)
+        (Play asks) (ending_of result) text.items
         (bench_sides bench.old) (bench_sides bench.new) }
 {
     let start = match read_start(&text) {

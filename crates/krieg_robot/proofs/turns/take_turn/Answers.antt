@@ -1,13 +1,21 @@
-use Rattle.std.proofs.Common.{rules}
-use Rattle.krieg_robot.proofs.Passing.{passes_tried, passes_left, passes_fault}
+use Rattle.std.proofs.Common.{sym, ap, ◌∙◌}
+use Rattle.krieg_robot.proofs.Turning.{passes_by, white_asked, white_ends, black_asked, black_ends}
 use Rattle.krieg_robot.proofs.turns.take_turn.Goals as goal
 
-pub returns-in-Ok-Try-clause-passes : goal.returns-in-Ok-Try-clause-passes
-returns-in-Ok-Try-clause-passes g c =
-    passes_tried _ _ c.in-Ok-Try.mv c.ask_turn.result _ _ _ _ _ _ _ _ _ (search rules) (search rules) c.requires (cc) c.ask_turn.ensures c.judge_try.ensures.judges
+pub returns-in-White-clause-passes : goal.returns-in-White-clause-passes
+returns-in-White-clause-passes g c =
+    let d_is = ap (λ x. x.dialect) c.file.ensures in
+    let side = sym (ap (λ x. x.side) c.file-2.ensures) ∙ c.in-White.is in
+    let t = c.take_turn.ensures.turn in
+    rw c.led_answer.ensures
+    (passes_by t.said c.take_turn.result _ _ _ _ _ _ _ _ c.requires
+    (white_asked (λ b. (goal.Seat-dyn g (b.vtable, b.value)).account b.value) d_is side t) (white_ends (λ b. (goal.Seat-dyn g (b.vtable, b.value)).account b.value) d_is side t))
 
-pub returns-in-Ok-Leave-clause-passes : goal.returns-in-Ok-Leave-clause-passes
-returns-in-Ok-Leave-clause-passes g c = passes_left _ _ c.ask_turn.result _ _ _ _ _ (search rules) (search rules) c.requires (cc) c.ask_turn.ensures
-
-pub returns-in-Err-clause-passes : goal.returns-in-Err-clause-passes
-returns-in-Err-clause-passes g c = passes_fault _ c.side-who.result c.in-Err.fault c.ask_turn.result _ _ _ _ _ (search rules) (search rules) c.requires (cc) c.ask_turn.ensures
+pub returns-in-Black-clause-passes : goal.returns-in-Black-clause-passes
+returns-in-Black-clause-passes g c =
+    let d_is = ap (λ x. x.dialect) c.file.ensures in
+    let side = sym (ap (λ x. x.side) c.file-2.ensures) ∙ c.in-Black.is in
+    let t = c.take_turn-in-Black.ensures.turn in
+    rw c.led_answer-in-Black.ensures
+    (passes_by t.said c.take_turn-in-Black.result _ _ _ _ _ _ _ _ c.requires
+    (black_asked (λ b. (goal.Seat-dyn g (b.vtable, b.value)).account b.value) d_is side t) (black_ends (λ b. (goal.Seat-dyn g (b.vtable, b.value)).account b.value) d_is side t))
