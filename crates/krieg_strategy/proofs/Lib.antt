@@ -1,0 +1,3 @@
+mod Common
+mod Arenas
+pub mod Unfolding

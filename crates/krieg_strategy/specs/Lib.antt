@@ -1,0 +1,9 @@
+pub mod Nodes
+pub mod Unfolded
+pub mod WellFormed
+pub mod Edges
+pub mod Roots
+pub mod Arena
+pub mod Seen
+pub mod Values
+pub mod Toy
