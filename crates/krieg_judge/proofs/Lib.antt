@@ -1,0 +1,10 @@
+mod Common
+mod Inserting
+mod Waiting
+mod Adding
+mod NodesMet
+mod FirstTurns
+mod Reaching
+mod Taken
+mod Walks
+mod Answering

@@ -1,0 +1,9 @@
+pub mod Reach
+pub mod JudgeCost
+pub mod Laws
+pub mod Demands
+pub mod Steps
+pub mod Started
+pub mod Walked
+pub mod Judgement
+pub mod Toy
