@@ -25,7 +25,7 @@ pub use Rattle.krieg_costs.specs.Reach.{fresh, reach_of}
 pub use Rattle.krieg_costs.specs.Refutation.{is_within}
 pub use Rattle.krieg_costs.specs.Sums.{IsOnce, once, total}
 pub use Rattle.krieg_accounts.specs.Answers.{AnswersPlan, AnswersSets, LostBelow, classes, opening_sets}
-pub use Rattle.krieg_accounts.specs.Charges.{charged}
+pub use Rattle.krieg_accounts.specs.Charges.{all_owed, charged, owed}
 pub use Rattle.krieg_accounts.specs.Laws.{refused_canon}
 pub use Rattle.krieg_accounts.specs.Sound.{IsBacked, IsSound, StoredLost, StoredWon, known}
 pub use Rattle.krieg_accounts.specs.Stored.{AddsResult, Entries, pairs, stored}
@@ -68,7 +68,7 @@ pub use Rattle.krieg_split.specs.Units.{Charges, IsPaid}
 pub use Rattle.krieg_split.specs.declared.firsts.Firsts.{Firsts}
 pub use Rattle.krieg_search.specs.Blocks.{TellsBlock, TellsFirst}
 pub use Rattle.krieg_search.specs.Building.{Builds, IsPaidFor, WinsAreBelow, WonBy, edges_for, roots_for, with_root}
-pub use Rattle.krieg_search.specs.Decision.{IsAccount, IsBetween, IsDecision, IsFound, IsLost, IsWon, sets_in}
+pub use Rattle.krieg_search.specs.Decision.{IsAccount, IsAsked, IsAsking, IsBetween, IsDecision, IsFound, IsLost, IsWon, sets_in}
 pub use Rattle.krieg_search.specs.Laws.{AccountIsBetween}
 pub use Rattle.krieg_search.specs.Remainders.{FailsAtOnce, IsPaidUnlessCut, IsRemainder, Leaves}
 pub use Rattle.krieg_search.specs.LostParts.{HasLostPart}
@@ -76,21 +76,29 @@ pub use Rattle.krieg_search.specs.Notes.{AreNotes, IsBlock, IsLostPart, IsRow, N
 pub use Rattle.krieg_search.specs.Openings.{AddsSets, AreAdded, AreNumbered, IsAdded, IsOpened, opening_in}
 pub use Rattle.krieg_search.specs.PackedKey.{IsPacked, bytes_of, number_of, unpacked}
 pub use Rattle.krieg_search.specs.BuiltPlan.{IsPlan, IsPlanned, IsUnfit}
+pub use Rattle.krieg_search.specs.KeyTries.{AreKeys, IsKeyAnswer, IsTaken, IsWithinFresh, Told, key_tries, key_try, keys_of, told_of}
+pub use Rattle.krieg_search.specs.SetKeys.{AreKeysAt, AreSetKeys, behind, later_price, least_pair, numbers_of, set_keys, told_set}
 pub use Rattle.krieg_search.specs.Stretches.{AreCounted, IsAtWork, IsNumbered, IsReady, IsSearched, Stretches, TellsSet, TellsSets, TellsTry, sets_of}
 pub use Rattle.krieg_search.specs.Solutions.{HasAccount, IsAnswer, IsBest, IsCharged, IsChargedAtMost, IsLarge, NoneMates, Takes}
 pub use Rattle.krieg_search.specs.Stops.{stop_of}
 pub use Rattle.krieg_search.specs.Tries.{IsTold, move_of}
 pub use Rattle.krieg_search.specs.declared.best_plan.Answer.{Answer}
 pub use Rattle.krieg_search.specs.declared.best_plan.Answer.TheVariants.{Mates, None}
+pub use Rattle.krieg_search.specs.declared.decide.Outlook.{Outlook}
 pub use Rattle.krieg_search.specs.declared.decide.Decision.{Decision}
 pub use Rattle.krieg_search.specs.declared.decide.Decision.TheVariants.{Over}
 pub use Rattle.krieg_search.specs.declared.decide.Findings.{Findings}
+pub use Rattle.krieg_search.specs.declared.keys.KeyTry.{KeyTry}
+pub use Rattle.krieg_search.specs.declared.keys.KeysAt.{KeysAt}
+pub use Rattle.krieg_search.specs.declared.keys.Keys.{Keys}
+pub use Rattle.krieg_search.specs.declared.keys.KeyAnswer.{KeyAnswer}
 pub use Rattle.krieg_search.specs.declared.remainder.Remainder.{Remainder}
 pub use Rattle.krieg_search.specs.declared.notes.Question.{Question}
 pub use Rattle.krieg_search.specs.declared.notes.Block.{Block}
 pub use Rattle.krieg_search.specs.declared.notes.Block.TheVariants.{AtOnce, Refused}
 pub use Rattle.krieg_search.specs.declared.notes.Note.{Note}
 pub use Rattle.krieg_search.specs.declared.openings.Opening.{Opening}
+pub use Rattle.krieg_search.specs.declared.set_keys.SetKeys.{SetKeys}
 pub use Rattle.krieg_search.specs.declared.stop.SearchStop.{SearchStop}
 pub use Rattle.krieg_search.specs.declared.stop.SearchStop.TheVariants.{Large}
 pub use Rattle.krieg_search.specs.declared.try_list.Try.TheVariants.{Counted, Plain}

@@ -19,6 +19,10 @@ pub mod Deciding
 pub mod Building
 mod Edging
 mod Rooting
+mod LaterPrices
+mod Keying
+mod KeySets
+pub mod KeyRoots
 mod Ordering
 pub mod Solving
 mod Turning

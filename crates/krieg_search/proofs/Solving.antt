@@ -4,6 +4,7 @@ use Rattle.std.proofs.lemmas.Bool.{both_ways, false_from_ne_true}
 use Rattle.krieg_search.proofs.Common.{Pos, Move, Side, Dialect, Maybe, Nothing, Just, least, canon, greatest, openings, opening_set, roots_of, root_with, can_plan, canon_plan, canon_worst, Key, RootKey, chess, outset, PlanTrees, plan_of, is_ordered_plan, Answer, Mates, None, Findings, entries, opening_in, IsWon, IsPaidFor, with_root, roots_for, IsUnfit, IsPlan, IsPlanned, IsBest, NoneMates, IsLarge, IsAnswer}
 use Rattle.krieg_theory.proofs.Planned.{mates_shows, canon_plan_is, canon_plan_worst, worst_enough, worst_least}
 use Rattle.krieg_accounts.proofs.Stretches.{weaker}
+use Rattle.krieg_game.specs.ClassLaws as game
 use Rattle.krieg_game.proofs.ChessLaws.{chess_is_game, outset_is_lawful}
 use Rattle.krieg_search.proofs.Ordering.{plan_ordered}
 
@@ -21,6 +22,9 @@ module _ (d : Dialect) (who : Side) (S : List Pos) (n : ℕ) where
   greatest_is : (ks : List RootKey) → greatest (λ (c : RootKey × List Pos). least (chess d) n c.1) (map (λ key. (key, opening_set (chess d) (outset d who) S key)) ks) ≡ greatest (λ key. least (chess d) n (opening_set (chess d) (outset d who) S key)) ks
   greatest_is [] = refl
   greatest_is (k ∷ ks) = ap (max (least (chess d) n (opening_set (chess d) (outset d who) S k))) (greatest_is ks)
+
+  pub worst_of : greatest (λ (c : RootKey × List Pos). least (chess d) n c.1) (game.opening_sets d who S) ≡ canon_worst (chess d) (outset d who) n S
+  worst_of = greatest_is (openings (chess d) (outset d who) S)
 
   best : can_plan (chess d) (outset d who) n S ≡ true → IsBest d who S n (canon_worst (chess d) (outset d who) n S) (canon_plan (chess d) (outset d who) n S)
   best c = record {
@@ -45,7 +49,7 @@ module _ (d : Dialect) (who : Side) (S : List Pos) (n : ℕ) where
     plan_is = ap (roots_for d n) a.found.sets ∙ roots_are (openings (chess d) (outset d who) S)
 
     worst_is : greatest (λ (c : RootKey × List Pos). least (chess d) n c.1) (map (opening_in w.table) w.openings.items) ≡ canon_worst (chess d) (outset d who) n S
-    worst_is = ap (greatest (λ (c : RootKey × List Pos). least (chess d) n c.1)) a.found.sets ∙ greatest_is (openings (chess d) (outset d who) S)
+    worst_is = ap (greatest (λ (c : RootKey × List Pos). least (chess d) n c.1)) a.found.sets ∙ worst_of
 
     pub is_paid : had < 2 ^ 64 → IsPaidFor d true w.table
     is_paid h = record { ready = record { counted = a.found.ready.counted; sound = weaker (chess d) cut (entries w.table) a.found.ready.sound }; paid = λ e. absurd (both_ways true e refl); wins = λ q m k. (let p = a.found.wins q m k in omega arith) }

@@ -1,5 +1,5 @@
 -- Whether some plan mates, as the search finds it.
-use Rattle.std.specs.Prelude.{◌≡◌, ℕ, suc, ◌+◌, ◌<◌, ◌≤◌, Bool, true, false, not, List, map, find, Some, None, IfSome, Result, Ok, Err, ⊤}
+use Rattle.std.specs.Prelude.{◌≡◌, ℕ, suc, ◌+◌, ◌<◌, ◌≤◌, Bool, true, false, not, List, [], map, find, Option, Some, None, IfSome, Result, Ok, Err, ⊤}
 use Rattle.std.specs.List.{list_any}
 use Rattle.krieg_board.specs.Pos.{Pos}
 use Rattle.krieg_board.specs.declared.men.Side.{Side}
@@ -15,6 +15,8 @@ use Rattle.krieg_costs.specs.Backing.{floor}
 use Rattle.krieg_accounts.specs.Stored.{stored, pairs}
 use Rattle.krieg_accounts.specs.Sound.{Table, IsSound}
 use Rattle.krieg_accounts.specs.Charges.{charged}
+use Rattle.krieg_accounts.specs.Stretch.{IsStretch, CoversSets}
+use Rattle.krieg_accounts.specs.Answers as accounts
 use Rattle.krieg_accounts.specs.Answers.{AnswersPlan}
 use Rattle.krieg_game.specs.Chess.{chess}
 use Rattle.krieg_game.specs.Outset.{outset}
@@ -22,12 +24,13 @@ use Rattle.krieg_game.specs.ClassLaws.{opening_sets}
 use Rattle.krieg_table.specs.SetRows.{SetRows, set_at}
 use Rattle.krieg_table.specs.Entries.{entries}
 use Rattle.krieg_search.specs.declared.openings.Opening.{Opening}
+use Rattle.krieg_search.specs.declared.decide.Outlook.{Outlook}
 use Rattle.krieg_search.specs.declared.decide.Findings.{Findings}
 use Rattle.krieg_search.specs.declared.decide.Decision.{Decision}
 use Rattle.krieg_search.specs.declared.decide.Decision.TheVariants.{Over, Lost, Won}
 use Rattle.krieg_search.specs.declared.stop.SearchStop.{SearchStop}
 use Rattle.krieg_search.specs.declared.stop.SearchStop.TheVariants.{Spent, Large, NoMemory}
-use Rattle.krieg_search.specs.Stretches.{IsReady}
+use Rattle.krieg_search.specs.Stretches.{AreCounted, IsReady, TellsSets}
 use Rattle.krieg_search.specs.Openings.{AreNumbered, opening_in}
 use Rattle.krieg_search.specs.Building.{WonBy, WinsAreBelow}
 use Rattle.krieg_search.specs.Notes.{AreNotes, notes_in}
@@ -44,6 +47,26 @@ AreFewNotes (Won w) most = notes_in w.notes.rows ≤ most
 
 -- where the search may cut tries, no block of a try is stored for certain, and what was taken has no floor
 module _ (d : Dialect) (who : Side) (S : List Pos) (n : ℕ) where
+  -- Each opening that occurs has its set in the table, which says whether all of these can be won. Once the first replies were
+  -- taken, that was a stretch from the empty table.
+  pub record IsAsked (cut : Bool) (T : SetRows) (a : Outlook) (had has : ℕ) : Type 0 where
+    pub none_over : list_any (is_over (chess d) (outset d who)) S ≡ false
+    pub counted : AreCounted T
+    pub numbered : AreNumbered T a.openings.items
+    pub sets : map (opening_in T) a.openings.items ≡ opening_sets d who S
+    pub tells : TellsSets d T (accounts.opening_sets (chess d) (outset d who) S) n a.all_win
+    pub left : ℕ
+    pub taken : left + first_made (chess d) (outset d who) S ≡ had
+    pub stretch : IsStretch (chess d) cut (CoversSets (chess d) (accounts.opening_sets (chess d) (outset d who) S) n) 0 [] (entries T) left has
+
+  -- the same, or some listed position is over, or units or memory were wanting
+  abbrev pub IsAsking : Bool → SetRows → Result (Option Outlook) SearchStop → ℕ → ℕ → Type 0
+  IsAsking cut T (Ok None) had has = (list_any (is_over (chess d) (outset d who)) S ≡ true) × (has + first_made (chess d) (outset d who) S ≡ had)
+  IsAsking cut T (Ok (Some a)) had has = IsAsked cut T a had has
+  IsAsking cut T (Err Spent) had has = (had < fresh (chess d) (outset d who) n S) × (has ≤ had)
+  IsAsking cut T (Err Large) had has = ⊥
+  IsAsking cut T (Err NoMemory) had has = has ≤ had
+
   -- What was taken, result by result. Each result is of a set with a number of moves, no two are of the same, and all of
   -- these are reached. The results are right, and tell whether some plan mates. What was taken is what the first replies
   -- take, and for each result the splits of its tries up to the first that wins. Where tries may be cut it is at most that,

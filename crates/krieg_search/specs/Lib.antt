@@ -12,4 +12,6 @@ pub mod Blocks
 pub mod PackedKey
 pub mod BuiltRoots
 pub mod Stops
+pub mod KeyTries
+pub mod SetKeys
 pub mod Laws

@@ -1,10 +1,11 @@
-ghost use Rattle.std.specs.Prelude.{◌≡◌, ◌≤◌, ◌⊎◌, IfOk, OnOk, map};
+ghost use Rattle.std.specs.Prelude.{◌≡◌, ◌≤◌, ◌⊎◌, [], IfOk, IfSome, OnOk};
 ghost use Rattle.krieg_accounts.specs.Stretch.{CoversSets};
 ghost use Rattle.krieg_game.specs.Chess.{chess};
 ghost use Rattle.krieg_parting.specs.Turns.{IsOwnTurn, IsOthersTurn};
 ghost use Rattle.krieg_search.specs.Stretches.{IsAtWork, Searches, TellsSets};
 ghost use Rattle.krieg_search.specs.Openings.{AreNumbered};
-ghost use Rattle.krieg_search.specs.Decision.{IsDecision, AreFewNotes, sets_in};
+ghost use Rattle.krieg_search.specs.Decision.{IsAsking, IsDecision, AreFewNotes, sets_in};
+ghost use Rattle.krieg_search.specs.Notes.{AreNotes};
 
 use crate::lost_sets::LostSets;
 use crate::notes::Notes;
@@ -62,6 +63,63 @@ fn all_openings_win(
     Ok(true)
 }
 
+/// What was asked: what may be heard before the first own turn, and whether the set of each can be won.
+#[derive(Drop)]
+pub(crate) struct Outlook {
+    pub openings: Vec<Opening>,
+    pub all_win: bool,
+}
+
+/// A search that has found out nothing yet, and keeps at most `noted` notes.
+pub(crate) fn new_search(way: Way, noted: usize, units: u64) -> Search
+    ensures empty { result.table ≡ [] }
+    ensures noted { AreNotes way.d way.cut result.table result.notes }
+    ensures most { result.notes.most ≡ noted }
+    ensures units { result.units ≡ units }
+{
+    Search {
+        sight: Sight::new(way.alloc, if way.cut { units } else { 0 }),
+        notes: Notes::new(way.alloc, noted),
+        lost_sets: LostSets::new(way.alloc),
+        table: Table::new(way.alloc),
+        units: Units::new(units),
+        uncut: Uncut::new(way.alloc),
+    }
+}
+
+/// Asks of the set of each opening whether it can be won within `moves`, up to the first that cannot. There are no openings where
+/// some listed position is over.
+pub(crate) fn ask_openings(
+    search: &mut Search,
+    way: Way,
+    who: Side,
+    b: &Belief,
+    moves: u8,
+) -> Result<Option<Outlook>, SearchStop>
+    requires turn { IsOwnTurn who b.now ⊎ IsOthersTurn who b.now }
+    requires empty { search.old.table ≡ [] }
+    requires noted { AreNotes way.d way.cut search.old.table search.old.notes }
+    ensures asked { IsAsking way.d who b.now moves way.cut search.new.table result
+        search.old.units search.new.units }
+    ensures noted { IfOk result (λ o. IfSome o
+        (λ _. AreNotes way.d way.cut search.new.table search.new.notes)) }
+    ensures most { search.new.notes.most ≡ search.old.notes.most }
+{
+    let Some(openings) = find_openings(
+        way.alloc,
+        way.d,
+        who,
+        b,
+        &mut search.table,
+        &mut search.units,
+    )?
+    else {
+        return Ok(None);
+    };
+    let all_win = all_openings_win(search, way, &openings, moves)?;
+    Ok(Some(Outlook { openings, all_win }))
+}
+
 /// Whether some plan mates every listed position within `moves`, and by which results.
 ///
 /// Where tries may be cut it looks into no part of a try that is found to fail even for a player who sees the position: the
@@ -82,28 +140,8 @@ pub fn decide(
     ensures decided { IsDecision way.d who b.now moves way.cut result units.old units.new }
     ensures noted { IfOk result (λ r. AreFewNotes r noted) }
 {
-    let had = units.left();
-    let mut search = Search {
-        sight: Sight::new(way.alloc, if way.cut { had } else { 0 }),
-        notes: Notes::new(way.alloc, noted),
-        lost_sets: LostSets::new(way.alloc),
-        table: Table::new(way.alloc),
-        units: Units::new(had),
-        uncut: Uncut::new(way.alloc),
-    };
-    let Some(openings) = find_openings(
-        way.alloc,
-        way.d,
-        who,
-        b,
-        &mut search.table,
-        &mut search.units,
-    )?
-    else {
-        *units = search.units;
-        return Ok(Decision::Over);
-    };
-    let all_win = all_openings_win(&mut search, way, &openings, moves)?;
+    let mut search = new_search(way, noted, units.left());
+    let asked = ask_openings(&mut search, way, who, b, moves)?;
     let Search {
         notes,
         mut table,
@@ -112,6 +150,9 @@ pub fn decide(
     } = search;
     *units = left;
     table.know_once();
+    let Some(Outlook { openings, all_win }) = asked else {
+        return Ok(Decision::Over);
+    };
     if !all_win {
         return Ok(Decision::Lost(Findings {
             table,

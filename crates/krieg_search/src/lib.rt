@@ -1,4 +1,4 @@
-//! The search for the best plan: `solve` and `find`.
+//! The search for the best plan, `solve` and `find`, and for all its keys, `find_keys`.
 //!
 //! It tells how a side mates every listed position, whichever of them is on the board, within a number of own moves;
 //! or that no plan does. Both give the same answers, at other prices. What stands in their clauses is in the terms of
@@ -26,6 +26,11 @@
 //! allowed before anything below it is built. They split the sets once more, each by the one try that wins it, by units
 //! that are made for that alone: `wins` (in `Building`) says that the search has paid for each of these splits.
 //!
+//! `find_keys` tells of each opening set not one try that wins with the fewest moves, but all (`keys`, `set_keys`): read `KeyTries` in
+//! `specs/`. It first asks for the openings as `decide` does. Of a set that is won within its least number, the tries before the stored one
+//! begin no win, so only those behind it are left to be split, and these with that number. So no try of a pair is split twice, and all fits into
+//! what is fresh: `SetKeys` has what the later tries take. Two openings may have the same set, whose keys are looked for once.
+//!
 //! Who goes on by what a search leaves, as krieg_refute does, calls `decide` itself: it gives the table and the openings,
 //! whatever the answer. `left_by` makes one split of it again, and `number_of` finds the number of a part. `decide` also
 //! keeps `notes`, at most as many as it is asked for: of a set that cannot be won with two moves or more, what blocks each of its
@@ -52,6 +57,7 @@
 mod best_plan;
 mod build;
 pub mod decide;
+mod keys;
 pub mod laws;
 mod lost_sets;
 mod notes;
@@ -61,6 +67,7 @@ mod packed_key;
 mod remainder;
 mod roots;
 mod search;
+mod set_keys;
 mod stop;
 mod try_list;
 mod turn;
@@ -69,6 +76,7 @@ mod way;
 mod within;
 
 pub use best_plan::{Answer, find, solve};
+pub use keys::{KeyAnswer, KeyTry, Keys, KeysAt, find_keys};
 pub use notes::{Block, Note, Notes, Question};
 pub use number::number_of;
 pub use openings::Opening;

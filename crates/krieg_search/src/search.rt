@@ -43,10 +43,10 @@ pub(crate) struct Search {
 
 /// What is asked of a set: whether it can be won within a number of moves. It is open meanwhile.
 #[derive(Drop)]
-struct Asked {
-    set: u32,
-    moves: u8,
-    opened: OpenSet,
+pub(crate) struct Asked {
+    pub set: u32,
+    pub moves: u8,
+    pub opened: OpenSet,
 }
 
 /// A class that cannot be won: its words, and the number of its set.
@@ -203,7 +203,7 @@ impl Search {
     ///
     /// The classes are let go before these are searched.
     #[cycle(search)]
-    fn block_of(
+    pub(crate) fn block_of(
         &mut self,
         way: Way,
         asked: &Asked,

@@ -1,0 +1,174 @@
+-- The tries of a set that is won, one after another: which of them are keys.
+use Rattle.std.proofs.Common.{Bool, ◌≡◌, ℕ, suc, ◌+◌, ◌≤◌, ◌<◌, true, false, ◌⊎◌, inl, inr, List, [], ◌∷◌, ◌++◌, length, drop, get_or, map, find, not, Option, Some, None, refl, sym, ap, subst, ◌∙◌, arith}
+use Rattle.std.specs.Prelude.{◌↔◌, ◌==◌, IsTrue}
+use Rattle.std.specs.Cmp.{Equal-is}
+use Rattle.std.specs.List.{filter}
+use Rattle.std.specs.Ordering.{is_eq}
+use Rattle.std.proofs.lemmas.Cmp.{tied_itself}
+use Rattle.std.proofs.lemmas.Bool.{cases_Bool, cond-true, cond-false, both_ways, eqb-true, eq-eqb, false_from_ne_true, not_from_true, not_from_false}
+use Rattle.std.proofs.lemmas.List.{append_assoc}
+use Rattle.krieg_moves.specs.Legal.{is_legal}
+use Rattle.krieg_board.specs.Order.{move_cmp}
+use Rattle.krieg_search.proofs.Common.{Pos, Move, Dialect, is_nil, refused, legal_in_some, begins, tries, total, made, CoversTry, CoversTries, known, chess, SetRows, entries, IsReady, IsSearched, KeyTry, key_try, key_tries, behind, later_price}
+use Rattle.krieg_accounts.proofs.Covering.{covers_try}
+use Rattle.krieg_accounts.proofs.TryOrder.{first_is}
+use Rattle.krieg_board.specs.contracts.men.MovePartialEq.TheImpl as derived_eq
+use Rattle.krieg_board.proofs.MoveOrder.{move_eq_derived, move_total, move_equal}
+use Rattle.krieg_game.proofs.ChessLaws.{chess_is_game}
+use Rattle.krieg_search.proofs.Checking.{at_item}
+use Rattle.krieg_search.proofs.Searching.{searched_nothing, searched_then}
+
+pub append_nil : {X : Type 0} (xs : List X) → xs ++ [] ≡ xs
+append_nil [] = refl
+append_nil (x ∷ xs) = ap (λ ys. x ∷ ys) (append_nil xs)
+
+-- no keys are found, or some are, as the code tells
+pub no_keys : (ks : List KeyTry) (n : ℕ) → n ≡ length ks → (n == 0) ≡ true → ks ≡ []
+no_keys [] n e z = refl
+no_keys (k ∷ ks) n e z = absurd (let none = eqb-true n 0 z in omega (arith, e, none))
+
+pub some_keys : (ks : List KeyTry) (n : ℕ) → n ≡ length ks → (n == 0) ≡ false → ks ≡ [] → ⊥
+some_keys ks n e z none = both_ways (n == 0) z (eq-eqb n 0 (e ∙ ap length none))
+
+-- moves that are equal to the code are equal
+pub same_move : (a b : Move) (e : Bool) → e ≡ (derived_eq.ghosts).eq a b → IsTrue e ↔ (a ≡ b)
+same_move a b e h = (
+  (λ q. move_equal a b ((Equal-is (move_cmp a b)).0 (sym (move_eq_derived a b) ∙ sym h ∙ q))),
+  (λ q. h ∙ move_eq_derived a b ∙ subst (λ x. is_eq (move_cmp a x) ≡ true) q (ap is_eq (tied_itself move_total a))),
+)
+
+-- the next position refuses the try, or does not
+pub one_refuses : (d : Dialect) (p : Pos) (B : List Pos) (t : Move) → is_legal p t ≡ false → is_nil (refused (chess d) (p ∷ B) t) ≡ false
+one_refuses d p B t e = ap is_nil (cond-true (not (is_legal p t)) (p ∷ refused (chess d) B t) (refused (chess d) B t) (not_from_false _ e))
+
+pub not_this : (d : Dialect) (p : Pos) (B : List Pos) (t : Move) → is_legal p t ≡ true → refused (chess d) (p ∷ B) t ≡ refused (chess d) B t
+not_this d p B t e = cond-false (not (is_legal p t)) (p ∷ refused (chess d) B t) (refused (chess d) B t) (not_from_true _ e)
+
+-- what is found passes
+find_passes : {X : Type 0} (f : X → Bool) (xs : List X) (x : X) → find f xs ≡ Some x → f x ≡ true
+find_passes {X = X} f [] x e = absurd (let q : ◌≡◌ {A = Option X} None (Some x) = e in cc)
+find_passes {X = X} f (y ∷ ys) x e = go (cases_Bool (f y)) (find_passes f ys x)
+  where
+    go : (f y ≡ true) ⊎ (f y ≡ false) → (find f ys ≡ Some x → f x ≡ true) → f x ≡ true
+    go (inl t) ih = let q : ◌≡◌ {A = Option X} (Some y) (Some x) = sym (cond-true (f y) (Some y) (find f ys) t) ∙ e in subst (λ z. f z ≡ true) (let s : y ≡ x = cc in s) t
+    go (inr n) ih = ih (sym (cond-false (f y) (Some y) (find f ys) n) ∙ e)
+
+-- what is found first and is not found here does not pass here
+find_skips : {X : Type 0} (f : X → Bool) (y : X) (ys : List X) (x : X) → (y ≡ x → ⊥) → find f (y ∷ ys) ≡ Some x → f y ≡ false
+find_skips {X = X} f y ys x n e = false_from_ne_true (f y) (λ t. (let q : ◌≡◌ {A = Option X} (Some y) (Some x) = sym (cond-true (f y) (Some y) (find f ys) t) ∙ e in n (cc)))
+
+module _ (d : Dialect) (cut : Bool) (B : List Pos) (j : ℕ) (m : Move) where
+  -- How far the tries are through, with what their splits took. Up to the stored one, which is the first that wins, there is no key and
+  -- nothing is taken. Each behind it is split.
+  abbrev IsThrough : List KeyTry → ℕ → List Move → List Move → Type 0
+  IsThrough [] cost rest ts = (cost ≡ 0) × (find (begins (chess d) j B) rest ≡ Some m) × (behind (begins (chess d) j B) rest ≡ behind (begins (chess d) j B) ts)
+  IsThrough (k ∷ ks) cost rest ts = cost + total (made (chess d) B) rest ≡ total (made (chess d) B) (behind (begins (chess d) j B) ts)
+
+  pub record IsKeying (T0 T : SetRows) (ts rest : List Move) (keys : List KeyTry) (u0 u : ℕ) : Type 0 where
+    pub joined : keys ++ map (key_try d B) (filter (begins (chess d) j B) rest) ≡ map (key_try d B) (filter (begins (chess d) j B) ts)
+    pub cost : ℕ
+    pub through : IsThrough keys cost rest ts
+    pub searched : IsSearched d cut (CoversTries (chess d) B j) cost T0 T u0 u
+
+  pub none_keyed : (T : SetRows) (ts : List Move) (u : ℕ) → IsReady d cut T → find (begins (chess d) j B) ts ≡ Some m → IsKeying T T ts ts [] u u
+  none_keyed T ts u r f = record { joined = refl; cost = 0; through = (refl, f, refl); searched = searched_nothing d cut (CoversTries (chess d) B j) T u r }
+
+  module _ (ts : List Move) (t : Move) (rest : List Move) where
+    passes : begins (chess d) j B t ≡ true → filter (begins (chess d) j B) (t ∷ rest) ≡ t ∷ filter (begins (chess d) j B) rest
+    passes e = cond-true (begins (chess d) j B t) (t ∷ filter (begins (chess d) j B) rest) (filter (begins (chess d) j B) rest) e
+
+    fails : begins (chess d) j B t ≡ false → filter (begins (chess d) j B) (t ∷ rest) ≡ filter (begins (chess d) j B) rest
+    fails e = cond-false (begins (chess d) j B t) (t ∷ filter (begins (chess d) j B) rest) (filter (begins (chess d) j B) rest) e
+
+    -- a key is added
+    one_more : (keys : List KeyTry) → begins (chess d) j B t ≡ true → keys ++ map (key_try d B) (filter (begins (chess d) j B) (t ∷ rest)) ≡ map (key_try d B) (filter (begins (chess d) j B) ts)
+        → (keys ++ key_try d B t ∷ []) ++ map (key_try d B) (filter (begins (chess d) j B) rest) ≡ map (key_try d B) (filter (begins (chess d) j B) ts)
+    one_more keys e joined = append_assoc keys (key_try d B t ∷ []) (map (key_try d B) (filter (begins (chess d) j B) rest)) ∙ ap (λ xs. keys ++ map (key_try d B) xs) (sym (passes e)) ∙ joined
+
+    none_more : (keys : List KeyTry) → begins (chess d) j B t ≡ false → keys ++ map (key_try d B) (filter (begins (chess d) j B) (t ∷ rest)) ≡ map (key_try d B) (filter (begins (chess d) j B) ts)
+        → keys ++ map (key_try d B) (filter (begins (chess d) j B) rest) ≡ map (key_try d B) (filter (begins (chess d) j B) ts)
+    none_more keys e joined = ap (λ xs. keys ++ map (key_try d B) xs) (sym (fails e)) ∙ joined
+
+  -- the next try stands at its place
+  pub at_next : {T0 T : SetRows} {ts : List Move} {k : ℕ} {t : Move} (keys : List KeyTry) {u0 u : ℕ} → k < length ts → t ≡ get_or ts k t → IsKeying T0 T ts (drop k ts) keys u0 u → IsKeying T0 T ts (t ∷ drop (suc k) ts) keys u0 u
+  at_next {T0 = T0} {T = T} {ts = ts} {k = k} {t = t} keys {u0 = u0} {u = u} l e a = subst (λ (rest : List Move). IsKeying T0 T ts rest keys u0 u) (at_item ts k t l e) a
+
+  pub behind_next : {T0 T : SetRows} {ts : List Move} (k : ℕ) (keys : List KeyTry) {u0 u : ℕ} → IsKeying T0 T ts (drop (suc k) ts) keys u0 u → IsKeying T0 T ts (drop (k + 1) ts) keys u0 u
+  behind_next {T0 = T0} {T = T} {ts = ts} k keys {u0 = u0} {u = u} a = let one : suc k ≡ k + 1 = omega arith in subst (λ (n : ℕ). IsKeying T0 T ts (drop n ts) keys u0 u) one a
+
+  -- the stored try is found among them
+  pub stored_found : (T : SetRows) (ts : List Move) → IsReady d cut T → ts ≡ tries (chess d) B → known (chess d) (entries T) (B, j) ≡ Some (Some m) → find (begins (chess d) j B) ts ≡ Some m
+  stored_found T ts r are k = ap (find (begins (chess d) j B)) are ∙ first_is (chess d) (chess_is_game d) j B ∙ sym (r.sound.right B j (Some m) k)
+
+  module _ {T0 T : SetRows} {ts : List Move} {t : Move} {rest : List Move} {u0 u : ℕ} where
+    -- the stored try comes
+    pub first_key : (keys : List KeyTry) → keys ≡ [] → t ≡ m → IsKeying T0 T ts (t ∷ rest) keys u0 u → IsKeying T0 T ts rest (keys ++ key_try d B t ∷ []) u0 u
+    first_key (k ∷ ks) n e a = absurd (cc)
+    first_key [] n e a =
+        let f = subst (λ x. begins (chess d) j B x ≡ true) (sym e) (find_passes (begins (chess d) j B) (t ∷ rest) m a.through.1) in
+        let same : rest ≡ behind (begins (chess d) j B) ts = sym (cond-true (begins (chess d) j B t) rest (behind (begins (chess d) j B) rest) f) ∙ a.through.2 in
+        record {
+          joined = one_more ts t rest [] f a.joined;
+          cost = a.cost;
+          through = (let c = a.through.0 in let s = ap (total (made (chess d) B)) same in omega arith);
+          searched = a.searched;
+        }
+
+    -- a try before it
+    pub no_key_yet : (keys : List KeyTry) → keys ≡ [] → (t ≡ m → ⊥) → IsKeying T0 T ts (t ∷ rest) keys u0 u → IsKeying T0 T ts rest keys u0 u
+    no_key_yet (k ∷ ks) n e a = absurd (cc)
+    no_key_yet [] n e a =
+        let f = find_skips (begins (chess d) j B) t rest m e a.through.1 in
+        record {
+          joined = none_more ts t rest [] f a.joined;
+          cost = a.cost;
+          through = (
+            a.through.0,
+            sym (cond-false (begins (chess d) j B t) (Some t) (find (begins (chess d) j B) rest) f) ∙ a.through.1,
+            sym (cond-false (begins (chess d) j B t) rest (behind (begins (chess d) j B) rest) f) ∙ a.through.2,
+          );
+          searched = a.searched;
+        }
+
+    -- a try behind it is split
+    module _ (keys : List KeyTry) (some : keys ≡ [] → ⊥) (legal : legal_in_some (chess d) B t ≡ true) (a : IsKeying T0 T ts (t ∷ rest) keys u0 u) where
+      left : (ks : List KeyTry) (cost : ℕ) → (ks ≡ [] → ⊥) → IsThrough ks cost (t ∷ rest) ts → cost + (made (chess d) B t + total (made (chess d) B) rest) ≡ total (made (chess d) B) (behind (begins (chess d) j B) ts)
+      left [] cost n h = absurd (n refl)
+      left (k ∷ ks) cost n h = h
+
+      further : (ks more : List KeyTry) (cost : ℕ) → (ks ≡ [] → ⊥) → IsThrough ks cost (t ∷ rest) ts → IsThrough (ks ++ more) (cost + made (chess d) B t) rest ts
+      further [] more cost n h = absurd (n refl)
+      further (k ∷ ks) more cost n h = let w = h in omega arith
+
+      pub later_covers : (R : List (List Pos × ℕ)) → CoversTries (chess d) B j R → CoversTry (chess d) B j t R
+      later_covers = covers_try (chess d) B j t legal
+
+      pub later_within : ts ≡ tries (chess d) B → a.cost + made (chess d) B t ≤ later_price d (B, j)
+      later_within are = let l = left keys a.cost some a.through in let s = ap (λ xs. total (made (chess d) B) (behind (begins (chess d) j B) xs)) are in omega arith
+
+      module _ {T1 : SetRows} {u1 : ℕ} (s : IsSearched d cut (CoversTry (chess d) B j t) (made (chess d) B t) T T1 u u1) where
+        after : IsSearched d cut (CoversTries (chess d) B j) (a.cost + made (chess d) B t) T0 T1 u0 u1
+        after = searched_then d cut (CoversTries (chess d) B j) (CoversTry (chess d) B j t) a.cost (made (chess d) B t) (a.cost + made (chess d) B t) T0 T T1 u0 u u1 later_covers a.searched refl s
+
+        pub later_key : begins (chess d) j B t ≡ true → IsKeying T0 T1 ts rest (keys ++ key_try d B t ∷ []) u0 u1
+        later_key e = record { joined = one_more ts t rest keys e a.joined; cost = a.cost + made (chess d) B t; through = further keys (key_try d B t ∷ []) a.cost some a.through; searched = after }
+
+        pub no_later_key : begins (chess d) j B t ≡ false → IsKeying T0 T1 ts rest keys u0 u1
+        no_later_key e = record {
+          joined = none_more ts t rest keys e a.joined;
+          cost = a.cost + made (chess d) B t;
+          through = subst (λ ks. IsThrough ks (a.cost + made (chess d) B t) rest ts) (append_nil keys) (further keys [] a.cost some a.through);
+          searched = after;
+        }
+
+  -- none is left
+  pub all_keyed : {T0 T : SetRows} {ts rest : List Move} {u0 u : ℕ} (keys : List KeyTry) → rest ≡ [] → ts ≡ tries (chess d) B → IsKeying T0 T ts rest keys u0 u
+      → (keys ≡ key_tries d j B) × IsSearched d cut (CoversTries (chess d) B j) (later_price d (B, j)) T0 T u0 u
+  all_keyed {T0 = T0} {T = T} {ts = ts} {rest = rest} {u0 = u0} {u = u} keys none are a = (
+    sym (append_nil keys) ∙ ap (λ xs. keys ++ map (key_try d B) (filter (begins (chess d) j B) xs)) (sym none) ∙ a.joined ∙ ap (λ xs. map (key_try d B) (filter (begins (chess d) j B) xs)) are,
+    subst (λ c. IsSearched d cut (CoversTries (chess d) B j) c T0 T u0 u) (all_taken keys a.cost (subst (λ xs. IsThrough keys a.cost xs ts) none a.through)) a.searched,
+  )
+    where
+      all_taken : (ks : List KeyTry) (cost : ℕ) → IsThrough ks cost [] ts → cost ≡ later_price d (B, j)
+      all_taken [] cost h = absurd (let q : ◌≡◌ {A = Option Move} None (Some m) = h.1 in cc)
+      all_taken (k ∷ ks) cost h = let w = h in let s = ap (λ xs. total (made (chess d) B) (behind (begins (chess d) j B) xs)) are in omega arith
