@@ -339,5 +339,5 @@ def picture(krieg, text, is_folded=False):
     elif kind == "sheet" and not is_folded:
         drawn = sheet_picture(krieg, text)
     else:
-        raise Fault("the input is no text that it draws")
+        raise Fault("the input is not a text that it draws")
     return "\n".join([*drawn, ""])

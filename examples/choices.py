@@ -39,7 +39,7 @@ def choices(number, words):
             found += [square for square in SQUARES if min(file, to_file) <= square[0] <= max(file, to_file)
                       and min(rank, to_rank) <= square[1] <= max(rank, to_rank)]
         else:
-            fail(number, f"{word} is no square")
+            fail(number, f"{word} is not a square")
     return list(dict.fromkeys(found))
 
 
@@ -48,17 +48,17 @@ def board_fault(words):
     ranks = words[0].split("/")
     counts = [sum(int(letter) if letter.isdigit() else 1 for letter in rank) for rank in ranks]
     if len(ranks) == 1:
-        return "this is no position"
+        return "this is not a position"
     if re.search("[^PNBRQKpnbrqk1-8/]", words[0]):
-        return "this is no position: men are P, N, B, R, Q, K and p, n, b, r, q, k"
+        return "this is not a position: men are P, N, B, R, Q, K and p, n, b, r, q, k"
     if len(ranks) != 8:
-        return f"this is no position: the board has {len(ranks)} ranks, and not 8"
+        return f"this is not a position: the board has {len(ranks)} ranks, and not 8"
     for number, count in zip("87654321", counts):
         if count != 8:
-            return f"this is no position: rank {number} has {count} squares"
+            return f"this is not a position: rank {number} has {count} squares"
     if len(words) < 4:
-        return f"this is no position: missing behind the board: {', '.join(FIELDS[len(words) - 1 :])}"
-    return None if len(words) in (4, 6) else "this is no position"
+        return f"this is not a position: missing behind the board: {', '.join(FIELDS[len(words) - 1 :])}"
+    return None if len(words) in (4, 6) else "this is not a position"
 
 
 def read(lines):
@@ -80,9 +80,9 @@ def read(lines):
         elif len(words) == 2 and words[0] in ("side", "dialect"):
             head[words[0]] = words[1]
         else:
-            fail(number, "this is no line of a board")
+            fail(number, "this is not a line of a board")
     if known is None:
-        fail(1, "this is no position")
+        fail(1, "this is not a position")
     first = ["krieg sheet 2", f"dialect {head['dialect']}"] if "dialect" in head else ["krieg sheet 1"]
     return known, rest, hidden, [*first, f"side {head['side']}"], entries
 

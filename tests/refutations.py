@@ -193,7 +193,7 @@ def read_sheet(text):
     lines = text.splitlines()
     dialect = lines.pop(1).split()[1] if lines[0] == "krieg sheet 2" else "wild16"
     if lines[-1] != "end" or lines[2] != f"list {len(lines) - 4}":
-        raise SystemExit("tests/refuter: this is no sheet without tries and words")
+        raise SystemExit("tests/refuter: this is not a sheet without tries and words")
     return dialect, lines[1].split()[1], [rules.read_position(line) for line in lines[3:-1]]
 
 

@@ -26,7 +26,7 @@ CASTLING = {"K": (4, 7, 6, 5), "Q": (4, 0, 2, 3), "k": (60, 63, 62, 61), "q": (6
 
 
 class Fault(Exception):
-    """A text is no position; `kind` says why."""
+    """A text is not a position; `kind` says why."""
 
     def __init__(self, kind):
         super().__init__(kind)
