@@ -12,6 +12,7 @@ mod answer;
 mod boards;
 mod facts;
 mod games;
+mod keys;
 mod moves;
 mod plans;
 mod positions;

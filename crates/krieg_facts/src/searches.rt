@@ -1,6 +1,7 @@
 // Facts of searches of the set of the positions that are listed: what they come to, and the units that they take.
 
 use crate::answer::Answer;
+use crate::keys::say_keys;
 use crate::scene::Scene;
 use crate::stop::Stop;
 use crate::terms::{count_of, halves, number_of, side_of, small_of};
@@ -143,10 +144,11 @@ fn is_one_turn(scene: &Scene) -> Result<bool, Stop> {
     }
 }
 
-/// Answers a question about a search, or about whose turn it is.
+/// Answers a question about a search, about keys, or about whose turn it is.
 pub fn ask(scene: &Scene, mark: &str, given: &str, answer: &mut Answer) -> Result<(), Stop> {
     match mark {
         "one-turn" => answer.yes_or_no(is_one_turn(scene)?),
+        "keys" => say_keys(scene, given, answer),
         _ => ask_search(scene, mark, given, answer),
     }
 }

@@ -69,7 +69,7 @@ pub use Rattle.krieg_split.specs.declared.firsts.Firsts.{Firsts}
 pub use Rattle.krieg_search.specs.Blocks.{TellsBlock, TellsFirst}
 pub use Rattle.krieg_search.specs.Building.{Builds, IsPaidFor, WinsAreBelow, WonBy, edges_for, roots_for, with_root}
 pub use Rattle.krieg_search.specs.Decision.{IsAccount, IsAsked, IsAsking, IsBetween, IsDecision, IsFound, IsLost, IsWon, sets_in}
-pub use Rattle.krieg_search.specs.Laws.{AccountIsBetween}
+pub use Rattle.krieg_search.specs.Laws.{AccountIsBetween, KeysAreWon}
 pub use Rattle.krieg_search.specs.Remainders.{FailsAtOnce, IsPaidUnlessCut, IsRemainder, Leaves}
 pub use Rattle.krieg_search.specs.LostParts.{HasLostPart}
 pub use Rattle.krieg_search.specs.Notes.{AreNotes, IsBlock, IsLostPart, IsRow, NoteState, Rows, items_of, notes_in, same_asked}

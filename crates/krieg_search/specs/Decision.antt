@@ -57,11 +57,13 @@ module _ (d : Dialect) (who : Side) (S : List Pos) (n : ℕ) where
     pub tells : TellsSets d T (accounts.opening_sets (chess d) (outset d who) S) n a.all_win
     pub left : ℕ
     pub taken : left + first_made (chess d) (outset d who) S ≡ had
-    pub stretch : IsStretch (chess d) cut (CoversSets (chess d) (accounts.opening_sets (chess d) (outset d who) S) n) 0 [] (entries T) left has
+    pub stretch : IsStretch (chess d) cut (CoversSets (chess d) (accounts.opening_sets (chess d) (outset d who) S) n) 0
+        [] (entries T) left has
 
   -- the same, or some listed position is over, or units or memory were wanting
   abbrev pub IsAsking : Bool → SetRows → Result (Option Outlook) SearchStop → ℕ → ℕ → Type 0
-  IsAsking cut T (Ok None) had has = (list_any (is_over (chess d) (outset d who)) S ≡ true) × (has + first_made (chess d) (outset d who) S ≡ had)
+  IsAsking cut T (Ok None) had has =
+      (list_any (is_over (chess d) (outset d who)) S ≡ true) × (has + first_made (chess d) (outset d who) S ≡ had)
   IsAsking cut T (Ok (Some a)) had has = IsAsked cut T a had has
   IsAsking cut T (Err Spent) had has = (had < fresh (chess d) (outset d who) n S) × (has ≤ had)
   IsAsking cut T (Err Large) had has = ⊥

@@ -17,7 +17,7 @@ use crate::stop::SearchStop;
 use crate::way::Way;
 use krieg_board::{Move, NoMemory, Side, Units};
 use krieg_pack::Belief;
-use krieg_words::{Dialect, Words};
+use krieg_words::Words;
 use std::alloc::Global;
 
 /// A key: a try with which as few moves are enough as with any.
@@ -150,32 +150,26 @@ fn keys_by(
 }
 
 /// All keys: for each thing that may be heard before the first own turn, the least number of own moves within which the side `who` mates,
-/// and each try with which it does so, as the umpire tells games in the dialect. `None` comes exactly where `find` gives none.
+/// and each try with which it does so, as the umpire tells games in the dialect of the way. `None` comes exactly where `find` gives none.
 ///
 /// The first try of the best plan is the first key. Of each opening set the tries before it begin no win, as the search for the plan has
 /// found; each behind it is tried with the least number of moves.
 ///
-/// The search may cut tries, as `find` does. An answer takes at most what is fresh, and `Spent` comes only where fewer units are left than
+/// Where the way says so, tries may be cut, as by `find`: the keys are the same. An answer takes at most what is fresh, and `Spent` comes only where fewer units are left than
 /// are fresh. It takes none, and neither does `NoMemory`. `Large` never comes.
 ///
 /// No other moves, positions and sides may be asked for than by `find`.
 pub fn find_keys(
-    alloc: Global,
-    d: Dialect,
+    way: Way,
     who: Side,
     b: &Belief,
     moves: u8,
     units: &mut Units,
 ) -> Result<KeyAnswer, SearchStop>
     requires turn { IsOwnTurn who b.now ⊎ IsOthersTurn who b.now }
-    ensures answer { IsKeyAnswer d who b.now moves result }
-    ensures units { IsWithinFresh d who b.now moves result units.old units.new }
+    ensures answer { IsKeyAnswer way.d who b.now moves result }
+    ensures units { IsWithinFresh way.d who b.now moves result units.old units.new }
 {
-    let way = Way {
-        alloc,
-        d,
-        cut: true,
-    };
     let mut search = new_search(way, 0, units.left());
     let answer = keys_by(&mut search, way, who, b, moves)?;
     *units = search.units;

@@ -28,8 +28,8 @@
 //!
 //! `find_keys` tells of each opening set not one try that wins with the fewest moves, but all (`keys`, `set_keys`): read `KeyTries` in
 //! `specs/`. It first asks for the openings as `decide` does. Of a set that is won within its least number, the tries before the stored one
-//! begin no win, so only those behind it are left to be split, and these with that number. So no try of a pair is split twice, and all fits into
-//! what is fresh: `SetKeys` has what the later tries take. Two openings may have the same set, whose keys are looked for once.
+//! begin no win, so only those behind it are left to be split, and these with that number. So no try of a pair is split twice, and all
+//! fits into what is fresh: `SetKeys` has what the later tries take. Two openings may have the same set, whose keys are looked for once.
 //!
 //! Who goes on by what a search leaves, as krieg_refute does, calls `decide` itself: it gives the table and the openings,
 //! whatever the answer. `left_by` makes one split of it again, and `number_of` finds the number of a part. `decide` also
