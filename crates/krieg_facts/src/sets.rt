@@ -5,7 +5,7 @@ use crate::scene::Scene;
 use crate::stop::Stop;
 use crate::terms::{count_of, halves};
 use krieg_board::{NoMemory, Position};
-use krieg_pack::{Belief, Packed, order, pack, trim, unpack};
+use krieg_pack::{Belief, KeptSet, Packed, order, pack, trim, unpack};
 use std::cmp::Ordering;
 
 /// The bytes of a packed position.
@@ -56,6 +56,22 @@ fn say_set(scene: &Scene, b: &Belief, answer: &mut Answer) -> Result<(), Stop> {
     }
 }
 
+/// The members of a set that was kept and opened again, where another one of the same set is equal, and how it was kept.
+fn say_kept(scene: &Scene, b: Belief, answer: &mut Answer) -> Result<(), Stop> {
+    let other = KeptSet::of(b.copy()?);
+    let kept = KeptSet::of(b);
+    if kept != other {
+        return Err(Stop::Unread);
+    }
+    let form: &[u8] = if kept.listed().is_some() {
+        b"list"
+    } else {
+        b"squares"
+    };
+    say_members(scene, &kept.open(scene.alloc)?, answer)?;
+    answer.word(form)
+}
+
 /// Adds the list to the buffer so many times.
 fn add_times(list: &[Position], times: u32, buffer: &mut Vec<Packed>) -> Result<(), NoMemory> {
     for _ in 0..times {
@@ -90,6 +106,7 @@ pub fn ask(scene: &Scene, mark: &str, given: &str, answer: &mut Answer) -> Resul
         "the-set" => say_set(scene, &scene.belief()?, answer),
         "holds" => answer.yes_or_no(scene.belief()?.holds(&scene.position_of(given)?)),
         "same-set" => answer.yes_or_no(scene.belief()?.same(&scene.set_of(given)?)),
+        "kept" => say_kept(scene, scene.belief()?, answer),
         "trims" => say_trims(scene, given, answer),
         _ => Err(Stop::Unread),
     }

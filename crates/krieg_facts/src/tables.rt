@@ -58,7 +58,8 @@ fn say_noted(table: &mut Table, id: u32, text: &str, answer: &mut Answer) -> Res
 /// The members of the set with that number.
 fn say_row(scene: &Scene, table: &Table, id: u32, answer: &mut Answer) -> Result<(), Stop> {
     if (id as usize) < table.len() {
-        say_members(scene, table.belief(id), answer)
+        let opened = table.open(scene.alloc, id)?;
+        say_members(scene, opened.of(table, id), answer)
     } else {
         Err(Stop::Unread)
     }

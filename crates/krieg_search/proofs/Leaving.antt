@@ -16,14 +16,6 @@ no_pair None h = refl
 no_pair (Some x) h = absurd h
 
 module _ (d : Dialect) where
-  -- a try that stalemates in some member
-  pub fails_by_stalemate : (B : List Pos) (t : Move) (j : ℕ) → 0 < j → stale_in_some (chess d) B t ≡ true → FailsAtOnce d false B t j
-  fails_by_stalemate B t zero pos s = absurd (omega arith)
-  fails_by_stalemate B t (suc i) pos s = record {
-    fails = begins_stale (chess d) (chess_is_game d) i B t s;
-    no_pair = λ c. no_pair (block_pair (chess d) (suc i) B t) (blocked_stale (chess d) (chess_is_game d) (λ q. ⊥) i B t s);
-  }
-
   -- a try that does not mate with the last move
   pub fails_by_life : (B : List Pos) (t : Move) → SomeLives d B t → FailsAtOnce d false B t 1
   fails_by_life B t s = record {
@@ -38,33 +30,11 @@ module _ (d : Dialect) where
     no_pair = λ c. absurd (both_ways cut c may);
   }
 
-  -- a try that takes what its split takes
-  pub paid_as_split : (cut : Bool) (r : Result (Option Remainder) PartStop) (cost old new : ℕ) → IsPaid r cost old new → IsPaidUnlessCut cut r cost old new
-  paid_as_split cut (Ok o) cost old new e = inl e
-  paid_as_split cut (Err e) cost old new h = h
-
   -- what is left where tries may not be cut is left where they may
   pub left_more : {E : Type 0} (cut : Bool) (B : List Pos) (t : Move) (j : ℕ) (r : Result (Option Remainder) E) → IfOk r (IsRemainder d false B t j) → IfOk r (IsRemainder d cut B t j)
   left_more cut B t j (Ok None) f = record { fails = f.fails; no_pair = λ c. f.no_pair refl }
   left_more cut B t j (Ok (Some l)) a = a
   left_more cut B t j (Err e) a = tt
-
-  -- one that mates wherever it is legal
-  pub leaves_refused : (B : List Pos) (t : Move) (l : Remainder) (rest : List Pos) → l.classes.items ≡ [] → l.refused ≡ rest → AllMate d B t rest → Leaves d B t 1 l
-  leaves_refused B t l rest none is a = record {
-    none_lives = λ e. a.none_lives;
-    none_stale = a.none_stale;
-    classes_part = ap (map class_pair) none ∙ ap (map (λ (key : Key). (key, class (chess d) B t key))) (sym a.no_keys);
-    refused_part = is ∙ a.refused_part;
-  }
-
-  pub leaves_parts : (B : List Pos) (t : Move) (j : ℕ) (l : Remainder) (p : Parted) → l.classes.items ≡ p.classes.items → l.refused ≡ p.refused → p.stale ≡ false → IsParted d B t p → (j ≡ 1 → ⊥) → Leaves d B t j l
-  leaves_parts B t j l p same is none a more = record {
-    none_lives = λ e. absurd (more e);
-    none_stale = sym a.stale_part ∙ none;
-    classes_part = ap (map class_pair) same ∙ a.classes_part;
-    refused_part = is ∙ a.refused_part;
-  }
 
   -- the sets of the classes are those of the keys that occur
   pub sets_are : (B : List Pos) (t : Move) (cs : List Class) → map class_pair cs ≡ map (λ key. (key, class (chess d) B t key)) (keys (chess d) B t) → sets_of cs ≡ classes (chess d) B t
