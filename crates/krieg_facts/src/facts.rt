@@ -12,7 +12,7 @@ use krieg_table::Table;
 use std::alloc::Global;
 
 /// How many facts there are where all hold, or the number of the first line that does not.
-pub enum Found {
+pub enum Progress {
     Facts(u64),
     Wrong(u64),
 }
@@ -133,19 +133,19 @@ impl Trial {
 }
 
 /// Goes through the lines, up to the first that does not hold.
-fn judge_by(trial: &mut Trial, text: &str) -> Result<Found, Stop> {
+fn judge_by(trial: &mut Trial, text: &str) -> Result<Progress, Stop> {
     let mut number = 1u64;
     for line in text.split('\n') {
         if !trial.take(line)? {
-            return Ok(Found::Wrong(number));
+            return Ok(Progress::Wrong(number));
         }
         number = number.saturating_add(1);
     }
-    Ok(Found::Facts(trial.facts))
+    Ok(Progress::Facts(trial.facts))
 }
 
 /// How far the facts of a text hold.
-pub fn judge(alloc: Global, text: &str) -> Result<Found, Stop> {
+pub fn judge(alloc: Global, text: &str) -> Result<Progress, Stop> {
     let mut trial = Trial {
         layer: Layer::Boards,
         scene: Scene::new(alloc)?,

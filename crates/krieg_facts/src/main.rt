@@ -28,7 +28,7 @@ mod terms;
 mod texts;
 mod words;
 
-use facts::{Found, judge};
+use facts::{Progress, judge};
 use std::process::ExitCode;
 use std::{env, fs, io};
 
@@ -52,7 +52,7 @@ impl Ending {
 }
 
 /// What the file holds, where it can be read and memory is found.
-fn found_in(rt: &HostRuntime, name: &str) -> Option<Found> {
+fn found_in(rt: &HostRuntime, name: &str) -> Option<Progress> {
     let text = fs::read_to_string(rt, name).ok()?;
     judge(rt.alloc(), text.as_str()).ok()
 }
@@ -60,11 +60,11 @@ fn found_in(rt: &HostRuntime, name: &str) -> Option<Found> {
 /// Prints what comes of a file.
 fn tell(rt: &HostRuntime, name: &str) -> io::Result<Ending> {
     match found_in(rt, name) {
-        Some(Found::Facts(count)) => {
+        Some(Progress::Facts(count)) => {
             println!(rt; "{name}: {count} facts hold")?;
             Ok(Ending::AllHold)
         }
-        Some(Found::Wrong(line)) => {
+        Some(Progress::Wrong(line)) => {
             println!(rt; "{name}: line {line} does not hold")?;
             Ok(Ending::SomeFail)
         }

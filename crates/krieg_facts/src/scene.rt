@@ -16,7 +16,7 @@ const START: &[u8] = b"rnbqkbnr/pppppppp/8/8/8/8/PPPPPPPP/RNBQKBNR w KQkq -";
 
 /// A position that has a name.
 #[derive(Drop)]
-struct Named {
+struct NamedPosition {
     name: String,
     position: Position,
 }
@@ -29,7 +29,7 @@ pub struct Scene {
     /// The board, which may lack kings.
     pub bits: Bits,
     pub position: Position,
-    named: Vec<Named>,
+    named: Vec<NamedPosition>,
     /// Positions in any order, perhaps with repeats.
     pub list: Vec<Position>,
 }
@@ -121,7 +121,7 @@ impl Scene {
         let (name, fen) = first_word(text);
         let position = read_position(fen.as_bytes())?;
         let name = String::from_str(self.alloc, name)?;
-        Ok(self.named.push(Named { name, position })?)
+        Ok(self.named.push(NamedPosition { name, position })?)
     }
 
     fn set_position(&mut self, text: &str) -> Result<(), Stop> {

@@ -13,7 +13,7 @@ use krieg_search::{Answer as Solved, SearchStop, find, has_one_turn, solve};
 
 /// What a search comes to.
 #[derive(Clone, Copy, PartialEq, Eq)]
-enum Came {
+enum SearchResult {
     Mates(u8),
     None,
     Spent,
@@ -21,7 +21,7 @@ enum Came {
 }
 
 /// What a search comes to, and the units that it takes.
-type Outcome = (Came, u64);
+type Outcome = (SearchResult, u64);
 
 /// Which call searches.
 #[derive(Clone, Copy)]
@@ -39,12 +39,12 @@ struct Task {
     nodes: usize,
 }
 
-fn came_of(answer: Result<Solved, SearchStop>) -> Result<Came, Stop> {
+fn came_of(answer: Result<Solved, SearchStop>) -> Result<SearchResult, Stop> {
     match answer {
-        Ok(Solved::Mates { worst, .. }) => Ok(Came::Mates(worst)),
-        Ok(Solved::None) => Ok(Came::None),
-        Err(SearchStop::Spent) => Ok(Came::Spent),
-        Err(SearchStop::Large) => Ok(Came::Large),
+        Ok(Solved::Mates { worst, .. }) => Ok(SearchResult::Mates(worst)),
+        Ok(Solved::None) => Ok(SearchResult::None),
+        Err(SearchStop::Spent) => Ok(SearchResult::Spent),
+        Err(SearchStop::Large) => Ok(SearchResult::Large),
         Err(SearchStop::NoMemory) => Err(Stop::Memory),
     }
 }
@@ -73,14 +73,14 @@ fn search(scene: &Scene, task: Task, b: &Belief, most: u64) -> Result<Outcome, S
 
 /// What the search comes to with what is fresh, where it takes units from the floor on; with just so many comes to
 /// the same; and with one less, and with less than the floor, is spent and takes none.
-fn came_between(scene: &Scene, task: Task, floor: u64, fresh: u64) -> Result<Came, Stop> {
+fn came_between(scene: &Scene, task: Task, floor: u64, fresh: u64) -> Result<SearchResult, Stop> {
     let b = &scene.belief()?;
     let enough = search(scene, task, b, fresh)?;
     let (came, took) = enough;
     let is_exact = floor <= took && search(scene, task, b, took)? == enough;
     let few = search(scene, task, b, took.saturating_sub(1))?;
     let fewer = search(scene, task, b, floor.saturating_sub(1))?;
-    if is_exact && few == (Came::Spent, 0) && fewer == few {
+    if is_exact && few == (SearchResult::Spent, 0) && fewer == few {
         Ok(came)
     } else {
         Err(Stop::Unread)
@@ -101,15 +101,15 @@ fn task_of(call: Call, text: &str) -> Result<(Task, &str), Stop> {
     Ok((task, rest))
 }
 
-fn say_came(came: Came, answer: &mut Answer) -> Result<(), Stop> {
+fn say_came(came: SearchResult, answer: &mut Answer) -> Result<(), Stop> {
     match came {
-        Came::Mates(worst) => {
+        SearchResult::Mates(worst) => {
             answer.put(b"mates ")?;
             answer.digits(u64::from(worst))
         }
-        Came::None => answer.put(b"no plan"),
-        Came::Spent => answer.put(b"spent"),
-        Came::Large => answer.put(b"large"),
+        SearchResult::None => answer.put(b"no plan"),
+        SearchResult::Spent => answer.put(b"spent"),
+        SearchResult::Large => answer.put(b"large"),
     }
 }
 

@@ -29,6 +29,8 @@ pub fn unfolding_plans()
     ensures shared { unfold_plan {R = ℕ} nodes ((0, 2) ∷ [])
         ≡ (0, Try 0 Nothing (Edge 0 either (Edge 1 either NoEdges))) ∷ [] }
     ensures to_no_node { unfold_plan {R = ℕ} nodes ((0, 3) ∷ (1, 1) ∷ []) ≡ (1, either) ∷ [] }
-    ensures mates { mates toy toy_start (unfold_plan {R = ℕ} nodes ((0, 2) ∷ [])) (2 ∷ []) 2 ≡ true }
-    ensures not_sooner { mates toy toy_start (unfold_plan {R = ℕ} nodes ((0, 2) ∷ [])) (2 ∷ []) 1 ≡ false }
+    ensures mates { mates toy toy_start (unfold_plan {R = ℕ} nodes ((0, 2) ∷ [])) (2 ∷ []) 2
+        ≡ true }
+    ensures not_sooner { mates toy toy_start (unfold_plan {R = ℕ} nodes ((0, 2) ∷ [])) (2 ∷ []) 1
+        ≡ false }
 {}

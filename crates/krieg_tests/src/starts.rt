@@ -12,12 +12,12 @@ const SESSION: &str = "krieg session 1\nstart 1k6/8/1K6/8/8/8/8/7R w - -\nw e2\n
 
 /// The words that a system gives, the program's name first, and its files.
 #[derive(Drop)]
-struct Given<'a> {
+struct System<'a> {
     words: &'a [&'a [u8]],
     files: &'a HostRuntime,
 }
 
-impl Files for Given<'_> {
+impl Files for System<'_> {
     type File = File;
 
     type Dir = <HostRuntime as Files>::Dir;
@@ -63,7 +63,7 @@ impl Files for Given<'_> {
     }
 }
 
-impl Env for Given<'_> {
+impl Env for System<'_> {
     fn arg(&self, i: usize, buf: &mut [u8]) -> Result<usize, FillError> {
         let Some(word) = self.words.get(i) else {
             return Err(FillError::NotPresent);
@@ -108,7 +108,7 @@ fn starts(
         return false;
     };
     let mut input = MemSource::new(bytes, 1000, Vec::new(alloc));
-    let given = (Given { words, files: rt }, alloc);
+    let given = (System { words, files: rt }, alloc);
     let ended = start(&given, &mut input, &mut out, &mut err);
     ended == status && out.bytes() == answer.as_bytes() && err.bytes() == line.as_bytes()
 }

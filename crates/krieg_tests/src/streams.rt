@@ -94,7 +94,7 @@ fn a_failed_read_leaves_the_rest_to_be_read(rt: HostRuntime) {
 
 /// A sink with so many places, how much it takes at a call, the call that fails, whether the text is written, and what the sink
 /// has then.
-struct Written {
+struct WriteRow {
     room: usize,
     piece: usize,
     fails: u64,
@@ -103,7 +103,7 @@ struct Written {
 }
 
 /// Whether the text is written so.
-fn is_written(alloc: Global, row: &Written) -> bool {
+fn is_written(alloc: Global, row: &WriteRow) -> bool {
     let (Ok(space), Ok(fails)) = (vec![in alloc; 0u8; row.room], vec![in alloc; row.fails]) else {
         return false;
     };
@@ -111,50 +111,50 @@ fn is_written(alloc: Global, row: &Written) -> bool {
     write_all(&mut sink, TEXT) == row.outcome && sink.bytes() == row.got
 }
 
-static WRITTEN: [Written; 7] = [
-    Written {
+static WRITTEN: [WriteRow; 7] = [
+    WriteRow {
         room: 100,
         piece: 100,
         fails: 0,
         outcome: Ok(()),
         got: b"krieg plan 1\n",
     },
-    Written {
+    WriteRow {
         room: 13,
         piece: 1,
         fails: 0,
         outcome: Ok(()),
         got: b"krieg plan 1\n",
     },
-    Written {
+    WriteRow {
         room: 100,
         piece: 100,
         fails: 1,
         outcome: Err(WriteFault),
         got: b"",
     },
-    Written {
+    WriteRow {
         room: 100,
         piece: 1,
         fails: 4,
         outcome: Err(WriteFault),
         got: b"kri",
     },
-    Written {
+    WriteRow {
         room: 3,
         piece: 100,
         fails: 0,
         outcome: Err(WriteFault),
         got: b"kri",
     },
-    Written {
+    WriteRow {
         room: 3,
         piece: 2,
         fails: 0,
         outcome: Err(WriteFault),
         got: b"kri",
     },
-    Written {
+    WriteRow {
         room: 0,
         piece: 100,
         fails: 0,

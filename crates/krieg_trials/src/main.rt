@@ -2,8 +2,8 @@
 //! hold.
 //!
 //! A case says line by line what a run is given and what must come of it. `docs/CASES.md` has the marks with which
-//! these lines begin. `given` gathers what the next run gets: its text, how its streams behave (`stream`), who plays
-//! (`player`), and plans that are too long to be written out (`made`). `running` makes the run, and `came` compares
+//! these lines begin. `run_input` gathers what the next run gets: its text, how its streams behave (`stream`), who plays
+//! (`player`), and plans that are too long to be written out (`made`). `running` makes the run, and `run_result` compares
 //! what it came to, page by page (`page`). `trial` goes through the lines of a file.
 //!
 //! ```
@@ -19,11 +19,11 @@
 //! ```
 #![tactic(auto)]
 
-mod came;
-mod given;
 mod made;
 mod page;
 mod player;
+mod run_input;
+mod run_result;
 mod running;
 mod stream;
 mod trial;
@@ -33,7 +33,7 @@ use std::env::Env;
 use std::fs::{File, Files};
 use std::process::ExitCode;
 use std::{env, fs};
-use trial::{Found, judge};
+use trial::{Progress, judge};
 
 /// The most bytes of a file.
 const MOST_BYTES: usize = 20_000_000;
@@ -65,8 +65,8 @@ fn judge_file<R: Files<File = File> + Print + AllocGlobal>(
 ) -> Result<bool, Stop> {
     let text = text_of(rt, name)?;
     let (printed, holds) = match judge(rt.alloc(), text.as_str()) {
-        Ok(Found::Runs(runs)) => (println!(rt; "{name}: {runs} runs hold"), true),
-        Ok(Found::Wrong(line)) => (println!(rt; "{name}: line {line} does not hold"), false),
+        Ok(Progress::Runs(runs)) => (println!(rt; "{name}: {runs} runs hold"), true),
+        Ok(Progress::Wrong(line)) => (println!(rt; "{name}: line {line} does not hold"), false),
         Err(_) => return Err(Stop::Unread),
     };
     if printed.is_err() {

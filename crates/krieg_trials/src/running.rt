@@ -1,8 +1,8 @@
 // The run itself, and what the seats said and heard.
 
-use crate::came::Came;
-use crate::given::Given;
 use crate::player::{Manner, following, forgetful, scripted, sending};
+use crate::run_input::RunInput;
+use crate::run_result::RunResult;
 use krieg_board::{NoMemory, Side};
 use krieg_cli::{Bench, run, run_find};
 use krieg_fen::write_move;
@@ -53,8 +53,8 @@ fn seats_of(alloc: Global, bench: &Bench) -> Result<Vec<u8>, NoMemory> {
 }
 
 /// Runs the words with what is given. Those behind the word `find` are words of the program `krieg_find`.
-pub fn come(alloc: Global, words: &[String], given: Given) -> Result<Came, NoMemory> {
-    let Given {
+pub fn come(alloc: Global, words: &[String], given: RunInput) -> Result<RunResult, NoMemory> {
+    let RunInput {
         text,
         input,
         out,
@@ -92,7 +92,7 @@ pub fn come(alloc: Global, words: &[String], given: Given) -> Result<Came, NoMem
     if dismisses {
         bench.dismiss();
     }
-    Ok(Came::of(
+    Ok(RunResult::of(
         status,
         read,
         out.inner.bytes().to_vec(alloc)?,

@@ -1,7 +1,7 @@
 // A file of cases, whose lines are taken one after another.
 
-use crate::came::Came;
-use crate::given::{Given, Taken, add_lines, counted};
+use crate::run_input::{LineResult, RunInput, add_lines, counted};
+use crate::run_result::RunResult;
 use crate::running::come;
 use krieg_board::NoMemory;
 use std::alloc::Global;
@@ -9,7 +9,7 @@ use std::mem;
 
 /// How far the lines hold.
 #[derive(Clone, Copy)]
-pub enum Found {
+pub enum Progress {
     /// All of them, with so many runs.
     Runs(u64),
     /// The line of this number is the first that does not hold.
@@ -21,8 +21,8 @@ pub enum Found {
 struct Trial {
     /// Lines that the runs of the case may be given again and again.
     kept: Vec<u8>,
-    given: Given,
-    came: Came,
+    given: RunInput,
+    came: RunResult,
 }
 
 /// The words behind the mark of a line: single spaces part them, so that a word may be empty.
@@ -38,8 +38,8 @@ impl Trial {
     fn new(alloc: Global) -> Trial {
         Trial {
             kept: Vec::new(alloc),
-            given: Given::new(alloc),
-            came: Came::new(alloc),
+            given: RunInput::new(alloc),
+            came: RunResult::new(alloc),
         }
     }
 
@@ -59,7 +59,7 @@ impl Trial {
     fn run(&mut self, alloc: Global, line: &str) -> Result<bool, NoMemory> {
         let is_told = self.came.is_told();
         let words = words_of(alloc, line)?;
-        let given = mem::replace(&mut self.given, Given::new(alloc));
+        let given = mem::replace(&mut self.given, RunInput::new(alloc));
         self.came = come(alloc, &words, given)?;
         Ok(is_told)
     }
@@ -88,10 +88,10 @@ impl Trial {
             "in-again" => self.given.text.extend_from_slice(self.came.input())?,
             _ => {
                 let taken = match self.came.take(line) {
-                    Taken::Other => self.given.take(alloc, mark, text)?,
+                    LineResult::Other => self.given.take(alloc, mark, text)?,
                     taken => taken,
                 };
-                return Ok(taken == Taken::Holds);
+                return Ok(taken == LineResult::Holds);
             }
         }
         Ok(true)
@@ -100,13 +100,13 @@ impl Trial {
 
 /// Takes the lines of the text, up to the first that does not hold. A last case that is not done does not hold behind
 /// the last line.
-pub fn judge(alloc: Global, text: &str) -> Result<Found, NoMemory> {
+pub fn judge(alloc: Global, text: &str) -> Result<Progress, NoMemory> {
     let mut trial = Trial::new(alloc);
     let mut runs = 0u64;
     let mut number = 1u64;
     for line in text.split('\n') {
         if !trial.take(alloc, line)? {
-            return Ok(Found::Wrong(number));
+            return Ok(Progress::Wrong(number));
         }
         if line.starts_with("run") {
             runs = runs.saturating_add(1);
@@ -114,8 +114,8 @@ pub fn judge(alloc: Global, text: &str) -> Result<Found, NoMemory> {
         number = number.saturating_add(1);
     }
     Ok(if trial.is_done() {
-        Found::Runs(runs)
+        Progress::Runs(runs)
     } else {
-        Found::Wrong(number)
+        Progress::Wrong(number)
     })
 }

@@ -18,13 +18,13 @@ use std::marker::Model;
 
 /// Where a game began, and the opponent's moves in it, of which the last stands first.
 #[derive(Drop)]
-struct Traced {
+struct Trace {
     start: Position,
     replies: Vec<Move>,
 }
 
 /// Reads the game with that number backwards, link by link, until it comes to a start.
-fn trace(alloc: Global, starts: &Belief, links: &[Link], number: usize) -> Result<Traced, NoMemory>
+fn trace(alloc: Global, starts: &Belief, links: &[Link], number: usize) -> Result<Trace, NoMemory>
     requires grounded { Grounded (length starts.now) links.now }
     requires number { number < length starts.now + length links.now }
     ensures start { IfOk result (λ t. t.start ≡ (numbered_tale starts.now links.now number).start) }
@@ -41,7 +41,7 @@ fn trace(alloc: Global, starts: &Belief, links: &[Link], number: usize) -> Resul
         replies.push(link.reply)?;
         at = link.before;
     }
-    Ok(Traced {
+    Ok(Trace {
         start: starts.get(at),
         replies,
     })

@@ -8,7 +8,7 @@ use std::alloc::Global;
 
 /// What comes of a line of a case.
 #[derive(Clone, Copy, PartialEq, Eq)]
-pub enum Taken {
+pub enum LineResult {
     /// It holds.
     Holds,
     /// It does not hold, or has not the form of its mark.
@@ -17,15 +17,19 @@ pub enum Taken {
     Other,
 }
 
-impl From<bool> for Taken {
-    fn from(holds: bool) -> Taken {
-        if holds { Taken::Holds } else { Taken::Fails }
+impl From<bool> for LineResult {
+    fn from(holds: bool) -> LineResult {
+        if holds {
+            LineResult::Holds
+        } else {
+            LineResult::Fails
+        }
     }
 }
 
 /// What a run gets.
 #[derive(Drop)]
-pub struct Given {
+pub struct RunInput {
     pub text: Vec<u8>,
     pub input: Setting,
     pub out: Setting,
@@ -50,10 +54,10 @@ pub fn counted(text: &str) -> Option<(usize, &str)> {
     Some((number.parse::<usize>().ok()?, rest))
 }
 
-impl Given {
+impl RunInput {
     /// Nothing is given, nobody plays, and no stream fails.
-    pub fn new(alloc: Global) -> Given {
-        Given {
+    pub fn new(alloc: Global) -> RunInput {
+        RunInput {
             text: Vec::new(alloc),
             input: Setting::new(alloc, 7, 0),
             out: Setting::new(alloc, 1_000, 100_000),
@@ -116,8 +120,13 @@ impl Given {
     }
 
     /// Takes a line that says who plays.
-    fn take_player(&mut self, alloc: Global, mark: &str, text: &str) -> Result<Taken, NoMemory> {
-        Ok(Taken::from(match mark {
+    fn take_player(
+        &mut self,
+        alloc: Global,
+        mark: &str,
+        text: &str,
+    ) -> Result<LineResult, NoMemory> {
+        Ok(LineResult::from(match mark {
             "white" => self.add_player(alloc, Side::White, text)?,
             "black" => self.add_player(alloc, Side::Black, text)?,
             "send" | "send-part" | "seat-fails" => self.add_to_player(mark, text)?,
@@ -125,25 +134,25 @@ impl Given {
                 self.dismisses = true;
                 true
             }
-            _ => return Ok(Taken::Other),
+            _ => return Ok(LineResult::Other),
         }))
     }
 
     /// Takes a line that gives something to the next run.
-    pub fn take(&mut self, alloc: Global, mark: &str, text: &str) -> Result<Taken, NoMemory> {
+    pub fn take(&mut self, alloc: Global, mark: &str, text: &str) -> Result<LineResult, NoMemory> {
         match mark {
             "in" => add_lines(1, text, &mut self.text)?,
             "in-part" => self.text.extend_from_slice(text.as_bytes())?,
             "in-return" => self.add_return(text)?,
             "in-many" | "in-leaves" | "in-bushes" => {
-                return Ok(Taken::from(match counted(text) {
+                return Ok(LineResult::from(match counted(text) {
                     Some((count, rest)) => self.add_many(mark, count, rest)?,
                     None => false,
                 }));
             }
-            "set" => return Ok(Taken::from(self.set(text)?)),
+            "set" => return Ok(LineResult::from(self.set(text)?)),
             _ => return self.take_player(alloc, mark, text),
         }
-        Ok(Taken::Holds)
+        Ok(LineResult::Holds)
     }
 }

@@ -1,12 +1,12 @@
 // What a run came to, as a case tells it.
 
-use crate::given::{Taken, counted};
 use crate::page::Page;
+use crate::run_input::{LineResult, counted};
 use std::alloc::Global;
 
 /// What a run came to, and how much of it was told.
 #[derive(Drop)]
-pub struct Came {
+pub struct RunResult {
     status: u8,
     /// Whether the status was told. One that is not is 0.
     is_status_told: bool,
@@ -17,16 +17,16 @@ pub struct Came {
     seats: Page,
 }
 
-impl Came {
+impl RunResult {
     /// No run was made.
-    pub fn new(alloc: Global) -> Came {
+    pub fn new(alloc: Global) -> RunResult {
         let none = Vec::new(alloc);
-        Came::of(0, none, Vec::new(alloc), Vec::new(alloc), Vec::new(alloc))
+        RunResult::of(0, none, Vec::new(alloc), Vec::new(alloc), Vec::new(alloc))
     }
 
     /// A run that ended so.
-    pub fn of(status: u8, input: Vec<u8>, out: Vec<u8>, err: Vec<u8>, seats: Vec<u8>) -> Came {
-        Came {
+    pub fn of(status: u8, input: Vec<u8>, out: Vec<u8>, err: Vec<u8>, seats: Vec<u8>) -> RunResult {
+        RunResult {
             status,
             is_status_told: false,
             input,
@@ -80,9 +80,9 @@ impl Came {
     }
 
     /// Takes a line that says what the run came to.
-    pub fn take(&mut self, line: &str) -> Taken {
+    pub fn take(&mut self, line: &str) -> LineResult {
         let (mark, text) = line.split_once(' ').unwrap_or((line, ""));
-        Taken::from(match mark {
+        LineResult::from(match mark {
             "status" => self.tell_status(text),
             "out" => self.out.goes_on(text),
             "out-then" => self.out.comes(text),
@@ -102,7 +102,7 @@ impl Came {
             "err" => self.err.goes_on(text),
             "err-cut" => self.err.ends(text.as_bytes()),
             "sits" | "waits" | "relieved" | "heard" => self.seats.goes_on(line),
-            _ => return Taken::Other,
+            _ => return LineResult::Other,
         })
     }
 }
