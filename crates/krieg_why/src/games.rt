@@ -18,13 +18,18 @@ use std::marker::Model;
 
 /// Where a game began, and the opponent's moves in it, of which the last stands first.
 #[derive(Drop)]
-struct Trace {
+struct GameTrace {
     start: Position,
     replies: Vec<Move>,
 }
 
 /// Reads the game with that number backwards, link by link, until it comes to a start.
-fn trace(alloc: Global, starts: &Belief, links: &[Link], number: usize) -> Result<Trace, NoMemory>
+fn trace(
+    alloc: Global,
+    starts: &Belief,
+    links: &[Link],
+    number: usize,
+) -> Result<GameTrace, NoMemory>
     requires grounded { Grounded (length starts.now) links.now }
     requires number { number < length starts.now + length links.now }
     ensures start { IfOk result (λ t. t.start ≡ (numbered_tale starts.now links.now number).start) }
@@ -41,7 +46,7 @@ fn trace(alloc: Global, starts: &Belief, links: &[Link], number: usize) -> Resul
         replies.push(link.reply)?;
         at = link.before;
     }
-    Ok(Trace {
+    Ok(GameTrace {
         start: starts.get(at),
         replies,
     })
