@@ -61,7 +61,7 @@ pub fn say_keys(scene: &Scene, text: &str, answer: &mut Answer) -> Result<(), St
     let (who, rest) = halves(text, " ")?;
     let (moves, most) = halves(rest, " ")?;
     match search(scene, side_of(who)?, small_of(moves)?, number_of(most)?)? {
-        Ok(KeyAnswer::Progress(keys)) => say_all(&keys, answer),
+        Ok(KeyAnswer::Found(keys)) => say_all(&keys, answer),
         Ok(KeyAnswer::None) => answer.put(b"no plan"),
         Err(SearchStop::Spent) => answer.put(b"spent"),
         Err(SearchStop::Large) => Err(Stop::Unread),

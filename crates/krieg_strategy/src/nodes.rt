@@ -65,14 +65,6 @@ impl Nodes {
         self.slots.len()
     }
 
-    /// How many edges all nodes have together.
-    pub fn edge_count(&self) -> usize
-        ensures value { result ≡ total (λ n. length n.edges) self.now }
-        ensures few { result ≤ MOST_EDGES }
-    {
-        self.edges.len()
-    }
-
     /// The node with that number.
     pub fn get(&self, number: u32) -> StrategyNode<'_>
         requires { number < length self.now }
