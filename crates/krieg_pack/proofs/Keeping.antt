@@ -4,7 +4,7 @@ use Rattle.std.specs.Cmp.Lexicographic.{pointwise}
 use Rattle.krieg_board.proofs.SameTests.{same_tests}
 use Rattle.krieg_pack.proofs.Common.{Pos, position_cmp, position_eq, position_total, same_position, one_man}
 use Rattle.krieg_pack.proofs.Sorting.{pointwise_same, pointwise_self}
-use Rattle.krieg_pack.specs.KeptForm.{IsKept, form_for, set_in}
+use Rattle.krieg_pack.specs.Kept.{IsKept, form_for, set_in}
 use Rattle.krieg_pack.specs.declared.kept.Form.{Form}
 
 -- sets that are kept are the same where their forms are

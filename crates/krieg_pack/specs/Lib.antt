@@ -10,4 +10,3 @@ pub mod OrderLaws
 pub mod Hashing
 pub mod OneMan
 pub mod Kept
-pub mod KeptForm

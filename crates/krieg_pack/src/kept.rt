@@ -30,7 +30,7 @@ pub struct KeptSet {
 impl Model for KeptSet {
     ghost use Rattle.std.specs.Prelude.{List};
     ghost use Rattle.krieg_board.specs.Pos.{Pos};
-    ghost use Rattle.krieg_pack.specs.KeptForm.{IsKept, set_in};
+    ghost use Rattle.krieg_pack.specs.Kept.{IsKept, set_in};
 
     ghost Value = { List Pos };
 
