@@ -6,7 +6,8 @@ use Rattle.std.specs.Cmp.Lexicographic.{pointwise}
 use Rattle.std.specs.Prelude.{Result, is_ok}
 use Rattle.krieg_pack.proofs.Common.{Pos, In, IsOrder, position_cmp, position_eq, position_lt, IsAscending, IsSetOf, set_of, position_total, same_position}
 use Rattle.krieg_theory.proofs.Ascending.{same_set, as_set_ascending, in_as_set, as_set_in}
-use Rattle.krieg_pack.proofs.Sorting.{is_order, sorted_set, found, pointwise_same, pointwise_self}
+use Rattle.krieg_pack.proofs.Sorting.{is_order, sorted_set, found}
+use Rattle.krieg_pack.specs.Kept.{sets_decide}
 use Rattle.krieg_pack.proofs.Counts.{part_le, as_set_early}
 
 -- no position stands before itself, the order is transitive, and of two that differ one stands before the other
@@ -75,7 +76,4 @@ found_position = found position_cmp position_total same_position
 
 -- the test of two sets tells whether they are one list
 pub same_list : (ps qs : List Pos) (b : Bool) → b ≡ pointwise position_eq ps qs → (b ≡ true → ps ≡ qs) × (ps ≡ qs → b ≡ true)
-same_list ps qs b is = (
-  λ e. pointwise_same position_cmp position_total same_position ps qs (sym is ∙ e),
-  λ e. is ∙ ap (pointwise position_eq ps) (sym e) ∙ pointwise_self position_cmp position_total same_position ps,
-)
+same_list ps qs b is = let d = sets_decide ps qs in (λ e. d.0 (sym is ∙ e), λ e. is ∙ d.1 e)

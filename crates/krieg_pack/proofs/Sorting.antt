@@ -4,14 +4,13 @@ use Rattle.std.specs.Prelude.{slice_index_or, Result, Ok, Err, is_ok}
 use Rattle.std.specs.List.{Contains, AllByRecursion, dedup}
 use Rattle.std.specs.List.Sorted.{IsStrictlySortedBy, IsSorted, IsPermutation, IsNonDecreasingBy, IsBinarySearchResult, IsSearchInRange}
 use Rattle.std.specs.Cmp.{IsTotalOrder, Equal-is}
-use Rattle.std.specs.Cmp.Lexicographic.{pointwise}
 use Rattle.std.specs.declared.cmp.Ordering.{Ordering}
 use Rattle.std.specs.declared.cmp.Ordering.TheVariants.{Less, Equal, Greater}
-use Rattle.std.specs.Ordering.{is_lt, is_eq, eq_by_cmp, ordering_reverse, ordering_index, nat_cmp}
+use Rattle.std.specs.Ordering.{is_lt, eq_by_cmp, ordering_reverse, ordering_index, nat_cmp}
 use Rattle.std.proofs.lemmas.Cmp.{tied_itself, eq_by_cmp_equiv, ranked, by_ranked}
 use Rattle.std.proofs.lemmas.List.Kept.{IsStrictlySortedBy-dedup, Contains-dedup, Contains-from_dedup}
 use Rattle.std.proofs.lemmas.List.Sorted.{Contains-permutation, IsPermutation-sym, searchable_from_sorted}
-use Rattle.std.proofs.lemmas.Bool.{both_ways, and_parts, and_from}
+use Rattle.std.proofs.lemmas.Bool.{both_ways}
 use Rattle.krieg_pack.proofs.Common.{In, Ascending, IsOrder, as_set}
 use Rattle.krieg_theory.proofs.Ascending.{less_from, same_set, as_set_ascending, in_as_set, as_set_in, asym}
 use Rattle.krieg_pack.proofs.Membership.{in_at, contains_in, in_contains}
@@ -81,18 +80,3 @@ module _ {X : Type 0} (R : X → X → Ordering) (o : IsTotalOrder R) (same : (x
           let high = λ (b : i ≤ c.0). greater_not (sym (p.1 c.0 x b c.1) ∙ level) in
           by_ranked (c.0 < i) (c.0 ≡ i) (i < c.0) (nat_cmp c.0 i) (ranked c.0 i (nat_cmp c.0 i) refl)
           (λ e a. less_not (sym (p.0 c.0 x (omega arith) a) ∙ level)) (λ e b. high (omega arith)) (λ e b. high (omega arith))
-
-  -- lists that are equal member by member are one list
-  pub pointwise_same : (xs ys : List X) → pointwise (eq_by_cmp R) xs ys ≡ true → xs ≡ ys
-  pointwise_same [] [] h = refl
-  pointwise_same [] (y ∷ ys) h = absurd (both_ways false refl h)
-  pointwise_same (x ∷ xs) [] h = absurd (both_ways false refl h)
-  pointwise_same (x ∷ xs) (y ∷ ys) h =
-      let both = and_parts (eq_by_cmp R x y) (pointwise (eq_by_cmp R) xs ys) h in
-      let first = same x y ((Equal-is (R x y)).0 both.0) in
-      let rest = pointwise_same xs ys both.1 in
-      λ i. first i ∷ rest i
-
-  pub pointwise_self : (xs : List X) → pointwise (eq_by_cmp R) xs xs ≡ true
-  pointwise_self [] = refl
-  pointwise_self (x ∷ xs) = and_from (eq_by_cmp R x x) (pointwise (eq_by_cmp R) xs xs) (ap is_eq (tied_itself o x)) (pointwise_self xs)

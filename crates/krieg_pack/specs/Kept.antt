@@ -28,12 +28,12 @@ fed_as (Some h) ps = fed.u64 h.ones ++ (fed.u64 h.twos ++ (fed.u64 h.fours ++ (f
 unfoldable pub fed_kept : List Pos → fed.HashWrites
 fed_kept ps = fed_as (one_man ps) ps
 
--- sets that compare as the same are, and feed a hasher alike
-pub equal_set : (ps qs : List Pos) → pointwise position_eq ps qs ≡ true → ps ≡ qs
-equal_set ps qs = (pointwise_decides (λ p q. (equal_position p q, λ e. subst (λ r. position_eq p r ≡ true) e (position_equiv.refl p))) ps qs).0
+-- sets compare as the same just where they are, and feed a hasher alike then
+pub sets_decide : (ps qs : List Pos) → (pointwise position_eq ps qs ≡ true → ps ≡ qs) × (ps ≡ qs → pointwise position_eq ps qs ≡ true)
+sets_decide = pointwise_decides (λ p q. (equal_position p q, λ e. subst (λ r. position_eq p r ≡ true) e (position_equiv.refl p)))
 
 pub kept_fed : fed.Alike (pointwise position_eq) fed_kept
-kept_fed = record { fed = λ ps qs e. ap fed_kept (equal_set ps qs e) }
+kept_fed = record { fed = λ ps qs e. ap fed_kept ((sets_decide ps qs).0 e) }
 
 -- the members of a set that is kept in a form
 abbrev pub set_in : Form → List Pos

@@ -4,7 +4,7 @@ use Rattle.std.specs.Cmp.Lexicographic.{pointwise}
 use Rattle.krieg_table.proofs.Common.{Pos, same_list, position_lt, position_cmp, position_eq, position_total, same_position}
 use Rattle.krieg_board.proofs.SameTests.{same_tests}
 use Rattle.krieg_costs.proofs.Pairs.{same_list_eq, same_list_refl}
-use Rattle.krieg_pack.proofs.Sorting.{pointwise_same, pointwise_self}
+use Rattle.krieg_pack.specs.Kept.{sets_decide}
 use Rattle.krieg_pack.proofs.PositionSets.{position_order}
 
 pub one_set : (X B : List Pos) → same_list position_lt X B ≡ true → X ≡ B
@@ -16,5 +16,5 @@ set_itself B = same_list_refl position_lt position_order B
 -- the map's test of a key is that of the definitions
 pub test_is : (B X : List Pos) → pointwise position_eq B X ≡ same_list position_lt X B
 test_is B X = same_tests _ _
-    (λ e. subst (λ (Y : List Pos). same_list position_lt Y B ≡ true) (pointwise_same position_cmp position_total same_position B X e) (set_itself B))
-    (λ e. subst (λ (Y : List Pos). pointwise position_eq B Y ≡ true) (sym (one_set X B e)) (pointwise_self position_cmp position_total same_position B))
+    (λ e. subst (λ (Y : List Pos). same_list position_lt Y B ≡ true) ((sets_decide B X).0 e) (set_itself B))
+    (λ e. (sets_decide B X).1 (sym (one_set X B e)))
