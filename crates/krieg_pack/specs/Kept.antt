@@ -20,18 +20,20 @@ use Rattle.krieg_pack.specs.declared.one_man.OneMan.{OneMan}
 abbrev pub is_listed : List Pos → Bool
 is_listed ps = is_none (one_man ps)
 
--- what it feeds a hasher: its members, or what they have in common, with the places of the one man
+-- its members, or what they have in common, with the places of the one man
 abbrev pub fed_as : Option OneMan → List Pos → fed.HashWrites
 fed_as None ps = fed.slice fed_by ps
 fed_as (Some h) ps = fed.u64 h.ones ++ (fed.u64 h.twos ++ (fed.u64 h.fours ++ (fed.u64 h.eights ++ (fed.u64 h.places ++ (h.rights ∷ h.mark ∷ h.side ∷ h.man ∷ []) ∷ []))))
 
+-- what a set feeds a hasher
 unfoldable pub fed_kept : List Pos → fed.HashWrites
 fed_kept ps = fed_as (one_man ps) ps
 
--- sets compare as the same just where they are, and feed a hasher alike then
+-- sets compare as the same just where they are
 pub sets_decide : (ps qs : List Pos) → (pointwise position_eq ps qs ≡ true → ps ≡ qs) × (ps ≡ qs → pointwise position_eq ps qs ≡ true)
 sets_decide = pointwise_decides (λ p q. (equal_position p q, λ e. subst (λ r. position_eq p r ≡ true) e (position_equiv.refl p)))
 
+-- and feed a hasher alike then
 pub kept_fed : fed.Alike (pointwise position_eq) fed_kept
 kept_fed = record { fed = λ ps qs e. ap fed_kept ((sets_decide ps qs).0 e) }
 

@@ -25,17 +25,19 @@ at h k = record {
   side = h.side;
 }
 
--- the fields of all of them, from the first place on, and the positions themselves
+-- the fields of all of them, from the first place on
 unfoldable pub fields_of : OneMan → List Inside
 fields_of h = gathered (λ k. if has h.places k then at h k ∷ [] else []) 64
 
+-- the positions themselves
 abbrev pub members_of : OneMan → List Pos
 members_of h = map unpacked (fields_of h)
 
--- they are the positions of a list: all fields are the same
+-- all fields are the same
 abbrev pub same_fields : Inside → Inside → Bool
 same_fields k j = k.ones == j.ones && (k.twos == j.twos && (k.fours == j.fours && (k.eights == j.eights && (k.rights == j.rights && (k.mark == j.mark && k.side == j.side)))))
 
+-- they are the positions of a list
 unfoldable pub are : OneMan → List Pos → Bool
 are h ps = pointwise same_fields (fields_of h) (map packed ps)
 
@@ -43,6 +45,7 @@ are h ps = pointwise same_fields (fields_of h) (map packed ps)
 abbrev pub men : ℕ → ℕ → ℕ → ℕ → ℕ
 men ones twos fours eights = bit_or (bit_or ones twos) (bit_or fours eights)
 
+-- those of a position
 abbrev pub men_of : Inside → ℕ
 men_of k = men k.ones k.twos k.fours k.eights
 
