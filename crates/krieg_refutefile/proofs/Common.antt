@@ -14,7 +14,7 @@ pub use Rattle.krieg_text.specs.Formats.{Always, IsReading}
 unfoldable pub use Rattle.krieg_text.specs.Forms.{number_form}
 pub use Rattle.krieg_text.specs.Forms.{ranged, word_form}
 pub use Rattle.krieg_text.specs.Lines.{is_line, lines}
-unfoldable pub use Rattle.krieg_text.specs.Names.{behind}
+unfoldable pub use Rattle.krieg_text.specs.Names.{behind, cut_last}
 pub use Rattle.krieg_text.specs.Names.{cut}
 pub use Rattle.krieg_text.specs.Outcomes.{◌>>=◌}
 pub use Rattle.krieg_text.specs.Reading.{Gives, GivesOn, Place, taken, whole}
@@ -58,8 +58,8 @@ pub use Rattle.krieg_refute.specs.declared.refutation.Refutation.{Refutation}
 pub use Rattle.krieg_refute.specs.declared.refutation.TheConstants.{MOST_CLAIMED, MOST_CLAIMS}
 pub use Rattle.krieg_refute.specs.declared.refutation.Why.{Why}
 pub use Rattle.krieg_refute.specs.declared.refutation.Why.TheVariants.{Class, Lives, Refused, Stale}
-unfoldable pub use Rattle.krieg_refutefile.specs.LineForms.{claim_form, cut_last, reason_form}
-pub use Rattle.krieg_refutefile.specs.LineForms.{both_numbers, citing_form, claim_line, class_form, class_with, numbered, onto_front, place_form, reason_by, reason_line, sizes_by, sizes_form, why_form, why_pieces}
+unfoldable pub use Rattle.krieg_refutefile.specs.LineForms.{claim_form, reason_form}
+pub use Rattle.krieg_refutefile.specs.LineForms.{both_numbers, citing_form, claim_line, class_form, class_with, numbered, place_form, reason_by, reason_line, sizes_by, sizes_form, why_form, why_pieces}
 pub use Rattle.krieg_refutefile.specs.Parts.{AreTold, IsTold, claim_at, claim_lines, claims_at, head_lines, last_in, last_move, list_at, listed_at, member_at, reason_at, reasons_at, set_at, totals_of}
 unfoldable pub use Rattle.krieg_refutefile.specs.RefutationFormat.{SpellsRefutation, refutation_at}
 pub use Rattle.krieg_refutefile.specs.RefutationFormat.{RefutationGrammar, claim_format, claims_format, list_format, none_yet, reasons_format, refutation_format, set_format}

@@ -1,5 +1,4 @@
 mod Common
-mod LastCuts
 mod ClaimLines
 mod ReasonLines
 mod RefutationLaws

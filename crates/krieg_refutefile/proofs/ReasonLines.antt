@@ -19,7 +19,7 @@ use Rattle.krieg_format.proofs.Judged.{IsLine, Sample}
 use Rattle.krieg_format.proofs.Leaves.{formed_law, formed_some}
 use Rattle.krieg_format.proofs.Writing.{IsWritten}
 use Rattle.krieg_refutefile.proofs.ClaimLines.{number_free}
-use Rattle.krieg_refutefile.proofs.LastCuts.{last_spells, last_again}
+use Rattle.krieg_text.proofs.LastCuts.{last_spells, last_again}
 
 -- ---- the place of a claim
 

@@ -1,5 +1,5 @@
 -- The forms of the lines of a claim: what each gives, or the kind of its fault, and how they are written. A space is byte 32.
-use Rattle.std.specs.Prelude.{ℕ, ◌==◌, Bool, true, false, List, [], ◌∷◌, codes, Option, Some, None, Result, Ok, Err, if◌then◌else◌}
+use Rattle.std.specs.Prelude.{ℕ, ◌==◌, List, [], ◌∷◌, codes, Option, Some, None, Result, Ok, Err, if◌then◌else◌}
 use Rattle.std.specs.Str.{bytes_eq}
 use Rattle.krieg_board.specs.declared.limits.TheConstants.{MOST_MOVES}
 use Rattle.krieg_board.specs.declared.men.Move.{Move}
@@ -10,7 +10,7 @@ use Rattle.krieg_text.specs.declared.number.NumberFault.TheVariants.{NotPlain, O
 use Rattle.krieg_text.specs.Decimals.{number_between, number_text}
 use Rattle.krieg_text.specs.Formats.{named}
 use Rattle.krieg_text.specs.Forms.{ranged}
-use Rattle.krieg_text.specs.Names.{behind, cut}
+use Rattle.krieg_text.specs.Names.{behind, cut, cut_last}
 use Rattle.krieg_text.specs.Outcomes.{◌>>=◌}
 use Rattle.krieg_text.specs.Writing.{Pieces}
 use Rattle.krieg_fen.specs.MoveText.{move_of, move_text}
@@ -54,17 +54,6 @@ claim_form line = named (codes "claim ") sizes_form line
 -- length; whether the claim stands before this one is asked of the line afterwards.
 abbrev pub place_form : List ℕ → Result ℕ TextKind
 place_form text = ranged OutOfPlace (number_between text 1 MOST_CLAIMS)
-
--- a byte in front of a text that is cut, or that is cut at this byte if it is to be
-abbrev pub onto_front : ℕ → Option (List ℕ × List ℕ) → List ℕ → Bool → Option (List ℕ × List ℕ)
-onto_front b (Some x) text here = Some (b ∷ x.0, x.1)
-onto_front b None text true = Some ([], text)
-onto_front b None text false = None
-
--- the text up to the last separator, and what stands after that one, where there is one
-unfoldable pub cut_last : ℕ → List ℕ → Option (List ℕ × List ℕ)
-cut_last separator [] = None
-cut_last separator (b ∷ text) = onto_front b (cut_last separator text) text (b == separator)
 
 -- the words of both, and the place
 abbrev pub class_with : Option Key → Result ℕ TextKind → Result Why TextKind

@@ -1,13 +1,13 @@
 ghost use Rattle.std.specs.Prelude.{◌≡◌, ◌≤◌, IfOk, codes};
-ghost use Rattle.std.specs.Option.{option_copied, option_map};
-ghost use Rattle.krieg_text.specs.Names.{behind};
+ghost use Rattle.std.specs.Option.{option_copied};
+ghost use Rattle.krieg_text.specs.Names.{behind, cut_last};
 ghost use Rattle.krieg_refutefile.specs.LineForms as spec;
 
 use krieg_board::{MOST_MOVES, Move};
 use krieg_fen::read_move;
 use krieg_planfile::key_in;
 use krieg_refute::{MOST_CLAIMED, MOST_CLAIMS, PackedKey, Reason, Why};
-use krieg_text::{NumberFault, TextKind, behind, cut, is_name, read_number_between};
+use krieg_text::{NumberFault, TextKind, behind, cut, cut_last, is_name, read_number_between};
 use krieg_words::{Dialect, Words};
 
 /// The number of moves of a claim, and the number of its positions.
@@ -62,16 +62,6 @@ fn place_form(text: &[u8]) -> Result<u64, TextKind>
     }
 }
 
-/// The text up to the last separator, and what stands after that one, where there is one.
-fn cut_last(separator: u8, text: &[u8]) -> Option<(&[u8], &[u8])>
-    ensures { option_map (λ x. (x.0.now, x.1.now)) result ≡ spec.cut_last separator text.now }
-{
-    match text.iter().rposition(|b| *b == separator) {
-        None => None,
-        Some(i) => Some((&text[..i], &text[i + 1..])),
-    }
-}
-
 fn class_with(key: Option<(Words, Words)>, place: Result<u64, TextKind>) -> Result<Why, TextKind>
     requires { IfOk place (λ i. i ≤ MOST_CLAIMS) }
     ensures { result ≡ spec.class_with key place }
@@ -83,7 +73,7 @@ fn class_with(key: Option<(Words, Words)>, place: Result<u64, TextKind>) -> Resu
 }
 
 fn class_form(d: Dialect, text: &[u8]) -> Result<Why, TextKind>
-    ensures { result ≡ spec.class_form d (spec.cut_last 32 text.now) }
+    ensures { result ≡ spec.class_form d (cut_last 32 text.now) }
 {
     match cut_last(b' ', text) {
         None => Err(TextKind::Syntax),

@@ -1,13 +1,12 @@
 -- What a try leaves to be won, by the theory's words.
-use Rattle.std.proofs.Common.{◌≡◌, ℕ, zero, suc, ◌-◌, ◌<◌, Bool, true, false, List, [], map, Option, Some, None, Result, Ok, Err, refl, sym, ap, subst, inl, ◌∙◌, arith}
+use Rattle.std.proofs.Common.{◌≡◌, ℕ, suc, ◌-◌, ◌<◌, Bool, true, false, List, map, Option, Some, None, Result, Ok, Err, refl, sym, ap, subst, ◌∙◌, arith}
 use Rattle.std.specs.Prelude.{IfSome, IfOk}
 use Rattle.std.specs.List.{list_any}
 use Rattle.std.proofs.lemmas.Bool.{cond-true, both_ways}
 use Rattle.std.proofs.lemmas.Simd.{map-map}
-use Rattle.krieg_search.proofs.Common.{Pos, Move, Dialect, stale_in_some, keys, class, begins, block_pair, lives_in_some, pair_of, flees, classes, Key, chess, class_pair, IsParted, SomeLives, AllMate, Parted, sets_of, FailsAtOnce, Leaves, IsRemainder, Remainder, PartStop, IsPaid, IsPaidUnlessCut}
+use Rattle.krieg_search.proofs.Common.{Pos, Move, Dialect, keys, class, begins, lives_in_some, pair_of, flees, classes, Key, chess, class_pair, SomeLives, sets_of, FailsAtOnce, IsRemainder, Remainder}
 use Rattle.krieg_theory.proofs.Seen.{escape_fails}
 use Rattle.krieg_sight.proofs.Theorems.{escapes_is_flees}
-use Rattle.krieg_accounts.proofs.TryEnds.{begins_stale, blocked_stale}
 use Rattle.krieg_game.specs.declared.classes.Class.{Class}
 use Rattle.krieg_game.proofs.ChessLaws.{chess_is_game}
 

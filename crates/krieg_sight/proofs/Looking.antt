@@ -29,10 +29,6 @@ pub not_met_at_last : (j : ℕ) (q : Pos) → j ≡ 0 → is_mate q ≡ false �
 unfolding is_mate is_stalemate is_ended
 not_met_at_last j q z e = subst (λ n. is_met (mates_within n) q ≡ false) (sym z) (last_end (in_check q) (moves q) e)
 
--- a stalemate will not
-pub stalemate_not_met : (less : Pos → Bool) (q : Pos) → is_stalemate q ≡ true → is_met less q ≡ false
-stalemate_not_met less q e = ap (λ b. not b && list_all (λ r. less (after q r)) (moves q)) e
-
 none_left : (less : Pos → Bool) (q : Pos) (rs : List Move) → list_any (λ r. not (less (after q r))) rs ≡ true → list_all (λ r. less (after q r)) rs ≡ false
 none_left less q [] e = absurd (both_ways _ refl e)
 none_left less q (r ∷ rs) e = elim (less (after q r)) as (λ b. (not b || list_any (λ x. not (less (after q x))) rs) ≡ true → (b && list_all (λ x. less (after q x)) rs) ≡ false) [ true ↦ none_left less q rs | false ↦ λ h. refl ] e

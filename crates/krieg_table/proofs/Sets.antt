@@ -1,7 +1,7 @@
 -- Sets of positions as keys of a map: two that compare equal are one.
 use Rattle.std.proofs.Common.{◌≡◌, true, List, sym, subst}
 use Rattle.std.specs.Cmp.Lexicographic.{pointwise}
-use Rattle.krieg_table.proofs.Common.{Pos, same_list, position_lt, position_cmp, position_eq, position_total, same_position}
+use Rattle.krieg_table.proofs.Common.{Pos, same_list, position_lt, position_eq}
 use Rattle.krieg_board.proofs.SameTests.{same_tests}
 use Rattle.krieg_costs.proofs.Pairs.{same_list_eq, same_list_refl}
 use Rattle.krieg_pack.specs.Kept.{sets_decide}

@@ -6,8 +6,8 @@ unfoldable pub use Rattle.krieg_text.specs.Forms.{number_form}
 pub use Rattle.krieg_text.specs.Forms.{number_behind, ranged}
 pub use Rattle.krieg_text.specs.Languages.{Any, Begins, Behind, Language, Many, Nothing, One, Then, UpToLast, ◌⨾◌}
 pub use Rattle.krieg_text.specs.Lines.{AreLines, EndsFull, EndsLines, ended_line, is_line, lines, onto_line, with_ends}
-unfoldable pub use Rattle.krieg_text.specs.Names.{behind}
-pub use Rattle.krieg_text.specs.Names.{cut}
+unfoldable pub use Rattle.krieg_text.specs.Names.{behind, cut_last}
+pub use Rattle.krieg_text.specs.Names.{cut, onto_front}
 pub use Rattle.krieg_text.specs.Outcomes.{◌>>=◌}
 pub use Rattle.krieg_text.specs.OwnedLines.{HaveBytes, behind_line, lines_back}
 pub use Rattle.krieg_text.specs.Pieces.{pieces}

@@ -1,6 +1,7 @@
 mod Common
 pub mod LineCuts
 pub mod PieceCuts
+pub mod LastCuts
 pub mod NameLemmas
 pub mod Numbers
 pub mod Writings

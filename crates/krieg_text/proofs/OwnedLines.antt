@@ -1,5 +1,5 @@
 -- A text that is cut behind a line feed has the lines of its parts.
-use Rattle.std.proofs.Common.{eqb-true, ◌≡◌, ◌≢◌, ◌⊎◌, inl, inr, ℕ, zero, suc, ◌+◌, ◌-◌, ◌<◌, ◌≤◌, Bool, true, false, cond, eqb, List, [], ◌∷◌, ◌++◌, length, get_or, take, drop, Vec, Result, Ok, Err, refl, sym, ap, ◌∙◌, append_assoc, arith, add-one, length-take, length-drop, length-append}
+use Rattle.std.proofs.Common.{eqb-true, ◌≡◌, ◌≢◌, ◌⊎◌, ℕ, zero, suc, ◌+◌, ◌-◌, ◌<◌, ◌≤◌, Bool, true, false, cond, eqb, List, [], ◌∷◌, ◌++◌, length, get_or, take, drop, Vec, refl, sym, ap, ◌∙◌, append_assoc, arith, add-one, length-take, length-drop, length-append}
 use Rattle.std.proofs.lemmas.List.{append-nil, drop-drop, take_rest, take_all, drop_all}
 use Rattle.std.specs.declared.alloc.Global.{Global}
 use Rattle.krieg_text.proofs.Common.{lines, onto_line, place, lines_back, HaveBytes, behind_line}

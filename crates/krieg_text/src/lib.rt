@@ -37,6 +37,6 @@ pub use number::{
     NumberFault, has_digits_only, is_plain, put_number, read_number, read_number_between,
 };
 pub use owned_cursor::OwnedCursor;
-pub use pieces::cut;
+pub use pieces::{cut, cut_last};
 pub use source::LineSource;
 pub use writing::Text;

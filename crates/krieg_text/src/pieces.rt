@@ -1,5 +1,5 @@
 ghost use Rattle.std.specs.Prelude.{◌≡◌, ◌<◌, ◌∷◌, ◌==◌, ℕ, length, IfNone, IfSome, true, false, slice_index};
-ghost use Rattle.std.specs.Option.{option_copied};
+ghost use Rattle.std.specs.Option.{option_copied, option_map};
 ghost use Rattle.krieg_text.specs.Names as names;
 ghost use Rattle.krieg_text.specs.Pieces.{pieces, pieces_left};
 
@@ -25,5 +25,15 @@ pub fn cut(separator: u8, text: &[u8]) -> (&[u8], Option<&[u8]>)
     match first_of(text, separator) {
         None => (text, None),
         Some(i) => (&text[..i], Some(&text[i + 1..])),
+    }
+}
+
+/// The text up to the last separator, and what stands after that one, where there is one.
+pub fn cut_last(separator: u8, text: &[u8]) -> Option<(&[u8], &[u8])>
+    ensures { option_map (λ x. (x.0.now, x.1.now)) result ≡ names.cut_last separator text.now }
+{
+    match text.iter().rposition(|b| *b == separator) {
+        None => None,
+        Some(i) => Some((&text[..i], &text[i + 1..])),
     }
 }

@@ -4,11 +4,8 @@ use Rattle.std.specs.Prelude.{unwrap_or}
 use Rattle.std.specs.List.{list_all}
 use Rattle.std.proofs.lemmas.Bool.{and_parts, not-true}
 use Rattle.krieg_words.proofs.Common.{behind, cut, Part, text_if, texts, joined_by, front, after_gap, past, left_by, PartsReader, no_more, with, part_then}
+pub use Rattle.krieg_text.proofs.LastCuts.{Free}
 use Rattle.krieg_text.proofs.NameLemmas.{behind_again, behind_spells, cut_again, cut_spells}
-
--- the mark does not occur
-abbrev pub Free : ℕ → List ℕ → Type 0
-Free mark text = list_all (λ b. not (eqb b mark)) text ≡ true
 
 -- what is left to read of these parts
 abbrev pub left : ℕ → List ℕ → List (List ℕ) → Option (List ℕ)

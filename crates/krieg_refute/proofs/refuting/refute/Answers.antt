@@ -1,4 +1,4 @@
-use Rattle.std.proofs.Common.{false, ◌≡◌, ℕ, Err, refl, subst, ◌∙◌, arith}
+use Rattle.std.proofs.Common.{false, ◌≡◌, ℕ, Err, subst, ◌∙◌, arith}
 use Rattle.std.proofs.lemmas.Bool.{both_ways}
 use Rattle.krieg_refute.proofs.Common.{IsAccount, IsDecision, side_of}
 use Rattle.krieg_search.proofs.OpenedSets.{none_over}

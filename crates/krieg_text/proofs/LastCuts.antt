@@ -4,8 +4,11 @@ use Rattle.std.specs.Prelude.{◌==◌}
 use Rattle.std.specs.List.{list_all}
 use Rattle.std.proofs.lemmas.Bool.{and_parts, and_from, ne_eqb, not-true}
 use Rattle.std.proofs.lemmas.List.{drop_more, get_or-drop}
-use Rattle.krieg_words.proofs.PartLaws.{Free}
-use Rattle.krieg_refutefile.proofs.Common.{onto_front, cut_last}
+use Rattle.krieg_text.proofs.Common.{onto_front, cut_last}
+
+-- no byte of the text is the mark
+abbrev pub Free : ℕ → List ℕ → Type 0
+Free mark text = list_all (λ b. not (eqb b mark)) text ≡ true
 
 -- what is cut, put together again
 pub last_spells : (c : ℕ) (text : List ℕ) (x : List ℕ × List ℕ) → cut_last c text ≡ Some x → text ≡ x.0 ++ (c ∷ x.1)
