@@ -29,3 +29,4 @@ pub use forms::key_in;
 pub use heard::{HeardPlan, read_heard_plan};
 pub use plan_writing::write_plan;
 pub use reading::read_plan;
+pub use writing::put_root_line;

@@ -55,8 +55,8 @@ fn put_opening(d: Dialect, opens: Words, text: &mut Text) -> Result<(), NoMemory
     text.end_line()
 }
 
-/// Adds the line of a root.
-fn put_root_line(
+/// Adds the line of a root: `on W`, or `on W / W` at the opponent's turn. `NoMemory` leaves the text as it was.
+pub fn put_root_line(
     d: Dialect,
     opens: Words,
     heard: &Option<Words>,
