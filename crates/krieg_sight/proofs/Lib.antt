@@ -2,3 +2,4 @@ mod Common
 pub mod Theorems
 pub mod Telling
 pub mod Looking
+pub mod Placing

@@ -2,7 +2,7 @@
 use Rattle.std.specs.Prelude.{◌≡◌, ℕ, ◌<◌, true, false, List}
 use Rattle.krieg_board.specs.Pos.{Pos}
 use Rattle.krieg_theory.specs.Sets.{In}
-use Rattle.krieg_sight.specs.declared.memo.Told.{Told}
+use Rattle.krieg_sight.specs.declared.told.Told.{Told}
 use Rattle.krieg_sight.specs.Seen.{leaves_none, mates_within}
 
 -- each position with what is told of it

@@ -25,9 +25,10 @@ fn is_no_mate(alloc: Global, sight: &mut Sight, member: &Packed, moves: u8) -> b
     ensures none { result ≡ true → not (mates_within moves member.now) ≡ true }
     ensures no_more { sight.new.left ≤ sight.old.left }
 {
-    match sight.told(member, moves) {
+    let p = unpack(member);
+    match sight.told(&p, moves) {
         Some(told) => !told,
-        None => !may_mate(alloc, sight, &unpack(member), moves),
+        None => !may_mate(alloc, sight, &p, moves),
     }
 }
 

@@ -19,9 +19,12 @@
 #![tactic(auto)]
 
 mod flight;
+mod king_rows;
 pub mod laws;
 mod memo;
+mod place;
 mod seeing;
+mod told;
 
 pub use flight::{some_flees, some_is_no_mate};
 pub use memo::Sight;

@@ -3,23 +3,14 @@ ghost use Rattle.std.specs.Bool.{OnTrue, OnFalse};
 ghost use Rattle.krieg_sight.specs.Seen.{leaves_none, mates_within};
 ghost use Rattle.krieg_sight.specs.Memo.{IsRight};
 
+use crate::king_rows::KingRows;
+use crate::place::place_of;
+use crate::told::Told;
 use indexmap::IndexMap;
-use krieg_pack::Packed;
+use krieg_board::Position;
+use krieg_pack::{Packed, pack};
 use std::alloc::Global;
 use std::marker::Model;
-
-/// What is known of a position, each as a number of moves. A 0 says nothing.
-#[derive(Clone, Copy)]
-pub(crate) struct Told {
-    /// The greatest within which it was found to be no mate by the side to move.
-    pub none: u8,
-    /// The least within which it may be one.
-    pub some: u8,
-    /// The greatest within which some move was found to leave the other side no mate.
-    pub fled: u8,
-    /// The least within which each may be followed by one.
-    pub met: u8,
-}
 
 /// Of so many positions is kept what was found: some 600 MB.
 const MOST_KEPT: usize = 8_000_000;
@@ -28,6 +19,8 @@ const MOST_KEPT: usize = 8_000_000;
 #[derive(Drop)]
 pub struct Sight {
     told: IndexMap<Packed, Told>,
+    /// The same of positions in which one side has its king alone.
+    kings: KingRows,
     left: u64,
     /// The place of the member of a set that was found to be no mate last. It is asked first, since it mostly is none again.
     first: usize,
@@ -50,6 +43,7 @@ impl Sight {
     {
         Sight {
             told: IndexMap::new(alloc),
+            kings: KingRows::new(alloc),
             left: positions,
             first: 0,
         }
@@ -80,24 +74,32 @@ impl Sight {
         true
     }
 
-    /// What is known of the position.
-    fn of(&self, p: &Packed) -> Told
+    /// What is known of a position in which no king is alone.
+    fn of_packed(&self, p: &Packed) -> Told
         ensures { IsRight p.now result }
     {
         match self.told.get(p) {
             Some(told) => *told,
-            None => Told {
-                none: 0,
-                some: 0,
-                fled: 0,
-                met: 0,
-            },
+            None => Told::nothing(),
         }
     }
 
+    /// What is known of the position.
+    fn of(&mut self, p: &Position) -> Told
+        ensures right { IsRight p.now result }
+        ensures same { self.new ≡ self.old }
+    {
+        if let Some(place) = place_of(p) {
+            return self.kings.of(&place);
+        }
+        let key = pack(p);
+        self.of_packed(&key)
+    }
+
     /// Whether there may be a mate within so many moves, where it is known.
-    pub(crate) fn told(&self, p: &Packed, moves: u8) -> Option<bool>
-        ensures { result ≡ Some false → mates_within moves p.now ≡ false }
+    pub(crate) fn told(&mut self, p: &Position, moves: u8) -> Option<bool>
+        ensures same { self.new ≡ self.old }
+        ensures none { result ≡ Some false → mates_within moves p.now ≡ false }
     {
         let told = self.of(p);
         if moves <= told.none {
@@ -110,8 +112,9 @@ impl Sight {
     }
 
     /// Whether each move in the position may be followed by a mate of the other side within so many moves, where it is known.
-    pub(crate) fn told_of_replies(&self, p: &Packed, moves: u8) -> Option<bool>
-        ensures { result ≡ Some false → leaves_none moves p.now ≡ true }
+    pub(crate) fn told_of_replies(&mut self, p: &Position, moves: u8) -> Option<bool>
+        ensures same { self.new ≡ self.old }
+        ensures fled { result ≡ Some false → leaves_none moves p.now ≡ true }
     {
         let told = self.of(p);
         if 0 < told.fled && moves <= told.fled {
@@ -123,8 +126,8 @@ impl Sight {
         None
     }
 
-    /// Keeps what is known of the position, where there is room and memory for it.
-    fn keep(&mut self, p: &Packed, told: Told)
+    /// Keeps what is known of a position in which no king is alone, where there is room and memory for it.
+    fn keep_packed(&mut self, p: &Packed, told: Told)
         requires { IsRight p.now told }
         ensures { self.new.left ≡ self.old.left }
     {
@@ -136,8 +139,21 @@ impl Sight {
         }
     }
 
+    /// Keeps what is known of the position, where there is room and memory for it.
+    fn keep(&mut self, p: &Position, told: Told)
+        requires { IsRight p.now told }
+        ensures { self.new.left ≡ self.old.left }
+    {
+        if let Some(place) = place_of(p) {
+            self.kings.keep(&place, told);
+            return;
+        }
+        let key = pack(p);
+        self.keep_packed(&key, told);
+    }
+
     /// Notes that there is no mate within so many moves.
-    pub(crate) fn note_none(&mut self, p: &Packed, moves: u8)
+    pub(crate) fn note_none(&mut self, p: &Position, moves: u8)
         requires { mates_within moves p.now ≡ false }
         ensures { self.new.left ≡ self.old.left }
     {
@@ -154,7 +170,7 @@ impl Sight {
     }
 
     /// Notes that there may be one.
-    pub(crate) fn note_some(&mut self, p: &Packed, moves: u8)
+    pub(crate) fn note_some(&mut self, p: &Position, moves: u8)
         ensures { self.new.left ≡ self.old.left }
     {
         let told = self.of(p);
@@ -170,7 +186,7 @@ impl Sight {
     }
 
     /// Notes that some move leaves the other side no mate within so many moves.
-    pub(crate) fn note_fled(&mut self, p: &Packed, moves: u8)
+    pub(crate) fn note_fled(&mut self, p: &Position, moves: u8)
         requires { leaves_none moves p.now ≡ true }
         ensures { self.new.left ≡ self.old.left }
     {
@@ -187,7 +203,7 @@ impl Sight {
     }
 
     /// Notes that each move may be followed by one.
-    pub(crate) fn note_met(&mut self, p: &Packed, moves: u8)
+    pub(crate) fn note_met(&mut self, p: &Position, moves: u8)
         ensures { self.new.left ≡ self.old.left }
     {
         let told = self.of(p);

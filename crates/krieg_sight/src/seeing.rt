@@ -7,7 +7,6 @@ ghost use Rattle.krieg_sight.specs.Seen.{is_met, leaves_none, mates_within};
 use crate::memo::Sight;
 use krieg_board::{Move, Position};
 use krieg_moves::{after, is_mate, is_stalemate, legal_moves};
-use krieg_pack::pack;
 use std::alloc::Global;
 
 /// With so few men on the board the same positions come again and again.
@@ -30,15 +29,14 @@ pub(crate) fn may_mate(alloc: Global, sight: &mut Sight, p: &Position, moves: u8
     if moves == 0 || (moves == 1 && !has_few_men(p)) {
         return may_mate_anew(alloc, sight, p, moves);
     }
-    let key = pack(p);
-    if let Some(told) = sight.told(&key, moves) {
+    if let Some(told) = sight.told(p, moves) {
         return told;
     }
     if may_mate_anew(alloc, sight, p, moves) {
-        sight.note_some(&key, moves);
+        sight.note_some(p, moves);
         return true;
     }
-    sight.note_none(&key, moves);
+    sight.note_none(p, moves);
     false
 }
 
@@ -99,15 +97,14 @@ pub(crate) fn all_may_mate(alloc: Global, sight: &mut Sight, q: &Position, moves
     if !has_few_men(q) {
         return all_may_mate_anew(alloc, sight, q, moves);
     }
-    let key = pack(q);
-    if let Some(told) = sight.told_of_replies(&key, moves) {
+    if let Some(told) = sight.told_of_replies(q, moves) {
         return told;
     }
     if all_may_mate_anew(alloc, sight, q, moves) {
-        sight.note_met(&key, moves);
+        sight.note_met(q, moves);
         return true;
     }
-    sight.note_fled(&key, moves);
+    sight.note_fled(q, moves);
     false
 }
 

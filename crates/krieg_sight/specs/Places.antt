@@ -1,0 +1,47 @@
+-- Positions in which one side has its king alone, by all other men, his square and the turn.
+use Rattle.std.specs.Prelude.{ℕ, ◌*◌, ◌/◌, ◌%◌, ◌^◌, ◌==◌, false, None, if◌then◌else◌, bit_and, bit_or, bit_xor}
+use Rattle.krieg_board.specs.Boards.{board_of}
+use Rattle.krieg_board.specs.Pos.{Pos}
+use Rattle.krieg_board.specs.declared.bits.Sets.{Sets}
+use Rattle.krieg_board.specs.declared.men.Rights.{Rights}
+use Rattle.krieg_board.specs.declared.men.Side.{Side}
+use Rattle.krieg_board.specs.declared.men.Side.TheVariants.{White, Black}
+use Rattle.krieg_sight.specs.declared.place.Others.{Others}
+
+-- a square as a set
+abbrev pub only : ℕ → ℕ
+only square = 1 * 2 ^ (square % 64) % 2 ^ 64
+
+-- the squares of the others
+abbrev pub all_of : Others → ℕ
+all_of o = bit_or (bit_or o.ones o.twos) o.fours
+
+-- the men with the king, of whom it is told where he stands
+abbrev pub sets_with : Others → ℕ → Sets
+sets_with o king = record {
+  white = if o.black then all_of o else king;
+  black = if o.black then king else all_of o;
+  pawns = bit_xor (bit_xor o.ones (bit_and o.ones o.twos)) (bit_and o.ones o.fours);
+  knights = bit_xor (bit_xor o.twos (bit_and o.ones o.twos)) (bit_and o.twos o.fours);
+  bishops = bit_and o.ones o.twos;
+  rooks = bit_xor (bit_xor o.fours (bit_and o.ones o.fours)) (bit_and o.twos o.fours);
+  queens = bit_and o.ones o.fours;
+  kings = bit_or (bit_and o.twos o.fours) king;
+}
+
+-- the side to move at a place with that number
+abbrev pub turn_of : ℕ → Side
+turn_of number = if number % 2 == 0 then White else Black
+
+-- no right is held
+abbrev pub no_rights : Rights
+no_rights = record { white_short = false; white_long = false; black_short = false; black_long = false }
+
+-- the position by the number of its place, without rights and without a mark
+unfoldable pub position_at : Others → ℕ → Pos
+position_at o number = record {
+  board = board_of (sets_with o (only (number / 2)));
+  side = turn_of number;
+  rights = no_rights;
+  mark = None;
+}
