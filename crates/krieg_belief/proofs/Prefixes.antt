@@ -150,15 +150,37 @@ listed_le who (p ∷ ps) h = go (nat_le (length (p ∷ ps)) MOST_LISTED) refl h
     go true e h = grind (arith, nat_tests)
     go false e h = absurd cc
 
--- more positions than the limit are not within it, since a sheet has one list of possible positions
+-- a sheet has one list of possible positions
+same_possible : (s : SheetState) (ps qs : List Pos) → IsPossible s ps → IsPossible s qs → ps ≡ qs
+same_possible s ps qs p q = same_members ps qs p.ascending q.ascending (λ x i. (q.exact x).1 ((p.exact x).0 i)) (λ x i. (p.exact x).1 ((q.exact x).0 i))
+
+-- so more positions than the limit are not within it
 pub excess_not_within : (s : SheetState) (limit line : ℕ) → IsFirstExcess s limit line → AllWithin limit s → ⊥
 excess_not_within s limit line excess within =
     let more = excess.exceeds in
     let few = within excess.place excess.in_sheet in
-    let same : more.0 ≡ few.0 = same_members more.0 few.0 more.1.ascending few.1.ascending
-    (λ p i. (few.1.exact p).1 ((more.1.exact p).0 i))
-    (λ p i. (more.1.exact p).1 ((few.1.exact p).0 i)) in
+    let same = same_possible (prefix s excess.place) more.0 few.0 more.1 few.1 in
     absurd (omega (arith, more.2, few.2, ap (λ (ps : List Pos). length ps) same))
+
+-- what is possible before the entries is where they go on from
+pub starts_are : (s : SheetState) (ps : List Pos) → IsSheet s → IsPossible (prefix s 1) ps → ps ≡ begun s
+starts_are s ps sheet h = same_possible (prefix s 1) ps (begun s) h (possible_behind s sheet 0)
+
+pub starts_within : (s : SheetState) (limit : ℕ) → IsSheet s → length (set_of s.list) ≤ limit → length (begun s) ≤ limit → AllWithin limit (prefix s 1)
+starts_within s limit sheet listed fits zero le = within_list s limit listed
+starts_within s limit sheet listed fits (suc zero) le = (begun s, possible_behind s sheet 0, fits)
+starts_within s limit sheet listed fits (suc (suc n)) le = absurd (let h : suc (suc n) ≤ 1 = le in omega (arith, h))
+
+-- there are no more listed positions, and no more of these with the opening words
+pub listed_fit : (s : SheetState) (limit : ℕ) → AllWithin limit (prefix s 1) → length (set_of s.list) ≤ limit
+listed_fit s limit within =
+    let few = within 0 (omega arith) in
+    subst (λ (ps : List Pos). length ps ≤ limit) (same_possible (prefix s 0) few.0 (set_of s.list) few.1 (possible_list s)) few.2
+
+pub starts_fit : (s : SheetState) (limit : ℕ) → IsSheet s → AllWithin limit (prefix s 1) → length (begun s) ≤ limit
+starts_fit s limit sheet within =
+    let few = within 1 (omega arith) in
+    subst (λ (ps : List Pos). length ps ≤ limit) (same_possible (prefix s 1) few.0 (begun s) few.1 (possible_behind s sheet 0)) few.2
 
 pub sheet_le : (s : SheetState) → IsSheet s → length s.list ≤ MOST_LISTED
 sheet_le s sheet = listed_le s.side s.list sheet.listed

@@ -81,8 +81,8 @@ fn list_len(s: &Sheet) -> usize
     s.list().len()
 }
 
-/// The last line of a sheet's text before the entries.
-fn line_behind(s: &Sheet) -> usize
+/// The last line before the entries, in the text that `write_sheet` writes.
+pub fn line_before_entries(s: &Sheet) -> usize
     ensures value { result ≡ possible.line_of s.now 1 }
     ensures small { result ≤ MOST_LISTED + 5 }
 {
@@ -110,16 +110,13 @@ fn after_opening(
     }
 }
 
-/// All positions that are consistent with the sheet, each once, in order. They all have the same hand of
-/// the sheet's side: the same men and castling rights of its own, and the same side to move.
+/// The positions in which a game of the sheet may begin, each once, in order: those that are listed, and of these, where
+/// the opening words were heard, those that have them. They are what is possible before the entries.
 ///
-/// `TooMany` exactly where, for the list alone, for the list with the opening words where they were
-/// heard, or for these with the first entries, more than `limit` positions are possible. The line is that of
-/// the first of these that has too many.
-pub fn believe(alloc: Global, s: &Sheet, limit: usize) -> Result<Belief, BeliefStop>
-    ensures value { IfOk result (λ b. possible.IsPossible s.now b) }
-    ensures hand { IfOk result (λ b. possible.HaveOneHand s.now.side b) }
-    ensures within { OnOk result (AllWithin limit s.now) }
+/// `TooMany` exactly where `believe` answers it before the entries, with the same line.
+pub fn starts_of(alloc: Global, s: &Sheet, limit: usize) -> Result<Belief, BeliefStop>
+    ensures value { IfOk result (possible.IsPossible (possible.prefix s.now 1)) }
+    ensures within { OnOk result (AllWithin limit (possible.prefix s.now 1)) }
     ensures stop { IfErr result (IsStop s.now limit) }
 {
     let hearing = Hearing {
@@ -135,10 +132,29 @@ pub fn believe(alloc: Global, s: &Sheet, limit: usize) -> Result<Belief, BeliefS
             line: list_line(hearing.dialect),
         });
     }
-    let behind = line_behind(s);
-    let start = match after_opening(alloc, hearing, &s.opens(), listed, limit) {
-        Ok(start) => start,
-        Err(stop) => return Err(stopped(stop, behind)),
+    match after_opening(alloc, hearing, &s.opens(), listed, limit) {
+        Ok(start) => Ok(start),
+        Err(stop) => Err(stopped(stop, line_before_entries(s))),
+    }
+}
+
+/// All positions that are consistent with the sheet, each once, in order. They all have the same hand of
+/// the sheet's side: the same men and castling rights of its own, and the same side to move.
+///
+/// `TooMany` exactly where, for the list alone, for the list with the opening words where they were
+/// heard, or for these with the first entries, more than `limit` positions are possible. The line is that of
+/// the first of these that has too many.
+pub fn believe(alloc: Global, s: &Sheet, limit: usize) -> Result<Belief, BeliefStop>
+    ensures value { IfOk result (λ b. possible.IsPossible s.now b) }
+    ensures hand { IfOk result (λ b. possible.HaveOneHand s.now.side b) }
+    ensures within { OnOk result (AllWithin limit s.now) }
+    ensures stop { IfErr result (IsStop s.now limit) }
+{
+    let start = starts_of(alloc, s, limit)?;
+    let hearing = Hearing {
+        dialect: s.dialect(),
+        side: s.side(),
     };
+    let behind = line_before_entries(s);
     go_through(alloc, hearing, start, s.entries(), limit, behind)
 }

@@ -1,7 +1,7 @@
 //! The positions that a player must reckon with.
 //!
-//! `beliefs` lists every position that is consistent with a sheet, and tells where they become too many.
-//! `steps` takes such a set one line further.
+//! `beliefs` lists every position that is consistent with a sheet, and those in which its games may begin, and tells
+//! where they become too many. `steps` takes such a set one line further.
 //!
 //! The rules are the definitions of `specs/`: what is possible, and what a sheet was before (`Possible`),
 //! where there is more than a limit allows (`Limits`), and how a line changes a set (`Steps`). Which
@@ -19,4 +19,4 @@
 mod beliefs;
 mod steps;
 
-pub use beliefs::{BeliefStop, believe};
+pub use beliefs::{BeliefStop, believe, line_before_entries, starts_of};
