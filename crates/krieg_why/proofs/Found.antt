@@ -1,17 +1,22 @@
 -- The games that are found for the possible positions are the answer.
 use Rattle.std.proofs.Common.{◌≡◌, ℕ, ◌+◌, ◌<◌, Bool, true, false, cond, List, [], ◌∷◌, ◌++◌, length, get_or, take, map, Option, Some, None, inl, inr, refl, sym, ap, subst, ◌∙◌}
-use Rattle.std.specs.Prelude.{is_some, unwrap_or}
+use Rattle.std.specs.Prelude.{is_some, slice_get, unwrap_or}
 use Rattle.std.specs.List.{All}
 use Rattle.std.specs.Map.{lookup}
 use Rattle.std.proofs.lemmas.Bool.{cond-true, both_ways}
 use Rattle.std.proofs.lemmas.List.{map-append, take_more}
 use Rattle.std.proofs.lemmas.List.Elements.{All-head, All-tail, All-cons, All-nil}
-use Rattle.krieg_why.proofs.Common.{Pos, Side, Dialect, Line, SheetState, IsSheet, In, position_eq, IsPossible, AreShown, AreStarts, Tale, stands_of, begun, tell_all, Entries, kept, tale_of, tales_of, number_of, entry_at, IsFound, Numbered, shown_of, Link, equal_position}
+use Rattle.krieg_why.proofs.Common.{Pos, Side, Dialect, Line, SheetState, IsSheet, In, position_eq, IsPossible, prefix, run, AreShown, Tale, stands_of, begun, tell_all, Entries, kept, tale_of, tales_of, number_of, entry_at, place_of, IsFound, Numbered, shown_of, Link, equal_position}
 use Rattle.krieg_theory.proofs.Lists.{in_map, map_in}
 use Rattle.krieg_belief.proofs.HiddenGames.{AreEntries}
-use Rattle.krieg_belief.proofs.Prefixes.{in_place}
+use Rattle.krieg_pack.proofs.PositionSets.{set_in}
+use Rattle.krieg_pack.specs.Members.{set_of}
+use Rattle.krieg_belief.proofs.Prefixes.{in_place, possible_all, starts_are}
+use Rattle.krieg_why.proofs.Starts.{AreStarts}
 use Rattle.krieg_why.proofs.Facts.{place_same}
 use Rattle.krieg_why.proofs.Least.{possible_stands, are_shown}
+use Rattle.krieg_why.proofs.Sizes.{layer_places}
+use Rattle.krieg_why.proofs.GivenGames.{one_more}
 
 entry_found : (es : Entries) (e : Pos × ℕ) → In e es → IsFound es e.0
 entry_found [] e i = absurd i
@@ -94,3 +99,24 @@ pub each_more : {X : Type 0} (f : Pos → X) (qs : List Pos) (i : ℕ) (q : Pos)
 each_more {X = X} f qs i q xs xs' x lt at pushed is h =
     pushed ∙ (ap (λ (t : List X). t ++ x ∷ []) h ∙ (ap (λ (y : X). map f (take i qs) ++ y ∷ []) is
     ∙ sym (ap (map f) (take_more qs i q lt ∙ ap (λ (y : Pos). take i qs ++ y ∷ []) (sym at)) ∙ map-append f (take i qs) (q ∷ []))))
+
+-- where one game more stands
+pub place_more : (es : Entries) (i : ℕ) (k : Pos) (n : ℕ) (ps ps' : List Pos) → slice_get es i ≡ Some (k, n) → ps' ≡ ps ++ k ∷ [] → ps ≡ map place_of (take i es) → ps' ≡ map place_of (take (i + 1) es)
+place_more es i k n ps ps' at pushed h = pushed ∙ (ap (λ (qs : List Pos). qs ++ k ∷ []) h ∙ sym (ap (map place_of) (one_more es i (k, n) at) ∙ map-append place_of (take i es) ((k, n) ∷ [])))
+
+-- an entry stands for each of the positions of the games
+pub places_found : (es : Entries) (qs : List Pos) → qs ≡ set_of (map place_of es) → All (IsFound es) qs
+places_found es qs is = all_in (IsFound es) qs (λ q i.
+    let e = map_in place_of es q (set_in q (map place_of es) (subst (In q) is i)) in
+    subst (IsFound es) e.2 (entry_found es e.0 e.1))
+
+-- where the games of a layer stand
+places_stand : (ps : List Pos) (ls : List Link) (es : Entries) → map place_of es ≡ map stands_of (tales_of ps ls es)
+places_stand ps ls [] = refl
+places_stand ps ls (e ∷ es) = ap (λ (qs : List Pos). e.0 ∷ qs) (places_stand ps ls es)
+
+-- the positions of the games after all entries are those that are possible
+pub places_possible : (s : SheetState) → IsSheet s → (ps : List Pos) → IsPossible (prefix s 1) ps → (ls : List Link) (es : Entries) → tales_of ps ls es ≡ tell_all s.dialect s.side s.entries (map begun ps) → IsPossible s (set_of (map place_of es))
+places_possible s sheet ps starts ls es tales =
+    subst (IsPossible s) (sym (ap set_of (places_stand ps ls es ∙ ap (map stands_of) tales) ∙ (layer_places s.dialect s.side s.entries ps starts.ascending ∙ ap (run s.dialect s.side s.entries) (starts_are s ps sheet starts))))
+    (possible_all s sheet)

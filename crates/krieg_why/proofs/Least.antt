@@ -6,9 +6,10 @@ use Rattle.std.specs.Ordering.{is_lt, is_le, ordering_then}
 use Rattle.std.specs.Cmp.Lexicographic.{slice_cmp}
 use Rattle.std.specs.declared.cmp.Ordering.{Ordering}
 use Rattle.std.specs.declared.cmp.Ordering.TheVariants.{Less, Equal, Greater}
-use Rattle.krieg_why.proofs.Common.{move_cmp, Pos, Side, Move, opening, told, told_line, Dialect, Line, Opens, judge, last, lines_for, SheetState, Gives, OpensWith, IsConsistent, IsPossible, In, Ascending, position_cmp, IsAscending, ShownState, last_of, Explains, IsLeast, AreShown, their_moves, shown_cmp, Tale, stands_of, begun, tale_cmp, tale_lt, tell, tell_all, AreStarts, events_by, shown_of}
+use Rattle.krieg_why.proofs.Common.{move_cmp, Pos, Side, Move, opening, told, told_line, Dialect, Line, Opens, judge, last, lines_for, SheetState, Gives, OpensWith, IsConsistent, IsPossible, In, Ascending, position_cmp, IsAscending, ShownState, last_of, Explains, IsLeast, AreShown, their_moves, shown_cmp, Tale, stands_of, begun, tale_cmp, tale_lt, tell, tell_all, events_by, shown_of}
 use Rattle.krieg_theory.proofs.Lists.{in_map, map_in}
 use Rattle.krieg_belief.proofs.HiddenGames.{AreEntries}
+use Rattle.krieg_why.proofs.Starts.{AreStarts}
 use Rattle.krieg_why.proofs.Orders.{Le, and_moves, then_equal}
 use Rattle.krieg_why.proofs.Layers.{IsLayer, firsts_once}
 use Rattle.krieg_why.proofs.Told.{Comes, tell_has, has_tell}

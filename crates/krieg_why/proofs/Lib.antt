@@ -8,9 +8,10 @@ pub mod Least
 pub mod Kept
 pub mod Adding
 pub mod Firsts
+pub mod Sizes
 pub mod Lines
 pub mod Numbers
-pub mod ListedStarts
+pub mod Starts
 pub mod Found
 pub mod GivenGames
 pub mod OneAnswer

@@ -2,6 +2,5 @@ pub mod Explained
 pub mod GamesText
 pub mod Tales
 pub mod Links
-pub mod Starts
 pub mod Retold
 pub mod Laws

@@ -14,6 +14,8 @@ use Rattle.krieg_words.specs.declared.line.Line.{Line}
 use Rattle.krieg_words.specs.declared.line.Line.TheVariants.{Opens, Illegal, Done, Heard, Early, Over}
 use Rattle.krieg_pack.specs.Order.{position_eq}
 use Rattle.krieg_belief.specs.Steps.{has_opening}
+use Rattle.krieg_belief.specs.declared.beliefs.BeliefStop.{BeliefStop}
+use Rattle.krieg_belief.specs.declared.beliefs.BeliefStop.TheVariants.{TooMany, NoMemory}
 use Rattle.krieg_why.specs.Tales.{Tale, begun, standing}
 use Rattle.krieg_why.specs.declared.links.Link.{Link}
 
@@ -58,6 +60,10 @@ tale_of gs e = standing (get_or gs e.1 nowhere) e.0
 -- the games of the positions, in the order in which these are kept
 abbrev pub tales_of : List Pos → List Link → Entries → List Tale
 tales_of ps ls es = map (tale_of (kept (map begun ps) ls)) es
+
+-- where the game of an entry stands
+abbrev pub place_of : Pos × ℕ → Pos
+place_of e = e.0
 
 -- the number of the game that stands in a position
 abbrev pub number_of : Entries → Pos → ℕ
@@ -108,3 +114,8 @@ pub record Adds (ps : List Pos) (ls ls' : List Link) (es es' : Entries) (ys : Li
   pub more : (ms : List Link) × (ls' ≡ ls ++ ms)
   pub are_kept : AreKept ps ls' es'
   pub tales : tales_of ps ls' es' ≡ add_all (tales_of ps ls es) ys
+
+-- why the games after a line with that number are not kept: they are more than the limit allows, or memory was not found
+abbrev pub IsOver : ℕ → ℕ → List Tale → BeliefStop → Type 0
+IsOver limit number xs (TooMany line) = (limit < length xs) × (line ≡ number)
+IsOver limit number xs NoMemory = Unit {0}

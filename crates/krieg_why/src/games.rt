@@ -1,8 +1,9 @@
 ghost use Rattle.std.specs.Prelude.{◌≡◌, ◌+◌, ◌<◌, IfOk, Some, length, map, reverse, slice_get, take};
 ghost use Rattle.std.specs.List.{All};
 ghost use Rattle.krieg_theory.specs.Sets.{is_nil};
+ghost use Rattle.krieg_pack.specs.Members.{set_of};
 ghost use Rattle.krieg_why.specs.Explained.{state_of};
-ghost use Rattle.krieg_why.specs.Links.{AreKept, Grounded, IsFound, entry_at, numbered_tale, tales_of};
+ghost use Rattle.krieg_why.specs.Links.{AreKept, Grounded, IsFound, entry_at, numbered_tale, place_of, tales_of};
 ghost use Rattle.krieg_why.specs.Retold as spec;
 ghost use Rattle.krieg_why.specs.Retold.{shown_of};
 
@@ -81,6 +82,19 @@ fn events_by(
         }
     }
     Ok(events)
+}
+
+/// The positions in which games stand.
+pub(crate) fn positions(alloc: Global, tales: &Tales) -> Result<Belief, NoMemory>
+    ensures { IfOk result (λ b. b ≡ set_of (map place_of tales.now.entries)) }
+{
+    let mut packed = Vec::with_capacity(alloc, tales.len())?;
+    for i in 0..tales.len() {
+        if let Some((k, _number)) = tales.get_index(i) {
+            packed.push(*k)?;
+        }
+    }
+    Ok(Belief::from_packed(packed))
 }
 
 /// The positions in their order, each with the number of the game that stands in it.

@@ -2,8 +2,7 @@
 //!
 //! `shown` is a hidden game as the player may be shown it. `why_possible` answers for each possible position the
 //! least game that explains it, `games` holds these games and makes each where it is asked for, and `writing` writes
-//! them. `laws` says that there is no other answer. The parts of the work: `starts` has the positions in which a game
-//! may begin, and `links` finds the least games line by line.
+//! them. `laws` says that there is no other answer. Of the work, `links` finds the least games line by line.
 //!
 //! The rules are the definitions of `specs/`: which games explain a position, which of them is the least
 //! (`Explained`), and the written form (`GamesText`).
@@ -26,7 +25,6 @@ mod games;
 mod laws;
 mod links;
 mod shown;
-mod starts;
 mod why_possible;
 mod writing;
 

@@ -1,20 +1,22 @@
-ghost use Rattle.std.specs.Prelude.{◌≡◌, ◌+◌, ◌<◌, [], ◌∷◌, true, IfOk, OnOk, is_some, not, length, map};
+ghost use Rattle.std.specs.Prelude.{◌≡◌, ◌+◌, ◌<◌, ◌≤◌, [], ◌∷◌, true, IfOk, IfErr, OnOk, is_some, not, length, map};
 ghost use Rattle.std.specs.List.{All, filter};
 ghost use Rattle.std.specs.Map.{lookup};
 ghost use Rattle.krieg_moves.specs.Legal as rule;
 ghost use Rattle.krieg_words.specs.ToldMoves as spoken;
+ghost use Rattle.krieg_pack.specs.Members.{IsAscending};
 ghost use Rattle.krieg_pack.specs.Order.{position_eq};
+ghost use Rattle.krieg_belief.specs.Steps as steps;
 ghost use Rattle.krieg_why.specs.Links as spec;
-ghost use Rattle.krieg_why.specs.Links.{AreKept, Adds, tales_of, tale_of, kept, with_entry};
+ghost use Rattle.krieg_why.specs.Links.{AreKept, Adds, IsOver, tales_of, tale_of, kept, with_entry};
 ghost use Rattle.krieg_why.specs.Tales as tales_spec;
 ghost use Rattle.krieg_why.specs.Tales.{after_reply, begun, tales_after};
 
-use crate::starts::has_opening;
 use indexmap::IndexMap;
+use krieg_belief::BeliefStop;
 use krieg_board::{Move, NoMemory, Position, Side};
 use krieg_moves::{has_move, is_legal, legal_moves};
 use krieg_pack::{Belief, Packed, pack, unpack};
-use krieg_words::{Dialect, Line, Words, after_told, after_told_if_legal};
+use krieg_words::{Dialect, Line, Words, after_told, after_told_if_legal, compare, opening, told};
 use std::alloc::Global;
 
 /// The last of the opponent's moves in a game, and the game before it: the number of a start, or behind them that of
@@ -25,13 +27,14 @@ pub(crate) struct Link {
     pub(crate) reply: Move,
 }
 
-/// What all games of a sheet have in common: how the umpire speaks, who hears it, and where a game may begin. The starts
-/// are numbered from 0.
+/// What all games of a sheet have in common: how the umpire speaks, who hears it, where a game may begin, and in how many
+/// positions the games may stand. The starts are numbered from 0.
 #[derive(Drop)]
 pub(crate) struct Setting {
     pub(crate) dialect: Dialect,
     pub(crate) who: Side,
     pub(crate) starts: Belief,
+    pub(crate) limit: usize,
 }
 
 /// A game by its number, and where it stands.
@@ -48,12 +51,20 @@ pub(crate) type Tales = IndexMap<Packed, usize>;
 pub(crate) fn begin(alloc: Global, starts: &Belief) -> Result<Tales, NoMemory>
     ensures kept { IfOk result (λ t. AreKept starts.now [] t.entries) }
     ensures tales { IfOk result (λ t. tales_of starts.now [] t.entries ≡ map begun starts.now) }
+    ensures ascending { IsAscending starts.now }
 {
     let mut tales = IndexMap::new(alloc);
     for (i, k) in starts.members().iter().enumerate() {
         let _ = tales.insert(*k, i)?;
     }
     Ok(tales)
+}
+
+/// Whether these words are told of the position at the start.
+fn has_opening(d: Dialect, w: &Words, p: &Position) -> bool
+    ensures { result ≡ steps.has_opening d w.now p.now }
+{
+    compare(w, &told(d, opening(p))).is_eq()
 }
 
 /// Whether the game goes on from this position as it stands by a line that is no move.
@@ -158,28 +169,39 @@ fn add_next(
     }
 }
 
-/// The games after one line more.
+/// The games after one line more. `TooMany`, with this number of the line, where they stand in more positions than the
+/// limit allows: it is told as soon as so many stand, so a map has at most as many and the replies to one position.
 pub(crate) fn tell(
     alloc: Global,
     setting: &Setting,
     line: &Line,
+    number: usize,
     tales: &Tales,
     links: &mut Vec<Link>,
-) -> Result<Tales, NoMemory>
+) -> Result<Tales, BeliefStop>
     requires { AreKept setting.now.starts links.old.items tales.now.entries }
     ensures kept { IfOk result (λ t. AreKept setting.now.starts links.new.items t.entries) }
     ensures tales { IfOk result (λ t. tales_of setting.now.starts links.new.items t.entries
         ≡ tales_spec.tell setting.now.dialect setting.now.who line.now
         (tales_of setting.now.starts links.old.items tales.now.entries)) }
+    ensures small { IfOk result (λ t. length t.entries ≤ setting.now.limit) }
+    ensures stop { IfErr result (IsOver setting.now.limit number
+        (tales_spec.tell setting.now.dialect setting.now.who line.now
+        (tales_of setting.now.starts links.old.items tales.now.entries))) }
 {
     let mut after = IndexMap::new(alloc);
     for i in 0..tales.len() {
-        if let Some((k, number)) = tales.get_index(i) {
+        if let Some((k, at)) = tales.get_index(i) {
             let game = Game {
                 stands: unpack(k),
-                number: *number,
+                number: *at,
             };
-            add_next(alloc, setting, line, game, links, &mut after)?;
+            if add_next(alloc, setting, line, game, links, &mut after).is_err() {
+                return Err(BeliefStop::NoMemory);
+            }
+            if after.len() > setting.limit {
+                return Err(BeliefStop::TooMany { line: number });
+            }
         }
     }
     Ok(after)

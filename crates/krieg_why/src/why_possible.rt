@@ -1,61 +1,65 @@
-ghost use Rattle.std.specs.Prelude.{◌≡◌, [], IfOk, OnOk, IfErr, map};
-ghost use Rattle.krieg_belief.specs.Limits.{AllWithin, IsStop};
-ghost use Rattle.krieg_belief.specs.Possible.{IsPossible};
+ghost use Rattle.std.specs.Prelude.{◌≡◌, ◌≤◌, ◌<◌, ◌+◌, ◌^◌, ℕ, [], IfOk, OnOk, IfErr, length, map, take};
+ghost use Rattle.krieg_pack.specs.Members.{set_of};
+ghost use Rattle.krieg_belief.specs.Limits.{AllWithin, IsLateStop, IsStop};
+ghost use Rattle.krieg_belief.specs.Steps.{run};
 ghost use Rattle.krieg_why.specs.Explained.{AreShown, state_of};
-ghost use Rattle.krieg_why.specs.Links.{AreKept, tales_of};
+ghost use Rattle.krieg_why.specs.Links.{AreKept, entry_at, place_of, tales_of};
 ghost use Rattle.krieg_why.specs.Tales.{begun, tell_all};
 
-use crate::games::{Games, numbered};
+use crate::games::{Games, numbered, positions};
 use crate::links::{Link, Setting, Tales, begin, tell};
 use crate::shown::Shown;
-use crate::starts::starts_of;
-use krieg_belief::{BeliefStop, believe};
+use krieg_belief::{BeliefStop, line_before_entries, starts_of};
 use krieg_board::NoMemory;
-use krieg_pack::Belief;
+use krieg_pack::Packed;
 use krieg_sheet::Sheet;
 use krieg_words::Line;
 use std::alloc::Global;
 
-/// The games after all entries.
+/// The games after all entries, where after none of them they stand in more positions than the limit allows. The first
+/// entry has the number after `behind`.
 fn tell_lines(
     alloc: Global,
     setting: &Setting,
     entries: &[Line],
+    behind: usize,
     links: &mut Vec<Link>,
-) -> Result<Tales, NoMemory>
-    requires { links.old.items ≡ [] }
+) -> Result<Tales, BeliefStop>
+    requires none { links.old.items ≡ [] }
+    requires fits { length setting.now.starts ≤ setting.now.limit }
+    requires room { behind + length entries.now < 2 ^ 64 }
     ensures kept { IfOk result (λ t. AreKept setting.now.starts links.new.items t.entries) }
     ensures tales { IfOk result (λ t. tales_of setting.now.starts links.new.items t.entries
         ≡ tell_all setting.now.dialect setting.now.who entries.now
         (map begun setting.now.starts)) }
+    ensures within { OnOk result ((n : ℕ) → n ≤ length entries.now →
+        length (run setting.now.dialect setting.now.who (take n entries.now) setting.now.starts)
+        ≤ setting.now.limit) }
+    ensures stop { IfErr result (IsLateStop setting.now.dialect setting.now.who entries.now
+        setting.now.starts setting.now.limit behind) }
 {
-    let mut tales = begin(alloc, &setting.starts)?;
-    for line in entries {
-        tales = tell(alloc, setting, line, &tales, links)?;
+    let mut tales = match begin(alloc, &setting.starts) {
+        Ok(tales) => tales,
+        Err(NoMemory) => return Err(BeliefStop::NoMemory),
+    };
+    for i in 0..entries.len() {
+        tales = tell(alloc, setting, &entries[i], behind + i + 1, &tales, links)?;
     }
     Ok(tales)
 }
 
-/// For each of the possible positions the least hidden game that explains it. The last layer is let go before the answer
-/// is read.
-fn games_of<'a>(alloc: Global, s: &'a Sheet, possible: Belief) -> Result<Games<'a>, NoMemory>
-    requires { IsPossible s.now possible }
-    ensures { IfOk result (λ g. AreShown s.now g) }
+/// For each position in which a game stands its number, in the order of the positions. The games are let go before the
+/// answer is read.
+fn lasts_of(alloc: Global, tales: Tales) -> Result<Vec<(Packed, usize)>, NoMemory>
+    ensures { IfOk result (λ v. v.items ≡ map (entry_at tales.entries)
+        (set_of (map place_of tales.entries))) }
 {
-    let starts = starts_of(alloc, s)?;
-    let setting = Setting {
-        dialect: s.dialect(),
-        who: s.side(),
-        starts,
-    };
-    let mut links = Vec::new(alloc);
-    let mut tales = tell_lines(alloc, &setting, s.entries(), &mut links)?;
+    let mut tales = tales;
+    let possible = positions(alloc, &tales)?;
     let lasts = numbered(alloc, &tales, &possible)?;
     // What is let go in smaller parts goes back to the system, and the text of the games takes its place.
     tales.shrink_to_fit();
-    drop(tales);
-    drop(possible);
-    Ok(Games::kept(s, setting.starts, links, lasts))
+    Ok(lasts)
 }
 
 /// For each position that is consistent with the sheet, in order, the least hidden game that explains it: the one
@@ -68,9 +72,17 @@ pub fn least_games<'a>(alloc: Global, s: &'a Sheet, limit: usize) -> Result<Game
     ensures within { OnOk result (AllWithin limit s.now) }
     ensures stop { IfErr result (IsStop s.now limit) }
 {
-    let possible = believe(alloc, s, limit)?;
-    match games_of(alloc, s, possible) {
-        Ok(games) => Ok(games),
+    let setting = Setting {
+        dialect: s.dialect(),
+        who: s.side(),
+        starts: starts_of(alloc, s, limit)?,
+        limit,
+    };
+    let mut links = Vec::new(alloc);
+    let behind = line_before_entries(s);
+    let tales = tell_lines(alloc, &setting, s.entries(), behind, &mut links)?;
+    match lasts_of(alloc, tales) {
+        Ok(lasts) => Ok(Games::kept(s, setting.starts, links, lasts)),
         Err(NoMemory) => Err(BeliefStop::NoMemory),
     }
 }
