@@ -207,3 +207,29 @@ def naming(kind, crate):
             if path.is_file() and path.name != "Common.antt" and word.search(path.read_text(errors="replace")):
                 found.append(path.relative_to(TOP / "crates" / crate))
     return found
+
+
+# What 7 moves in the place of 6 change: a file, and behind it each text of it that stands there once, old and new.
+RAISED_LIMIT = TOP / "tests/seven-moves.edit"
+
+
+def limit_texts():
+    """The files in which a limit stands in numbers, each with the texts that tell it."""
+    found = {}
+    for line in RAISED_LIMIT.read_text().split("\n"):
+        word, _, text = line.partition(": ")
+        if word == "file":
+            file = found.setdefault(text, [])
+        elif word == "old":
+            file.append(text)
+    return found
+
+
+def limit_files():
+    """The files of these texts, of which each must stand there once."""
+    for path, texts in limit_texts().items():
+        whole = (TOP / path).read_text()
+        for text in texts:
+            if whole.count(text) != 1:
+                raise SystemExit(f"{RAISED_LIMIT.relative_to(TOP)}: {path} has this {whole.count(text)} times: {text}")
+        yield path

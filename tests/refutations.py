@@ -7,10 +7,13 @@ a reason for each try: a tuple of `lives`, `stale`, `class` with the texts of th
 import collections
 import functools
 import itertools
+import pathlib
 import re
+import sys
 
-import limits
 import rules
+sys.path.insert(0, str(pathlib.Path(__file__).resolve().parent.parent / "docs"))
+import limits
 
 Refutation = collections.namedtuple("Refutation", "dialect side moves listed claims")
 Claim = collections.namedtuple("Claim", "moves positions reasons")

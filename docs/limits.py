@@ -3,6 +3,6 @@
 import pathlib
 import re
 
-FORMATS = pathlib.Path(__file__).resolve().parent.parent / "docs/FORMATS.md"
+FORMATS = pathlib.Path(__file__).resolve().parent / "FORMATS.md"
 TABLE = re.compile(r"^\| [^|]+ \| ([\d,]+) \| `(MOST_\w+)` \|$", re.MULTILINE)
 globals().update({name: int(number.replace(",", "")) for number, name in TABLE.findall(FORMATS.read_text())})
