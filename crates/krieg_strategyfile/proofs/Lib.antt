@@ -1,0 +1,12 @@
+mod Common
+mod LedLines
+mod PlayLines
+mod StrategyLaws
+mod Chains
+mod Writables
+mod StrategyTexts
+mod WrittenLines
+mod Sizes
+mod WrittenNodes
+mod Loops
+mod Whole
