@@ -1,4 +1,4 @@
-"""Boards with men on them, and trees of boards, as pictures. What docs/draw-plan draws with."""
+"""Boards with men on them, and trees and tables of boards, as pictures. What docs/draw-plan draws with."""
 
 import collections
 import html
@@ -10,6 +10,8 @@ MARGIN, GAP, RANKS = 22, 58, 16
 LINE, CAPTION = 16, 40
 # So wide are the letters of a heading.
 LETTER = 9
+# Where the columns beside the boards of a table begin, and how wide all are.
+COLUMNS, ACROSS = (0, 300, 360, 440), 510
 
 INK = "#2b2b2b"
 
@@ -31,6 +33,10 @@ SHAPES = {
 # A board of a tree: the lines above it, the positions that are drawn on it, perhaps a try, a bold line below it and others below that, and
 # the boards behind it: where a try was refused, and elsewhere.
 Board = collections.namedtuple("Board", "above found move bold notes refused edges")
+
+# A row of a table: the positions that are drawn on its board, perhaps a try, and what stands beside it: a bold line, one below that, and
+# others, each a style and the texts of its columns.
+Row = collections.namedtuple("Row", "found move bold note lines")
 
 
 def behind(node):
@@ -226,6 +232,39 @@ def tree(title, heading, roots):
         *drawn_lines(nodes, corner),
         *(line for node in nodes for line in drawn_board(node, id(node) in refused, False, *corner[id(node)])),
     ])
+
+
+def columns(texts, x, y, style):
+    """The texts of a line of a table, each in its column."""
+    return [words(text, x + at, y, style) for text, at in zip(texts, COLUMNS) if text]
+
+
+def height_of(row):
+    """How high a row of a table is."""
+    return max(BOARD + RANKS, LINE * (len(row.lines) + 3)) + 20
+
+
+def drawn_row(row, x, y):
+    """A row of a table: a line above it, its board, and what stands beside that."""
+    beside = x + BOARD + GAP
+    drawn = [f'<path d="M{x - RANKS:g} {y - 10:g}h{RANKS + BOARD + GAP + ACROSS:g}" stroke="#ced4da"/>']
+    drawn += board(row.found, row.move, False, x, y)
+    drawn += [words(row.bold, beside, y + 12, "try"), words(row.note, beside, y + 12 + LINE, "note")]
+    for place, (style, texts) in enumerate(row.lines):
+        drawn += columns(texts, beside, y + 20 + LINE * (place + 2), style)
+    return drawn
+
+
+def table(title, heading, heads, rows):
+    """The picture of a table, below the lines of a heading and the names of its columns."""
+    x, y = MARGIN + RANKS, MARGIN + LINE * len(heading) + 14
+    drawn = [words(line, x, MARGIN + 6 + LINE * place, "note" if place else "head") for place, line in enumerate(heading)]
+    drawn += columns(heads, x + BOARD + GAP, y + 6, "note")
+    y += 22
+    for row in rows:
+        drawn += drawn_row(row, x, y)
+        y += height_of(row)
+    return framed(x + BOARD + GAP + ACROSS + MARGIN, y, title, drawn)
 
 
 def alone(title, found, note):

@@ -327,10 +327,24 @@ def sheet_picture(krieg, text):
     return alone("Where the hidden men may be", [men(position) for position in found], note)
 
 
-def picture(krieg, text, is_folded=False):
+def strategy_picture(text, first):
+    """The picture of a strategy, which needs no program: tests/strategies.py says which positions may stand at a node."""
+    import tables
+
+    try:
+        return tables.picture(text, first)
+    except tables.Fault as fault:
+        raise Fault(str(fault)) from fault
+
+
+def picture(krieg, text, is_folded=False, first=None):
     """The picture of a text, as docs/draw-plan says, which asks this program. It raises a fault where there is none."""
     kind = text.split(" ", 2)[1] if text.startswith("krieg ") else ""
-    if kind == "plan":
+    if kind == "strategy" and not is_folded:
+        drawn = strategy_picture(text, first)
+    elif first is not None:
+        raise Fault("the input is not a strategy")
+    elif kind == "plan":
         drawn = plan_picture(krieg, text, is_folded)
     elif kind == "refutation":
         drawn = refutation_picture(text, is_folded)
