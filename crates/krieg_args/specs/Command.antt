@@ -9,7 +9,7 @@ use Rattle.krieg_text.specs.Decimals.{number_between}
 use Rattle.krieg_fen.specs.declared.forms.TheConstants.{MOST_LISTED}
 use Rattle.krieg_args.specs.declared.command.TheConstants.{MOST_ASKS, MOST_SEED, MOST_FIND_MOVES, MOST_FIND_UNITS}
 use Rattle.krieg_args.specs.declared.command.Command.{Command}
-use Rattle.krieg_args.specs.declared.command.Command.TheVariants.{Solve, Check, Refute, Deny, Believe, Why, Umpire, San, Unsan, Play, Lead, Next, Find, Make, Job}
+use Rattle.krieg_args.specs.declared.command.Command.TheVariants.{Solve, Check, Refute, Deny, Believe, Why, Umpire, San, Unsan, Play, Lead, Next, Find, Keys, Make, Job}
 use Rattle.krieg_args.specs.declared.command.Made.{Made}
 use Rattle.krieg_args.specs.declared.command.Made.TheVariants.{Session, Sheet}
 
@@ -26,11 +26,11 @@ moves_of word = number 1 MOST_MOVES word
 abbrev pub budget_of : List ℕ → Option ℕ
 budget_of word = number 1 MOST_UNITS word
 
--- MOVES of `find`, which goes further
+-- MOVES of the program krieg_find, which goes further
 abbrev pub find_moves_of : List ℕ → Option ℕ
 find_moves_of word = number 1 MOST_FIND_MOVES word
 
--- BUDGET of `find`
+-- BUDGET of the program krieg_find
 abbrev pub find_budget_of : List ℕ → Option ℕ
 find_budget_of word = number 1 MOST_FIND_UNITS word
 
@@ -85,7 +85,7 @@ numbers moves budget limit = do
 abbrev pub search_numbers : List ℕ → List ℕ → List ℕ → Option (ℕ × ℕ × ℕ)
 search_numbers moves budget limit = numbers (moves_of moves) (budget_of budget) (limit_of limit)
 
--- the numbers of `find`
+-- the numbers of `find` and of `keys`
 abbrev pub find_numbers : List ℕ → List ℕ → List ℕ → Option (ℕ × ℕ × ℕ)
 find_numbers moves budget limit = numbers (find_moves_of moves) (find_budget_of budget) (limit_of limit)
 
@@ -96,6 +96,10 @@ solve n = Solve n.0 n.1 n.2
 -- the same, by the program krieg_find
 abbrev pub find : ℕ × ℕ × ℕ → Command
 find n = Find n.0 n.1 n.2
+
+-- for every try that is as fast
+abbrev pub keys : ℕ × ℕ × ℕ → Command
+keys n = Keys n.0 n.1 n.2
 
 -- for a refutation
 abbrev pub refute : ℕ × ℕ × ℕ → Command
@@ -154,9 +158,19 @@ command_of (name ∷ asks ∷ number ∷ tries ∷ told ∷ []) = if bytes_eq na
 command_of (name ∷ asks ∷ win ∷ wout ∷ bin ∷ bout ∷ []) = if bytes_eq name (codes "play") then play asks win wout bin bout else None
 command_of _ = None
 
--- The command of these words of the program krieg_find: the three numbers of a search.
+-- The commands of the program krieg_find.
+
+-- the command of a name with the three numbers of a search
+abbrev pub find_of_three : List ℕ → List ℕ → List ℕ → List ℕ → Option Command
+find_of_three name moves budget limit =
+    if bytes_eq name (codes "find") then option_map find (find_numbers moves budget limit)
+    else (if bytes_eq name (codes "keys") then option_map keys (find_numbers moves budget limit) else None)
+
+-- The command of these words, where they are the form of one: a name, and after it as many words as the name asks for. The three
+-- numbers of a search without a name are those of `find`.
 abbrev pub find_of : List (List ℕ) → Option Command
 find_of (moves ∷ budget ∷ limit ∷ []) = option_map find (find_numbers moves budget limit)
+find_of (name ∷ moves ∷ budget ∷ limit ∷ []) = find_of_three name moves budget limit
 find_of _ = None
 
 -- whether the command reads an input

@@ -11,10 +11,10 @@ pub const MOST_ASKS: u64 = 4_096;
 /// The greatest number of a made input and of a made job.
 pub const MOST_SEED: u64 = 4_294_967_295;
 
-/// The most own moves that `find` may be asked for.
+/// The most own moves that `find` and `keys` may be asked for.
 pub const MOST_FIND_MOVES: u8 = 100;
 
-/// The most units of work that `find` may be given.
+/// The most units of work that `find` and `keys` may be given.
 pub const MOST_FIND_UNITS: u64 = 4_000_000_000;
 
 /// What a made input is.
@@ -95,9 +95,19 @@ pub enum Command {
     },
     /// `next`: what a player does next who follows a plan and heard these lines.
     Next,
-    /// `MOVES BUDGET LIMIT`, the words of the program `krieg_find`: a plan for a sheet as for `solve`, within more moves if it is
-    /// asked for, and mostly with far fewer units of work.
+    /// `find MOVES BUDGET LIMIT`, words of the program `krieg_find`: a plan for a sheet as for `solve`, within more moves if it is
+    /// asked for, and mostly with far fewer units of work. The three numbers alone ask for the same.
     Find {
+        /// From 1 to [`MOST_FIND_MOVES`].
+        moves: u64,
+        /// From 1 to [`MOST_FIND_UNITS`].
+        budget: u64,
+        /// From 1 to [`MOST_LISTED`].
+        limit: u64,
+    },
+    /// `keys MOVES BUDGET LIMIT`, words of the program `krieg_find`: each first try of a sheet that is as fast as any, with the
+    /// numbers of `find`.
+    Keys {
         /// From 1 to [`MOST_FIND_MOVES`].
         moves: u64,
         /// From 1 to [`MOST_FIND_UNITS`].
@@ -231,7 +241,7 @@ fn search_numbers(moves: &str, budget: &str, limit: &str) -> Option<(u64, u64, u
     numbers(moves_of(moves), budget_of(budget), limit_of(limit))
 }
 
-/// The numbers of `find`.
+/// The numbers of `find` and of `keys`.
 fn find_numbers(moves: &str, budget: &str, limit: &str) -> Option<(u64, u64, u64)>
     ensures { result ≡ spec.find_numbers moves.now budget.now limit.now }
 {
@@ -269,6 +279,17 @@ fn find(numbers: (u64, u64, u64)) -> Command
 {
     let (moves, budget, limit) = numbers;
     Command::Find {
+        moves,
+        budget,
+        limit,
+    }
+}
+
+fn keys(numbers: (u64, u64, u64)) -> Command
+    ensures { result ≡ spec.keys numbers }
+{
+    let (moves, budget, limit) = numbers;
+    Command::Keys {
         moves,
         budget,
         limit,
@@ -388,12 +409,26 @@ pub fn command_of(words: &[String]) -> Option<Command>
     }
 }
 
-/// The command of these words of the program `krieg_find`, where they are the three numbers of a search in their ranges.
+fn find_of_three(name: &str, moves: &str, budget: &str, limit: &str) -> Option<Command>
+    ensures { result ≡ spec.find_of_three name.now moves.now budget.now limit.now }
+{
+    let name = name.as_bytes();
+    if is_name(b"find", name) {
+        Some(find(find_numbers(moves, budget, limit)?))
+    } else if is_name(b"keys", name) {
+        Some(keys(find_numbers(moves, budget, limit)?))
+    } else {
+        None
+    }
+}
+
+/// The command of these words of the program `krieg_find`, where they are the form of one and their numbers are in their ranges.
 pub fn find_of(words: &[String]) -> Option<Command>
     ensures { result ≡ spec.find_of (map string_bytes words.now) }
 {
     match words {
         [moves, budget, limit] => Some(find(find_numbers(moves, budget, limit)?)),
+        [name, moves, budget, limit] => find_of_three(name, moves, budget, limit),
         _ => None,
     }
 }

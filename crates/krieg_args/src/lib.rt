@@ -1,6 +1,6 @@
 //! The commands of the program, read from the words after its name.
 //!
-//! `specs/Command` says which words are a command of `krieg`, which are that of `krieg_find`, and which commands read an input. The
+//! `specs/Command` says which words are a command of `krieg`, which are one of `krieg_find`, and which commands read an input. The
 //! readers take no memory.
 //!
 //! ```
