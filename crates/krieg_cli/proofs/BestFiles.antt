@@ -54,7 +54,7 @@ alike who (p ∷ ps) hand = all_of (λ q. same_hand p q who ≡ true) ps (λ q a
 pub same_turn : (who : Side) (S : List Pos) → HaveOneHand who S → (p q : Pos) → In p S → In q S → p.side ≡ q.side
 same_turn who S hand p q at other = (same_hand_alike who p q (hand p q at other)).turn
 
-turn_is : (who : Side) (S : List Pos) → HaveOneHand who S → (q : Pos) → In q S → not (is_same_side q.side who) ≡ waits who S
+pub turn_is : (who : Side) (S : List Pos) → HaveOneHand who S → (q : Pos) → In q S → not (is_same_side q.side who) ≡ waits who S
 turn_is who [] hand q at = absurd at
 turn_is who (p ∷ ps) hand q at = ap (λ (side : Side). not (is_same_side side who)) (same_turn who (p ∷ ps) hand q p at (inl refl))
 

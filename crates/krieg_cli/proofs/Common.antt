@@ -30,10 +30,8 @@ pub use Rattle.krieg_words.specs.declared.dialects.Dialect.TheVariants.{Wild16}
 pub use Rattle.krieg_words.specs.declared.line.Line.{Line}
 pub use Rattle.krieg_words.specs.declared.line.Line.TheVariants.{Done, Early, Heard, Illegal, Opens, Over}
 unfoldable pub use Rattle.krieg_record.specs.RecordReading.{record_at}
-pub use Rattle.krieg_referee.specs.Games.{GameState, judge}
-pub use Rattle.krieg_referee.specs.Hearing.{lines_for}
+pub use Rattle.krieg_referee.specs.Games.{judge}
 pub use Rattle.krieg_referee.specs.declared.verdict.Event.{Event}
-pub use Rattle.krieg_referee.specs.declared.verdict.Stop.TheVariants.{AsksUsed, Ended, Left}
 pub use Rattle.krieg_referee.specs.declared.verdict.Verdict.{Verdict}
 pub use Rattle.krieg_sheet.specs.Games.{IsConsistent, Gives}
 pub use Rattle.krieg_sheet.specs.Places.{IsSheet}
@@ -47,9 +45,10 @@ pub use Rattle.krieg_session.specs.SessionReading.{start_at}
 unfoldable pub use Rattle.krieg_session.specs.SessionText.{session_text}
 pub use Rattle.krieg_session.specs.Sessions.{SessionState}
 pub use Rattle.krieg_score.specs.Scores.{record_of, san_of, unsan_of}
+pub use Rattle.krieg_theory.specs.Can.{begins, can, least}
 pub use Rattle.krieg_theory.specs.Canonical.{AreCanon, IsCanon, IsCanonOther, edge_keys}
 pub use Rattle.krieg_theory.specs.Game.{Game}
-pub use Rattle.krieg_theory.specs.Plans.{AreCanonRoots, IsCanonPlan, IsWorst, all_starts, can_plan, mates, opening_set, openings, wins_root}
+pub use Rattle.krieg_theory.specs.Plans.{AreCanonRoots, IsCanonPlan, IsWorst, all_starts, can_plan, canon_plan, mates, opening_set, openings, wins_root}
 pub use Rattle.krieg_theory.specs.Sets.{Ascending, In, is_nil, same}
 pub use Rattle.krieg_theory.specs.Split.{class, keys, legal_in_some, refused, tries}
 pub use Rattle.krieg_theory.specs.Tree.{Edge, Edges, Just, Maybe, NoEdges, Nothing, Try}
@@ -68,11 +67,10 @@ pub use Rattle.krieg_belief.specs.Limits.{AllWithin, IsFirstExcess, IsStop}
 pub use Rattle.krieg_belief.specs.Possible.{HaveOneHand, IsPossible}
 pub use Rattle.krieg_seats.specs.Accounts.{Account}
 pub use Rattle.krieg_play.specs.Broken.{Refuses}
-pub use Rattle.krieg_play.specs.Calls.{FirstChanges, IsReady, Relieves, lines_to}
+pub use Rattle.krieg_play.specs.Calls.{FirstChanges}
 pub use Rattle.krieg_play.specs.Games.{events_of}
-pub use Rattle.krieg_play.specs.Passes.{Passes}
-pub use Rattle.krieg_play.specs.Played.{Sides, by_side, seen, seen_team}
-pub use Rattle.krieg_play.specs.Teams.{BrokenCourse, HasFailed, IsGone, Service, Team, Turns, entry_of, now_of, team_of}
+pub use Rattle.krieg_play.specs.Played.{Sides, seen, seen_team}
+pub use Rattle.krieg_play.specs.Teams.{BrokenCourse, HasFailed, Service, Team, Turns, entry_of, now_of}
 pub use Rattle.krieg_play.specs.declared.outcome.PlayFault.{PlayFault}
 pub use Rattle.krieg_play.specs.declared.outcome.PlayFault.TheVariants.{Vacant}
 pub use Rattle.krieg_why.specs.Explained.{AreShown, ShownState}
@@ -100,8 +98,13 @@ pub use Rattle.krieg_parting.specs.Turns.{IsOthersTurn, IsOwnTurn}
 pub use Rattle.krieg_split.specs.Units.{IsPaid}
 pub use Rattle.krieg_search.specs.Decision.{IsBetween}
 pub use Rattle.krieg_search.specs.BuiltPlan.{IsFit}
+pub use Rattle.krieg_search.specs.KeyTries.{AreKeys, IsKeyAnswer, IsWithinFresh, Told, key_tries, key_try, keys_of, told_of}
 pub use Rattle.krieg_search.specs.Solutions.{IsAnswer, IsBest, IsCharged, IsChargedAtMost}
 pub use Rattle.krieg_search.specs.declared.best_plan.Answer.{Answer}
+pub use Rattle.krieg_search.specs.declared.keys.KeyAnswer.TheVariants.{Found}
+pub use Rattle.krieg_search.specs.declared.keys.KeyTry.{KeyTry}
+pub use Rattle.krieg_search.specs.declared.keys.KeysAt.{KeysAt}
+pub use Rattle.krieg_search.specs.declared.keys.Keys.{Keys as FoundKeys}
 pub use Rattle.krieg_search.specs.declared.stop.SearchStop.{SearchStop}
 pub use Rattle.krieg_refute.specs.Refutations.{claims_price, most_claimed, most_claims, refutes}
 pub use Rattle.krieg_refute.specs.RefuteAnswers.{IsDenial, IsDenied, IsMated, IsOneSide, IsTaken, side_of}
@@ -117,35 +120,36 @@ pub use Rattle.krieg_robot.specs.declared.led.LeadFault.{LeadFault}
 pub use Rattle.krieg_robot.specs.declared.led.Led.{Led}
 pub use Rattle.krieg_make.specs.MadeSessions.{made_session}
 pub use Rattle.krieg_make.specs.MadeSheets.{made_list, made_sheet}
-pub use Rattle.krieg_args.specs.Command.{asks_of, budget_of, command_of, command_of_name, command_of_one, command_of_three, find, find_budget_of, find_moves_of, find_numbers, find_of, lead, lead_from, limit_of, made_input, make, moves_of, number, numbers, place_of, play, refute, search_numbers, seed_of, solve, takes_input, ◌>>=◌}
+pub use Rattle.krieg_args.specs.Command.{asks_of, budget_of, command_of, command_of_name, command_of_one, command_of_three, find, find_budget_of, find_moves_of, find_numbers, find_of, find_of_three, lead, lead_from, limit_of, made_input, make, moves_of, number, numbers, place_of, play, refute, search_numbers, seed_of, solve, takes_input, ◌>>=◌}
 pub use Rattle.krieg_args.specs.declared.command.Command.{Command}
-pub use Rattle.krieg_args.specs.declared.command.Command.TheVariants.{Believe, Check, Deny, Find, Job, Lead, Make, Next, Play, Refute, San, Solve, Umpire, Unsan, Why}
+pub use Rattle.krieg_args.specs.declared.command.Command.TheVariants.{Believe, Check, Deny, Find, Job, Keys, Lead, Make, Next, Play, Refute, San, Solve, Umpire, Unsan, Why}
 pub use Rattle.krieg_args.specs.declared.command.Made.{Made}
-pub use Rattle.krieg_args.specs.declared.command.TheConstants.{MOST_FIND_MOVES, MOST_FIND_UNITS, MOST_SEED}
+pub use Rattle.krieg_args.specs.declared.command.TheConstants.{MOST_FIND_MOVES, MOST_SEED}
 pub use Rattle.krieg_cli.specs.Asked.{IsGiven, Leaves, OfPossible, has_no_turn}
 pub use Rattle.krieg_cli.specs.Believe.{Believed}
 unfoldable pub use Rattle.krieg_cli.specs.Check.{worst_text}
 pub use Rattle.krieg_cli.specs.Check.{check_cost}
-pub use Rattle.krieg_cli.specs.Complete.{BenchHolds, CanBeChecked, CanBeDenied, CanBeRefuted, CanBeShown, CanBeSolved, CanBeSummed, CanPlay, Completes, HoldsText, MustAnswer, NoneFailed, seats_since}
+pub use Rattle.krieg_cli.specs.Complete.{BenchHolds, CanBeChecked, CanBeDenied, CanBeKeyed, CanBeRefuted, CanBeShown, CanBeSolved, CanBeSummed, CanPlay, Completes, HoldsText, MustAnswer, NoneFailed, seats_since}
 unfoldable pub use Rattle.krieg_cli.specs.Deny.{refuted_text}
 pub use Rattle.krieg_cli.specs.Deny.{Judged}
 pub use Rattle.krieg_cli.specs.Ending.{line_of, status}
-pub use Rattle.krieg_cli.specs.Headline.{AnswersSheet, HasSheet, WritesNone, WritesPlan}
+pub use Rattle.krieg_cli.specs.Headline.{AnswersKeys, AnswersSheet, HasSheet, ListsKeys, WritesKeys, WritesNone, WritesPlan}
 pub use Rattle.krieg_cli.specs.Input.{WasRead, WasTaken}
 unfoldable pub use Rattle.krieg_cli.specs.Job.{summary_text}
 pub use Rattle.krieg_cli.specs.Job.{IsFound, Plans, Summarizes, checked_line, found_lines, mates_line, summary_lines}
 pub use Rattle.krieg_cli.specs.Lead.{HasLed, HasLedText, IsGivenUp, IsLedTo, Leads, LeadsFrom, LeadsWhole, OpponentChanges}
 pub use Rattle.krieg_cli.specs.LedGames.{IsWonGame, LeadsToMate}
 pub use Rattle.krieg_cli.specs.Limits.{AreLimits, FitInputs}
-pub use Rattle.krieg_cli.specs.Live.{LivesBy}
+unfoldable pub use Rattle.krieg_cli.specs.Keys.{keys_text}
+pub use Rattle.krieg_cli.specs.Keys.{AreKeysAt, AreSetKeys, Begins, IsKeysText, Keyed, KeyedFor, TellsKeys, heard_lines, try_line}
+pub use Rattle.krieg_cli.specs.Live.{LivesBy, is_live}
 pub use Rattle.krieg_cli.specs.Make.{Makes}
 pub use Rattle.krieg_cli.specs.Next.{Says}
 pub use Rattle.krieg_cli.specs.Outcome.{HasOutcome, IsInRange, LiveOutcome}
-pub use Rattle.krieg_cli.specs.Parts.{AreTerms, Decides, LeavesSeats, SearchedBy, SolvedBy, ending_of, of_lead, of_part, of_play, of_search}
+pub use Rattle.krieg_cli.specs.Parts.{Decides, LeavesSeats, SearchedBy, SolvedBy, ending_of, of_lead, of_part, of_play, of_search}
 pub use Rattle.krieg_cli.specs.Play.{HasBegun, PlaysFrom, PlaysWhole}
 pub use Rattle.krieg_cli.specs.Refusal.{OfText, refusal_status, text_status}
 pub use Rattle.krieg_cli.specs.Refute.{CanBeListed, Claimed, IsDenialText, Refuted, denial_file}
-pub use Rattle.krieg_play.specs.Benches.{bench_sides}
 pub use Rattle.krieg_cli.specs.Solve.{IsBestFile, IsTooLarge, Searched, Tells, file_of, least_units, mates_all}
 pub use Rattle.krieg_cli.specs.Tally.{tally_of}
 pub use Rattle.krieg_cli.specs.Top.{Answers, ComesTo, Ends, Gets, IsRun, LeavesBench, Reports, Runs, RunsAlone, nobody}
@@ -160,7 +164,6 @@ pub use Rattle.krieg_cli.specs.declared.commands.job.Finding.{Finding}
 pub use Rattle.krieg_cli.specs.declared.commands.job.Finding.TheVariants.{Plan}
 pub use Rattle.krieg_cli.specs.declared.commands.job.TheConstants.{JOB_MOVES}
 pub use Rattle.krieg_cli.specs.declared.commands.job.tally.Tally.{Tally}
-pub use Rattle.krieg_cli.specs.declared.commands.solve.Terms.{Terms}
 pub use Rattle.krieg_cli.specs.declared.ending.Ending.{Ending}
 pub use Rattle.krieg_cli.specs.declared.ending.Ending.TheVariants.{Answered, Refused, WriteFault}
 pub use Rattle.krieg_cli.specs.declared.input.TheConstants.{MOST_INPUT}

@@ -1,7 +1,7 @@
--- A run of `solve` or of `find` that answers keeps the promise of the headline.
+-- A run of `solve`, of `find` or of `keys` that answers keeps the promise of the headline.
 use Rattle.std.proofs.Common.{◌≡◌, ◌⊎◌, inl, inr, ℕ, Bool, true, false, List, length, ◌≤◌, Option, Some, Result, Ok, Err, refl, sym, subst, ◌∙◌}
 use Rattle.std.specs.Io.KnownBytes.{Appends}
-use Rattle.krieg_cli.proofs.Common.{Pos, lines, whole, TextFault, SheetState, sheet_at, plan_at, Command, Solve, Find, Stream, World, WasRead, OfText, status, Tells, SearchedBy, SolvedBy, LiveOutcome, Answers, Ends, Runs, Reports, WritesPlan, WritesNone, AnswersSheet, MOST_INPUT, Ending}
+use Rattle.krieg_cli.proofs.Common.{Pos, lines, whole, TextFault, SheetState, sheet_at, plan_at, Command, Solve, Find, Keys, Stream, World, WasRead, OfText, status, Tells, SearchedBy, SolvedBy, TellsKeys, KeyedFor, LiveOutcome, Answers, Ends, Runs, Reports, WritesPlan, WritesNone, WritesKeys, AnswersSheet, AnswersKeys, ListsKeys, MOST_INPUT, Ending}
 use Rattle.krieg_text.specs.declared.fault.TextFault.TheVariants as fault
 use Rattle.krieg_cli.proofs.WholeGames.{answered}
 
@@ -50,4 +50,30 @@ answers_sheets cut plays e asked before after err err' code runs reports is n bu
     let done = answered e (sym is ∙ zero) in
     kept cut plays n budget limit before after err err'
     (subst (λ x. Ends plays x (search cut n budget limit) before after) done (subst (λ x. Runs plays e x before after) words runs))
+    (subst (λ x. Reports x err err') done reports)
+
+-- ---- keys
+
+keys_told : (n : ℕ) (s : SheetState) (S : List Pos) (before after : World) (answer : List ℕ) → Appends before.out.bytes after.out.bytes answer → TellsKeys s.dialect s.side S n answer →
+    WritesKeys n s S before after ⊎ WritesNone n s S before after
+keys_told n s S before after answer written (inl keys) = inl (record { answer = answer; keys = keys; written = written })
+keys_told n s S before after answer written (inr (none, text)) = inr (record { none_mates = none; written = subst (Appends before.out.bytes after.out.bytes) text written })
+
+keys_of_text : (n budget limit : ℕ) (before after : World) (err err' : Stream) (text answer : List ℕ) (r : Result SheetState TextFault) → whole sheet_at (lines text) ≡ r → WasRead before.input after.input text →
+    Appends before.out.bytes after.out.bytes answer → err' ≡ err → OfText r (KeyedFor n budget limit) (Ok answer) → AnswersKeys n before after err err'
+keys_of_text n budget limit before after err err' text answer (Ok s) is read written quiet (S, leaves, goes, told) =
+    (s, S, record { text = text; was_read = read; spelled = is; possible = leaves.possible; some = leaves.some }, keys_told n s S before after answer written told, quiet)
+keys_of_text n budget limit before after err err' text answer (Err (fault.At line kind)) is read written quiet e = absurd cc
+keys_of_text n budget limit before after err err' text answer (Err fault.NoMemory) is read written quiet e = absurd e
+
+keys_kept : (plays : LiveOutcome) (n budget limit : ℕ) (before after : World) (err err' : Stream) → Answers plays (Keys n budget limit) before after → err' ≡ err → AnswersKeys n before after err err'
+keys_kept plays n budget limit before after err err' (answer, (text, read, comes), written, no_fault) quiet =
+    keys_of_text n budget limit before after err err' text answer (whole sheet_at (lines text)) refl read written quiet comes
+
+pub lists_keys : (plays : LiveOutcome) (e : Ending) (asked : Option Command) (before after : World) (err err' : Stream) (code : ℕ) → Runs plays e asked before after → Reports e err err' → code ≡ status e →
+    ListsKeys asked code before after err err'
+lists_keys plays e asked before after err err' code runs reports is n budget limit words zero =
+    let done = answered e (sym is ∙ zero) in
+    keys_kept plays n budget limit before after err err'
+    (subst (λ x. Ends plays x (Keys n budget limit) before after) done (subst (λ x. Runs plays e x before after) words runs))
     (subst (λ x. Reports x err err') done reports)

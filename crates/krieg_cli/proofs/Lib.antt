@@ -9,6 +9,7 @@ mod Denying
 mod Finding
 mod Headline
 mod Jobs
+mod KeyTexts
 mod Leading
 mod LedGames
 mod Pieces

@@ -1,29 +1,34 @@
--- The numbers of a search are in their ranges where the words are a command.
+-- The numbers of a search are in their ranges where the words are a command, and no command of krieg_find calls seats.
 use Rattle.std.proofs.Common.{◌≡◌, ℕ, ◌≤◌, Bool, true, false, List, [], ◌∷◌, Option, Some, None, option_map, Result, Ok, Err, refl, subst, ◌<◌, ◌^◌, arith}
 use Rattle.std.specs.Prelude.{codes, if◌then◌else◌}
 use Rattle.std.specs.Result.{result_ok}
 use Rattle.std.specs.Str.{bytes_eq}
-use Rattle.krieg_cli.proofs.Common.{number_between, MOST_LISTED, NumberFault, ◌>>=◌, command_of, command_of_name, command_of_one, command_of_three, find_budget_of, find_moves_of, find_numbers, find_of, numbers, search_numbers, solve, find, refute, make, play, lead, lead_from, number, moves_of, budget_of, limit_of, asks_of, place_of, made_input, seed_of, Command, Check, Deny, Believe, Why, Umpire, San, Unsan, Play, Lead, Next, Make, Job, Made, MOST_SEED, IsInRange, MOST_MOVES, MOST_FIND_MOVES}
+use Rattle.krieg_cli.proofs.Common.{number_between, MOST_LISTED, NumberFault, ◌>>=◌, command_of, command_of_name, command_of_one, command_of_three, find_budget_of, find_moves_of, find_numbers, find_of, find_of_three, numbers, search_numbers, solve, find, refute, make, play, lead, lead_from, number, moves_of, budget_of, limit_of, asks_of, place_of, made_input, seed_of, Command, Check, Deny, Believe, Why, Umpire, San, Unsan, Play, Lead, Next, Make, Job, Made, MOST_SEED, IsInRange, is_live, MOST_MOVES, MOST_FIND_MOVES}
 use Rattle.krieg_text.proofs.Numbers.{between_spells}
 use Rattle.krieg_args.specs.Command as words
 
+-- a command that the words may be is as was said
+record Each (P : Command → Type 0) (o : Option Command) : Type 0 where
+  at : (c : Command) → o ≡ Some c → P c
+
 -- a search among the words has its numbers in their ranges
 abbrev Ranged : Option Command → Type 0
-Ranged o = (c : Command) → o ≡ Some c → IsInRange c
+Ranged o = Each IsInRange o
 
-none : Ranged None
-none c e = absurd cc
+module _ {P : Command → Type 0} where
+  none : Each P None
+  none = record { at = λ c e. absurd cc }
 
-either : (t : Bool) (x y : Option Command) → Ranged x → Ranged y → Ranged (if t then x else y)
-either true x y a b = a
-either false x y a b = b
+  either : (t : Bool) (x y : Option Command) → Each P x → Each P y → Each P (if t then x else y)
+  either true x y a b = a
+  either false x y a b = b
 
-alone : (c : Command) → IsInRange c → Ranged (Some c)
-alone c i d e = let same : c ≡ d = cc in subst IsInRange same i
+  alone : (c : Command) → P c → Each P (Some c)
+  alone c i = record { at = λ d e. (let same : c ≡ d = cc in subst P same i) }
 
-mapped : {X : Type 0} (name : X → Command) (o : Option X) → ((x : X) → IsInRange (name x)) → Ranged (option_map name o)
-mapped name None each = none
-mapped name (Some x) each = alone (name x) (each x)
+  mapped : {X : Type 0} (name : X → Command) (o : Option X) → ((x : X) → P (name x)) → Each P (option_map name o)
+  mapped name None each = none
+  mapped name (Some x) each = alone (name x) (each x)
 
 -- the number of a word, where it is one, is in the range
 abbrev Within : ℕ → ℕ → Option ℕ → Type 0
@@ -41,8 +46,8 @@ abbrev AreRanged : ℕ → ℕ × ℕ × ℕ → Type 0
 AreRanged most n = (1 ≤ n.0) × (n.0 ≤ most) × (n.2 ≤ MOST_LISTED)
 
 -- the numbers of a search are in their ranges
-searching : (most : ℕ) (m b l : Option ℕ) (name : ℕ × ℕ × ℕ → Command) → Within 1 most m → Within 1 MOST_LISTED l → ((n : ℕ × ℕ × ℕ) → AreRanged most n → IsInRange (name n)) →
-    Ranged (option_map name (numbers m b l))
+searching : {P : Command → Type 0} (most : ℕ) (m b l : Option ℕ) (name : ℕ × ℕ × ℕ → Command) → Within 1 most m → Within 1 MOST_LISTED l → ((n : ℕ × ℕ × ℕ) → AreRanged most n → P (name n)) →
+    Each P (option_map name (numbers m b l))
 searching most None b l name moves limit each = none
 searching most (Some m) None l name moves limit each = none
 searching most (Some m) (Some b) None name moves limit each = none
@@ -52,8 +57,13 @@ searching most (Some m) (Some b) (Some l) name moves limit each = let inside = m
 by_search : (moves budget limit : List ℕ) (name : ℕ × ℕ × ℕ → Command) → ((n : ℕ × ℕ × ℕ) → AreRanged MOST_MOVES n → IsInRange (name n)) → Ranged (option_map name (search_numbers moves budget limit))
 by_search moves budget limit name = searching MOST_MOVES (moves_of moves) (budget_of budget) (limit_of limit) name (within 1 MOST_MOVES moves (omega arith)) (within 1 MOST_LISTED limit (omega arith))
 
--- those of `find`
-by_find : (moves budget limit : List ℕ) (name : ℕ × ℕ × ℕ → Command) → ((n : ℕ × ℕ × ℕ) → AreRanged MOST_FIND_MOVES n → IsInRange (name n)) → Ranged (option_map name (find_numbers moves budget limit))
+-- a command of krieg_find: its numbers are in their ranges, and it calls no seats
+pub record IsAskedAlone (c : Command) : Type 0 where
+  pub range : IsInRange c
+  pub calm : is_live c ≡ false
+
+-- those of `find` and of `keys`
+by_find : (moves budget limit : List ℕ) (name : ℕ × ℕ × ℕ → Command) → ((n : ℕ × ℕ × ℕ) → AreRanged MOST_FIND_MOVES n → IsAskedAlone (name n)) → Each IsAskedAlone (option_map name (find_numbers moves budget limit))
 by_find moves budget limit name = searching MOST_FIND_MOVES (find_moves_of moves) (find_budget_of budget) (limit_of limit) name (within 1 MOST_FIND_MOVES moves (omega arith)) (within 1 MOST_LISTED limit (omega arith))
 
 making : (what seed : List ℕ) → Ranged (make what seed)
@@ -62,14 +72,14 @@ making what seed = go (made_input what) (seed_of seed) refl
     go : (w : Option Made) (s : Option ℕ) → seed_of seed ≡ s → Ranged (w >>= λ w. s >>= λ s. Some (Make w s))
     go None s es = none
     go (Some w) None es = none
-    go (Some w) (Some s) es = λ c e. let same : Make w s ≡ c = cc in subst IsInRange same (within 0 MOST_SEED seed (omega arith) s es).1
+    go (Some w) (Some s) es = alone (Make w s) (within 0 MOST_SEED seed (omega arith) s es).1
 
 of_job : (word : List ℕ) → Ranged (option_map Job (seed_of word))
 of_job word = go (seed_of word) refl
   where
     go : (s : Option ℕ) → seed_of word ≡ s → Ranged (option_map Job s)
     go None es = none
-    go (Some s) es = λ c e. let same : Job s ≡ c = cc in subst IsInRange same (within 0 MOST_SEED word (omega arith) s es).1
+    go (Some s) es = alone (Job s) (within 0 MOST_SEED word (omega arith) s es).1
 
 playing : (asks win wout bin bout : List ℕ) → Ranged (play asks win wout bin bout)
 playing asks win wout bin bout = either _ (option_map Play (words.asks_of asks)) None (mapped Play (words.asks_of asks) (λ n. tt)) none
@@ -80,7 +90,7 @@ leading asks number tries told = either _ (lead_from asks number) None (go (asks
     go : (a : Option ℕ) (n : Option ℕ) → place_of number ≡ n → Ranged (a >>= λ a. n >>= λ n. Some (Lead a n))
     go None n en = none
     go (Some a) None en = none
-    go (Some a) (Some n) en = λ c e. let same : Lead a n ≡ c = cc in subst IsInRange same (within 1 MOST_LISTED number (omega arith) n en).0
+    go (Some a) (Some n) en = alone (Lead a n) (within 1 MOST_LISTED number (omega arith) n en).0
 
 of_name : (name : List ℕ) → Ranged (command_of_name name)
 of_name name =
@@ -101,19 +111,37 @@ of_three name moves budget limit =
     either (bytes_eq name (codes "solve")) _ _ (by_search moves budget limit solve (λ n h. (h.1, h.2)))
     (either (bytes_eq name (codes "refute")) _ _ (by_search moves budget limit refute (λ n h. h)) none)
 
+ranged : (ws : List (List ℕ)) → Ranged (command_of ws)
+ranged [] = none
+ranged (name ∷ []) = of_name name
+ranged (name ∷ word ∷ []) = of_one name word
+ranged (name ∷ what ∷ seed ∷ []) = either (bytes_eq name (codes "make")) (make what seed) None (making what seed) none
+ranged (name ∷ moves ∷ budget ∷ limit ∷ []) = of_three name moves budget limit
+ranged (name ∷ asks ∷ number ∷ tries ∷ told ∷ []) = either (bytes_eq name (codes "lead")) (lead asks number tries told) None (leading asks number tries told) none
+ranged (name ∷ asks ∷ win ∷ wout ∷ bin ∷ bout ∷ []) = either (bytes_eq name (codes "play")) (play asks win wout bin bout) None (playing asks win wout bin bout) none
+ranged (a ∷ b ∷ c ∷ d ∷ e ∷ f ∷ g ∷ more) = none
+
 pub in_range : (ws : List (List ℕ)) (c : Command) → command_of ws ≡ Some c → IsInRange c
-in_range [] = none
-in_range (name ∷ []) = of_name name
-in_range (name ∷ word ∷ []) = of_one name word
-in_range (name ∷ what ∷ seed ∷ []) = either (bytes_eq name (codes "make")) (make what seed) None (making what seed) none
-in_range (name ∷ moves ∷ budget ∷ limit ∷ []) = of_three name moves budget limit
-in_range (name ∷ asks ∷ number ∷ tries ∷ told ∷ []) = either (bytes_eq name (codes "lead")) (lead asks number tries told) None (leading asks number tries told) none
-in_range (name ∷ asks ∷ win ∷ wout ∷ bin ∷ bout ∷ []) = either (bytes_eq name (codes "play")) (play asks win wout bin bout) None (playing asks win wout bin bout) none
-in_range (a ∷ b ∷ c ∷ d ∷ e ∷ f ∷ g ∷ more) = none
+in_range ws c e = (ranged ws).at c e
+
+by_numbers : (moves budget limit : List ℕ) → Each IsAskedAlone (option_map find (find_numbers moves budget limit))
+by_numbers moves budget limit = by_find moves budget limit find (λ n h. record { range = (h.1, h.2); calm = refl })
+
+by_name : (name moves budget limit : List ℕ) → Each IsAskedAlone (find_of_three name moves budget limit)
+by_name name moves budget limit =
+    either (bytes_eq name (codes "find")) _ _ (by_numbers moves budget limit)
+    (either (bytes_eq name (codes "keys")) _ _ (by_find moves budget limit words.keys (λ n h. record { range = (h.1, h.2); calm = refl })) none)
+
+of_find : (ws : List (List ℕ)) → Each IsAskedAlone (find_of ws)
+of_find [] = none
+of_find (a ∷ []) = none
+of_find (a ∷ b ∷ []) = none
+of_find (moves ∷ budget ∷ limit ∷ []) = by_numbers moves budget limit
+of_find (name ∷ moves ∷ budget ∷ limit ∷ []) = by_name name moves budget limit
+of_find (a ∷ b ∷ c ∷ d ∷ e ∷ more) = none
+
+pub asked_alone : (ws : List (List ℕ)) (c : Command) → find_of ws ≡ Some c → IsAskedAlone c
+asked_alone ws c e = (of_find ws).at c e
 
 pub find_in_range : (ws : List (List ℕ)) (c : Command) → find_of ws ≡ Some c → IsInRange c
-find_in_range (moves ∷ budget ∷ limit ∷ []) = by_find moves budget limit find (λ n h. (h.1, h.2))
-find_in_range [] = none
-find_in_range (a ∷ []) = none
-find_in_range (a ∷ b ∷ []) = none
-find_in_range (a ∷ b ∷ c ∷ d ∷ more) = none
+find_in_range ws c e = (asked_alone ws c e).range

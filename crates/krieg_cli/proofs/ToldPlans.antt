@@ -129,13 +129,17 @@ module _ (d : Dialect) where
     roots_form waiting [] each = tt
     roots_form waiting (r ∷ rs) each = ((each r.0 (inl refl)).form, roots_form waiting rs (λ key at. each key (inr at)))
 
+    opening_of : (waiting : Bool) → ((p : Pos) → In p S → not (is_same_side p.side who) ≡ waiting) → (key : RootKey) → In key (openings (chess d) (outset d who) S) → IsOpening waiting key
+    opening_of true turn key at = others_opening (λ p m. not-true (is_same_side p.side who) (turn p m)) key at
+    opening_of false turn key at = own_opening (λ p m. not-false (is_same_side p.side who) (turn p m)) key at
+
+    -- what may be heard first can be told
+    pub opening_told : (waiting : Bool) → ((p : Pos) → In p S → not (is_same_side p.side who) ≡ waiting) → (key : RootKey) → In key (openings (chess d) (outset d who) S) → IsToldRoot d key
+    opening_told waiting turn key at = (opening_of waiting turn key at).told
+
     -- the canonical plan's roots can be told, and have words of the opponent's move where he is to move
     pub plan_told : (waiting : Bool) (plan : PlanTrees) → ((p : Pos) → In p S → not (is_same_side p.side who) ≡ waiting) → IsCanonPlan (chess d) (outset d who) plan S → AreToldRoots d plan × AreRootsOf waiting plan
-    plan_told waiting plan turn c = (told_roots waiting plan (each waiting turn) c.roots, roots_form waiting plan (each waiting turn))
+    plan_told waiting plan turn c = (told_roots waiting plan each c.roots, roots_form waiting plan each)
       where
-        inside : (key : RootKey) → In key (map (λ r. r.0) plan) → In key (openings (chess d) (outset d who) S)
-        inside key at = subst (In key) c.same_keys at
-
-        each : (waiting : Bool) → ((p : Pos) → In p S → not (is_same_side p.side who) ≡ waiting) → (key : RootKey) → In key (map (λ r. r.0) plan) → IsOpening waiting key
-        each true turn key at = others_opening (λ p m. not-true (is_same_side p.side who) (turn p m)) key (inside key at)
-        each false turn key at = own_opening (λ p m. not-false (is_same_side p.side who) (turn p m)) key (inside key at)
+        each : (key : RootKey) → In key (map (λ r. r.0) plan) → IsOpening waiting key
+        each key at = opening_of waiting turn key (subst (In key) c.same_keys at)

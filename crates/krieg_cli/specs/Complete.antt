@@ -29,7 +29,7 @@ use Rattle.krieg_play.specs.Teams.{Team}
 use Rattle.krieg_play.specs.Played.{Sides}
 use Rattle.krieg_args.specs.Command.{takes_input}
 use Rattle.krieg_args.specs.declared.command.Command.{Command}
-use Rattle.krieg_args.specs.declared.command.Command.TheVariants.{Solve, Check, Refute, Deny, Believe, Why, Umpire, San, Unsan, Play, Lead, Next, Find, Make, Job}
+use Rattle.krieg_args.specs.declared.command.Command.TheVariants.{Solve, Check, Refute, Deny, Believe, Why, Umpire, San, Unsan, Play, Lead, Next, Find, Keys, Make, Job}
 use Rattle.krieg_cli.specs.World.{Stream, World, FaultsRose}
 use Rattle.krieg_cli.specs.Asked.{Leaves, has_no_turn}
 use Rattle.krieg_cli.specs.Solve.{mates_all, fresh_units, NoneMates, IsBestFile, IsTooLarge}
@@ -54,6 +54,15 @@ pub record CanBeSolved (n budget limit : ℕ) (text : List ℕ) : Type 0 where
   pub goes_on : is_over sheet ≡ false
   pub enough : fresh_units sheet.dialect sheet.side positions n ≤ budget
   pub fits : (f : PlanState) → IsBestFile sheet.dialect sheet.side positions n f → IsTooLarge f → ⊥
+
+-- The sheet asks for keys, and the budget is as much as a search may take. No answer is too large.
+pub record CanBeKeyed (n budget limit : ℕ) (text : List ℕ) : Type 0 where
+  pub sheet : SheetState
+  pub positions : List Pos
+  pub spelled : whole sheet_at (lines text) ≡ Ok sheet
+  pub leaves : Leaves limit sheet positions
+  pub goes_on : is_over sheet ≡ false
+  pub enough : fresh_units sheet.dialect sheet.side positions n ≤ budget
 
 -- The plan mates from each listed position within the number that the file states, and the budget is as much as a check takes.
 pub record CanBeChecked (budget : ℕ) (text : List ℕ) : Type 0 where
@@ -107,6 +116,7 @@ pub record CanBeSummed (number : ℕ) : Type 0 where
 abbrev pub MustAnswer : Command → List ℕ → Type 0
 MustAnswer (Solve n budget limit) text = CanBeSolved n budget limit text
 MustAnswer (Find n budget limit) text = CanBeSolved n budget limit text
+MustAnswer (Keys n budget limit) text = CanBeKeyed n budget limit text
 MustAnswer (Check budget) text = CanBeChecked budget text
 MustAnswer (Refute n budget limit) text = CanBeRefuted n budget limit text
 MustAnswer (Deny budget) text = CanBeDenied budget text

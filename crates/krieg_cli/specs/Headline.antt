@@ -1,7 +1,7 @@
 -- The headline. Given the positions in which a game may have started and what one player has heard since, `solve` and `find` write a
 -- plan by which he mates wherever the hidden men are and whatever the opponent plays, within the number of own moves that the
 -- plan states; no plan needs fewer at worst; and it writes that there is none only where no plan mates within the number of
--- moves that was asked for.
+-- moves that was asked for. Of the same positions `keys` writes each first try with which as few moves are enough as with any.
 use Rattle.std.specs.Prelude.{◌≡◌, ◌≤◌, ◌⊎◌, ℕ, true, false, List, length, Option, Some, Ok}
 use Rattle.std.specs.Io.KnownBytes.{Appends}
 use Rattle.krieg_board.specs.Pos.{Pos}
@@ -16,10 +16,11 @@ use Rattle.krieg_planfile.specs.PlanFiles.{PlanState}
 use Rattle.krieg_planfile.specs.PlanReading.{plan_at}
 use Rattle.krieg_planfile.specs.PlanText.{plan_text}
 use Rattle.krieg_args.specs.declared.command.Command.{Command}
-use Rattle.krieg_args.specs.declared.command.Command.TheVariants.{Solve, Find}
+use Rattle.krieg_args.specs.declared.command.Command.TheVariants.{Solve, Find, Keys}
 use Rattle.krieg_cli.specs.World.{Stream, World}
 use Rattle.krieg_cli.specs.Input.{WasRead}
 use Rattle.krieg_cli.specs.Solve.{none_text, mates_all}
+use Rattle.krieg_cli.specs.Keys.{IsKeysText}
 use Rattle.krieg_cli.specs.declared.input.TheConstants.{MOST_INPUT}
 
 -- The input was the text of this sheet, and these are the positions that are consistent with it, each once: there is one.
@@ -66,3 +67,21 @@ SolvesSheets asked code before after err err' =
 abbrev pub FindsSheets : Option Command → ℕ → World → World → Stream → Stream → Type 0
 FindsSheets asked code before after err err' =
     (n budget limit : ℕ) → asked ≡ Some (Find n budget limit) → code ≡ 0 → AnswersSheet n before after err err'
+
+-- The answer lists the keys of these positions: for each thing that may be heard before the first own turn, every try that begins as
+-- short a mate as any.
+pub record WritesKeys (n : ℕ) (s : SheetState) (S : List Pos) (before after : World) : Type 0 where
+  pub answer : List ℕ
+  pub keys : IsKeysText s.dialect s.side S n answer
+  pub written : Appends before.out.bytes after.out.bytes answer
+
+-- the keys of a sheet, or that there is none, and err stays as it was
+abbrev pub AnswersKeys : ℕ → World → World → Stream → Stream → Type 0
+AnswersKeys n before after err err' =
+    (s : SheetState) × (S : List Pos) × HasSheet s S before after × (WritesKeys n s S before after ⊎ WritesNone n s S before after) × (err' ≡ err)
+
+-- status 0 is that answer, with the words of `keys`
+
+abbrev pub ListsKeys : Option Command → ℕ → World → World → Stream → Stream → Type 0
+ListsKeys asked code before after err err' =
+    (n budget limit : ℕ) → asked ≡ Some (Keys n budget limit) → code ≡ 0 → AnswersKeys n before after err err'

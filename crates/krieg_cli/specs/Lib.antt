@@ -8,6 +8,7 @@ pub mod Find
 pub mod Check
 pub mod Refute
 pub mod Deny
+pub mod Keys
 pub mod Believe
 pub mod Why
 pub mod Umpire

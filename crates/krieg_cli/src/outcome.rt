@@ -7,7 +7,7 @@ ghost use Rattle.krieg_cli.specs.Outcome as spec;
 use crate::answers::{Answer, in_pieces, whole};
 use crate::commands::solve::Terms;
 use crate::commands::{
-    believe, check, deny, job, lead, make, next, play, refute, san, solve, umpire, unsan, why,
+    believe, check, deny, job, keys, lead, make, next, play, refute, san, solve, umpire, unsan, why,
 };
 use crate::ending::Ending;
 use krieg_args::Command;
@@ -56,6 +56,19 @@ fn whole_outcome(
                 limit: *limit,
             };
             solve::answer(alloc, terms, text)
+        }
+        Command::Keys {
+            moves,
+            budget,
+            limit,
+        } => {
+            let terms = Terms {
+                cut: true,
+                moves: *moves,
+                budget: *budget,
+                limit: *limit,
+            };
+            keys::answer(alloc, terms, text)
         }
         Command::Check { budget } => check::answer(alloc, *budget, text),
         Command::Refute { .. } => unreachable!(),

@@ -30,8 +30,9 @@ impl From<BeliefStop> for Ending {
     }
 }
 
+/// Adds the lines of the positions.
 #[tactic(auto, using(krieg_text::proofs::Writings::writings))]
-fn put_positions(members: &[Packed], text: &mut Text) -> Result<(), NoMemory>
+pub(crate) fn put_positions(members: &[Packed], text: &mut Text) -> Result<(), NoMemory>
     ensures { PutsLines result text.old text.new (map position_line members.now) }
 {
     let mut ranks = Ranks::new();

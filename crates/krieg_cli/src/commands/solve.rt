@@ -70,7 +70,7 @@ fn file_text(
 
 /// The line that no plan mates within so many moves.
 #[tactic(auto, unfolding(crate::specs::Solve::none_text))]
-fn none_text(alloc: Global, moves: u64) -> Result<Vec<u8>, NoMemory>
+pub(crate) fn none_text(alloc: Global, moves: u64) -> Result<Vec<u8>, NoMemory>
     ensures { IfOk result (λ text. text.items ≡ spec.none_text moves) }
 {
     counted(alloc, b"none ", moves as usize)

@@ -6,6 +6,9 @@ returns-in-Solve-clause-outcome g c = rw c.in-Solve.is c.answer.ensures
 pub returns-in-Find-clause-outcome : goal.returns-in-Find-clause-outcome
 returns-in-Find-clause-outcome g c = rw c.in-Find.is c.answer-in-Find.ensures
 
+pub returns-in-Keys-clause-outcome : goal.returns-in-Keys-clause-outcome
+returns-in-Keys-clause-outcome g c = rw c.in-Keys.is c.answer-in-Keys.ensures
+
 pub returns-in-Lead-clause-outcome : goal.returns-in-Lead-clause-outcome
 returns-in-Lead-clause-outcome g c = rw c.in-Lead.is c.answer-in-Lead.ensures.outcome
 

@@ -3,7 +3,7 @@ use Rattle.std.specs.Prelude.{string_bytes}
 use Rattle.krieg_cli.proofs.Common.{LivesBy, nobody}
 use Rattle.krieg_cli.proofs.Tables.{runs_of}
 use Rattle.krieg_cli.proofs.Finding.{runs_alone}
-use Rattle.krieg_cli.proofs.Headline.{answers_sheets}
+use Rattle.krieg_cli.proofs.Headline.{answers_sheets, lists_keys}
 use Rattle.krieg_cli.proofs.Complete.{completes}
 use Rattle.krieg_cli.proofs.top.run_find.Goals as goal
 
@@ -14,6 +14,10 @@ returns-clause-ends g c =
 pub returns-clause-finds : goal.returns-clause-finds
 returns-clause-finds g c =
     answers_sheets true (LivesBy _ _ _) _ _ _ _ _ _ _ (runs_of (LivesBy _ _ _) _ _ _ _ _ c.find_of.ensures c.obey-ending.ensures.runs) c.report.ensures c.status.ensures
+
+pub returns-clause-keys : goal.returns-clause-keys
+returns-clause-keys g c =
+    lists_keys (LivesBy _ _ _) _ _ _ _ _ _ _ (runs_of (LivesBy _ _ _) _ _ _ _ _ c.find_of.ensures c.obey-ending.ensures.runs) c.report.ensures c.status.ensures
 
 pub returns-clause-completes : goal.returns-clause-completes
 returns-clause-completes g c =
