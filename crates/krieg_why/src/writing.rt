@@ -7,7 +7,7 @@ ghost use Rattle.krieg_why.specs.GamesText as spec;
 use crate::games::Games;
 use crate::shown::Shown;
 use krieg_board::NoMemory;
-use krieg_fen::put_position;
+use krieg_fen::{Ranks, put_next};
 use krieg_session::put_event;
 use krieg_text::{Text, put_number};
 use krieg_words::{Dialect, dialect_name};
@@ -16,17 +16,20 @@ use std::alloc::Global;
 /// Room for so many bytes of each game is found before the first is written. A game of three moves has as many.
 const GAME_ROOM: usize = 128;
 
-/// Adds the lines of a game.
+/// Adds the lines of a game. Of both positions only the ranks that differ from those of the game before are spelled.
 #[tactic(auto, using(krieg_text::proofs::Writings::writings))]
-fn put_game(game: &Shown, text: &mut Text) -> Result<(), NoMemory>
+fn put_game(
+    game: &Shown,
+    lasts: &mut Ranks,
+    starts: &mut Ranks,
+    text: &mut Text,
+) -> Result<(), NoMemory>
     ensures { PutsLines result text.old text.new (spec.game_lines (state_of game.now)) }
 {
     text.put(b"game ")?;
-    put_position(&game.last, text)?;
-    text.end_line()?;
+    put_next(&game.last, lasts, text)?;
     text.put(b"start ")?;
-    put_position(&game.start, text)?;
-    text.end_line()?;
+    put_next(&game.start, starts, text)?;
     for event in &game.events {
         put_event(event, text)?;
         text.end_line()?;
@@ -53,8 +56,10 @@ fn put_each(games: &[Shown], text: &mut Text) -> Result<(), NoMemory>
     ensures { PutsLines result text.old text.new
         (flat_map spec.game_lines (map state_of games.now)) }
 {
+    let mut lasts = Ranks::new();
+    let mut starts = Ranks::new();
     for game in games {
-        put_game(game, text)?;
+        put_game(game, &mut lasts, &mut starts, text)?;
     }
     Ok(())
 }
@@ -85,8 +90,10 @@ pub fn write_games(d: Dialect, games: &[Shown], text: &mut Vec<u8>) -> Result<()
 fn put_each_of(alloc: Global, games: &Games, text: &mut Text) -> Result<(), NoMemory>
     ensures { PutsLines result text.old text.new (flat_map spec.game_lines games.now) }
 {
+    let mut lasts = Ranks::new();
+    let mut starts = Ranks::new();
     for i in 0..games.len() {
-        put_game(&games.get(alloc, i)?, text)?;
+        put_game(&games.get(alloc, i)?, &mut lasts, &mut starts, text)?;
     }
     Ok(())
 }
