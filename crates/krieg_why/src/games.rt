@@ -24,12 +24,14 @@ struct GameTrace {
     replies: Vec<Move>,
 }
 
-/// Reads the game with that number backwards, link by link, until it comes to a start.
+/// Reads the game with that number backwards, link by link, until it comes to a start. Room for `most` moves is found at
+/// once.
 fn trace(
     alloc: Global,
     starts: &Belief,
     links: &[Link],
     number: usize,
+    most: usize,
 ) -> Result<GameTrace, NoMemory>
     requires grounded { Grounded (length starts.now) links.now }
     requires number { number < length starts.now + length links.now }
@@ -37,7 +39,7 @@ fn trace(
     ensures replies { IfOk result (λ t. reverse t.replies.items
         ≡ (numbered_tale starts.now links.now number).replies) }
 {
-    let mut replies = Vec::new(alloc);
+    let mut replies = Vec::with_capacity(alloc, most)?;
     let mut at = number;
     for _ in 0..links.len() {
         if at < starts.len() {
@@ -179,16 +181,12 @@ impl<'a> Games<'a> {
         ensures { IfOk result (λ x. slice_get self.now i ≡ Some (state_of x)) }
     {
         let (last, number) = self.lasts[i];
-        let traced = trace(alloc, &self.starts, &self.links, number)?;
+        let entries = self.sheet.entries();
+        let traced = trace(alloc, &self.starts, &self.links, number, entries.len())?;
         Ok(Shown {
             last: unpack(&last),
             start: traced.start,
-            events: events_by(
-                alloc,
-                self.sheet.side(),
-                self.sheet.entries(),
-                traced.replies,
-            )?,
+            events: events_by(alloc, self.sheet.side(), entries, traced.replies)?,
         })
     }
 

@@ -17,4 +17,4 @@ returns c =
     let at : slice_get lasts c.args.i ≡ Some e = slice_get_read lasts (length lasts) c.args.i e refl within c.index.ensures in
     ap (λ (gs : List ShownState). slice_get gs c.args.i) games
     ∙ (given s ps ls lasts c.args.i e at
-    ∙ ap Some (sym (game_is s ps ls lasts c.deref.result.now e c.unpack.result c.in_ok-traced.traced.start c.side.result c.entries.result.now _ c.in_ok-events_by.field-0.items (search rules) c.deref.ensures.value c.in_ok-traced.ensures.start c.in_ok-traced.ensures.replies c.side.ensures.value c.entries.ensures.value c.in_ok-events_by.ensures)))
+    ∙ ap Some (sym (game_is s ps ls lasts c.deref.result.now e c.unpack.result c.in_ok-traced.traced.start c.side.result c.entries-entries.result.now _ c.in_ok-events_by.field-0.items (search rules) c.deref.ensures.value c.in_ok-traced.ensures.start c.in_ok-traced.ensures.replies c.side.ensures.value c.entries-entries.ensures.value c.in_ok-events_by.ensures)))
