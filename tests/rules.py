@@ -1,4 +1,5 @@
-"""Chess and the umpire's words, slowly and plainly from docs/RULES.md and docs/FORMATS.md alone, without krieg. For tests/refuter.
+"""Chess and the umpire's words, slowly and plainly from docs/RULES.md and docs/FORMATS.md alone, without krieg. For tests/refuter and
+tests/strategies.py.
 
 A board is a text of 64 letters from a1 to h8, with `.` where nothing stands. Squares are numbers, a1 is 0. A move is a from-square, a
 to-square and a promotion, which is empty, `q`, `r`, `b` or `n`. Words are four numbers, in the order of words: the end, what was taken,

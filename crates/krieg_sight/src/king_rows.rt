@@ -18,8 +18,8 @@ pub(crate) struct KingRows {
     others: IndexSet<Others>,
     /// 128 for each row, as far as they were needed.
     told: Vec<Told>,
-    /// The row that was looked at last. It is asked first.
-    last: usize,
+    /// Where the rows of men may be, which are asked first: for each number that `hint_of` gives. Nothing is claimed of it.
+    hints: Vec<u32>,
 }
 
 impl Model for KingRows {
@@ -30,6 +30,31 @@ impl Model for KingRows {
     ghost view = { λ r. record { others = r.others.keys; told = r.told.items } };
 
     ghost invariant = { λ r. AreRowsRight r.others.keys r.told.items };
+}
+
+/// There are so many hints: 128 KB.
+const HINTS: usize = 32_768;
+
+/// Which hint is that of the men: some number below 32,768, from all of their squares.
+#[inline]
+fn hint_of(others: &Others) -> usize {
+    let ones = others.ones.wrapping_mul(0x9E37_79B9_7F4A_7C15);
+    let twos = others.twos.wrapping_mul(0xC2B2_AE3D_27D4_EB4F);
+    let fours = others.fours.wrapping_mul(0x1656_67B1_9E37_79F9);
+    ((ones ^ twos ^ fours) >> 49) as usize
+}
+
+/// Makes that row the hint of these men, where there is memory for hints.
+fn set_hint(hints: &mut Vec<u32>, others: &Others, row: usize) {
+    if hints.is_empty() && hints.resize(HINTS, 0).is_err() {
+        return;
+    }
+    let Ok(row) = u32::try_from(row) else {
+        return;
+    };
+    if let Some(hint) = hints.get_mut(hint_of(others)) {
+        *hint = row;
+    }
 }
 
 /// Where the place with the number stands in that row.
@@ -46,8 +71,20 @@ impl KingRows {
         KingRows {
             others: IndexSet::new(alloc),
             told: Vec::new(alloc),
-            last: 0,
+            hints: Vec::new(alloc),
         }
+    }
+
+    /// The row of these men by the hint, where it is that.
+    #[inline]
+    fn hinted(&self, others: &Others) -> Option<usize>
+        ensures { IfSome result (λ n. slice_get self.now.others n ≡ Some others.now) }
+    {
+        let row = *self.hints.get(hint_of(others))? as usize;
+        if *self.others.get_index(row)? == *others {
+            return Some(row);
+        }
+        None
     }
 
     /// The row of these men, where there is one.
@@ -55,16 +92,14 @@ impl KingRows {
         ensures row { IfSome result (λ n. slice_get self.new.others n ≡ Some others.now) }
         ensures same { self.new ≡ self.old }
     {
-        if let Some(last) = self.others.get_index(self.last) {
-            if *last == *others {
-                return Some(self.last);
-            }
+        if let Some(row) = self.hinted(others) {
+            return Some(row);
         }
         let (row, found) = self.others.get_full(others)?;
         if *found != *others {
             return None;
         }
-        self.last = row;
+        set_hint(&mut self.hints, others, row);
         Some(row)
     }
 

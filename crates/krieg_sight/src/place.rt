@@ -14,7 +14,7 @@ const NO_RIGHTS: Rights = Rights {
 ///
 /// These are of one side, so three sets tell their kinds: `ones` has the squares of pawns, bishops and queens, `twos` those of knights,
 /// bishops and kings, and `fours` those of rooks, queens and kings.
-#[derive(Clone, Copy, Debug, PartialEq, Eq, Hash)]
+#[derive(Clone, Copy, PartialEq, Eq, Hash)]
 pub(crate) struct Others {
     pub ones: u64,
     pub twos: u64,
@@ -127,6 +127,7 @@ impl Place {
 }
 
 /// The place of a position in which a king is the only man of his side, and where no rights are held and no mark stands.
+#[inline(always)]
 pub(crate) fn place_of(p: &Position) -> Option<Place>
     ensures number { IfSome result (λ at. at.number < 128) }
     ensures position { IfSome result (λ at. spec.position_at at.others at.number ≡ p.now) }

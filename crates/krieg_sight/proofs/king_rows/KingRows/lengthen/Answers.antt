@@ -1,4 +1,4 @@
-use Rattle.std.proofs.Common.{◌≡◌, ◌<◌, ◌≤◌, ◌+◌, ◌*◌, length, ap, subst, sym, arith}
+use Rattle.std.proofs.Common.{◌<◌, ◌≤◌, ◌*◌, length, ap, subst, sym, arith}
 use Rattle.krieg_sight.proofs.Placing.{rows_lengthened}
 use Rattle.krieg_sight.proofs.king_rows.KingRows.lengthen.Goals as goal
 
