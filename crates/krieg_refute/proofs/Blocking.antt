@@ -17,7 +17,6 @@ use Rattle.krieg_game.proofs.ChessLaws.{chess_is_game}
 use Rattle.krieg_search.proofs.Blocked.{keyed_some, keyed_none, alive}
 use Rattle.krieg_search.proofs.Building.{adds_nothing, adds_then}
 use Rattle.krieg_refute.specs.declared.refutation.Claim.{Claim}
-use Rattle.krieg_refute.proofs.Carrying.{AreTooMany}
 
 is_one : (i : ℕ) → (suc i == 1) ≡ (i == 0)
 is_one zero = refl
@@ -162,6 +161,3 @@ module _ (d : Dialect) where
               (subst (In (X, k)) (sym v.2.all) (in_all (chess d) (chess_is_game d) (pairs_in T1 w0.places.keys) (claimed (chess d) k X) (X, k) (claimed_root (chess d) (chess_is_game d) k X b.some b.number))),
           e ∙ ap r v.2.at ∙ sym (b.reason qs),
         )
-
-    pub blocked_large : AreTooMany d (add_all (chess d) (pairs_in T1 w0.places.keys) (claimed (chess d) k X)) → AreTooMany d (add_all (chess d) (pairs_in T0 w0.places.keys) (behind_try (chess d) (j - 1) B t))
-    blocked_large h = subst (AreTooMany d) same h

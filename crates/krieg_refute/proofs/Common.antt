@@ -63,14 +63,15 @@ pub use Rattle.krieg_refute.specs.Blocking.{IsBlockedBy}
 pub use Rattle.krieg_refute.specs.Claiming.{AreClaims, Blocks, Claims, IsClaimList, IsLost, IsNext, IsPushed, Reasons, at_once_reason, is_lost_class, is_lost_opening, pairs_in}
 pub use Rattle.krieg_refute.specs.Drafts.{AreWithin, HaveSets, claim_over, claims_over, set_in}
 pub use Rattle.krieg_refute.specs.Exclusion.{NoneMates}
-pub use Rattle.krieg_refute.specs.Reasons.{class_in, holds_if_own, opens_with, try_holds, within_opening}
+pub use Rattle.krieg_refute.specs.Reasons.{AreLast, class_in, holds_at, holds_if_own, opens_with, price_at, try_holds, within_opening}
 pub use Rattle.krieg_refute.specs.Refutations.{claim_of, claims_of, claims_price, is_own_turn, most_claimed, most_claims, reason_of, why_of}
 pub use Rattle.krieg_refute.specs.RefuteAnswers.{IsDenial, IsDenied, IsMated, IsOneSide, IsTaken, side_of}
 unfoldable pub use Rattle.krieg_refute.specs.TryResults.{IsTryResult}
 pub use Rattle.krieg_refute.specs.declared.claiming.ClaimList.{ClaimList}
 pub use Rattle.krieg_refute.specs.declared.claims.Draft.{Draft}
-pub use Rattle.krieg_refute.specs.declared.claims.Slot.{Slot}
-pub use Rattle.krieg_refute.specs.declared.claims.Slot.TheVariants.{Here}
+pub use Rattle.krieg_refute.specs.declared.claims.SetPlace.{SetPlace}
+pub use Rattle.krieg_refute.specs.declared.claims.SetPlace.TheVariants.{Here}
+pub use Rattle.krieg_refute.specs.declared.denial.PlacedClaim.{PlacedClaim}
 pub use Rattle.krieg_refute.specs.declared.refutation.Refutation.{Refutation}
 pub use Rattle.krieg_refute.specs.declared.refutation.Why.{Why}
 pub use Rattle.krieg_refute.specs.declared.refutation.Why.TheVariants.{Class, Refused}

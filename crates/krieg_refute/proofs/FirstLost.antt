@@ -26,6 +26,10 @@ is_stored (Some None) e = refl
 is_stored (Some (Some m)) e = absurd (both_ways false refl e)
 
 module _ (d : Dialect) (who : Side) (S : List Pos) (n : ℕ) where
+  -- what a stop answers, and takes of the units
+  abbrev pub StopsAt : SearchStop → ℕ → Type 0
+  StopsAt stop u = IsDenied d who S n (Err stop) × IsTaken d who S n (Err stop) u u
+
   pub record HasFirst (T : SetRows) (os : List Opening) : Type 0 where
     pub key : RootKey
     pub opening : Opening
@@ -121,42 +125,21 @@ module _ (d : Dialect) (who : Side) (S : List Pos) (n : ℕ) where
       }
 
       -- or that are too many
-      pub claims_stopped : (P : SearchStop → Type 0) (r : Result Denied SearchStop) (stop : SearchStop) → ((x : SearchStop) → P x → stop ≡ x) → IsErrAnd r P → AreClaims d (set_at w.table set) n (Err stop) → IsDenied d who S n r
-      claims_stopped P (Ok x) stop same fails v = absurd fails
-      claims_stopped P (Err x) stop same fails v = subst (λ (y : SearchStop). IsDenied d who S n (Err y)) (same x fails) (go stop v)
-        where
-          go : (stop : SearchStop) → AreClaims d (set_at w.table set) n (Err stop) → IsDenied d who S n (Err stop)
-          go search.Spent v = absurd v
-          go search.Large v = record { cannot = a.cannot; many = subst (AreMany (chess d) most_claims most_claimed) claims_are v }
-          go search.NoMemory v = tt
-
-      pub claims_stopped_taken : (P : SearchStop → Type 0) (r : Result Denied SearchStop) (stop : SearchStop) (u : ℕ) → ((x : SearchStop) → P x → stop ≡ x) → IsErrAnd r P → AreClaims d (set_at w.table set) n (Err stop) → IsTaken d who S n r u u
-      claims_stopped_taken P (Ok x) stop u same fails v = absurd fails
-      claims_stopped_taken P (Err x) stop u same fails v = subst (λ (y : SearchStop). IsTaken d who S n (Err y) u u) (same x fails) (go stop v)
-        where
-          go : (stop : SearchStop) → AreClaims d (set_at w.table set) n (Err stop) → IsTaken d who S n (Err stop) u u
-          go search.Spent v = absurd v
-          go search.Large v = refl
-          go search.NoMemory v = refl
+      pub claims_stop : (stop : SearchStop) (u : ℕ) → AreClaims d (set_at w.table set) n (Err stop) → StopsAt stop u
+      claims_stop search.Spent u v = absurd v
+      claims_stop search.Large u v = (record { cannot = a.cannot; many = subst (AreMany (chess d) most_claims most_claimed) claims_are v }, refl)
+      claims_stop search.NoMemory u v = (tt, refl)
 
   -- the search was stopped
-  pub search_stopped : (P : SearchStop → Type 0) (r : Result Denied SearchStop) (stop : SearchStop) (had has : ℕ) → ((x : SearchStop) → P x → stop ≡ x) → IsErrAnd r P → IsDecision d who S n false (Err stop) had has → IsDenied d who S n r
-  search_stopped P (Ok x) stop had has same fails v = absurd fails
-  search_stopped P (Err x) stop had has same fails v = subst (λ (y : SearchStop). IsDenied d who S n (Err y)) (same x fails) (go stop v)
-    where
-      go : (stop : SearchStop) → IsDecision d who S n false (Err stop) had has → IsDenied d who S n (Err stop)
-      go search.Spent v = tt
-      go search.Large v = absurd v
-      go search.NoMemory v = tt
+  pub search_stop : (stop : SearchStop) (u has : ℕ) → IsDecision d who S n false (Err stop) u has → StopsAt stop u
+  search_stop search.Spent u has v = (tt, ((omega arith), refl))
+  search_stop search.Large u has v = absurd v
+  search_stop search.NoMemory u has v = (tt, refl)
 
-  pub search_stopped_taken : (P : SearchStop → Type 0) (r : Result Denied SearchStop) (stop : SearchStop) (had has u : ℕ) → ((x : SearchStop) → P x → stop ≡ x) → IsErrAnd r P → had ≡ u → IsDecision d who S n false (Err stop) had has → IsTaken d who S n r u u
-  search_stopped_taken P (Ok x) stop had has u same fails e v = absurd fails
-  search_stopped_taken P (Err x) stop had has u same fails e v = subst (λ (y : SearchStop). IsTaken d who S n (Err y) u u) (same x fails) (go stop v)
-    where
-      go : (stop : SearchStop) → IsDecision d who S n false (Err stop) had has → IsTaken d who S n (Err stop) u u
-      go search.Spent v = ((omega arith), refl)
-      go search.Large v = absurd v
-      go search.NoMemory v = refl
+  -- and so was the call that passes the stop on
+  pub stopped : (P : SearchStop → Type 0) (r : Result Denied SearchStop) (stop : SearchStop) (u : ℕ) → ((x : SearchStop) → P x → stop ≡ x) → IsErrAnd r P → StopsAt stop u → IsDenied d who S n r × IsTaken d who S n r u u
+  stopped P (Ok x) stop u same fails v = absurd fails
+  stopped P (Err x) stop u same fails v = subst (λ (y : SearchStop). StopsAt y u) (same x fails) v
 
   -- some plan mates
   pub is_mated : can_plan (chess d) (outset d who) n S ≡ true → IsMated d who S n

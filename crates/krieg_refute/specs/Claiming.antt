@@ -25,7 +25,6 @@ use Rattle.krieg_search.specs.declared.openings.Opening.{Opening}
 use Rattle.krieg_search.specs.Openings.{AddsSets}
 use Rattle.krieg_search.specs.declared.notes.Question.{Question}
 use Rattle.krieg_refute.specs.declared.claiming.ClaimList.{ClaimList}
-use Rattle.krieg_refute.specs.declared.claiming.LostClass.{LostClass}
 use Rattle.krieg_refute.specs.declared.refutation.Claim.{Claim}
 use Rattle.krieg_refute.specs.declared.refutation.Reason.{Reason as Reason'}
 use Rattle.krieg_refute.specs.declared.refutation.Why.{Why}
@@ -44,14 +43,14 @@ at_once_reason moves = if moves == 1 then ByLife else ByStalemate
 abbrev pub is_lost_class : SetRows → ℕ → Key × List Pos → Bool
 is_lost_class T j c = is_loss (stored position_lt (entries T) (c.1, j))
 
--- the first of some classes that is stored as lost has the number, and only sets have come to the table
-pub record HasFirstLost (T T' : SetRows) (cs : List (Key × List Pos)) (j : ℕ) (c : LostClass) : Type 0 where
+-- the first of some classes that is stored as lost has the words and the number, and only sets have come to the table
+pub record HasFirstLost (T T' : SetRows) (cs : List (Key × List Pos)) (j : ℕ) (c : Key × ℕ) : Type 0 where
   pub sets : AddsSets T T'
-  pub within : c.set < length T'
-  pub first : find (is_lost_class T j) cs ≡ Some ((c.own, c.reply), set_at T' c.set)
+  pub within : c.1 < length T'
+  pub first : find (is_lost_class T j) cs ≡ Some (c.0, set_at T' c.1)
 
 -- the same, or none of them is stored as lost
-abbrev pub IsFirstLost : SetRows → SetRows → List (Key × List Pos) → ℕ → Option LostClass → Type 0
+abbrev pub IsFirstLost : SetRows → SetRows → List (Key × List Pos) → ℕ → Option (Key × ℕ) → Type 0
 IsFirstLost T T' cs j None = AddsSets T T' × (find (is_lost_class T j) cs ≡ None)
 IsFirstLost T T' cs j (Some c) = HasFirstLost T T' cs j c
 

@@ -5,8 +5,8 @@ use Rattle.std.specs.Option.{option_map}
 use Rattle.krieg_board.specs.Pos.{Pos}
 use Rattle.krieg_table.specs.SetRows.{SetRows, sets, set_at}
 use Rattle.krieg_refute.specs.declared.claims.Draft.{Draft}
-use Rattle.krieg_refute.specs.declared.claims.Slot.{Slot}
-use Rattle.krieg_refute.specs.declared.claims.Slot.TheVariants.{Here, In}
+use Rattle.krieg_refute.specs.declared.claims.SetPlace.{SetPlace}
+use Rattle.krieg_refute.specs.declared.claims.SetPlace.TheVariants.{Here, In}
 use Rattle.krieg_refute.specs.declared.refutation.Claim.{Claim}
 
 -- the claim of the set with that number
@@ -22,10 +22,10 @@ abbrev pub AreWithin : SetRows → List Draft → Type 0
 AreWithin T ws = All (λ w. w.set < length T) ws
 
 -- the set of a slot: its own, or that of the claim at its place
-abbrev pub set_in : List Claim → Slot → Option (List Pos)
+abbrev pub set_in : List Claim → SetPlace → Option (List Pos)
 set_in cs (Here B) = Some B
 set_in cs (In place) = option_map (λ (c : Claim). c.set) (slice_get cs place)
 
 -- the sets of the slots are those of the table
-abbrev pub HaveSets : List Claim → List Slot → SetRows → Type 0
+abbrev pub HaveSets : List Claim → List SetPlace → SetRows → Type 0
 HaveSets cs slots T = map (set_in cs) slots ≡ map Some (sets T)

@@ -1,5 +1,5 @@
 -- What is found of claims.
-use Rattle.std.specs.Prelude.{ℕ, ◌&&◌, Bool, true, List, [], ◌∷◌, if◌then◌else◌}
+use Rattle.std.specs.Prelude.{ℕ, ◌≤◌, ◌&&◌, Bool, true, List, [], ◌∷◌, map, if◌then◌else◌}
 use Rattle.std.specs.List.{list_all, list_any}
 use Rattle.std.specs.Ordering.{is_eq}
 use Rattle.krieg_board.specs.Pos.{Pos}
@@ -17,6 +17,11 @@ use Rattle.krieg_game.specs.Keys.{Key, key_lt}
 use Rattle.krieg_game.specs.Chess.{chess}
 use Rattle.krieg_game.specs.Outset.{outset}
 use Rattle.krieg_board.specs.Order.{move_lt}
+use Rattle.krieg_costs.specs.Cost.{made}
+use Rattle.krieg_split.specs.Tallies.{AreTallies}
+use Rattle.krieg_split.specs.declared.tallies.Tally.{Tally}
+use Rattle.krieg_refute.specs.Refutations.{claims_of, reason_of}
+use Rattle.krieg_refute.specs.declared.denial.PlacedClaim.{PlacedClaim}
 
 -- the set that stands in a list of classes under a key: nothing where none does
 abbrev pub class_in : List (Key × List Pos) → Key → List Pos
@@ -39,3 +44,15 @@ module _ (d : Dialect) (before : List (Claim (chess d))) (j : ℕ) (B : List Pos
   -- there is a reason for the try, and each one holds
   abbrev pub try_holds : List (Move × Reason Key) → Bool
   try_holds rs = list_any (λ r. same move_lt r.0 t) rs && list_all holds_if_own rs
+
+-- the try, where one move more than the number is left, does not begin to win the claim's set, by the reasons that the claim has for it
+abbrev pub holds_at : ℕ → PlacedClaim → Move → Bool
+holds_at j c t = try_holds c.dialect (claims_of c.dialect c.before.now) j c.claim.now.set t (map reason_of c.claim.now.reasons.items)
+
+-- what the split of the claim's set by the try takes
+abbrev pub price_at : PlacedClaim → Move → ℕ
+price_at c t = made (chess c.dialect) c.claim.now.set t
+
+-- one move is left, and these are the tallies of all tries of the claim's set
+abbrev pub AreLast : PlacedClaim → List Tally → Type 0
+AreLast c ys = (c.claim.now.moves ≤ 1) × AreTallies c.claim.now.set c.claim.now.set ys

@@ -33,7 +33,7 @@ use krieg_search::{
 };
 use krieg_split::tries;
 use krieg_table::{SetResult, Table};
-use krieg_words::{Dialect, Words};
+use krieg_words::Dialect;
 use std::alloc::Global;
 
 /// The claims that are written so far, each behind those that it cites.
@@ -54,14 +54,6 @@ pub(crate) struct Setting<'a> {
     pub alloc: Global,
     pub dialect: Dialect,
     pub notes: &'a Notes,
-}
-
-/// What may be heard behind a try, with the set that is possible then.
-#[derive(Drop)]
-pub(crate) struct LostClass {
-    pub own: Words,
-    pub reply: Words,
-    pub set: u32,
 }
 
 /// Whether the set is stored as one that cannot be won within `moves`.
@@ -144,7 +136,7 @@ fn block_of(
         return Ok(Block::AtOnce);
     };
     if let Some(class) = first_lost(table, classes, moves - 1)? {
-        return Ok(Block::Class(PackedKey::new(&class.own, &class.reply), class.set));
+        return Ok(Block::Class(class.0, class.1));
     }
     Ok(Block::Refused(number_of(table, refused)?))
 }
@@ -182,25 +174,21 @@ fn at_once(moves: u8) -> Why
     Why::Stale
 }
 
-/// The first of the classes that is stored as one that cannot be won within `moves`.
+/// The first of the classes that is stored as one that cannot be won within `moves`: its words, and the number of its set.
 ///
 /// Each class that is looked at is let go into the table.
 fn first_lost(
     table: &mut Table,
     classes: Vec<Class>,
     moves: u8,
-) -> Result<Option<LostClass>, NoMemory>
+) -> Result<Option<(PackedKey, u32)>, NoMemory>
     requires { AreCounted table.old }
     ensures { IfOk result (IsFirstLost table.old table.new (map class_pair classes.items) moves) }
 {
     for class in classes {
         let set = number_of(table, class.belief)?;
         if is_lost(table, set, moves) {
-            return Ok(Some(LostClass {
-                own: class.own,
-                reply: class.reply,
-                set,
-            }));
+            return Ok(Some((PackedKey::new(&class.own, &class.reply), set)));
         }
     }
     Ok(None)

@@ -1,7 +1,7 @@
 ghost use Rattle.std.specs.Prelude.{◌≡◌, true, Some, IfOk, length, map, is_some};
 ghost use Rattle.krieg_table.specs.SetRows.{sets};
 ghost use Rattle.krieg_refute.specs.Drafts.{claims_over, AreWithin, set_in};
-ghost use Rattle.krieg_refute.specs.declared.claims.Slot.TheVariants as Slot;
+ghost use Rattle.krieg_refute.specs.declared.claims.SetPlace.TheVariants as SetPlace;
 
 use crate::refutation::{Claim, Reason};
 use krieg_board::NoMemory;
@@ -20,7 +20,7 @@ pub(crate) struct Draft {
 
 /// Where a set of a table is.
 #[derive(Drop)]
-pub(crate) enum Slot {
+pub(crate) enum SetPlace {
     /// No claim has it yet.
     Here(Belief),
     /// The claim at this place has it.
@@ -28,22 +28,26 @@ pub(crate) enum Slot {
 }
 
 /// The sets of the table, of which the rest is let go.
-fn slots_of(alloc: Global, table: Table) -> Result<Vec<Slot>, NoMemory>
-    ensures { IfOk result (λ slots. slots.items ≡ map (λ B. Slot.Here B) (sets table)) }
+fn slots_of(alloc: Global, table: Table) -> Result<Vec<SetPlace>, NoMemory>
+    ensures { IfOk result (λ slots. slots.items ≡ map (λ B. SetPlace.Here B) (sets table)) }
 {
     let sets = table.into_sets(alloc)?;
-    Ok(sets.into_iter().map(|set| Slot::Here(set)).collect(alloc)?)
+    Ok(
+        sets.into_iter()
+            .map(|set| SetPlace::Here(set))
+            .collect(alloc)?,
+    )
 }
 
 /// The set of the slot, which is in the next claim from now on. Only where an earlier claim has the same set it is copied.
-fn take_set(slot: &mut Slot, claims: &[Claim]) -> Result<Belief, NoMemory>
+fn take_set(slot: &mut SetPlace, claims: &[Claim]) -> Result<Belief, NoMemory>
     requires { is_some (set_in claims.now slot.old) ≡ true }
     ensures set { IfOk result (λ set. set_in claims.now slot.old ≡ Some set) }
-    ensures slot { slot.new ≡ Slot.In (length claims.now) }
+    ensures slot { slot.new ≡ SetPlace.In (length claims.now) }
 {
-    match mem::replace(slot, Slot::In(claims.len())) {
-        Slot::Here(set) => Ok(set),
-        Slot::In(place) => claims[place].set.copy(),
+    match mem::replace(slot, SetPlace::In(claims.len())) {
+        SetPlace::Here(set) => Ok(set),
+        SetPlace::In(place) => claims[place].set.copy(),
     }
 }
 

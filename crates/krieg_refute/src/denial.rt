@@ -6,17 +6,17 @@ ghost use Rattle.krieg_words.specs.ToldWords as told;
 ghost use Rattle.krieg_words.specs.WordsOfMoves as words;
 ghost use Rattle.krieg_pack.specs.Members.{IsSetOf};
 ghost use Rattle.krieg_costs.specs.Sums.{total};
-ghost use Rattle.krieg_costs.specs.Cost.{made, price};
+ghost use Rattle.krieg_costs.specs.Cost.{price};
 ghost use Rattle.krieg_costs.specs.Refutation as theory;
 ghost use Rattle.krieg_theory.specs.Split as sets;
 ghost use Rattle.krieg_game.specs.Chess.{chess};
 ghost use Rattle.krieg_game.specs.Outset.{outset};
-ghost use Rattle.krieg_split.specs.Tallies.{tally_of, AreTallies};
+ghost use Rattle.krieg_split.specs.Tallies.{tally_of};
 ghost use Rattle.krieg_split.specs.Units.{Charges, IsPaid};
 ghost use Rattle.krieg_parting.specs.Turns.{IsOwnTurn};
-ghost use Rattle.krieg_refute.specs.Refutations.{refutes, is_own_turn, claims_price, claims_of, claim_of, reason_of};
+ghost use Rattle.krieg_refute.specs.Refutations.{refutes, is_own_turn, claims_price, claims_of, claim_of};
 ghost use Rattle.krieg_refute.specs.Exclusion.{NoneMates};
-ghost use Rattle.krieg_refute.specs.Reasons.{try_holds as try_spec, opens_with, within_opening};
+ghost use Rattle.krieg_refute.specs.Reasons.{holds_at, price_at, AreLast, opens_with, within_opening};
 
 use crate::reasons::{are_for, reasons_hold};
 use crate::refutation::{Claim, Refutation};
@@ -29,49 +29,47 @@ use krieg_split::{Tally, split, tally_all, tally_tries, tries};
 use krieg_words::{Dialect, Words, compare, opening, told};
 use std::alloc::Global;
 
+/// A claim that is looked at, with those before it: these it may cite.
+#[derive(Clone, Copy)]
+struct PlacedClaim<'a> {
+    alloc: Global,
+    dialect: Dialect,
+    before: &'a [Claim],
+    claim: &'a Claim,
+}
+
 /// Whether the claim has a reason for the try and each one for it holds, by one split.
 #[tactic(auto, unfolding(crate::specs::TryResults::IsTryResult))]
-fn try_holds(
-    alloc: Global,
-    d: Dialect,
-    before: &[Claim],
-    claim: &Claim,
-    mv: &Move,
-    units: &mut Units,
-) -> Result<bool, PartStop>
-    ensures { Charges result (λ yes. yes
-        ≡ try_spec d (claims_of d before.now) (claim.now.moves - 1) claim.now.set mv.now
-        (map reason_of claim.now.reasons.items))
-        (made (chess d) claim.now.set mv.now) units.old units.new }
+fn try_holds(c: &PlacedClaim<'_>, mv: &Move, units: &mut Units) -> Result<bool, PartStop>
+    ensures { Charges result (λ yes. yes ≡ holds_at (c.now.claim.now.moves - 1) c.now mv.now)
+        (price_at c.now mv.now) units.old units.new }
 {
-    let fewer = claim.moves.saturating_sub(1);
-    let tried = TryResult::Parts(split(alloc, d, &claim.set, *mv, units)?);
-    Ok(reasons_hold(alloc, before, fewer, mv, &tried, claim.reasons.as_slice()))
+    let fewer = c.claim.moves.saturating_sub(1);
+    let tried = TryResult::Parts(split(c.alloc, c.dialect, &c.claim.set, *mv, units)?);
+    Ok(reasons_hold(
+        c.alloc,
+        c.before,
+        fewer,
+        mv,
+        &tried,
+        c.claim.reasons.as_slice(),
+    ))
 }
 
 /// The same where one move is left, by the tally of the try.
-fn last_try_holds(
-    alloc: Global,
-    d: Dialect,
-    before: &[Claim],
-    claim: &Claim,
-    tally: &Tally,
-    units: &mut Units,
-) -> Result<bool, PartStop>
-    requires { tally.now ≡ tally_of claim.now.set tally.now.mv }
-    ensures { Charges result (λ yes. yes
-        ≡ try_spec d (claims_of d before.now) 0 claim.now.set tally.now.mv
-        (map reason_of claim.now.reasons.items))
-        (made (chess d) claim.now.set tally.now.mv) units.old units.new }
+fn last_try_holds(c: &PlacedClaim<'_>, tally: &Tally, units: &mut Units) -> Result<bool, PartStop>
+    requires { tally.now ≡ tally_of c.now.claim.now.set tally.now.mv }
+    ensures { Charges result (λ yes. yes ≡ holds_at 0 c.now tally.now.mv)
+        (price_at c.now tally.now.mv) units.old units.new }
 {
-    let tried = last_try(d, &claim.set, tally, units)?;
+    let tried = last_try(c.dialect, &c.claim.set, tally, units)?;
     Ok(reasons_hold(
-        alloc,
-        before,
+        c.alloc,
+        c.before,
         0,
         &tally.mv,
         &tried,
-        claim.reasons.as_slice(),
+        c.claim.reasons.as_slice(),
     ))
 }
 
@@ -83,22 +81,14 @@ fn both(a: bool, b: bool) -> bool
 }
 
 /// Whether this holds of each of the tries; all of them are split, also behind one of which it does not.
-fn tries_hold(
-    alloc: Global,
-    d: Dialect,
-    before: &[Claim],
-    claim: &Claim,
-    moves: &[Move],
-    units: &mut Units,
-) -> Result<bool, PartStop>
+fn tries_hold(c: &PlacedClaim<'_>, moves: &[Move], units: &mut Units) -> Result<bool, PartStop>
     ensures { Charges result (λ yes. yes
-        ≡ list_all (λ t. try_spec d (claims_of d before.now) (claim.now.moves - 1) claim.now.set t
-        (map reason_of claim.now.reasons.items)) moves.now)
-        (total (made (chess d) claim.now.set) moves.now) units.old units.new }
+        ≡ list_all (holds_at (c.now.claim.now.moves - 1) c.now) moves.now)
+        (total (price_at c.now) moves.now) units.old units.new }
 {
     let mut all = true;
     for mv in moves {
-        let held = try_holds(alloc, d, before, claim, mv, units)?;
+        let held = try_holds(c, mv, units)?;
         all = both(all, held);
     }
     Ok(all)
@@ -106,22 +96,17 @@ fn tries_hold(
 
 /// The same where one move is left, by the tallies of the tries.
 fn last_tries_hold(
-    alloc: Global,
-    d: Dialect,
-    before: &[Claim],
-    claim: &Claim,
+    c: &PlacedClaim<'_>,
     tallies: &[Tally],
     units: &mut Units,
 ) -> Result<bool, PartStop>
-    requires { All (λ y. y ≡ tally_of claim.now.set y.mv) tallies.now }
-    ensures { Charges result (λ yes. yes
-        ≡ list_all (λ y. try_spec d (claims_of d before.now) 0 claim.now.set y.mv
-        (map reason_of claim.now.reasons.items)) tallies.now)
-        (total (λ y. made (chess d) claim.now.set y.mv) tallies.now) units.old units.new }
+    requires { All (λ y. y ≡ tally_of c.now.claim.now.set y.mv) tallies.now }
+    ensures { Charges result (λ yes. yes ≡ list_all (λ y. holds_at 0 c.now y.mv) tallies.now)
+        (total (λ y. price_at c.now y.mv) tallies.now) units.old units.new }
 {
     let mut all = true;
     for tally in tallies {
-        let held = last_try_holds(alloc, d, before, claim, tally, units)?;
+        let held = last_try_holds(c, tally, units)?;
         all = both(all, held);
     }
     Ok(all)
@@ -146,69 +131,67 @@ fn moves_of(alloc: Global, tallies: &[Tally]) -> Result<Vec<Move>, NoMemory>
 const MOST_AT_ONCE: usize = 512;
 
 /// The tries of the claim's set, and where one move is left and the set is small, their tallies.
-fn tries_of(alloc: Global, claim: &Claim) -> Result<(Vec<Move>, Option<Vec<Tally>>), NoMemory>
+fn tries_of(c: &PlacedClaim<'_>) -> Result<(Vec<Move>, Option<Vec<Tally>>), NoMemory>
     ensures moves { IfOk result (λ r. (d : Dialect)
-        → r.0.items ≡ sets.tries (chess d) claim.now.set) }
-    ensures tallies { IfOk result (λ r. IfSome r.1
-        (λ ys. AreTallies claim.now.set claim.now.set ys.items)) }
+        → r.0.items ≡ sets.tries (chess d) c.now.claim.now.set) }
+    ensures tallies { IfOk result (λ r. IfSome r.1 (λ ys. AreLast c.now ys.items)) }
 {
-    if claim.moves > 1 || claim.set.len() > MOST_AT_ONCE {
-        return Ok((tries(alloc, &claim.set)?, None));
+    if c.claim.moves > 1 || c.claim.set.len() > MOST_AT_ONCE {
+        return Ok((tries(c.alloc, &c.claim.set)?, None));
     }
-    let tallies = tally_tries(alloc, &claim.set)?;
-    let moves = moves_of(alloc, &tallies)?;
+    let tallies = tally_tries(c.alloc, &c.claim.set)?;
+    let moves = moves_of(c.alloc, &tallies)?;
     Ok((moves, Some(tallies)))
 }
 
-/// Whether this holds of each of the tries of the claim's set. Where one move is left, all are counted at once, if they are not
-/// counted yet.
-fn all_tries_hold(
-    alloc: Global,
-    d: Dialect,
-    before: &[Claim],
-    claim: &Claim,
+/// The tallies of the tries where one move is left: all are counted at once, if they are not counted yet and there is room.
+fn tallies_of(
+    c: &PlacedClaim<'_>,
     moves: &[Move],
-    tallies: Option<Vec<Tally>>,
+    counted: Option<Vec<Tally>>,
+) -> Result<Option<Vec<Tally>>, NoMemory>
+    requires moves { (d : Dialect) → moves.now ≡ sets.tries (chess d) c.now.claim.now.set }
+    requires counted { IfSome counted (λ ys. AreLast c.now ys.items) }
+    ensures { IfOk result (λ o. IfSome o (λ ys. AreLast c.now ys.items)) }
+{
+    if c.claim.moves > 1 || counted.is_some() {
+        return Ok(counted);
+    }
+    tally_all(c.alloc, &c.claim.set, moves)
+}
+
+/// Whether this holds of each of the tries of the claim's set.
+fn all_tries_hold(
+    c: &PlacedClaim<'_>,
+    moves: &[Move],
+    counted: Option<Vec<Tally>>,
     units: &mut Units,
 ) -> Result<bool, PartStop>
-    requires moves { (d : Dialect) → moves.now ≡ sets.tries (chess d) claim.now.set }
-    requires tallies { IfSome tallies (λ ys. AreTallies claim.now.set claim.now.set ys.items) }
+    requires moves { (d : Dialect) → moves.now ≡ sets.tries (chess d) c.now.claim.now.set }
+    requires counted { IfSome counted (λ ys. AreLast c.now ys.items) }
     ensures { Charges result (λ yes. yes
-        ≡ list_all (λ t. try_spec d (claims_of d before.now) (claim.now.moves - 1) claim.now.set t
-        (map reason_of claim.now.reasons.items)) moves.now)
-        (total (made (chess d) claim.now.set) moves.now) units.old units.new }
+        ≡ list_all (holds_at (c.now.claim.now.moves - 1) c.now) moves.now)
+        (total (price_at c.now) moves.now) units.old units.new }
 {
-    if claim.moves > 1 {
-        return tries_hold(alloc, d, before, claim, moves, units);
-    }
-    if let Some(tallies) = tallies {
-        return last_tries_hold(alloc, d, before, claim, tallies.as_slice(), units);
-    }
-    if !is_one_for_each(units, claim.set.len(), moves.len()) {
+    if !is_one_for_each(units, c.claim.set.len(), moves.len()) {
         return Err(PartStop::Spent);
     }
-    match tally_all(alloc, &claim.set, moves)? {
-        None => tries_hold(alloc, d, before, claim, moves, units),
-        Some(tallies) => last_tries_hold(alloc, d, before, claim, tallies.as_slice(), units),
+    match tallies_of(c, moves, counted)? {
+        None => tries_hold(c, moves, units),
+        Some(tallies) => last_tries_hold(c, tallies.as_slice(), units),
     }
 }
 
 /// Whether the claim holds by those before it. It takes the units of the splits by all tries, whether it holds or not.
-fn claim_holds(
-    alloc: Global,
-    d: Dialect,
-    before: &[Claim],
-    claim: &Claim,
-    units: &mut Units,
-) -> Result<bool, PartStop>
-    ensures { Charges result (λ yes. yes
-        ≡ theory.claim_holds (chess d) (claims_of d before.now) (claim_of d claim.now))
-        (price (chess d) claim.now.set) units.old units.new }
+fn claim_holds(c: &PlacedClaim<'_>, units: &mut Units) -> Result<bool, PartStop>
+    ensures { Charges result (λ yes. yes ≡ theory.claim_holds (chess c.now.dialect)
+        (claims_of c.now.dialect c.now.before.now) (claim_of c.now.dialect c.now.claim.now))
+        (price (chess c.now.dialect) c.now.claim.now.set) units.old units.new }
 {
-    let (moves, tallies) = tries_of(alloc, claim)?;
-    let held = all_tries_hold(alloc, d, before, claim, moves.as_slice(), tallies, units)?;
-    let only = are_for(claim.reasons.as_slice(), moves.as_slice());
-    let some = both(claim.moves > 0, !claim.set.is_empty());
+    let (moves, counted) = tries_of(c)?;
+    let held = all_tries_hold(c, moves.as_slice(), counted, units)?;
+    let only = are_for(c.claim.reasons.as_slice(), moves.as_slice());
+    let some = both(c.claim.moves > 0, !c.claim.set.is_empty());
     Ok(both(some, both(held, only)))
 }
 
@@ -224,7 +207,13 @@ fn claims_hold(
 {
     let mut all = true;
     for place in 0..claims.len() {
-        let held = claim_holds(alloc, d, &claims[..place], &claims[place], units)?;
+        let placed = PlacedClaim {
+            alloc,
+            dialect: d,
+            before: &claims[..place],
+            claim: &claims[place],
+        };
+        let held = claim_holds(&placed, units)?;
         all = both(all, held);
     }
     Ok(all)

@@ -101,7 +101,7 @@ fn claims_for(
 /// The units are those of the search: an answer takes at least the floor of krieg_costs and at most what is fresh. `Spent`
 /// comes only where fewer units are left than are fresh. An error takes none, and `Large` is one.
 ///
-/// From 1 to 6 moves may be asked for, and the same side is to move in all members. `NoMemory` comes for want of memory, and
+/// From 1 to [`MOST_MOVES`] moves may be asked for, and the same side is to move in all members. `NoMemory` comes for want of memory, and
 /// for more different sets than a table keeps.
 pub fn refute(
     alloc: Global,

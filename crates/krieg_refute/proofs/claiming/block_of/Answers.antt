@@ -1,5 +1,5 @@
 use Rattle.std.proofs.Common.{◌≡◌, ℕ, ◌^◌, ◌-◌, ◌<◌, suc, sym, subst, ◌∙◌, refl, arith}
-use Rattle.krieg_refute.proofs.Common.{class, LostClass, made, chess, entries, set_at, Key, IsLostPart, IsLost}
+use Rattle.krieg_refute.proofs.Common.{made, chess, entries, set_at, IsLost}
 use Rattle.krieg_claims.proofs.StoredLosses.{loss_paid}
 use Rattle.krieg_game.proofs.ChessLaws.{chess_is_game}
 use Rattle.krieg_search.proofs.Building.{adds_nothing, adds_then}
@@ -28,11 +28,10 @@ returns-in-Some-2 c =
     let d = c.args.d in
     let T = c.args.table.now in
     let B = set_at T c.args.set in
-    let x = c.in-Some-2.class in
     let a = rw (c.in-Some.is, c.of.ensures) at c.in_ok-classes.ensures in
     let h = rw c.in-Some-2.is at c.in_ok-class.ensures in
-    let b = class_at d T B B c.args.mv c.args.moves c.requires.some refl c.requires.paid.ready c.requires.lost c.requires.legal c.in-Some.field-0 a (x.own, x.reply) (set_at c.first_lost.new.table x.set) h.first in
-    (h.sets, subst (λ (key : Key). IsLostPart d c.first_lost.new.table B c.args.moves c.args.mv (LostClass key) (class (chess d) B c.args.mv key) x.set) (sym c.new.ensures) (record { blocks = b.0; within = h.within; at = sym b.1 }))
+    let b = class_at d T B B c.args.mv c.args.moves c.requires.some refl c.requires.paid.ready c.requires.lost c.requires.legal c.in-Some.field-0 a c.in-Some-2.class.0 (set_at c.first_lost.new.table c.in-Some-2.class.1) h.first in
+    (h.sets, record { blocks = b.0; within = h.within; at = sym b.1 })
 
 pub returns : goal.returns
 returns c =
