@@ -9,7 +9,7 @@ use Rattle.krieg_text.specs.Decimals.{number_between}
 use Rattle.krieg_fen.specs.declared.forms.TheConstants.{MOST_LISTED}
 use Rattle.krieg_args.specs.declared.command.TheConstants.{MOST_ASKS, MOST_SEED, MOST_FIND_MOVES, MOST_FIND_UNITS}
 use Rattle.krieg_args.specs.declared.command.Command.{Command}
-use Rattle.krieg_args.specs.declared.command.Command.TheVariants.{Solve, Check, Refute, Deny, Believe, Why, Umpire, San, Unsan, Play, Lead, Next, Find, Keys, Make, Job}
+use Rattle.krieg_args.specs.declared.command.Command.TheVariants.{Solve, Check, Refute, Deny, Believe, Why, Umpire, San, Unsan, Play, Lead, Next, Find, Keys, Judge, Make, Job}
 use Rattle.krieg_args.specs.declared.command.Made.{Made}
 use Rattle.krieg_args.specs.declared.command.Made.TheVariants.{Session, Sheet}
 
@@ -160,6 +160,10 @@ command_of _ = None
 
 -- The commands of the program krieg_find.
 
+-- the command of a name with one word
+abbrev pub find_of_one : List ℕ → List ℕ → Option Command
+find_of_one name word = if bytes_eq name (codes "judge") then option_map Judge (find_budget_of word) else None
+
 -- the command of a name with the three numbers of a search
 abbrev pub find_of_three : List ℕ → List ℕ → List ℕ → List ℕ → Option Command
 find_of_three name moves budget limit =
@@ -169,6 +173,7 @@ find_of_three name moves budget limit =
 -- The command of these words, where they are the form of one: a name, and after it as many words as the name asks for. The three
 -- numbers of a search without a name are those of `find`.
 abbrev pub find_of : List (List ℕ) → Option Command
+find_of (name ∷ word ∷ []) = find_of_one name word
 find_of (moves ∷ budget ∷ limit ∷ []) = option_map find (find_numbers moves budget limit)
 find_of (name ∷ moves ∷ budget ∷ limit ∷ []) = find_of_three name moves budget limit
 find_of _ = None

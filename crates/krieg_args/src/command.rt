@@ -14,7 +14,7 @@ pub const MOST_SEED: u64 = 4_294_967_295;
 /// The most own moves that `find` and `keys` may be asked for.
 pub const MOST_FIND_MOVES: u8 = 100;
 
-/// The most units of work that `find` and `keys` may be given.
+/// The most units of work that `find`, `keys` and `judge` may be given.
 pub const MOST_FIND_UNITS: u64 = 4_000_000_000;
 
 /// What a made input is.
@@ -114,6 +114,11 @@ pub enum Command {
         budget: u64,
         /// From 1 to [`MOST_LISTED`].
         limit: u64,
+    },
+    /// `judge BUDGET`, words of the program `krieg_find`: the judgement of a strategy, with so many units.
+    Judge {
+        /// From 1 to [`MOST_FIND_UNITS`].
+        budget: u64,
     },
     /// `make session NUMBER`, `make sheet NUMBER`: a made input with that number.
     Make {
@@ -409,6 +414,18 @@ pub fn command_of(words: &[String]) -> Option<Command>
     }
 }
 
+fn find_of_one(name: &str, word: &str) -> Option<Command>
+    ensures { result ≡ spec.find_of_one name.now word.now }
+{
+    if is_name(b"judge", name.as_bytes()) {
+        Some(Command::Judge {
+            budget: find_budget_of(word)?,
+        })
+    } else {
+        None
+    }
+}
+
 fn find_of_three(name: &str, moves: &str, budget: &str, limit: &str) -> Option<Command>
     ensures { result ≡ spec.find_of_three name.now moves.now budget.now limit.now }
 {
@@ -427,6 +444,7 @@ pub fn find_of(words: &[String]) -> Option<Command>
     ensures { result ≡ spec.find_of (map string_bytes words.now) }
 {
     match words {
+        [name, word] => find_of_one(name, word),
         [moves, budget, limit] => Some(find(find_numbers(moves, budget, limit)?)),
         [name, moves, budget, limit] => find_of_three(name, moves, budget, limit),
         _ => None,
