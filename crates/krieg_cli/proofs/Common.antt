@@ -120,16 +120,20 @@ pub use Rattle.krieg_robot.specs.declared.led.LeadFault.{LeadFault}
 pub use Rattle.krieg_robot.specs.declared.led.Led.{Led}
 pub use Rattle.krieg_make.specs.MadeSessions.{made_session}
 pub use Rattle.krieg_make.specs.MadeSheets.{made_list, made_sheet}
-pub use Rattle.krieg_args.specs.Command.{asks_of, budget_of, command_of, command_of_name, command_of_one, command_of_three, find, find_budget_of, find_moves_of, find_numbers, find_of, find_of_three, lead, lead_from, limit_of, made_input, make, moves_of, number, numbers, place_of, play, refute, search_numbers, seed_of, solve, takes_input, ◌>>=◌}
+pub use Rattle.krieg_args.specs.Command.{asks_of, budget_of, command_of, command_of_name, command_of_one, command_of_three, find, find_budget_of, find_moves_of, find_numbers, find_of, find_of_one, find_of_three, lead, lead_from, limit_of, made_input, make, moves_of, number, numbers, place_of, play, refute, search_numbers, seed_of, solve, takes_input, ◌>>=◌}
 pub use Rattle.krieg_args.specs.declared.command.Command.{Command}
-pub use Rattle.krieg_args.specs.declared.command.Command.TheVariants.{Believe, Check, Deny, Find, Job, Keys, Lead, Make, Next, Play, Refute, San, Solve, Umpire, Unsan, Why}
+pub use Rattle.krieg_args.specs.declared.command.Command.TheVariants.{Believe, Check, Deny, Find, Job, Judge, Keys, Lead, Make, Next, Play, Refute, San, Solve, Umpire, Unsan, Why}
 pub use Rattle.krieg_args.specs.declared.command.Made.{Made}
 pub use Rattle.krieg_args.specs.declared.command.TheConstants.{MOST_FIND_MOVES, MOST_SEED}
 pub use Rattle.krieg_cli.specs.Asked.{IsGiven, Leaves, OfPossible, has_no_turn}
 pub use Rattle.krieg_cli.specs.Believe.{Believed}
 unfoldable pub use Rattle.krieg_cli.specs.Check.{worst_text}
 pub use Rattle.krieg_cli.specs.Check.{check_cost}
-pub use Rattle.krieg_cli.specs.Complete.{BenchHolds, CanBeChecked, CanBeDenied, CanBeKeyed, CanBeRefuted, CanBeShown, CanBeSolved, CanBeSummed, CanPlay, Completes, HoldsText, MustAnswer, NoneFailed, seats_since}
+pub use Rattle.krieg_cli.specs.Judge.{JudgedSo}
+pub use Rattle.krieg_cli.specs.WholeStrategies.{JudgesStrategies, WritesWorst}
+pub use Rattle.krieg_strategyfile.specs.Strategies.{StrategyState}
+unfoldable pub use Rattle.krieg_strategyfile.specs.StrategyFormat.{strategy_at}
+pub use Rattle.krieg_cli.specs.Complete.{BenchHolds, CanBeChecked, CanBeDenied, CanBeJudged, CanBeKeyed, CanBeRefuted, CanBeShown, CanBeSolved, CanBeSummed, CanPlay, Completes, HoldsText, MustAnswer, NoneFailed, seats_since}
 unfoldable pub use Rattle.krieg_cli.specs.Deny.{refuted_text}
 pub use Rattle.krieg_cli.specs.Deny.{Judged}
 pub use Rattle.krieg_cli.specs.Ending.{line_of, status}

@@ -3,7 +3,7 @@ use Rattle.std.proofs.Common.{◌≡◌, Bool, ◌⊎◌, inl, inr, ℕ, ◌<◌
 use Rattle.std.specs.Prelude.{MatchBool}
 use Rattle.std.proofs.lemmas.Bool.{both_ways}
 use Rattle.std.proofs.lemmas.List.{append-nil}
-use Rattle.krieg_cli.proofs.Common.{Pos, White, Black, SheetState, san_of, unsan_of, IsPossible, is_nil, PlanState, made_sheet, Line, Account, Team, Turns, Service, BrokenCourse, HasFailed, entry_of, now_of, Sides, takes_input, Command, Solve, Check, Refute, Deny, Believe, Why, Umpire, San, Unsan, Play, Lead, Next, Find, Keys, Make, Job, Made, World, FaultsRose, WasRead, OfText, status, Leaves, has_no_turn, OfPossible, SearchedBy, SolvedBy, Claimed, Refuted, Keyed, KeyedFor, Judged, told_text, Believed, Shows, HeardState, PlaysFrom, PlaysWhole, LeadsFrom, LeadsWhole, Says, LivesBy, Makes, Plans, Summarizes, LiveOutcome, HasOutcome, ComesTo, Ends, Runs, CanBeSolved, CanBeKeyed, CanBeRefuted, CanBeDenied, CanBeChecked, CanBeShown, CanBeSummed, HoldsText, MustAnswer, NoneFailed, seats_since, CanPlay, BenchHolds, Completes, Refusal, Ending, MOST_INPUT}
+use Rattle.krieg_cli.proofs.Common.{JudgedSo, Pos, White, Black, SheetState, san_of, unsan_of, IsPossible, is_nil, PlanState, made_sheet, Line, Account, Team, Turns, Service, BrokenCourse, HasFailed, entry_of, now_of, Sides, takes_input, Command, Solve, Check, Refute, Deny, Believe, Why, Umpire, San, Unsan, Play, Lead, Next, Find, Keys, Judge, Make, Job, Made, World, FaultsRose, WasRead, OfText, status, Leaves, has_no_turn, OfPossible, SearchedBy, SolvedBy, Claimed, Refuted, Keyed, KeyedFor, Judged, told_text, Believed, Shows, HeardState, PlaysFrom, PlaysWhole, LeadsFrom, LeadsWhole, Says, LivesBy, Makes, Plans, Summarizes, LiveOutcome, HasOutcome, ComesTo, Ends, Runs, CanBeSolved, CanBeJudged, CanBeKeyed, CanBeRefuted, CanBeDenied, CanBeChecked, CanBeShown, CanBeSummed, HoldsText, MustAnswer, NoneFailed, seats_since, CanPlay, BenchHolds, Completes, Refusal, Ending, MOST_INPUT}
 use Rattle.krieg_pack.proofs.PositionSets.{same_members}
 use Rattle.krieg_sheet.specs.Turns.{is_over}
 use Rattle.krieg_belief.proofs.Prefixes.{excess_not_within}
@@ -54,7 +54,7 @@ refuting n budget limit text can r h = asking limit can.sheet (has_no_turn can.s
     go refusal.PlanExists (least, (plan, mates)) = both_ways _ (can.none_mates plan) mates
     go _ h = h
 
--- ---- umpire, san, unsan, check, deny, believe, and why
+-- ---- umpire, san, unsan, check, judge, deny, believe, and why
 
 answering : (text : List ℕ) (r : Refusal) → ◌≡◌ {A = Result (List ℕ) Refusal} (Err r) (Ok text) → ⊥
 answering text r e = cc
@@ -63,6 +63,11 @@ checking : (budget : ℕ) (text : List ℕ) (can : CanBeChecked budget text) (r 
 checking budget text can refusal.BudgetSpent h = let enough = can.enough in omega (arith, h, enough)
 checking budget text can refusal.PlanFails h = both_ways _ h.1 can.mates
 checking budget text can _ h = h
+
+judging : (budget : ℕ) (text : List ℕ) (can : CanBeJudged budget text) (r : Refusal) → JudgedSo budget can.strategy (Err r) → ⊥
+judging budget text can refusal.BudgetSpent h = let enough = can.enough in omega (arith, h, enough)
+judging budget text can refusal.PlanFails h = both_ways _ h.1 can.mates
+judging budget text can _ h = h
 
 denying : (budget : ℕ) (text : List ℕ) (can : CanBeDenied budget text) (r : Refusal) → Judged budget can.file (Err r) → ⊥
 denying budget text can refusal.BudgetSpent h = let enough = can.enough in omega (arith, h, enough)
@@ -162,6 +167,7 @@ refused account entry now (Solve n budget limit) text r h can bench =
 refused account entry now (Find n budget limit) text r h can bench =
     solving true n budget limit text can r (subst (λ x. OfText x (SolvedBy true n budget limit) (Err r)) can.spelled h)
 refused account entry now (Keys n budget limit) text r h can bench = keying n budget limit text can r (subst (λ x. OfText x (KeyedFor n budget limit) (Err r)) can.spelled h)
+refused account entry now (Judge budget) text r h can bench = judging budget text can r (subst (λ x. OfText x (JudgedSo budget) (Err r)) can.spelled h)
 refused account entry now (Check budget) text r h can bench = checking budget text can r (subst (λ x. OfText x (Checked budget) (Err r)) can.spelled h)
 refused account entry now (Refute n budget limit) text r h can bench =
     refuting n budget limit text can r (subst (λ x. OfText x (Refuted n budget limit) (Err r)) can.spelled h)

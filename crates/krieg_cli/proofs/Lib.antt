@@ -3,6 +3,7 @@ mod Asking
 mod Benches
 mod BestFiles
 mod Checking
+mod Judging
 mod ClaimedSets
 mod Complete
 mod Denying

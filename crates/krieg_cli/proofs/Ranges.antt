@@ -3,7 +3,7 @@ use Rattle.std.proofs.Common.{◌≡◌, ℕ, ◌≤◌, Bool, true, false, List
 use Rattle.std.specs.Prelude.{codes, if◌then◌else◌}
 use Rattle.std.specs.Result.{result_ok}
 use Rattle.std.specs.Str.{bytes_eq}
-use Rattle.krieg_cli.proofs.Common.{number_between, MOST_LISTED, NumberFault, ◌>>=◌, command_of, command_of_name, command_of_one, command_of_three, find_budget_of, find_moves_of, find_numbers, find_of, find_of_three, numbers, search_numbers, solve, find, refute, make, play, lead, lead_from, number, moves_of, budget_of, limit_of, asks_of, place_of, made_input, seed_of, Command, Check, Deny, Believe, Why, Umpire, San, Unsan, Play, Lead, Next, Make, Job, Made, MOST_SEED, IsInRange, is_live, MOST_MOVES, MOST_FIND_MOVES}
+use Rattle.krieg_cli.proofs.Common.{Judge, number_between, MOST_LISTED, NumberFault, ◌>>=◌, command_of, command_of_name, command_of_one, command_of_three, find_budget_of, find_moves_of, find_numbers, find_of, find_of_one, find_of_three, numbers, search_numbers, solve, find, refute, make, play, lead, lead_from, number, moves_of, budget_of, limit_of, asks_of, place_of, made_input, seed_of, Command, Check, Deny, Believe, Why, Umpire, San, Unsan, Play, Lead, Next, Make, Job, Made, MOST_SEED, IsInRange, is_live, MOST_MOVES, MOST_FIND_MOVES}
 use Rattle.krieg_text.proofs.Numbers.{between_spells}
 use Rattle.krieg_args.specs.Command as words
 
@@ -132,10 +132,13 @@ by_name name moves budget limit =
     either (bytes_eq name (codes "find")) _ _ (by_numbers moves budget limit)
     (either (bytes_eq name (codes "keys")) _ _ (by_find moves budget limit words.keys (λ n h. record { range = (h.1, h.2); calm = refl })) none)
 
+by_word : (name word : List ℕ) → Each IsAskedAlone (find_of_one name word)
+by_word name word = either (bytes_eq name (codes "judge")) _ _ (mapped Judge (find_budget_of word) (λ n. record { range = tt; calm = refl })) none
+
 of_find : (ws : List (List ℕ)) → Each IsAskedAlone (find_of ws)
 of_find [] = none
 of_find (a ∷ []) = none
-of_find (a ∷ b ∷ []) = none
+of_find (name ∷ word ∷ []) = by_word name word
 of_find (moves ∷ budget ∷ limit ∷ []) = by_numbers moves budget limit
 of_find (name ∷ moves ∷ budget ∷ limit ∷ []) = by_name name moves budget limit
 of_find (a ∷ b ∷ c ∷ d ∷ e ∷ more) = none

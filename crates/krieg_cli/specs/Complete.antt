@@ -29,12 +29,15 @@ use Rattle.krieg_play.specs.Teams.{Team}
 use Rattle.krieg_play.specs.Played.{Sides}
 use Rattle.krieg_args.specs.Command.{takes_input}
 use Rattle.krieg_args.specs.declared.command.Command.{Command}
-use Rattle.krieg_args.specs.declared.command.Command.TheVariants.{Solve, Check, Refute, Deny, Believe, Why, Umpire, San, Unsan, Play, Lead, Next, Find, Keys, Make, Job}
+use Rattle.krieg_args.specs.declared.command.Command.TheVariants.{Solve, Check, Refute, Deny, Believe, Why, Umpire, San, Unsan, Play, Lead, Next, Find, Keys, Judge, Make, Job}
 use Rattle.krieg_cli.specs.World.{Stream, World, FaultsRose}
 use Rattle.krieg_cli.specs.Asked.{Leaves, has_no_turn}
 use Rattle.krieg_cli.specs.Solve.{mates_all, fresh_units, NoneMates, IsBestFile, IsTooLarge}
 use Rattle.krieg_cli.specs.Refute.{AreTooMany}
+use Rattle.krieg_strategyfile.specs.Strategies.{StrategyState}
+use Rattle.krieg_strategyfile.specs.StrategyFormat.{strategy_at}
 use Rattle.krieg_cli.specs.Check.{check_cost}
+use Rattle.krieg_cli.specs.Judge.{judge_cost, unfolded}
 use Rattle.krieg_cli.specs.Job.{IsBest}
 use Rattle.krieg_cli.specs.declared.input.TheConstants.{MOST_INPUT}
 use Rattle.krieg_cli.specs.declared.commands.job.TheConstants.{JOB_MOVES}
@@ -70,6 +73,14 @@ pub record CanBeChecked (budget : ℕ) (text : List ℕ) : Type 0 where
   pub spelled : whole plan_at (lines text) ≡ Ok file
   pub enough : check_cost file ≤ budget
   pub mates : mates_all file.dialect file.side file.list file.plan file.worst ≡ true
+
+-- The plan that the strategy unfolds to mates from each listed position within the number that the file states, and the budget is as
+-- much as a judgement takes.
+pub record CanBeJudged (budget : ℕ) (text : List ℕ) : Type 0 where
+  pub strategy : StrategyState
+  pub spelled : whole strategy_at (lines text) ≡ Ok strategy
+  pub enough : judge_cost strategy ≤ budget
+  pub mates : mates_all strategy.dialect strategy.side strategy.list (unfolded strategy) strategy.worst ≡ true
 
 -- The sheet asks for a refutation: no plan mates, the claims are not too many, and the budget is as much as a search may take.
 pub record CanBeRefuted (n budget limit : ℕ) (text : List ℕ) : Type 0 where
@@ -118,6 +129,7 @@ MustAnswer (Solve n budget limit) text = CanBeSolved n budget limit text
 MustAnswer (Find n budget limit) text = CanBeSolved n budget limit text
 MustAnswer (Keys n budget limit) text = CanBeKeyed n budget limit text
 MustAnswer (Check budget) text = CanBeChecked budget text
+MustAnswer (Judge budget) text = CanBeJudged budget text
 MustAnswer (Refute n budget limit) text = CanBeRefuted n budget limit text
 MustAnswer (Deny budget) text = CanBeDenied budget text
 MustAnswer (Believe limit) text = CanBeBelieved limit text

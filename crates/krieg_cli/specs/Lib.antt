@@ -6,6 +6,7 @@ pub mod Asked
 pub mod Solve
 pub mod Find
 pub mod Check
+pub mod Judge
 pub mod Refute
 pub mod Deny
 pub mod Keys
@@ -27,6 +28,7 @@ pub mod Top
 pub mod WholeGames
 pub mod WholeRecords
 pub mod WholePlans
+pub mod WholeStrategies
 pub mod WholeRefutations
 pub mod LedGames
 pub mod Headline

@@ -5,6 +5,9 @@ use Rattle.krieg_fen.specs.declared.forms.TheConstants.{MOST_LISTED}
 use Rattle.krieg_words.specs.declared.words.TheConstants.{MOST_TRIES}
 use Rattle.krieg_plan.specs.declared.limits.TheConstants.{MOST_NODES, MOST_ON_PATH}
 use Rattle.krieg_planfile.specs.PlanReading as plan
+use Rattle.krieg_strategy.specs.declared.limits.TheConstants as strategy
+use Rattle.krieg_strategyfile.specs.StrategyText as shared
+use Rattle.krieg_strategyfile.specs.declared.forms.TheConstants.{MOST_ROOTS}
 use Rattle.krieg_refute.specs.declared.refutation.TheConstants.{MOST_CLAIMS, MOST_CLAIMED}
 use Rattle.krieg_refutefile.specs.RefutationText as refutation
 use Rattle.krieg_args.specs.declared.command.TheConstants.{MOST_ASKS, MOST_SEED, MOST_FIND_MOVES, MOST_FIND_UNITS}
@@ -34,11 +37,17 @@ pub record AreLimits : Type 0 where
   -- the nodes of a plan, and those of one of its paths: the own moves that it may take
   pub nodes : MOST_NODES ≡ 100000
   pub path : MOST_ON_PATH ≡ 2500
+  -- the nodes of a strategy, the edges of all of them, its roots, and the own moves that it claims
+  pub strategy_nodes : strategy.MOST_NODES ≡ 100000
+  pub edges : strategy.MOST_EDGES ≡ 250000
+  pub roots : MOST_ROOTS ≡ 50000
+  pub worst : strategy.MOST_WORST ≡ 2500
   -- the claims of a refutation, and the positions of all of these, and so their reasons
   pub claims : MOST_CLAIMS ≡ 20000
   pub claimed : MOST_CLAIMED ≡ 200000
 
--- an input has room for every text of a plan file, and for every refutation that is written
+-- an input has room for every text of a plan file, and for every refutation and every strategy that is written
 pub record FitInputs : Type 0 where
   pub plans : plan.read_bound ≤ MOST_INPUT
   pub refutations : refutation.text_bound ≤ MOST_INPUT
+  pub strategies : shared.text_bound ≤ MOST_INPUT

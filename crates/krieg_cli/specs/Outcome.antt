@@ -2,12 +2,13 @@
 use Rattle.std.specs.Prelude.{ℕ, ◌≤◌, List, Result}
 use Rattle.krieg_fen.specs.declared.forms.TheConstants.{MOST_LISTED}
 use Rattle.krieg_args.specs.declared.command.Command.{Command}
-use Rattle.krieg_args.specs.declared.command.Command.TheVariants.{Solve, Check, Refute, Deny, Believe, Why, Umpire, San, Unsan, Play, Lead, Next, Find, Keys, Make, Job}
+use Rattle.krieg_args.specs.declared.command.Command.TheVariants.{Solve, Check, Refute, Deny, Believe, Why, Umpire, San, Unsan, Play, Lead, Next, Find, Keys, Judge, Make, Job}
 use Rattle.krieg_args.specs.declared.command.TheConstants.{MOST_SEED, MOST_FIND_MOVES}
 use Rattle.krieg_cli.specs.Solve.{Solves}
 use Rattle.krieg_cli.specs.Find.{Finds}
 use Rattle.krieg_cli.specs.Keys.{FindsKeys}
 use Rattle.krieg_cli.specs.Check.{Checks}
+use Rattle.krieg_cli.specs.Judge.{Judges}
 use Rattle.krieg_cli.specs.Refute.{Refutes}
 use Rattle.krieg_cli.specs.Deny.{Denies}
 use Rattle.krieg_cli.specs.Believe.{Believes}
@@ -43,6 +44,7 @@ HasOutcome live (Solve moves budget limit) text outcome = Solves moves budget li
 HasOutcome live (Find moves budget limit) text outcome = Finds moves budget limit text outcome
 HasOutcome live (Keys moves budget limit) text outcome = FindsKeys moves budget limit text outcome
 HasOutcome live (Check budget) text outcome = Checks budget text outcome
+HasOutcome live (Judge budget) text outcome = Judges budget text outcome
 HasOutcome live (Refute moves budget limit) text outcome = Refutes moves budget limit text outcome
 HasOutcome live (Deny budget) text outcome = Denies budget text outcome
 HasOutcome live (Believe limit) text outcome = Believes limit text outcome

@@ -6,6 +6,7 @@ pub(crate) mod check;
 pub(crate) mod counted;
 pub(crate) mod deny;
 pub(crate) mod job;
+pub(crate) mod judge;
 pub(crate) mod keys;
 pub(crate) mod lead;
 pub(crate) mod make;

@@ -1,16 +1,17 @@
 //! The whole program as one call over streams: `run`, and the program `krieg_find` as another: `run_find`.
 //!
-//! The commands are `umpire` and `san` on any session, `unsan` on any record, `believe`, `why`, `solve`, `find`, `keys` and `refute` on any sheet,
-//! `check` and `lead` on any plan file, `deny` on any refutation file, `next` on a plan file and what its player heard, `play` from
-//! any position, and `make` and `job` on no input. The definitions of `specs/` say what is seen of a run before it and after it
-//! (`World`), what comes of its input (`Input`), how it ends (`Ending`, `Refusal`), what each command makes of its input (a file
-//! of its name; `Asked` of what a search is asked of a sheet, `Tally` of what `job` counts, and `Outcome` for all), and by what
-//! causes a run ends so (`Top`).
+//! The commands are `umpire` and `san` on any session, `unsan` on any record, `believe`, `why`, `solve`, `find`, `keys`
+//! and `refute` on any sheet, `check` and `lead` on any plan file, `judge` on any strategy, `deny` on any refutation
+//! file, `next` on a plan file and what its player heard, `play` from any position, and `make` and `job` on no input. The
+//! definitions of `specs/` say what is seen of a run before it and after it (`World`), what comes of its input (`Input`),
+//! how it ends (`Ending`, `Refusal`), what each command makes of its input (a file of its name; `Asked` of what a search
+//! is asked of a sheet, `Tally` of what `job` counts, and `Outcome` for all), and by what causes a run ends so (`Top`).
 //!
-//! `Headline` is the promise of `solve`, of `find` and of `keys` on one page. `WholePlans` says that `check` finds what `solve` states, `WholeRefutations`
-//! that `refute` writes a refutation and that `deny` finds that such a one holds, `WholeGames` that `believe` lists where a game
-//! stands, given what `umpire` writes of it, `WholeRecords` what comes back of a session by `san` and `unsan`, and `LedGames` that
-//! a plan that mates leads to a mate. `Complete` says when there must be an answer, and `Limits` what each limit is in numbers.
+//! `WholeStrategies` is the promise of `judge`, and `Headline` that of `solve`, of `find` and of `keys` on one page.
+//! `WholePlans` says that `check` finds what `solve` states, `WholeRefutations` that `refute` writes a refutation and
+//! that `deny` finds that such a one holds, `WholeGames` that `believe` lists where a game stands, given what `umpire`
+//! writes of it, `WholeRecords` what comes back of a session by `san` and `unsan`, and `LedGames` that a plan that mates
+//! leads to a mate. `Complete` says when there must be an answer, and `Limits` what each limit is in numbers.
 //!
 //! `commands` has a file for each command, `outcome` chooses among them, and `answers` has what they answer: one text, or one in pieces.
 //!

@@ -7,7 +7,8 @@ ghost use Rattle.krieg_cli.specs.Outcome as spec;
 use crate::answers::{Answer, in_pieces, whole};
 use crate::commands::solve::Terms;
 use crate::commands::{
-    believe, check, deny, job, keys, lead, make, next, play, refute, san, solve, umpire, unsan, why,
+    believe, check, deny, job, judge, keys, lead, make, next, play, refute, san, solve, umpire,
+    unsan, why,
 };
 use crate::ending::Ending;
 use krieg_args::Command;
@@ -71,6 +72,7 @@ fn whole_outcome(
             keys::answer(alloc, terms, text)
         }
         Command::Check { budget } => check::answer(alloc, *budget, text),
+        Command::Judge { budget } => judge::answer(alloc, *budget, text),
         Command::Refute { .. } => unreachable!(),
         Command::Deny { budget } => deny::answer(alloc, *budget, text),
         Command::Believe { limit } => believe::answer(alloc, *limit, text),

@@ -9,6 +9,7 @@ ghost use Rattle.krieg_cli.specs.Live.{LivesBy};
 ghost use Rattle.krieg_cli.specs.Top.{Ends, Runs, IsRun, RunsAlone, LeavesBench, nobody, asked_by, asked_to_find, reads};
 ghost use Rattle.krieg_cli.specs.WholeGames.{UmpiresGames, BelievesGames};
 ghost use Rattle.krieg_cli.specs.WholePlans.{ChecksSolutions};
+ghost use Rattle.krieg_cli.specs.WholeStrategies.{JudgesStrategies};
 ghost use Rattle.krieg_cli.specs.WholeRefutations.{RefutesSheets, DeniesRefutations};
 ghost use Rattle.krieg_cli.specs.LedGames.{LeadsToMate};
 ghost use Rattle.krieg_cli.specs.WholeRecords.{ReturnsGames};
@@ -204,15 +205,16 @@ pub fn run<S: Source, O: Sink, E: Sink>(
 
 /// Does all that the program `krieg_find` does, over streams, and gives the status with which it ends.
 ///
-/// The commands, all on any sheet, with numbers that go further than those of `solve`: [`MOST_FIND_MOVES`](krieg_args::MOST_FIND_MOVES)
-/// and [`MOST_FIND_UNITS`](krieg_args::MOST_FIND_UNITS):
+/// The commands, `find` and `keys` on any sheet and `judge` on any strategy, with numbers that go further than those of `solve`:
+/// [`MOST_FIND_MOVES`](krieg_args::MOST_FIND_MOVES) and [`MOST_FIND_UNITS`](krieg_args::MOST_FIND_UNITS):
 ///
 /// - `find MOVES BUDGET LIMIT`, or these numbers alone, for which `out` gets what `solve` writes: the plan file of the canonical
 ///   plan that mates from every position that is still possible within the fewest own moves, or the line `none MOVES` exactly where
 ///   no plan mates within that number. Only the units differ: mostly far fewer are taken, and there is no least number of them that
 ///   an answer takes;
 /// - `keys MOVES BUDGET LIMIT`, for which it gets, for each thing that may be heard before the first own turn, the least number of own
-///   moves and every try with which that many are enough; or the line `none MOVES` by the same rule.
+///   moves and every try with which that many are enough; or the line `none MOVES` by the same rule;
+/// - `judge BUDGET`, for which it gets the worst case of the plan that the strategy unfolds to.
 ///
 /// The status tells how it ended, and is that of [`run`] by the same causes:
 ///
@@ -222,10 +224,11 @@ pub fn run<S: Source, O: Sink, E: Sink>(
 /// | 1 | exactly where the words are none of these commands; nothing is read then |
 /// | 2 | exactly where one byte more came than the [`MOST_INPUT`](crate::MOST_INPUT) that an input may have, before an end or a fault |
 /// | 3, 4 | exactly where the input has a first bad line: 4 at a position that is not valid or not of the first one's hand |
-/// | 5 | exactly where no position is possible |
-/// | 6 | exactly where the game is over |
-/// | 7 | exactly where more positions are possible after some part of the sheet than the limit allows |
-/// | 8 | only where the budget is less than a search may take |
+/// | 5 | of a sheet, exactly where no position is possible |
+/// | 6 | of a sheet, exactly where the game is over |
+/// | 7 | of a sheet, exactly where more positions are possible after some part of it than the limit allows |
+/// | 8 | of `find` and `keys` only where the budget is less than a search may take; of `judge` exactly where it is less than the judgement takes |
+/// | 13 | of `judge`, exactly where the plan does not mate all that is listed within the number that the strategy claims |
 /// | 14 | of `find`, exactly where the best plan is too large for a text; the budget is not spent then |
 /// | 9 | where a read failed, with no more bytes read than an input may have |
 /// | 10 | where a write to `out` failed, which has got a front part of the answer then |
@@ -260,7 +263,13 @@ pub fn run_find<S: Source, O: Sink, E: Sink>(
         ListsKeys (asked_to_find words.now) result
         (seen input.old out.old) (seen input.new out.new) (heard err.old) (heard err.new) }
 
-    // Where the sheet asks for an answer and the budget is as much as a search may take, there is one, or memory ran out.
+    // What `judge` has written is the worst case of the plan that the strategy unfolds to.
+    ensures judges { let seen = world S.left S.faults O.got O.faults in
+        let heard = stream E.got E.faults in
+        JudgesStrategies (asked_to_find words.now) result
+        (seen input.old out.old) (seen input.new out.new) (heard err.old) (heard err.new) }
+
+    // Where the input asks for an answer and the budget is as much as a search may take, there is one, or memory ran out.
     ensures completes { let seen = world S.left S.faults O.got O.faults in
         Completes (λ account. account) nobody nobody (asked_to_find words.now) result
         (seen input.old out.old) (seen input.new out.new) }

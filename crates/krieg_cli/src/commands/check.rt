@@ -15,7 +15,7 @@ use std::alloc::Global;
 
 /// The line of the worst case.
 #[tactic(auto, unfolding(crate::specs::Check::worst_text))]
-fn worst_text(alloc: Global, worst: u16) -> Result<Vec<u8>, NoMemory>
+pub(crate) fn worst_text(alloc: Global, worst: u16) -> Result<Vec<u8>, NoMemory>
     ensures { IfOk result (λ text. text.items ≡ spec.worst_text worst) }
 {
     counted(alloc, b"mates ", usize::from(worst))
