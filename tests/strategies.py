@@ -34,9 +34,8 @@ Way = collections.namedtuple("Way", "number position key")
 # and what the judgement takes.
 Judgement = collections.namedtuple("Judgement", "reached needs worst units")
 
-# The most listed positions, nodes and roots, the most own moves that are claimed, and the most edges of all nodes together.
-MOST_LISTED, MOST_NODES, MOST_ROOTS, MOST_WORST, MOST_EDGES = (
-    limits.MOST_LISTED, limits.MOST_NODES, limits.MOST_ROOTS, limits.MOST_WORST, limits.MOST_EDGES)
+# The most listed positions, nodes, own moves that are claimed, edges of all nodes together, and roots.
+MOST_LISTED, MOST_NODES, MOST_WORST, MOST_EDGES, MOST_ROOTS = limits.MOST_LISTED, limits.MOST_NODES, 2_500, 250_000, 50_000
 
 NUMBER = "(0|[1-9][0-9]*)"
 

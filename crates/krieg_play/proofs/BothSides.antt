@@ -1,6 +1,6 @@
 -- What the calls of both sides make of any courses so far.
 use Rattle.std.proofs.Common.{◌≡◌, ℕ, List, [], length, refl, sym, ap, ◌∙◌, subst, arith, inl, inr, Result, Ok, Err}
-use Rattle.krieg_play.proofs.Common.{Side, White, Black, Line, Account, SeatFault, Failed, Team, Turns, Stays, MayBeShort, Course, BrokenCourse, Sides, AfterTelling, Tells, TakesTurn, seat_counts, Breaks, AfterBoth, TellsBoth, AfterAsk, AsksOne, fault_of, PlayFault, Turn}
+use Rattle.krieg_play.proofs.Common.{Side, White, Black, Line, Account, SeatFault, Failed, Team, Turns, Stays, MayBeShort, Course, BrokenCourse, Sides, AfterTelling, Tells, TakesTurn, seat_counts, Breaks, AfterBoth, TellsBoth, AfterAsk, AsksOne, fault_of, PlayFault, AskOutcome}
 use Rattle.krieg_seats.specs.declared.seat.SeatFault.TheVariants.{NoMemory}
 use Rattle.krieg_play.proofs.Courses.{course_weakens}
 
@@ -74,13 +74,13 @@ both_told account r s before now lines due e told f tells entry turns white blac
 
 -- ---- asking one
 
-pub asks_white : {X : Type 0} (account : X → Account) (who : Side) (r : Result Turn SeatFault) (before now : Sides X) (lines : Side → List Line) → who ≡ White →
+pub asks_white : {X : Type 0} (account : X → Account) (who : Side) (r : Result AskOutcome SeatFault) (before now : Sides X) (lines : Side → List Line) → who ≡ White →
     TakesTurn account r before.white now.white (lines White) → now.black ≡ before.black → AsksOne account who r before now lines
 asks_white {X} account who r before now lines who_is takes same entry turns c =
     subst (λ (s : Side). AfterAsk account s r entry now lines turns) (sym who_is)
     (takes entry.white (turns White) c.white, subst (λ (t : Team X). Course account Stays entry.black t (lines Black) [] (turns Black)) (sym same) c.black)
 
-pub asks_black : {X : Type 0} (account : X → Account) (who : Side) (r : Result Turn SeatFault) (before now : Sides X) (lines : Side → List Line) → who ≡ Black →
+pub asks_black : {X : Type 0} (account : X → Account) (who : Side) (r : Result AskOutcome SeatFault) (before now : Sides X) (lines : Side → List Line) → who ≡ Black →
     TakesTurn account r before.black now.black (lines Black) → now.white ≡ before.white → AsksOne account who r before now lines
 asks_black {X} account who r before now lines who_is takes same entry turns c =
     subst (λ (s : Side). AfterAsk account s r entry now lines turns) (sym who_is)

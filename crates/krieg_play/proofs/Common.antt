@@ -32,5 +32,5 @@ pub use Rattle.krieg_play.specs.Played.{Courses, IsAskedWithin, IsPlayed, IsUnde
 pub use Rattle.krieg_play.specs.Teams.{AreRelieved, BrokenCourse, Course, HasFailed, HasLeft, IsGone, IsRelieved, IsService, MayBeShort, Serves, Service, Stays, Team, Turns, all_asks, asks_of, entry_of, known_behind, now_of, said_of, team, team_of, turns_of, turns_since}
 pub use Rattle.krieg_play.specs.declared.outcome.PlayFault.{PlayFault}
 pub use Rattle.krieg_play.specs.declared.outcome.PlayFault.TheVariants.{Seat, Vacant}
-pub use Rattle.krieg_play.specs.declared.turn.Turn.{Turn}
-pub use Rattle.krieg_play.specs.declared.turn.Turn.TheVariants.{Relieved, Tried}
+pub use Rattle.krieg_play.specs.declared.ask_outcome.AskOutcome.{AskOutcome}
+pub use Rattle.krieg_play.specs.declared.ask_outcome.AskOutcome.TheVariants.{Relieved, Tried}

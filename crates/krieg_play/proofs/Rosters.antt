@@ -1,8 +1,8 @@
 -- What a turn of two players makes of both sides of a live game, each of which is a team of seats.
 use Rattle.std.proofs.Common.{◌≡◌, ℕ, ◌-◌, ◌<◌, ◌≤◌, List, length, refl, sym, ap, inl, inr, arith, Result, Ok, Err, Option, Some, None}
 use Rattle.std.specs.Prelude.{option_map}
-use Rattle.krieg_play.proofs.Common.{Pos, Side, White, Black, told_line, Wild16, Line, GameState, judged, line_for, Event, Account, SeatFault, Team, Sides, sides, seats_of, AsksTeam, TellsTeam, IsLastOnes, lines_to, seat_count, TellsBoth, AsksOne, Passes, Turn, Tried, Relieved, PlayFault, BothHear, due_in, IsStepped, next_turn, AsksOf, Follows, TakesTurns}
-use Rattle.krieg_play.specs.declared.turn.Turn.TheVariants.{Left}
+use Rattle.krieg_play.proofs.Common.{Pos, Side, White, Black, told_line, Wild16, Line, GameState, judged, line_for, Event, Account, SeatFault, Team, Sides, sides, seats_of, AsksTeam, TellsTeam, IsLastOnes, lines_to, seat_count, TellsBoth, AsksOne, Passes, AskOutcome, Tried, Relieved, PlayFault, BothHear, due_in, IsStepped, next_turn, AsksOf, Follows, TakesTurns}
+use Rattle.krieg_play.specs.declared.ask_outcome.AskOutcome.TheVariants.{Left}
 use Rattle.krieg_play.proofs.HeardLines.{told_wild}
 use Rattle.krieg_play.proofs.BothSides.{white_untold, black_untold, both_told, asks_white, asks_black}
 use Rattle.krieg_play.proofs.Judging.{IsJudged, judges}
@@ -14,7 +14,7 @@ wild None = refl
 wild (Some l) = ap Some (told_wild l)
 
 module _ {T X : Type 0} (account : X → Account) (f : T → Team X) where
-  abbrev asks : List Line → Result Turn SeatFault → T → T → Type 0
+  abbrev asks : List Line → Result AskOutcome SeatFault → T → T → Type 0
   asks lines r x y = AsksTeam account r (f x) (f y) lines
 
   abbrev hears : List Line → List Line → Result (Unit {0}) SeatFault → T → T → Type 0
@@ -34,13 +34,13 @@ module _ {T X : Type 0} (account : X → Account) (f : T → Team X) where
   no_more (Err fault) lines due w w' b b' (met, inr h) = omega (arith, h.1.no_more, h.2.no_more)
 
   -- one side was asked
-  record IsAsked (who : Side) (r : Result Turn SeatFault) (lines : Side → List Line) (before now : Sides X) : Type 0 where
+  record IsAsked (who : Side) (r : Result AskOutcome SeatFault) (lines : Side → List Line) (before now : Sides X) : Type 0 where
     one : AsksOne account who r before now lines
     none_more : seat_count now ≤ seat_count before
     fewer : r ≡ Ok Relieved → seat_count now < seat_count before
     last : IsLastOnes r → length (seats_of who now) ≡ 1
 
-  asked : (who : Side) (r : Result Turn SeatFault) (lines : Side → List Line) (w w' b b' : T) → AsksOf asks asks hears hears who r lines w w' b b' →
+  asked : (who : Side) (r : Result AskOutcome SeatFault) (lines : Side → List Line) (w w' b b' : T) → AsksOf asks asks hears hears who r lines w w' b b' →
       IsAsked who r lines (sides (f w) (f b)) (sides (f w') (f b'))
   asked White r lines w w' b b' (h, same) = let seats = ap (λ t. length (f t).seats) same in record {
     one = asks_white account White r _ _ lines refl h.takes (ap f same);
@@ -68,7 +68,7 @@ module _ {T X : Type 0} (account : X → Account) (f : T → Team X) where
       tells = rw (sym (wild (line_for White (judged game.position e))), sym (wild (line_for Black (judged game.position e)))) (both_heard told _ _ w w' b b' h);
     }
 
-    follows : (said : Result Turn SeatFault) (result : Result (Option Side) PlayFault) (w m w' b n b' : T) (game' : GameState) → seats - seat_count (sides (f w) (f b)) < game.spare →
+    follows : (said : Result AskOutcome SeatFault) (result : Result (Option Side) PlayFault) (w m w' b n b' : T) (game' : GameState) → seats - seat_count (sides (f w) (f b)) < game.spare →
         IsAsked game.position.side said (λ side. lines_to start side game.log) (sides (f w) (f b)) (sides (f m) (f n)) → Follows asks asks hears hears said result Wild16 start game.position.side m w' n b' game game' →
         Passes account result start seats (sides (f w) (f b)) (sides (f w') (f b')) game game'
     follows (Ok (Tried mv)) result w m w' b n b' game' less a (told, result_is, stepped, h) =

@@ -1,7 +1,7 @@
 -- What the calls of one side make of any course so far.
 use Rattle.std.proofs.Common.{◌≡◌, ℕ, ◌+◌, ◌<◌, ◌≤◌, List, [], ◌∷◌, ◌++◌, length, refl, sym, ap, ◌∙◌, subst, inl, inr, arith, Result, Ok, Err, Option, Some, option_to_list}
 use Rattle.std.proofs.lemmas.List.{append-nil}
-use Rattle.krieg_play.proofs.Common.{one_more, Rose, Move, Line, Account, Asked, Told, Say, Try, Leave, SeatFault, Failed, Team, team, Turns, Stays, HasFailed, HasLeft, IsGone, MayBeShort, Course, ToldAll, BreaksOff, FirstChanges, AfterTelling, Relieves, Tells, once_more, one_try, AfterTurn, TakesTurn, EndsTurn, relieved_turn, Turn, Tried}
+use Rattle.krieg_play.proofs.Common.{one_more, Rose, Move, Line, Account, Asked, Told, Say, Try, Leave, SeatFault, Failed, Team, team, Turns, Stays, HasFailed, HasLeft, IsGone, MayBeShort, Course, ToldAll, BreaksOff, FirstChanges, AfterTelling, Relieves, Tells, once_more, one_try, AfterTurn, TakesTurn, EndsTurn, relieved_turn, AskOutcome, Tried}
 use Rattle.krieg_seats.specs.declared.seat.SeatFault.TheVariants.{NoMemory}
 use Rattle.krieg_play.proofs.Serving.{only_hears, tries_move, asked_in_vain}
 use Rattle.krieg_play.proofs.Courses.{course_changes, course_moves, course_weakens}
@@ -150,7 +150,7 @@ pub asks_failed : {X : Type 0} (account : X → Account) (r : Result Say SeatFau
 asks_failed account r s seats out seats' now lines e f relieved entry turns c =
     turned account s entry now lines (once_more turns) (relieved entry [] (once_more turns) (answered_as account r (Err Failed) f e c))
 
-pub asks_leave : {X : Type 0} (account : X → Account) (r : Result Say SeatFault) (s : Result Turn SeatFault) (seats out seats' : List X) (now : Team X) (lines : List Line) → r ≡ Ok Leave →
+pub asks_leave : {X : Type 0} (account : X → Account) (r : Result Say SeatFault) (s : Result AskOutcome SeatFault) (seats out seats' : List X) (now : Team X) (lines : List Line) → r ≡ Ok Leave →
     FirstChanges (λ x y. Asked r (account x) (account y)) seats seats' → EndsTurn account s (team seats' out) now lines → TakesTurn account s (team seats out) now lines
 asks_leave account r s seats out seats' now lines e f takes entry turns c = takes entry (once_more turns) (answered_as account r (Ok Leave) f e c)
 
@@ -159,8 +159,8 @@ pub leaves : {X : Type 0} (account : X → Account) (s : Result (Unit {0}) SeatF
     Relieves account IsGone s before now lines → EndsTurn account (relieved_turn s) before now lines
 leaves account s before now lines h entry turns c = turned account s entry now lines turns (h entry [] turns (course_weakens (λ v a b k. inr k) c))
 
-pub takes_as : {X : Type 0} (account : X → Account) (r s : Result Turn SeatFault) (before now : Team X) (lines : List Line) → r ≡ s → TakesTurn account s before now lines → TakesTurn account r before now lines
-takes_as account r s before now lines e h = subst (λ (x : Result Turn SeatFault). TakesTurn account x before now lines) (sym e) h
+pub takes_as : {X : Type 0} (account : X → Account) (r s : Result AskOutcome SeatFault) (before now : Team X) (lines : List Line) → r ≡ s → TakesTurn account s before now lines → TakesTurn account r before now lines
+takes_as account r s before now lines e h = subst (λ (x : Result AskOutcome SeatFault). TakesTurn account x before now lines) (sym e) h
 
-pub ends_as : {X : Type 0} (account : X → Account) (r s : Result Turn SeatFault) (before now : Team X) (lines : List Line) → r ≡ s → EndsTurn account s before now lines → EndsTurn account r before now lines
-ends_as account r s before now lines e h = subst (λ (x : Result Turn SeatFault). EndsTurn account x before now lines) (sym e) h
+pub ends_as : {X : Type 0} (account : X → Account) (r s : Result AskOutcome SeatFault) (before now : Team X) (lines : List Line) → r ≡ s → EndsTurn account s before now lines → EndsTurn account r before now lines
+ends_as account r s before now lines e h = subst (λ (x : Result AskOutcome SeatFault). EndsTurn account x before now lines) (sym e) h

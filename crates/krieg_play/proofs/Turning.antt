@@ -3,8 +3,8 @@ use Rattle.std.proofs.Common.{◌≡◌, ℕ, ◌+◌, ◌-◌, ◌<◌, ◌≤�
 use Rattle.std.specs.List.{cons_option}
 use Rattle.std.proofs.lemmas.List.{append-nil}
 use Rattle.std.proofs.lemmas.List.Elements.{filter_map-append}
-use Rattle.krieg_play.proofs.Common.{Pos, Side, White, Black, Move, Line, GameState, Event, Account, SeatFault, Failed, Team, Turns, turns_since, turns_of, Stays, Course, events_of, tries_of, try_of, Sides, seats_of, relieved, all_relieved, used_up, IsAskedWithin, last_ask, Courses, lines_of, turns_so_far, last_turns, IsWhole, LastAsk, IsUnderway, Breaks, IsBroken, lines_to, AfterTurn, seat_count, HasTried, AfterAsk, AsksOne, Passes, Judges, fault_of, PlayFault, Turn, Tried, Relieved}
-use Rattle.krieg_play.specs.declared.turn.Turn.TheVariants.{Left}
+use Rattle.krieg_play.proofs.Common.{Pos, Side, White, Black, Move, Line, GameState, Event, Account, SeatFault, Failed, Team, Turns, turns_since, turns_of, Stays, Course, events_of, tries_of, try_of, Sides, seats_of, relieved, all_relieved, used_up, IsAskedWithin, last_ask, Courses, lines_of, turns_so_far, last_turns, IsWhole, LastAsk, IsUnderway, Breaks, IsBroken, lines_to, AfterTurn, seat_count, HasTried, AfterAsk, AsksOne, Passes, Judges, fault_of, PlayFault, AskOutcome, Tried, Relieved}
+use Rattle.krieg_play.specs.declared.ask_outcome.AskOutcome.TheVariants.{Left}
 use Rattle.krieg_play.proofs.Courses.{course_starts, course_counts, both_counted, seated}
 use Rattle.krieg_play.proofs.BothSides.{white_breaks, black_breaks}
 use Rattle.krieg_play.proofs.HeardLines.{lines_are}
@@ -20,14 +20,14 @@ event who m = record { who = who; mv = m }
 
 -- ---- how often the seats were asked
 
-turn_counts : {X : Type 0} (account : X → Account) (r : Result Turn SeatFault) (entry now : Team X) (lines : List Line) (turns : Turns) →
+turn_counts : {X : Type 0} (account : X → Account) (r : Result AskOutcome SeatFault) (entry now : Team X) (lines : List Line) (turns : Turns) →
     AfterTurn account r entry now lines turns → length entry.seats ≡ relieved entry now + length now.seats
 turn_counts account (Ok (Tried m)) entry now lines turns h = course_counts h
 turn_counts account (Ok Relieved) entry now lines turns h = course_counts h
 turn_counts account (Ok Left) entry now lines turns h = course_counts h
 turn_counts account (Err fault) entry now lines turns h = course_counts h.1
 
-ask_counts : {X : Type 0} (account : X → Account) (who : Side) (r : Result Turn SeatFault) (entry now : Sides X) (lines : Side → List Line) (turns : Side → Turns) →
+ask_counts : {X : Type 0} (account : X → Account) (who : Side) (r : Result AskOutcome SeatFault) (entry now : Sides X) (lines : Side → List Line) (turns : Side → Turns) →
     AfterAsk account who r entry now lines turns → seat_count entry ≡ all_relieved entry now + seat_count now
 ask_counts account White r entry now lines turns h = omega (arith, turn_counts account r entry.white now.white _ _ h.0, course_counts h.1)
 ask_counts account Black r entry now lines turns h = omega (arith, turn_counts account r entry.black now.black _ _ h.0, course_counts h.1)
@@ -50,10 +50,10 @@ module _ {X : Type 0} (account : X → Account) (start : Pos) (asks : ℕ) (entr
   b = u.black_asks
 
   -- what asking makes of both sides, since the call began, and since this state
-  abbrev After : Side → Result Turn SeatFault → Type 0
+  abbrev After : Side → Result AskOutcome SeatFault → Type 0
   After who r = AfterAsk account who r entry now (lines_of start game) (turns_so_far w b (events_of game.log))
 
-  abbrev Since : Side → Result Turn SeatFault → Type 0
+  abbrev Since : Side → Result AskOutcome SeatFault → Type 0
   Since who r = AfterAsk account who r before now (lines_of start game) (λ who. turns_since (lines_of start game who) 0 [])
 
   tried : (who : Side) (m : Move) → who ≡ game.position.side → IsAskedWithin asks (used_up entry now game) 1 (w + b + 1) → After who (Ok (Tried m)) → Since who (Ok (Tried m)) →
@@ -141,7 +141,7 @@ module _ {X : Type 0} (account : X → Account) (start : Pos) (asks : ℕ) (entr
 -- ---- a pass, in which the side to move was asked
 
 -- what one more ask made of a game under way, since the call began, and since the state before
-record WasAsked {X : Type 0} (account : X → Account) (who : Side) (r : Result Turn SeatFault) (start : Pos) (asks : ℕ) (entry before now : Sides X) (game : GameState) : Type 0 where
+record WasAsked {X : Type 0} (account : X → Account) (who : Side) (r : Result AskOutcome SeatFault) (start : Pos) (asks : ℕ) (entry before now : Sides X) (game : GameState) : Type 0 where
   whole : IsWhole account None start asks entry before game
   fewer : used_up entry before game < asks
   so_far : After account start asks entry before now game whole fewer who r
@@ -149,13 +149,13 @@ record WasAsked {X : Type 0} (account : X → Account) (who : Side) (r : Result 
   asked : IsAskedWithin asks (used_up entry now game) 1 (whole.white_asks + whole.black_asks + 1)
   counted : seat_count entry ≡ all_relieved entry now + seat_count now
 
-module _ {X : Type 0} (account : X → Account) (who : Side) (r : Result Turn SeatFault) (start : Pos) (seats : ℕ) (before middle : Sides X) (game : GameState)
+module _ {X : Type 0} (account : X → Account) (who : Side) (r : Result AskOutcome SeatFault) (start : Pos) (seats : ℕ) (before middle : Sides X) (game : GameState)
     (fewer : seats - seat_count before < game.spare) (no_more : seat_count middle ≤ seat_count before) (one : AsksOne account who r before middle (λ s. lines_to start s game.log)) where
-  asked_so : (t : Result Turn SeatFault) → r ≡ t → (asks : ℕ) (entry : Sides X) → IsUnderway account None start asks entry before game → seat_count entry ≡ seats →
+  asked_so : (t : Result AskOutcome SeatFault) → r ≡ t → (asks : ℕ) (entry : Sides X) → IsUnderway account None start asks entry before game → seat_count entry ≡ seats →
       WasAsked account who t start asks entry before middle game
   asked_so t e asks entry v seats_is =
       let u = v.whole in
-      let one = subst (λ (x : Result Turn SeatFault). AsksOne account who x before middle (lines_of start game)) e
+      let one = subst (λ (x : Result AskOutcome SeatFault). AsksOne account who x before middle (lines_of start game)) e
       (subst (λ (lines : Side → List Line). AsksOne account who r before middle lines) (lines_are start asks game u.is_game) one) in
       let after = one entry (turns_so_far u.white_asks u.black_asks (events_of game.log)) u.courses in
       let counted = ask_counts account who t entry middle _ _ after in

@@ -14,8 +14,8 @@ use Rattle.krieg_seats.specs.declared.seat.Say.TheVariants.{Try, Leave}
 use Rattle.krieg_seats.specs.declared.seat.SeatFault.{SeatFault}
 use Rattle.krieg_seats.specs.declared.seat.SeatFault.TheVariants.{Failed, NoMemory}
 use Rattle.krieg_play.specs.Teams.{Team, Turns, Course, BrokenCourse, Stays, HasLeft, HasFailed, MayBeShort}
-use Rattle.krieg_play.specs.declared.turn.Turn.{Turn}
-use Rattle.krieg_play.specs.declared.turn.Turn.TheVariants.{Tried, Relieved, Left}
+use Rattle.krieg_play.specs.declared.ask_outcome.AskOutcome.{AskOutcome}
+use Rattle.krieg_play.specs.declared.ask_outcome.AskOutcome.TheVariants.{Tried, Relieved, Left}
 
 -- ---- one seat
 
@@ -37,7 +37,7 @@ ToldAll lines (Err Failed) before now = BreaksOff lines before now × Rose befor
 ToldAll lines (Err NoMemory) before now = BreaksOff lines before now × (before.faults ≤ now.faults)
 
 -- what asking a lone seat, which nobody relieves, makes of it
-abbrev pub AsksLone : Result Turn SeatFault → Account → Account → Type 0
+abbrev pub AsksLone : Result AskOutcome SeatFault → Account → Account → Type 0
 AsksLone (Ok (Tried m)) before now = Asked (Ok (Try m)) before now
 AsksLone (Ok Relieved) before now = ⊥
 AsksLone (Ok Left) before now = Asked (Ok Leave) before now
@@ -87,33 +87,33 @@ abbrev pub one_try : Move → Turns → Turns
 one_try m turns = record turns { tries = turns.tries ++ m ∷ [] }
 
 -- what a side did when its sitting seat was asked
-abbrev pub AfterTurn : {X : Type 0} → (X → Account) → Result Turn SeatFault → Team X → Team X → List Line → Turns → Type 0
+abbrev pub AfterTurn : {X : Type 0} → (X → Account) → Result AskOutcome SeatFault → Team X → Team X → List Line → Turns → Type 0
 AfterTurn account (Ok (Tried m)) entry now lines turns = Course account Stays entry now lines [] (one_try m turns)
 AfterTurn account (Ok Relieved) entry now lines turns = Course account Stays entry now lines [] turns
 AfterTurn account (Ok Left) entry now lines turns = Course account HasLeft entry now lines [] turns
 AfterTurn account (Err fault) entry now lines turns = BrokenCourse account (seat_counts fault) entry now lines turns
 
 -- a turn, from any course so far whose sitting seat has heard all: the side was asked once more
-abbrev pub TakesTurn : {X : Type 0} → (X → Account) → Result Turn SeatFault → Team X → Team X → List Line → Type 0
+abbrev pub TakesTurn : {X : Type 0} → (X → Account) → Result AskOutcome SeatFault → Team X → Team X → List Line → Type 0
 TakesTurn {X} account r before now lines =
     (entry : Team X) (turns : Turns) → Course account Stays entry before lines [] turns → AfterTurn account r entry now lines (once_more turns)
 
 -- the rest of a turn in which the sitting seat has left, from any course so far
-abbrev pub EndsTurn : {X : Type 0} → (X → Account) → Result Turn SeatFault → Team X → Team X → List Line → Type 0
+abbrev pub EndsTurn : {X : Type 0} → (X → Account) → Result AskOutcome SeatFault → Team X → Team X → List Line → Type 0
 EndsTurn {X} account r before now lines =
     (entry : Team X) (turns : Turns) → Course account HasLeft entry before lines [] turns → AfterTurn account r entry now lines turns
 
 -- the turn of a side whose sitting seat was relieved
-abbrev pub relieved_turn : Result (Unit {0}) SeatFault → Result Turn SeatFault
+abbrev pub relieved_turn : Result (Unit {0}) SeatFault → Result AskOutcome SeatFault
 relieved_turn (Ok _) = Ok Relieved
 relieved_turn (Err fault) = Err fault
 
 -- the last seat of the side left or failed
-abbrev pub IsLastOnes : Result Turn SeatFault → Type 0
+abbrev pub IsLastOnes : Result AskOutcome SeatFault → Type 0
 IsLastOnes r = (r ≡ Ok Left) ⊎ (r ≡ Err Failed)
 
 -- what asking a side makes of it, and of how many seats it has
-pub record AsksTeam {X : Type 0} (account : X → Account) (r : Result Turn SeatFault) (before now : Team X) (lines : List Line) : Type 0 where
+pub record AsksTeam {X : Type 0} (account : X → Account) (r : Result AskOutcome SeatFault) (before now : Team X) (lines : List Line) : Type 0 where
   pub takes : TakesTurn account r before now lines
   pub fewer : r ≡ Ok Relieved → length now.seats < length before.seats
   pub no_more : length now.seats ≤ length before.seats

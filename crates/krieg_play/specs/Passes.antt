@@ -17,7 +17,7 @@ use Rattle.krieg_play.specs.Broken.{IsUntold, Breaks, IsBroken}
 use Rattle.krieg_play.specs.Calls.{once_more, AfterTurn}
 use Rattle.krieg_play.specs.declared.outcome.PlayFault.{PlayFault}
 use Rattle.krieg_play.specs.declared.outcome.PlayFault.TheVariants.{Seat, NoMemory}
-use Rattle.krieg_play.specs.declared.turn.Turn.{Turn}
+use Rattle.krieg_play.specs.declared.ask_outcome.AskOutcome.{AskOutcome}
 
 -- the fault of a call that met the fault of a seat of that side
 abbrev pub fault_of : SeatFault → Side → PlayFault
@@ -38,14 +38,14 @@ TellsBoth {X} account r before now lines due =
     Course account Stays entry.black before.black (lines Black) (due Black) (turns Black) → AfterBoth account r (due Black) entry before now lines turns
 
 -- what asking one side makes of both
-abbrev pub AfterAsk : {X : Type 0} → (X → Account) → Side → Result Turn SeatFault → Sides X → Sides X → (Side → List Line) → (Side → Turns) → Type 0
+abbrev pub AfterAsk : {X : Type 0} → (X → Account) → Side → Result AskOutcome SeatFault → Sides X → Sides X → (Side → List Line) → (Side → Turns) → Type 0
 AfterAsk account White r entry now lines turns =
     AfterTurn account r entry.white now.white (lines White) (once_more (turns White)) × Course account Stays entry.black now.black (lines Black) [] (turns Black)
 AfterAsk account Black r entry now lines turns =
     AfterTurn account r entry.black now.black (lines Black) (once_more (turns Black)) × Course account Stays entry.white now.white (lines White) [] (turns White)
 
 -- asking one side, from any courses so far
-abbrev pub AsksOne : {X : Type 0} → (X → Account) → Side → Result Turn SeatFault → Sides X → Sides X → (Side → List Line) → Type 0
+abbrev pub AsksOne : {X : Type 0} → (X → Account) → Side → Result AskOutcome SeatFault → Sides X → Sides X → (Side → List Line) → Type 0
 AsksOne {X} account who r before now lines =
     (entry : Sides X) (turns : Side → Turns) → Courses account None entry before lines turns → AfterAsk account who r entry now lines turns
 

@@ -16,12 +16,12 @@ use Rattle.krieg_play.specs.Played.{by_side}
 use Rattle.krieg_play.specs.Calls.{lines_to}
 use Rattle.krieg_play.specs.Passes.{fault_of}
 use Rattle.krieg_play.specs.declared.outcome.PlayFault.{PlayFault}
-use Rattle.krieg_play.specs.declared.turn.Turn.{Turn}
-use Rattle.krieg_play.specs.declared.turn.Turn.TheVariants.{Tried, Relieved, Left}
+use Rattle.krieg_play.specs.declared.ask_outcome.AskOutcome.{AskOutcome}
+use Rattle.krieg_play.specs.declared.ask_outcome.AskOutcome.TheVariants.{Tried, Relieved, Left}
 
 -- what asking a player makes of him, who has heard these lines
 abbrev pub Asking : Type 0 → Type 1
-Asking X = List Line → Result Turn SeatFault → X → X → Type 0
+Asking X = List Line → Result AskOutcome SeatFault → X → X → Type 0
 
 -- what telling him makes of him, whose lines these are, of which the second list is due
 abbrev pub Telling : Type 0 → Type 1
@@ -56,12 +56,12 @@ next_turn (Err fault) = Err fault
 
 module _ {W B : Type 0} (w_asks : Asking W) (b_asks : Asking B) (w_hears : Telling W) (b_hears : Telling B) where
   -- one of them is asked
-  abbrev pub AsksOf : Side → Result Turn SeatFault → (Side → List Line) → W → W → B → B → Type 0
+  abbrev pub AsksOf : Side → Result AskOutcome SeatFault → (Side → List Line) → W → W → B → B → Type 0
   AsksOf White r lines w w' b b' = w_asks (lines White) r w w' × (b' ≡ b)
   AsksOf Black r lines w w' b b' = b_asks (lines Black) r b b' × (w' ≡ w)
 
   -- What comes of what it said: its try is judged, and both are told what they hear of it; or the turn is over.
-  abbrev pub Follows : Result Turn SeatFault → Result (Option Side) PlayFault → Dialect → Pos → Side → W → W → B → B → GameState → GameState → Type 0
+  abbrev pub Follows : Result AskOutcome SeatFault → Result (Option Side) PlayFault → Dialect → Pos → Side → W → W → B → B → GameState → GameState → Type 0
   Follows (Ok (Tried m)) result d start who w w' b b' game game' =
       (told : Result (Unit {0}) PlayFault) × (result ≡ next_turn told) × IsStepped (record { who = who; mv = m }) game game'
       × BothHear w_hears b_hears told (λ side. lines_to start side game'.log) (due_in d (judged game.position (record { who = who; mv = m }))) w w' b b'
@@ -71,7 +71,7 @@ module _ {W B : Type 0} (w_asks : Asking W) (b_asks : Asking B) (w_hears : Telli
 
   -- a turn: the side to move is asked
   pub record TakesTurns (result : Result (Option Side) PlayFault) (d : Dialect) (start : Pos) (w w' : W) (b b' : B) (game game' : GameState) : Type 0 where
-    pub said : Result Turn SeatFault
+    pub said : Result AskOutcome SeatFault
     pub white : W
     pub black : B
     pub asked : AsksOf game.position.side said (λ side. lines_to start side game.log) w white b black

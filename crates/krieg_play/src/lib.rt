@@ -12,11 +12,12 @@
 //!
 //! - `bench`: `Bench`, the seats of both sides; `game`: `play`, a whole game of theirs; `outcome`: why there is none.
 //! - `player`: `Player`, one side of a game as a turn needs it; `turns`: one turn of any two players, by which live games
-//!   go and those that a plan leads; `lone`: a seat as such a side; `turn`: what came of asking one.
+//!   go and those that a plan leads; `lone`: a seat as such a side; `ask_outcome`: what came of asking one.
 //! - `telling`: what one seat is asked and told; `team`: the turns and reliefs of one side; `table`: one pass over both
 //!   sides. These are internal.
 #![tactic(auto)]
 
+mod ask_outcome;
 mod bench;
 mod game;
 mod lone;
@@ -25,14 +26,13 @@ mod player;
 mod table;
 mod team;
 mod telling;
-mod turn;
 mod turns;
 
+pub use ask_outcome::AskOutcome;
+pub(crate) use ask_outcome::relieved_turn;
 pub use bench::Bench;
 pub use game::{Played, play};
 pub use outcome::PlayFault;
 pub(crate) use outcome::fault_of;
 pub use player::Player;
-pub use turn::Turn;
-pub(crate) use turn::relieved_turn;
 pub use turns::{take_turn, tell_both};

@@ -1,5 +1,5 @@
 // A lone seat as a side of a game: nobody relieves it.
-use crate::Turn;
+use crate::AskOutcome;
 use crate::player::Player;
 use crate::telling::{ask_seat, tell_due};
 use krieg_board::{Position, Side};
@@ -18,10 +18,15 @@ impl Player for Box<dyn Seat> {
     ghost hears = { λ _ due r x y. ToldAll due r ((Seat-box x).account x.value)
         ((Seat-box y).account y.value) };
 
-    fn ask(&mut self, _start: &Position, _who: Side, _log: &[Judged]) -> Result<Turn, SeatFault> {
+    fn ask(
+        &mut self,
+        _start: &Position,
+        _who: Side,
+        _log: &[Judged],
+    ) -> Result<AskOutcome, SeatFault> {
         match ask_seat(self) {
-            Ok(Say::Try(mv)) => Ok(Turn::Tried(mv)),
-            Ok(Say::Leave) => Ok(Turn::Left),
+            Ok(Say::Try(mv)) => Ok(AskOutcome::Tried(mv)),
+            Ok(Say::Leave) => Ok(AskOutcome::Left),
             Err(fault) => Err(fault),
         }
     }

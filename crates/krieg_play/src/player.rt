@@ -2,7 +2,7 @@
 ghost use Rattle.std.specs.Prelude.{option_to_list};
 ghost use Rattle.krieg_play.specs.Calls.{lines_to};
 
-use crate::Turn;
+use crate::AskOutcome;
 use krieg_board::{Position, Side};
 use krieg_referee::Judged;
 use krieg_seats::SeatFault;
@@ -21,7 +21,7 @@ pub trait Player {
     ghost hears: { Telling Self };
 
     /// Asks for a try. Its lines so far are those of the log.
-    fn ask(&mut self, start: &Position, who: Side, log: &[Judged]) -> Result<Turn, SeatFault>
+    fn ask(&mut self, start: &Position, who: Side, log: &[Judged]) -> Result<AskOutcome, SeatFault>
         requires { is_ready self.old }
         ensures asks { asks (lines_to start.now who log.now) result self.old self.new }
         ensures ready { is_ready self.new };

@@ -6,7 +6,7 @@ ghost use Rattle.krieg_play.specs.Calls.{lines_to, ToldAll, FirstChanges, IsRead
 
 use crate::player::Player;
 use crate::telling::{ask_seat, tell_all, tell_seat};
-use crate::{Turn, relieved_turn};
+use crate::{AskOutcome, relieved_turn};
 use krieg_board::{Position, Side};
 use krieg_referee::Judged;
 use krieg_seats::{Say, Seat, SeatFault};
@@ -140,20 +140,20 @@ fn relieve_left(
     start: &Position,
     who: Side,
     log: &[Judged],
-) -> Result<Turn, SeatFault>
+) -> Result<AskOutcome, SeatFault>
     requires { IsReady seats.old out.old }
     ensures ends { EndsTurn (λ b. account b) result (team_of seats.old out.old)
         (team_of seats.new out.new) (lines_to start.now who log.now) }
-    ensures fewer { result ≡ Ok Turn.Relieved → vec_len seats.new < vec_len seats.old }
+    ensures fewer { result ≡ Ok AskOutcome.Relieved → vec_len seats.new < vec_len seats.old }
     ensures no_more { vec_len seats.new ≤ vec_len seats.old }
-    ensures kept { result ≡ Ok Turn.Left → vec_len seats.new ≡ vec_len seats.old }
+    ensures kept { result ≡ Ok AskOutcome.Left → vec_len seats.new ≡ vec_len seats.old }
     ensures ready { IsReady seats.new out.new }
     ensures last { IsLastOnes result → vec_len seats.new ≡ 1 }
 {
     if seats.len() > 1 {
         relieved_turn(relieve(seats, out, start, who, log))
     } else {
-        Ok(Turn::Left)
+        Ok(AskOutcome::Left)
     }
 }
 
@@ -164,18 +164,18 @@ fn ask_side(
     start: &Position,
     who: Side,
     log: &[Judged],
-) -> Result<Turn, SeatFault>
+) -> Result<AskOutcome, SeatFault>
     requires { IsReady seats.old out.old }
     ensures takes { TakesTurn (λ b. account b) result (team_of seats.old out.old)
         (team_of seats.new out.new) (lines_to start.now who log.now) }
-    ensures fewer { result ≡ Ok Turn.Relieved → vec_len seats.new < vec_len seats.old }
+    ensures fewer { result ≡ Ok AskOutcome.Relieved → vec_len seats.new < vec_len seats.old }
     ensures no_more { vec_len seats.new ≤ vec_len seats.old }
-    ensures kept { result ≡ Ok Turn.Left → vec_len seats.new ≡ vec_len seats.old }
+    ensures kept { result ≡ Ok AskOutcome.Left → vec_len seats.new ≡ vec_len seats.old }
     ensures ready { IsReady seats.new out.new }
     ensures last { IsLastOnes result → vec_len seats.new ≡ 1 }
 {
     match ask_first(seats) {
-        Ok(Say::Try(mv)) => Ok(Turn::Tried(mv)),
+        Ok(Say::Try(mv)) => Ok(AskOutcome::Tried(mv)),
         Ok(Say::Leave) => relieve_left(seats, out, start, who, log),
         Err(SeatFault::NoMemory) => Err(SeatFault::NoMemory),
         Err(SeatFault::Failed) => relieved_turn(relieve_failed(seats, out, start, who, log)),
@@ -248,7 +248,12 @@ impl Player for Roster {
     ghost hears = { λ lines due r x y. TellsTeam (λ b. (Seat-box b).account b.value) r
         (team_of x.seats x.out) (team_of y.seats y.out) lines due };
 
-    fn ask(&mut self, start: &Position, who: Side, log: &[Judged]) -> Result<Turn, SeatFault> {
+    fn ask(
+        &mut self,
+        start: &Position,
+        who: Side,
+        log: &[Judged],
+    ) -> Result<AskOutcome, SeatFault> {
         ask_side(&mut self.seats, &mut self.out, start, who, log)
     }
 

@@ -7,7 +7,7 @@ ghost use Rattle.krieg_play.specs.Players as spec;
 ghost use Rattle.krieg_play.specs.Players.{BothHear, IsStepped, TakesTurns};
 
 use crate::player::Player;
-use crate::{PlayFault, Turn, fault_of};
+use crate::{AskOutcome, PlayFault, fault_of};
 use krieg_board::{Position, Side};
 use krieg_referee::{Event, Game, Judged, line_for};
 use krieg_seats::SeatFault;
@@ -87,7 +87,7 @@ fn ask<W: Player, B: Player>(
     start: &Position,
     who: Side,
     log: &[Judged],
-) -> Result<Turn, SeatFault>
+) -> Result<AskOutcome, SeatFault>
     requires white { W.is_ready white.old }
     requires black { B.is_ready black.old }
     ensures asks { spec.AsksOf W.asks B.asks W.hears B.hears who result
@@ -129,11 +129,11 @@ pub fn take_turn<W: Player, B: Player>(
 {
     let who = game.position().side();
     match ask(white, black, start, who, game.log()) {
-        Ok(Turn::Tried(mv)) => {
+        Ok(AskOutcome::Tried(mv)) => {
             next_turn(judge_try(white, black, start, game, &Event { who, mv }, d))
         }
-        Ok(Turn::Relieved) => Ok(None),
-        Ok(Turn::Left) => Ok(Some(who)),
+        Ok(AskOutcome::Relieved) => Ok(None),
+        Ok(AskOutcome::Left) => Ok(Some(who)),
         Err(fault) => Err(fault_of(fault, who)),
     }
 }

@@ -10,8 +10,8 @@ use Rattle.krieg_seats.specs.declared.seat.SeatFault.{SeatFault}
 use Rattle.krieg_seats.specs.declared.seat.SeatFault.TheVariants.{Failed}
 use Rattle.krieg_seats.specs.declared.seat.SeatFault.TheVariants as fault
 use Rattle.krieg_play.specs.Passes.{fault_of}
-use Rattle.krieg_play.specs.declared.turn.Turn.TheVariants.{Tried}
-use Rattle.krieg_play.specs.declared.turn.Turn.TheVariants as turned
+use Rattle.krieg_play.specs.declared.ask_outcome.AskOutcome.TheVariants.{Tried}
+use Rattle.krieg_play.specs.declared.ask_outcome.AskOutcome.TheVariants as turned
 use Rattle.krieg_play.specs.Teams.{Stays}
 use Rattle.krieg_play.proofs.Serving.{serves_none, tries_move, asked_in_vain, serves_more}
 use Rattle.krieg_robot.proofs.Moving.{is_other}

@@ -10,8 +10,8 @@ use Rattle.krieg_play.specs.Calls.{ToldAll, AsksLone, lines_to}
 use Rattle.krieg_play.specs.Passes.{fault_of}
 use Rattle.krieg_play.specs.Players.{Asking, Telling, BothHear, AsksOf, Follows, TakesTurns, next_turn}
 use Rattle.krieg_play.specs.declared.outcome.PlayFault.{PlayFault}
-use Rattle.krieg_play.specs.declared.turn.Turn.{Turn}
-use Rattle.krieg_play.specs.declared.turn.Turn.TheVariants.{Tried, Relieved, Left}
+use Rattle.krieg_play.specs.declared.ask_outcome.AskOutcome.{AskOutcome}
+use Rattle.krieg_play.specs.declared.ask_outcome.AskOutcome.TheVariants.{Tried, Relieved, Left}
 use Rattle.krieg_robot.specs.Turns.{AsksOwn, HearsOwn}
 use Rattle.krieg_robot.proofs.Asking.{asked, left, fails, event}
 use Rattle.krieg_robot.proofs.Judging.{IsJudged, after_try}
@@ -72,12 +72,12 @@ module _ {X : Type 0} (account : X → Account) where
       (hears_all (due White) (account b) (account b') h.1, inr h.1)
 
   -- the one of them is asked whose turn it is
-  asks_white : (who : Side) (r : Result Turn SeatFault) (lines : Side → List Line) (s s' : Follower) (b b' : X) → AsksOf OwnAsks TheirAsks OwnHearing TheirHears who r lines s s' b b' →
+  asks_white : (who : Side) (r : Result AskOutcome SeatFault) (lines : Side → List Line) (s s' : Follower) (b b' : X) → AsksOf OwnAsks TheirAsks OwnHearing TheirHears who r lines s s' b b' →
       TurnAsked (is_same_side who White) r s s' (account b) (account b')
   asks_white White r lines s s' b b' h = (h.0, ap account h.1)
   asks_white Black r lines s s' b b' h = (h.1, h.0)
 
-  asks_black : (who : Side) (r : Result Turn SeatFault) (lines : Side → List Line) (s s' : Follower) (b b' : X) → AsksOf TheirAsks OwnAsks TheirHears OwnHearing who r lines b b' s s' →
+  asks_black : (who : Side) (r : Result AskOutcome SeatFault) (lines : Side → List Line) (s s' : Follower) (b b' : X) → AsksOf TheirAsks OwnAsks TheirHears OwnHearing who r lines b b' s s' →
       TurnAsked (is_same_side who Black) r s s' (account b) (account b')
   asks_black White r lines s s' b b' h = (h.1, h.0)
   asks_black Black r lines s s' b b' h = (h.0, ap account h.1)
@@ -85,7 +85,7 @@ module _ {X : Type 0} (account : X → Account) where
 -- ---- what comes of what was said
 
 -- a try is judged; or the turn is over, and nobody else was asked or told
-abbrev pub Ends : Result Turn SeatFault → Result (Option Side) PlayFault → Follower → Follower → Account → Account → GameState → GameState → Type 0
+abbrev pub Ends : Result AskOutcome SeatFault → Result (Option Side) PlayFault → Follower → Follower → Account → Account → GameState → GameState → Type 0
 Ends (Ok (Tried m)) result s s' a a' game game' =
     (told : Result (Unit {0}) PlayFault) × (result ≡ next_turn told) × IsJudged (lead told) (event game.position.side m) a a' s s' game game'
 Ends (Ok Relieved) result s s' a a' game game' = ⊤
@@ -106,7 +106,7 @@ file_kept false m s s' a a' h = ap (λ (x : Follower). x.file) h.0
 abbrev own_turn : Follower → GameState → Bool
 own_turn s game = is_same_side game.position.side s.file.side
 
-pub passes_by : (said : Result Turn SeatFault) (result : Result (Option Side) PlayFault) (s t u : Follower) (a b c : Account) (game game' : GameState) → 0 < game.spare → TurnAsked (own_turn s game) said s t a b →
+pub passes_by : (said : Result AskOutcome SeatFault) (result : Result (Option Side) PlayFault) (s t u : Follower) (a b c : Account) (game game' : GameState) → 0 < game.spare → TurnAsked (own_turn s game) said s t a b →
     Ends said result t u b c game game' → Passes (lead result) a c s u game game'
 passes_by (Ok (Tried m)) result s t u a b c game game' more asks (told, is, judged) f start k entry h =
     subst (λ (r : Result (Option Side) LeadFault). AfterPass r f start k entry c u game') (lead_next told ∙ ap lead (sym is))
@@ -142,7 +142,7 @@ module _ {X : Type 0} (account : X → Account) {d : Dialect} {start : Pos} {res
     white_asked = subst (λ (x : Side). TurnAsked (is_same_side game.position.side x) t.said s t.white (account b) (account t.black)) (sym side)
         (asks_white account game.position.side t.said (λ who. lines_to start who game.log) s t.white b t.black t.asked)
 
-    white_ends_by : (said : Result Turn SeatFault) → TurnAsked (own_turn s game) said s t.white (account b) (account t.black) →
+    white_ends_by : (said : Result AskOutcome SeatFault) → TurnAsked (own_turn s game) said s t.white (account b) (account t.black) →
         Follows (OwnAsks account) (TheirAsks account) (OwnHearing account) (TheirHears account) said result d start game.position.side t.white s' t.black b' game game' →
         Ends said result t.white s' (account t.black) (account b') game game'
     white_ends_by (Ok (Tried m)) asks (told, is, stepped, both) =
@@ -165,7 +165,7 @@ module _ {X : Type 0} (account : X → Account) {d : Dialect} {start : Pos} {res
     black_asked = subst (λ (x : Side). TurnAsked (is_same_side game.position.side x) t.said s t.black (account b) (account t.white)) (sym side)
         (asks_black account game.position.side t.said (λ who. lines_to start who game.log) s t.black b t.white t.asked)
 
-    black_ends_by : (said : Result Turn SeatFault) → TurnAsked (own_turn s game) said s t.black (account b) (account t.white) →
+    black_ends_by : (said : Result AskOutcome SeatFault) → TurnAsked (own_turn s game) said s t.black (account b) (account t.white) →
         Follows (TheirAsks account) (OwnAsks account) (TheirHears account) (OwnHearing account) said result d start game.position.side t.white b' t.black s' game game' →
         Ends said result t.black s' (account t.white) (account b') game game'
     black_ends_by (Ok (Tried m)) asks (told, is, stepped, both) =

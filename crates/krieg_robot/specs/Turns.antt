@@ -18,8 +18,8 @@ use Rattle.krieg_play.specs.Games.{events_of, tries_of, IsGameFrom}
 use Rattle.krieg_play.specs.Teams.{Serves, Stays}
 use Rattle.krieg_play.specs.declared.outcome.PlayFault.{PlayFault}
 use Rattle.krieg_play.specs.declared.outcome.PlayFault.TheVariants as play
-use Rattle.krieg_play.specs.declared.turn.Turn.{Turn}
-use Rattle.krieg_play.specs.declared.turn.Turn.TheVariants.{Tried, Relieved, Left}
+use Rattle.krieg_play.specs.declared.ask_outcome.AskOutcome.{AskOutcome}
+use Rattle.krieg_play.specs.declared.ask_outcome.AskOutcome.TheVariants.{Tried, Relieved, Left}
 use Rattle.krieg_plan.specs.declared.plan.PlanFile.{PlanFile}
 use Rattle.krieg_robot.specs.Stands.{next_try}
 use Rattle.krieg_robot.specs.Followers.{Follower, stand_of, after_asked}
@@ -41,7 +41,7 @@ lead (Err fault) = Err (lead_fault fault)
 -- ---- one call
 
 -- what asking the seat of the file makes of it: nobody relieves it, and it never fails
-abbrev pub AsksOwn : Result Turn SeatFault → Follower → Follower → Type 0
+abbrev pub AsksOwn : Result AskOutcome SeatFault → Follower → Follower → Type 0
 AsksOwn (Ok (Tried m)) s s' = (next_try (stand_of s) ≡ Some m) × (s' ≡ after_asked s)
 AsksOwn (Ok Relieved) s s' = ⊥
 AsksOwn (Ok Left) s s' = (next_try (stand_of s) ≡ None) × (s' ≡ after_asked s)
@@ -59,7 +59,7 @@ HearsOwn lines (Err fault.Failed) s s' = ⊥
 HearsOwn lines (Err fault.NoMemory) s s' = s' ≡ s
 
 -- what asking the side to move makes of both, where it is the side of the file or not
-abbrev pub TurnAsked : Bool → Result Turn SeatFault → Follower → Follower → Account → Account → Type 0
+abbrev pub TurnAsked : Bool → Result AskOutcome SeatFault → Follower → Follower → Account → Account → Type 0
 TurnAsked true r s s' a a' = AsksOwn r s s' × (a' ≡ a)
 TurnAsked false r s s' a a' = (s' ≡ s) × AsksLone r a a'
 

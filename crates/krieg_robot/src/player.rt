@@ -1,7 +1,7 @@
 // The seat of a plan as a side of a game: nobody relieves it, and it never fails.
 use crate::seat::{PlanSeat, ask_own, tell_own};
 use krieg_board::{Position, Side};
-use krieg_play::{Player, Turn};
+use krieg_play::{AskOutcome, Player};
 use krieg_referee::Judged;
 use krieg_seats::SeatFault;
 use krieg_words::Line;
@@ -15,7 +15,12 @@ impl Player for PlanSeat {
 
     ghost hears = { λ _ due r s t. HearsOwn due r s t };
 
-    fn ask(&mut self, _start: &Position, _who: Side, _log: &[Judged]) -> Result<Turn, SeatFault> {
+    fn ask(
+        &mut self,
+        _start: &Position,
+        _who: Side,
+        _log: &[Judged],
+    ) -> Result<AskOutcome, SeatFault> {
         ask_own(self)
     }
 

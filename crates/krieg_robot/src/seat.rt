@@ -10,7 +10,7 @@ use crate::next::Next;
 use crate::place::{Change, Place, Step, change_by, next_of, next_try, node_on};
 use krieg_board::Move;
 use krieg_plan::PlanFile;
-use krieg_play::Turn;
+use krieg_play::AskOutcome;
 use krieg_seats::{Say, Seat, SeatFault};
 use krieg_words::Line;
 use std::alloc::Global;
@@ -179,12 +179,12 @@ impl Seat for PlanSeat {
 }
 
 /// Asks the seat, as the side of a game that it is.
-pub(crate) fn ask_own(seat: &mut PlanSeat) -> Result<Turn, SeatFault>
+pub(crate) fn ask_own(seat: &mut PlanSeat) -> Result<AskOutcome, SeatFault>
     ensures { AsksOwn result seat.old seat.new }
 {
     match seat.ask() {
-        Ok(Say::Try(mv)) => Ok(Turn::Tried(mv)),
-        Ok(Say::Leave) => Ok(Turn::Left),
+        Ok(Say::Try(mv)) => Ok(AskOutcome::Tried(mv)),
+        Ok(Say::Leave) => Ok(AskOutcome::Left),
         Err(fault) => Err(fault),
     }
 }

@@ -1,6 +1,6 @@
 use Rattle.std.proofs.Common.{rules, Ok, refl}
 use Rattle.krieg_play.proofs.Common.{Tried, Relieved}
-use Rattle.krieg_play.specs.declared.turn.Turn.TheVariants.{Left}
+use Rattle.krieg_play.specs.declared.ask_outcome.AskOutcome.TheVariants.{Left}
 use Rattle.krieg_play.proofs.turns.take_turn.Goals as goal
 
 pub returns-in-Ok-Tried-clause-turn : goal.returns-in-Ok-Tried-clause-turn

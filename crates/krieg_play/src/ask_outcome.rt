@@ -7,7 +7,7 @@ use krieg_seats::SeatFault;
 
 /// What came of asking a side.
 #[derive(Clone, Copy, Debug, PartialEq, Eq)]
-pub enum Turn {
+pub enum AskOutcome {
     /// It tries a move.
     Tried(Move),
     /// The seat that was asked failed or left, and was relieved.
@@ -17,11 +17,11 @@ pub enum Turn {
 }
 
 /// The turn of a side whose sitting seat was relieved.
-pub(crate) fn relieved_turn(answer: Result<(), SeatFault>) -> Result<Turn, SeatFault>
+pub(crate) fn relieved_turn(answer: Result<(), SeatFault>) -> Result<AskOutcome, SeatFault>
     ensures { result ≡ spec.relieved_turn answer }
 {
     match answer {
-        Ok(()) => Ok(Turn::Relieved),
+        Ok(()) => Ok(AskOutcome::Relieved),
         Err(fault) => Err(fault),
     }
 }
