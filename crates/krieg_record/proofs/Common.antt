@@ -62,8 +62,8 @@ unfoldable pub use Rattle.krieg_record.specs.San.{san, san_text}
 pub use Rattle.krieg_record.specs.San.{ending, movement_by}
 unfoldable pub use Rattle.krieg_record.specs.SanReading.{leaving, meant}
 pub use Rattle.krieg_record.specs.SanReading.{goes_from, meant_by, move_from, mover, the_only}
-pub use Rattle.krieg_record.specs.declared.notation.Ending.{Ending}
-pub use Rattle.krieg_record.specs.declared.notation.Ending.TheVariants.{Check, Mate, Nothing}
+pub use Rattle.krieg_record.specs.declared.notation.CheckSuffix.{CheckSuffix}
+pub use Rattle.krieg_record.specs.declared.notation.CheckSuffix.TheVariants.{Check, Mate, Nothing}
 pub use Rattle.krieg_record.specs.declared.notation.Movement.{Movement}
 pub use Rattle.krieg_record.specs.declared.notation.Movement.TheVariants.{ByOfficer, ByPawn, Castles}
 pub use Rattle.krieg_record.specs.declared.notation.Notation.{Notation}

@@ -3,7 +3,7 @@ use Rattle.std.proofs.Common.{◌≡◌, ℕ, ◌+◌, ◌<◌, ◌/◌, ◌%◌
 use Rattle.std.specs.Str.{bytes_eq}
 use Rattle.std.proofs.lemmas.Bool.{eqb-true, ne_eqb}
 use Rattle.std.proofs.lemmas.Slice.Eq.{bytes_eq-Decides}
-use Rattle.krieg_record.proofs.Common.{Promo, Short, Long, square_text, Officer, King, Queen, Rook, Bishop, Knight, Movement, Castles, ByOfficer, ByPawn, Ending, Nothing, Check, Mate, Notation, letter, file_text, rank_text, capture_text, promotion_text, pawn_capture_text, officer_text, movement_text, ending_text, notation_text, IsMovement, Says, officer_movement, pawn_movement, castling_movement, movement_from, movement_of, with_ending, ending_of, front_of, notation_by, notation_of}
+use Rattle.krieg_record.proofs.Common.{Promo, Short, Long, square_text, Officer, King, Queen, Rook, Bishop, Knight, Movement, Castles, ByOfficer, ByPawn, CheckSuffix, Nothing, Check, Mate, Notation, letter, file_text, rank_text, capture_text, promotion_text, pawn_capture_text, officer_text, movement_text, ending_text, notation_text, IsMovement, Says, officer_movement, pawn_movement, castling_movement, movement_from, movement_of, with_ending, ending_of, front_of, notation_by, notation_of}
 use Rattle.krieg_board.specs.declared.men.Promo.TheVariants as promo
 use Rattle.krieg_record.proofs.LastBytes.{ending_last, front_last, front_check, front_mate}
 use Rattle.krieg_record.proofs.OfficerTexts.{Spells, officer_spells, officer_again}
@@ -93,13 +93,13 @@ pub notation_again : (n : Notation) → IsMovement n.movement → notation_of (n
 unfolding notation_of notation_text
 notation_again n i = go n.ending
   where
-    with : (e : Ending) → with_ending (movement_of (movement_text n.movement)) e ≡ Some (record { movement = n.movement; ending = e })
+    with : (e : CheckSuffix) → with_ending (movement_of (movement_text n.movement)) e ≡ Some (record { movement = n.movement; ending = e })
     with e = ap (λ p. with_ending p e) (movement_again n.movement i)
 
-    ended : (b : ℕ) (e : Ending) → ending_of (b ∷ []) ≡ e → notation_by (movement_text n.movement ++ (b ∷ [])) (ending_of (movement_text n.movement ++ (b ∷ []))) ≡ notation_by (movement_text n.movement ++ (b ∷ [])) e
+    ended : (b : ℕ) (e : CheckSuffix) → ending_of (b ∷ []) ≡ e → notation_by (movement_text n.movement ++ (b ∷ [])) (ending_of (movement_text n.movement ++ (b ∷ []))) ≡ notation_by (movement_text n.movement ++ (b ∷ [])) e
     ended b e is = ap (notation_by (movement_text n.movement ++ (b ∷ []))) (ending_last (movement_text n.movement) b ∙ is)
 
-    go : (e : Ending) → notation_by (movement_text n.movement ++ ending_text e) (ending_of (movement_text n.movement ++ ending_text e)) ≡ Some (record { movement = n.movement; ending = e })
+    go : (e : CheckSuffix) → notation_by (movement_text n.movement ++ ending_text e) (ending_of (movement_text n.movement ++ ending_text e)) ≡ Some (record { movement = n.movement; ending = e })
     go Nothing = ap (λ (t : List ℕ). notation_by t (ending_of t)) (append-nil (movement_text n.movement)) ∙ ap (notation_by (movement_text n.movement)) (movement_ends n.movement) ∙ with Nothing
     go Check = ended 43 Check refl ∙ ap (λ (t : List ℕ). with_ending (movement_of t) Check) (front_last (movement_text n.movement) 43) ∙ with Check
     go Mate = ended 35 Mate refl ∙ ap (λ (t : List ℕ). with_ending (movement_of t) Mate) (front_last (movement_text n.movement) 35) ∙ with Mate
@@ -108,14 +108,14 @@ pub notation_spells : (text : List ℕ) (n : Notation) → notation_of text ≡ 
 unfolding notation_of notation_text
 notation_spells text n h = go (ending_of text) refl h
   where
-    by : (front : List ℕ) (e : Ending) → text ≡ front ++ ending_text e → (p : Option Movement) → movement_of front ≡ p → with_ending p e ≡ Some n → Says text n
+    by : (front : List ℕ) (e : CheckSuffix) → text ≡ front ++ ending_text e → (p : Option Movement) → movement_of front ≡ p → with_ending p e ≡ Some n → Says text n
     by front e whole None is k = absurd cc
     by front e whole (Some x) is k =
         let same : record { movement = x; ending = e } ≡ n = cc in
         let s = movement_spells front x is in
         subst (Says text) same (record { is = whole ∙ ap (λ (t : List ℕ). t ++ ending_text e) s.0; named = s.1 })
 
-    go : (e : Ending) → ending_of text ≡ e → notation_by text e ≡ Some n → Says text n
+    go : (e : CheckSuffix) → ending_of text ≡ e → notation_by text e ≡ Some n → Says text n
     go Nothing is k = by text Nothing (sym (append-nil text)) (movement_of text) refl k
     go Check is k = by (front_of text) Check (front_check text is) (movement_of (front_of text)) refl k
     go Mate is k = by (front_of text) Mate (front_mate text is) (movement_of (front_of text)) refl k

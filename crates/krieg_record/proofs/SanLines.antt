@@ -1,7 +1,7 @@
 -- The text of a move has no line feed.
 use Rattle.std.proofs.Common.{◌≡◌, ℕ, ◌+◌, ◌<◌, Bool, true, false, [], ◌∷◌, ◌++◌, Option, Some, None, refl, arith}
 use Rattle.std.proofs.lemmas.Bool.{ne_eqb}
-use Rattle.krieg_record.proofs.Common.{Pos, Move, Promo, Short, Long, is_line, square_text, Officer, King, Queen, Rook, Bishop, Knight, Movement, Castles, ByOfficer, ByPawn, Ending, Nothing, Check, Mate, letter, file_text, rank_text, capture_text, promotion_text, pawn_capture_text, movement_text, ending_text, notation_text, san, san_text}
+use Rattle.krieg_record.proofs.Common.{Pos, Move, Promo, Short, Long, is_line, square_text, Officer, King, Queen, Rook, Bishop, Knight, Movement, Castles, ByOfficer, ByPawn, CheckSuffix, Nothing, Check, Mate, letter, file_text, rank_text, capture_text, promotion_text, pawn_capture_text, movement_text, ending_text, notation_text, san, san_text}
 use Rattle.krieg_board.specs.declared.men.Promo.TheVariants as promo
 use Rattle.krieg_fen.proofs.CleanTexts.{square_above}
 use Rattle.krieg_text.proofs.LineTexts.{line_above, line_append}
@@ -53,7 +53,7 @@ movement_line (ByOfficer o) =
 movement_line (ByPawn w) =
     line_append (pawn_capture_text w.file) (square_text w.to ++ promotion_text w.promo) (pawn_line w.file) (line_append (square_text w.to) (promotion_text w.promo) (square_line w.to) (promotion_line w.promo))
 
-ending_line : (e : Ending) → is_line (ending_text e) ≡ true
+ending_line : (e : CheckSuffix) → is_line (ending_text e) ≡ true
 ending_line Nothing = refl
 ending_line Check = refl
 ending_line Mate = refl

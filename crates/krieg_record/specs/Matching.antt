@@ -14,8 +14,8 @@ use Rattle.krieg_moves.specs.declared.wing.Wing.{Wing}
 use Rattle.krieg_moves.specs.declared.wing.Wing.TheVariants.{Short, Long}
 use Rattle.krieg_record.specs.declared.notation.Movement.{Movement}
 use Rattle.krieg_record.specs.declared.notation.Movement.TheVariants.{Castles, ByOfficer, ByPawn}
-use Rattle.krieg_record.specs.declared.notation.Ending.{Ending}
-use Rattle.krieg_record.specs.declared.notation.Ending.TheVariants.{Nothing, Check, Mate}
+use Rattle.krieg_record.specs.declared.notation.CheckSuffix.{CheckSuffix}
+use Rattle.krieg_record.specs.declared.notation.CheckSuffix.TheVariants.{Nothing, Check, Mate}
 use Rattle.krieg_record.specs.declared.notation.Notation.{Notation}
 use Rattle.krieg_record.specs.declared.san_reading.SanFault.{SanFault}
 use Rattle.krieg_record.specs.declared.san_reading.SanFault.TheVariants.{Syntax, Unknown, Several, NoMemory}
@@ -53,7 +53,7 @@ is_movement p (ByPawn w) m =
     is_own p kind.Pawn m.from && (is_pawn_capture w.file p m && (m.to == w.to && is_same_promo w.promo m.promo))
 
 -- what is told of the position after the move is true: nothing, a check, which may be a mate, or a mate
-abbrev pub is_ending : Ending → Pos → Bool
+abbrev pub is_ending : CheckSuffix → Pos → Bool
 is_ending Nothing q = true
 is_ending Check q = in_check q
 is_ending Mate q = is_mate q

@@ -10,8 +10,8 @@ use Rattle.krieg_record.specs.declared.notation.Officer.TheVariants.{King, Queen
 use Rattle.krieg_record.specs.declared.notation.Origin.{Origin}
 use Rattle.krieg_record.specs.declared.notation.Movement.{Movement}
 use Rattle.krieg_record.specs.declared.notation.Movement.TheVariants.{Castles, ByOfficer, ByPawn}
-use Rattle.krieg_record.specs.declared.notation.Ending.{Ending}
-use Rattle.krieg_record.specs.declared.notation.Ending.TheVariants.{Nothing, Check, Mate}
+use Rattle.krieg_record.specs.declared.notation.CheckSuffix.{CheckSuffix}
+use Rattle.krieg_record.specs.declared.notation.CheckSuffix.TheVariants.{Nothing, Check, Mate}
 use Rattle.krieg_record.specs.declared.notation.Notation.{Notation}
 use Rattle.krieg_record.specs.NotationText.{told}
 
@@ -104,12 +104,12 @@ movement_of [] = None
 movement_of (a ∷ rest) = movement_from a rest
 
 -- the movement with that ending, where it is one
-abbrev pub with_ending : Option Movement → Ending → Option Notation
+abbrev pub with_ending : Option Movement → CheckSuffix → Option Notation
 with_ending None e = None
 with_ending (Some movement) e = Some (record { movement = movement; ending = e })
 
 -- the last byte, where there is one: `+` 43 or `#` 35
-abbrev pub ending_of : List ℕ → Ending
+abbrev pub ending_of : List ℕ → CheckSuffix
 ending_of [] = Nothing
 ending_of (b ∷ []) = if b == 43 then Check else (if b == 35 then Mate else Nothing)
 ending_of (b ∷ c ∷ bs) = ending_of (c ∷ bs)
@@ -121,7 +121,7 @@ front_of (b ∷ []) = []
 front_of (b ∷ c ∷ bs) = b ∷ front_of (c ∷ bs)
 
 -- what a text spells that has this ending: the sign of check or mate is its last byte
-abbrev pub notation_by : List ℕ → Ending → Option Notation
+abbrev pub notation_by : List ℕ → CheckSuffix → Option Notation
 notation_by text Nothing = with_ending (movement_of text) Nothing
 notation_by text Check = with_ending (movement_of (front_of text)) Check
 notation_by text Mate = with_ending (movement_of (front_of text)) Mate

@@ -11,8 +11,8 @@ use Rattle.krieg_record.specs.declared.notation.OfficerMove.{OfficerMove}
 use Rattle.krieg_record.specs.declared.notation.PawnMove.{PawnMove}
 use Rattle.krieg_record.specs.declared.notation.Movement.{Movement}
 use Rattle.krieg_record.specs.declared.notation.Movement.TheVariants.{Castles, ByOfficer, ByPawn}
-use Rattle.krieg_record.specs.declared.notation.Ending.{Ending}
-use Rattle.krieg_record.specs.declared.notation.Ending.TheVariants.{Nothing, Check, Mate}
+use Rattle.krieg_record.specs.declared.notation.CheckSuffix.{CheckSuffix}
+use Rattle.krieg_record.specs.declared.notation.CheckSuffix.TheVariants.{Nothing, Check, Mate}
 use Rattle.krieg_record.specs.declared.notation.Notation.{Notation}
 
 -- what is told of the square that a man leaves: its file, its rank, both or nothing
@@ -71,7 +71,7 @@ movement_text (ByOfficer o) = letter o.officer ∷ officer_text o
 movement_text (ByPawn w) = pawn_text w
 
 -- `+` 43 for a check and `#` 35 for a mate
-abbrev pub ending_text : Ending → List ℕ
+abbrev pub ending_text : CheckSuffix → List ℕ
 ending_text Nothing = []
 ending_text Check = 43 ∷ []
 ending_text Mate = 35 ∷ []

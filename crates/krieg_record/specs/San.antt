@@ -9,8 +9,8 @@ use Rattle.krieg_moves.specs.declared.wing.Wing.{Wing}
 use Rattle.krieg_record.specs.declared.notation.Officer.{Officer}
 use Rattle.krieg_record.specs.declared.notation.Movement.{Movement}
 use Rattle.krieg_record.specs.declared.notation.Movement.TheVariants.{Castles, ByOfficer, ByPawn}
-use Rattle.krieg_record.specs.declared.notation.Ending.{Ending}
-use Rattle.krieg_record.specs.declared.notation.Ending.TheVariants.{Nothing, Check, Mate}
+use Rattle.krieg_record.specs.declared.notation.CheckSuffix.{CheckSuffix}
+use Rattle.krieg_record.specs.declared.notation.CheckSuffix.TheVariants.{Nothing, Check, Mate}
 use Rattle.krieg_record.specs.declared.notation.Notation.{Notation}
 use Rattle.krieg_record.specs.NotationText.{notation_text}
 use Rattle.krieg_record.specs.MoveTraits.{castling, captures, officer_at}
@@ -23,7 +23,7 @@ movement_by p m None (Some officer) = ByOfficer (record { officer = officer; ori
 movement_by p m None None = ByPawn (record { file = if captures p m then Some (file_of m.from) else None; to = m.to; promo = m.promo })
 
 -- of the position after the move: it is mate, or else there is a check
-abbrev pub ending : Pos → Ending
+abbrev pub ending : Pos → CheckSuffix
 ending q = if is_mate q then Mate else if in_check q then Check else Nothing
 
 -- what the text of the move says

@@ -4,7 +4,7 @@ ghost use Rattle.krieg_record.specs.Matching as spec;
 
 use crate::disambiguation::fits;
 use crate::move_traits::{captures, castling, is_own, kind_of};
-use crate::notation::{Ending, Movement, OfficerMove, PawnMove};
+use crate::notation::{CheckSuffix, Movement, OfficerMove, PawnMove};
 use krieg_board::{Kind, Move, Position, Promo, file_of};
 use krieg_moves::{in_check, is_mate};
 
@@ -49,12 +49,12 @@ pub(crate) fn is_movement(p: &Position, movement: &Movement, mv: &Move) -> bool
 }
 
 /// Whether what is told of the position after the move is true: a mate is a check too.
-pub(crate) fn is_ending(ending: Ending, q: &Position) -> bool
+pub(crate) fn is_ending(ending: CheckSuffix, q: &Position) -> bool
     ensures { result ≡ spec.is_ending ending q.now }
 {
     match ending {
-        Ending::Nothing => true,
-        Ending::Check => in_check(q),
-        Ending::Mate => is_mate(q),
+        CheckSuffix::Nothing => true,
+        CheckSuffix::Check => in_check(q),
+        CheckSuffix::Mate => is_mate(q),
     }
 }

@@ -46,7 +46,7 @@ pub enum Movement {
 
 /// What it says of the position after the move.
 #[derive(Clone, Copy)]
-pub enum Ending {
+pub enum CheckSuffix {
     Nothing,
     Check,
     Mate,
@@ -56,5 +56,5 @@ pub enum Ending {
 #[derive(Clone, Copy)]
 pub struct Notation {
     pub movement: Movement,
-    pub ending: Ending,
+    pub ending: CheckSuffix,
 }

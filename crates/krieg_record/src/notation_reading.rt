@@ -1,7 +1,7 @@
 ghost use Rattle.std.specs.Prelude.{◌≡◌};
 ghost use Rattle.krieg_record.specs.NotationReading as spec;
 
-use crate::notation::{Ending, Movement, Notation, Officer, OfficerMove, Origin, PawnMove};
+use crate::notation::{CheckSuffix, Movement, Notation, Officer, OfficerMove, Origin, PawnMove};
 use krieg_board::{Promo, Square};
 use krieg_fen::square_of;
 use krieg_moves::Wing;
@@ -194,7 +194,7 @@ fn movement_of(text: &[u8]) -> Option<Movement>
     }
 }
 
-fn with_ending(movement: Option<Movement>, ending: Ending) -> Option<Notation>
+fn with_ending(movement: Option<Movement>, ending: CheckSuffix) -> Option<Notation>
     ensures { result ≡ spec.with_ending movement ending }
 {
     match movement {
@@ -208,8 +208,8 @@ pub(crate) fn notation_of(text: &[u8]) -> Option<Notation>
     ensures { result ≡ spec.notation_of text.now }
 {
     match text {
-        [front @ .., b'+'] => with_ending(movement_of(front), Ending::Check),
-        [front @ .., b'#'] => with_ending(movement_of(front), Ending::Mate),
-        _ => with_ending(movement_of(text), Ending::Nothing),
+        [front @ .., b'+'] => with_ending(movement_of(front), CheckSuffix::Check),
+        [front @ .., b'#'] => with_ending(movement_of(front), CheckSuffix::Mate),
+        _ => with_ending(movement_of(text), CheckSuffix::Nothing),
     }
 }

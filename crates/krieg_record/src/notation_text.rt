@@ -2,7 +2,7 @@ ghost use Rattle.std.specs.Prelude.{◌≡◌, ◌<◌};
 ghost use Rattle.krieg_text.specs.Writing.{PutsText};
 ghost use Rattle.krieg_record.specs.NotationText as spec;
 
-use crate::notation::{Ending, Movement, Notation, Officer, OfficerMove, PawnMove};
+use crate::notation::{CheckSuffix, Movement, Notation, Officer, OfficerMove, PawnMove};
 use krieg_board::{NoMemory, Promo};
 use krieg_fen::put_square;
 use krieg_moves::Wing;
@@ -104,13 +104,13 @@ fn put_movement(movement: &Movement, text: &mut Text) -> Result<(), NoMemory>
     }
 }
 
-fn ending_text(ending: Ending) -> &'static [u8]
+fn ending_text(ending: CheckSuffix) -> &'static [u8]
     ensures { result.now ≡ spec.ending_text ending }
 {
     match ending {
-        Ending::Nothing => b"",
-        Ending::Check => b"+",
-        Ending::Mate => b"#",
+        CheckSuffix::Nothing => b"",
+        CheckSuffix::Check => b"+",
+        CheckSuffix::Mate => b"#",
     }
 }
 

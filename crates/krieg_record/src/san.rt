@@ -7,7 +7,7 @@ ghost use Rattle.krieg_record.specs.San as spec;
 
 use crate::disambiguation::origin;
 use crate::move_traits::{captures, castling, officer_at};
-use crate::notation::{Ending, Movement, Notation, OfficerMove, PawnMove};
+use crate::notation::{CheckSuffix, Movement, Notation, OfficerMove, PawnMove};
 use crate::notation_text::put_notation;
 use krieg_board::{Move, NoMemory, Position, file_of};
 use krieg_moves::{after, in_check, is_mate};
@@ -41,15 +41,15 @@ fn movement(p: &Position, mv: &Move) -> Movement
 }
 
 /// What it says of the position after the move.
-fn ending(q: &Position) -> Ending
+fn ending(q: &Position) -> CheckSuffix
     ensures { result ≡ spec.ending q.now }
 {
     if is_mate(q) {
-        Ending::Mate
+        CheckSuffix::Mate
     } else if in_check(q) {
-        Ending::Check
+        CheckSuffix::Check
     } else {
-        Ending::Nothing
+        CheckSuffix::Nothing
     }
 }
 
