@@ -39,7 +39,7 @@ pub(crate) struct Setting {
 
 /// A game by its number, and where it stands.
 #[derive(Drop)]
-struct Game {
+struct NumberedGame {
     stands: Position,
     number: usize,
 }
@@ -99,7 +99,7 @@ fn add_replies(
     setting: &Setting,
     w: &Words,
     moves: &[Move],
-    game: Game,
+    game: NumberedGame,
     links: &mut Vec<Link>,
     tales: &mut Tales,
 ) -> Result<(), NoMemory>
@@ -132,7 +132,7 @@ fn add_next(
     alloc: Global,
     setting: &Setting,
     line: &Line,
-    game: Game,
+    game: NumberedGame,
     links: &mut Vec<Link>,
     tales: &mut Tales,
 ) -> Result<(), NoMemory>
@@ -192,7 +192,7 @@ pub(crate) fn tell(
     let mut after = IndexMap::new(alloc);
     for i in 0..tales.len() {
         if let Some((k, at)) = tales.get_index(i) {
-            let game = Game {
+            let game = NumberedGame {
                 stands: unpack(k),
                 number: *at,
             };
