@@ -155,7 +155,7 @@ pub use Rattle.krieg_cli.specs.Play.{HasBegun, PlaysFrom, PlaysWhole}
 pub use Rattle.krieg_cli.specs.Refusal.{OfText, refusal_status, text_status}
 pub use Rattle.krieg_cli.specs.Refute.{CanBeListed, Claimed, IsDenialText, Refuted, denial_file}
 pub use Rattle.krieg_cli.specs.Solve.{IsBestFile, IsTooLarge, Searched, Tells, file_of, least_units, mates_all}
-pub use Rattle.krieg_cli.specs.Tally.{tally_of}
+pub use Rattle.krieg_cli.specs.VerdictCounts.{verdict_counts}
 pub use Rattle.krieg_cli.specs.Top.{Answers, ComesTo, Ends, Gets, IsRun, LeavesBench, Reports, Runs, RunsAlone, nobody}
 pub use Rattle.krieg_cli.specs.Umpire.{told_text}
 pub use Rattle.krieg_cli.specs.WholeGames.{BelievesGames, EndsOnHeard, IsHeard, IsUmpired, TellsGame, UmpiresGames, heard_sheet, standing, stripped}
@@ -167,7 +167,7 @@ pub use Rattle.krieg_cli.specs.World.{FaultsRose, NoFault, Stream, World, stream
 pub use Rattle.krieg_cli.specs.declared.commands.job.Finding.{Finding}
 pub use Rattle.krieg_cli.specs.declared.commands.job.Finding.TheVariants.{Plan}
 pub use Rattle.krieg_cli.specs.declared.commands.job.TheConstants.{JOB_MOVES}
-pub use Rattle.krieg_cli.specs.declared.commands.job.tally.Tally.{Tally}
+pub use Rattle.krieg_cli.specs.declared.commands.job.verdict_counts.VerdictCounts.{VerdictCounts}
 pub use Rattle.krieg_cli.specs.declared.ending.Ending.{Ending}
 pub use Rattle.krieg_cli.specs.declared.ending.Ending.TheVariants.{Answered, Refused, WriteFault}
 pub use Rattle.krieg_cli.specs.declared.input.TheConstants.{MOST_INPUT}

@@ -1,8 +1,7 @@
 -- What a search and a check find, as the lines of a summary.
 use Rattle.std.proofs.Common.{◌≡◌, inl, inr, ℕ, zero, suc, ◌+◌, ◌≤◌, List, [], ◌∷◌, length, None, Ok, Err, ap, subst, ◌∙◌, arith}
-use Rattle.std.specs.Prelude.{false, ◌<◌}
-use Rattle.std.proofs.lemmas.Bool.{both_ways}
-use Rattle.krieg_cli.proofs.Common.{Pos, Side, White, MOST_UNITS, Dialect, Wild16, put_lines, MOST_LISTED, judge, made_list, made_sheet, made_session, set_of, position_lt, SheetState, new_sheet, IsSheet, IsPossible, HaveOneHand, IsFirstExcess, mates, IsWorst, chess, outset, PlanTrees, plan_size, PlanFile, MOST_NODES, PlanState, Charges, IsOneTurn, IsVerdict, Fails, IsBest, IsFit, SearchStop, of_search, of_part, Decides, file_of, least_units, IsTooLarge, Searched, check_cost, tally_of, IsFound, mates_line, checked_line, found_lines, summary_lines, summary_text, Plans, Summarizes, Finding, Plan, Tally, JOB_MOVES}
+use Rattle.std.specs.Prelude.{◌<◌}
+use Rattle.krieg_cli.proofs.Common.{Pos, Side, White, MOST_UNITS, Dialect, Wild16, put_lines, MOST_LISTED, judge, made_list, made_sheet, made_session, set_of, position_lt, SheetState, new_sheet, IsSheet, IsPossible, HaveOneHand, IsFirstExcess, IsWorst, chess, outset, PlanTrees, plan_size, PlanFile, MOST_NODES, PlanState, Charges, IsOneTurn, IsVerdict, IsBest, IsFit, SearchStop, of_search, of_part, Decides, file_of, least_units, IsTooLarge, Searched, check_cost, verdict_counts, IsFound, mates_line, checked_line, found_lines, summary_lines, summary_text, Plans, Summarizes, Finding, Plan, VerdictCounts, JOB_MOVES}
 use Rattle.krieg_pack.proofs.Counts.{as_set_le}
 use Rattle.krieg_belief.proofs.Prefixes.{behind_entries, all_within, excess_not_within, sheet_le}
 use Rattle.krieg_planfile.specs.PlanFiles.{state_of}
@@ -73,10 +72,6 @@ module _ (S : List Pos) where
             inl (best_of, is_found, enough, ap (λ n. mates_line worst n ∷ checked_line checked ∷ []) size ∙ ap (λ w. mates_line worst (plan_size plan) ∷ checked_line w ∷ []) same),
           )
 
-      pub never_fails : (r : PlanVerdict) → IsVerdict f r → r ≡ Fails → ⊥
-      never_fails r verdict fails =
-          both_ways _ (subst (λ f. mates (chess f.dialect) (outset f.dialect f.side) f.plan f.list f.worst ≡ false) is (verdict.fails.0 fails)) best.worst_case.mates_within
-
       -- a check that stops
       pub check_stopped : (start left : ℕ) (stop : CheckStop) → start ≡ MOST_UNITS → Charges (Err stop) (IsVerdict f) (cost_of f) start left → Decides found_lines (Err (of_part stop)) (Plans S)
       check_stopped start left check.Spent had less =
@@ -86,10 +81,10 @@ module _ (S : List Pos) where
 -- ---- the summary
 
 -- what is written is the summary of the made inputs
-pub summed : (number n : ℕ) (s : SheetState) (list S : List Pos) (found : Finding) (tally : Tally) (answer : List ℕ) → s ≡ made_sheet number → list ≡ s.list → n ≡ length S → IsPossible s S → Plans S (Ok (found_lines found)) →
-    (let session = made_session number in tally ≡ tally_of (judge session.start session.events)) → answer ≡ put_lines [] (summary_lines (length list) n found tally) → Summarizes number (Ok answer)
+pub summed : (number n : ℕ) (s : SheetState) (list S : List Pos) (found : Finding) (counts : VerdictCounts) (answer : List ℕ) → s ≡ made_sheet number → list ≡ s.list → n ≡ length S → IsPossible s S → Plans S (Ok (found_lines found)) →
+    (let session = made_session number in counts ≡ verdict_counts (judge session.start session.events)) → answer ≡ put_lines [] (summary_lines (length list) n found counts) → Summarizes number (Ok answer)
 unfolding summary_text
-summed number n s list S found tally answer is listed many possible plans judged text =
+summed number n s list S found counts answer is listed many possible plans judged text =
     let session = made_session number in
     let log = judge session.start session.events in
     let length_is : length list ≡ length (made_list number) = ap length listed ∙ ap (λ (s : SheetState). length s.list) is in (
@@ -98,7 +93,7 @@ summed number n s list S found tally answer is listed many possible plans judged
       found_lines found,
       plans,
       text
-          ∙ ap (λ k. put_lines [] (summary_lines k n found tally)) length_is
-          ∙ ap (λ k. put_lines [] (summary_lines (length (made_list number)) k found tally)) many
-          ∙ ap (λ (t : Tally). put_lines [] (summary_lines (length (made_list number)) (length S) found t)) judged,
+          ∙ ap (λ k. put_lines [] (summary_lines k n found counts)) length_is
+          ∙ ap (λ k. put_lines [] (summary_lines (length (made_list number)) k found counts)) many
+          ∙ ap (λ (t : VerdictCounts). put_lines [] (summary_lines (length (made_list number)) (length S) found t)) judged,
     )

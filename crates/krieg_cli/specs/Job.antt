@@ -14,12 +14,12 @@ use Rattle.krieg_make.specs.MadeSheets.{made_list, made_sheet}
 use Rattle.krieg_make.specs.MadeSessions.{made_session}
 use Rattle.krieg_cli.specs.Solve.{none_line, IsBestFile, NoneMates, IsTooLarge, least_units, fresh_units}
 use Rattle.krieg_cli.specs.Check.{check_cost}
-use Rattle.krieg_cli.specs.Tally.{tally_of, tally_line}
+use Rattle.krieg_cli.specs.VerdictCounts.{verdict_counts, verdicts_line}
 use Rattle.krieg_cli.specs.declared.refusal.Refusal.{Refusal}
 use Rattle.krieg_cli.specs.declared.refusal.Refusal.TheVariants.{BudgetSpent, PlanTooLarge}
 use Rattle.krieg_cli.specs.declared.commands.job.Finding.{Finding}
 use Rattle.krieg_cli.specs.declared.commands.job.Finding.TheVariants.{Plan, NoPlan}
-use Rattle.krieg_cli.specs.declared.commands.job.tally.Tally.{Tally}
+use Rattle.krieg_cli.specs.declared.commands.job.verdict_counts.VerdictCounts.{VerdictCounts}
 use Rattle.krieg_cli.specs.declared.commands.job.TheConstants.{JOB_MOVES}
 
 -- ---- the lines
@@ -71,7 +71,7 @@ Plans S (Err _) = ⊥
 unfoldable pub summary_text : ℕ → List Pos → List Pieces → List ℕ
 summary_text number S told =
     let session = made_session number in
-    put_lines [] (listed_line (length (made_list number)) ∷ positions_line (length S) ∷ told ++ tally_line (tally_of (judge session.start session.events)) ∷ [])
+    put_lines [] (listed_line (length (made_list number)) ∷ positions_line (length S) ∷ told ++ verdicts_line (verdict_counts (judge session.start session.events)) ∷ [])
 
 -- The answer is the summary, with the positions that are possible by the made sheet. The refusals are those of the search and the
 -- check alone.
@@ -86,5 +86,5 @@ abbrev pub found_lines : Finding → List Pieces
 found_lines (Plan worst nodes checked) = mates_line worst nodes ∷ checked_line checked ∷ []
 found_lines NoPlan = none_line JOB_MOVES ∷ []
 
-abbrev pub summary_lines : ℕ → ℕ → Finding → Tally → List Pieces
-summary_lines listed positions found tally = listed_line listed ∷ positions_line positions ∷ found_lines found ++ tally_line tally ∷ []
+abbrev pub summary_lines : ℕ → ℕ → Finding → VerdictCounts → List Pieces
+summary_lines listed positions found counts = listed_line listed ∷ positions_line positions ∷ found_lines found ++ verdicts_line counts ∷ []

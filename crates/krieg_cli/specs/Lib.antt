@@ -21,7 +21,7 @@ pub mod Lead
 pub mod Next
 pub mod Live
 pub mod Make
-pub mod Tally
+pub mod VerdictCounts
 pub mod Job
 pub mod Outcome
 pub mod Top

@@ -39,8 +39,8 @@ use Rattle.krieg_cli.specs.declared.refusal.Refusal.{Refusal}
 use Rattle.krieg_play.specs.declared.outcome.PlayFault.{PlayFault}
 use Rattle.krieg_play.specs.declared.outcome.PlayFault.TheVariants as played
 use Rattle.krieg_cli.specs.declared.refusal.Refusal.TheVariants.{BadText, TooMany, BudgetSpent, PlanTooLarge, NoSeat, SeatFault}
-use Rattle.krieg_cli.specs.declared.answers.Answer.{Answer}
-use Rattle.krieg_cli.specs.declared.answers.Answer.TheVariants.{Whole, InPieces}
+use Rattle.krieg_cli.specs.declared.answers.CommandAnswer.{CommandAnswer}
+use Rattle.krieg_cli.specs.declared.answers.CommandAnswer.TheVariants.{Whole, InPieces}
 use Rattle.krieg_cli.specs.declared.ending.Ending.{Ending}
 use Rattle.krieg_cli.specs.declared.ending.Ending.TheVariants.{Answered, TooLong, ReadFault, NoMemory, Refused}
 
@@ -85,17 +85,17 @@ of_lead who led.NoMemory = NoMemory
 -- ---- answers
 
 -- the bytes of an answer
-abbrev pub bytes_of : Answer → List ℕ
+abbrev pub bytes_of : CommandAnswer → List ℕ
 bytes_of (Whole text) = text.items
 bytes_of (InPieces text) = text
 
 -- a text as an answer, where there is one
-abbrev pub as_whole : Result (Vec ℕ Global) Ending → Result Answer Ending
+abbrev pub as_whole : Result (Vec ℕ Global) Ending → Result CommandAnswer Ending
 as_whole (Ok text) = Ok (Whole text)
 as_whole (Err ending) = Err ending
 
 -- the same of a text in pieces
-abbrev pub as_pieces : Result (List ℕ) Ending → Result Answer Ending
+abbrev pub as_pieces : Result (List ℕ) Ending → Result CommandAnswer Ending
 as_pieces (Ok text) = Ok (InPieces text)
 as_pieces (Err ending) = Err ending
 

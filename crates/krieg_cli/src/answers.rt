@@ -11,7 +11,7 @@ use krieg_refutefile::Pieces;
 
 /// What a command answers.
 #[derive(Drop)]
-pub(crate) enum Answer {
+pub(crate) enum CommandAnswer {
     /// One text.
     Whole(Vec<u8>),
     /// A text in pieces.
@@ -19,17 +19,17 @@ pub(crate) enum Answer {
 }
 
 /// The text as an answer.
-pub(crate) fn whole(text: Result<Vec<u8>, Ending>) -> Result<Answer, Ending>
+pub(crate) fn whole(text: Result<Vec<u8>, Ending>) -> Result<CommandAnswer, Ending>
     ensures { result ≡ as_whole text }
 {
-    Ok(Answer::Whole(text?))
+    Ok(CommandAnswer::Whole(text?))
 }
 
 /// The text in pieces as an answer.
-pub(crate) fn in_pieces(text: Result<Pieces, Ending>) -> Result<Answer, Ending>
+pub(crate) fn in_pieces(text: Result<Pieces, Ending>) -> Result<CommandAnswer, Ending>
     ensures { result ≡ as_pieces text }
 {
-    Ok(Answer::InPieces(text?))
+    Ok(CommandAnswer::InPieces(text?))
 }
 
 /// Writes the pieces one after another.
@@ -48,7 +48,7 @@ fn write_pieces<O: Sink>(out: &mut O, pieces: &[Vec<u8>]) -> Result<(), WriteFau
 }
 
 /// Writes the answer. It takes no memory.
-pub(crate) fn write_answer<O: Sink>(out: &mut O, answer: &Answer) -> Result<(), WriteFault>
+pub(crate) fn write_answer<O: Sink>(out: &mut O, answer: &CommandAnswer) -> Result<(), WriteFault>
     ensures all { OnOk result (Appends (O.got out.old) (O.got out.new) (bytes_of answer.now)) }
     ensures part { OnErr result (AppendsPrefix (O.got out.old) (O.got out.new)
         (bytes_of answer.now)) }
@@ -56,7 +56,7 @@ pub(crate) fn write_answer<O: Sink>(out: &mut O, answer: &Answer) -> Result<(), 
     ensures kept { OnOk result (O.faults out.new ≡ O.faults out.old) }
 {
     match answer {
-        Answer::Whole(text) => write_all(out, text),
-        Answer::InPieces(text) => write_pieces(out, text.pieces()),
+        CommandAnswer::Whole(text) => write_all(out, text),
+        CommandAnswer::InPieces(text) => write_pieces(out, text.pieces()),
     }
 }

@@ -5,7 +5,7 @@
 //! file, `next` on a plan file and what its player heard, `play` from any position, and `make` and `job` on no input. The
 //! definitions of `specs/` say what is seen of a run before it and after it (`World`), what comes of its input (`Input`),
 //! how it ends (`Ending`, `Refusal`), what each command makes of its input (a file of its name; `Asked` of what a search
-//! is asked of a sheet, `Tally` of what `job` counts, and `Outcome` for all), and by what causes a run ends so (`Top`).
+//! is asked of a sheet, `VerdictCounts` of what `job` counts, and `Outcome` for all), and by what causes a run ends so (`Top`).
 //!
 //! `WholeStrategies` is the promise of `judge`, and `Headline` that of `solve`, of `find` and of `keys` on one page.
 //! `WholePlans` says that `check` finds what `solve` states, `WholeRefutations` that `refute` writes a refutation and

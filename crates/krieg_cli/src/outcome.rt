@@ -4,7 +4,7 @@ ghost use Rattle.krieg_cli.specs.Parts.{Decides, LeavesSeats, ending_of, bytes_o
 ghost use Rattle.krieg_cli.specs.Live.{LivesBy};
 ghost use Rattle.krieg_cli.specs.Outcome as spec;
 
-use crate::answers::{Answer, in_pieces, whole};
+use crate::answers::{CommandAnswer, in_pieces, whole};
 use crate::commands::solve::Terms;
 use crate::commands::{
     believe, check, deny, job, judge, keys, lead, make, next, play, refute, san, solve, umpire,
@@ -94,7 +94,7 @@ pub(crate) fn outcome(
     command: &Command,
     text: Vec<u8>,
     bench: &mut Bench,
-) -> Result<Answer, Ending>
+) -> Result<CommandAnswer, Ending>
     requires { spec.IsInRange command.now }
     ensures outcome { let live = LivesBy (λ b. (⟦<dyn Seat as Seat>⟧ b.vtable).account b.value)
         (bench_sides bench.old) (bench_sides bench.new) in

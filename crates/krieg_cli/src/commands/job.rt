@@ -14,10 +14,10 @@ ghost use Rattle.krieg_cli.specs.Solve.{least_units};
 ghost use Rattle.krieg_cli.specs.Job as spec;
 
 mod summary;
-mod tally;
+mod verdict_counts;
 
 use crate::commands::asked::listed;
-use crate::commands::job::tally::made_tally;
+use crate::commands::job::verdict_counts::made_verdicts;
 use crate::ending::Ending;
 use krieg_args::MOST_SEED;
 use krieg_belief::{BeliefStop, believe};
@@ -130,6 +130,6 @@ pub(crate) fn answer(alloc: Global, number: u64) -> Result<Vec<u8>, Ending>
     let sheet = made_sheet(alloc, number as u32)?;
     let set = possible(alloc, &sheet)?;
     let found = found(alloc, &set)?;
-    let tally = made_tally(alloc, number as u32)?;
-    Ok(summary::summary(alloc, sheet.list().len(), set.len(), &found, &tally)?)
+    let counts = made_verdicts(alloc, number as u32)?;
+    Ok(summary::summary(alloc, sheet.list().len(), set.len(), &found, &counts)?)
 }

@@ -4,7 +4,7 @@ ghost use Rattle.krieg_text.specs.Writing.{PutsLines, put_lines};
 ghost use Rattle.krieg_cli.specs.Job as spec;
 
 use crate::commands::counted::{put_count, put_counted};
-use crate::commands::job::tally::{Tally, put_tally};
+use crate::commands::job::verdict_counts::{VerdictCounts, put_verdicts};
 use crate::commands::job::{Finding, JOB_MOVES};
 use krieg_board::NoMemory;
 use krieg_text::Text;
@@ -34,16 +34,16 @@ fn put_summary(
     listed: usize,
     positions: usize,
     found: &Finding,
-    tally: &Tally,
+    counts: &VerdictCounts,
     text: &mut Text,
 ) -> Result<(), NoMemory>
     ensures { PutsLines result text.old text.new
-        (spec.summary_lines listed positions found.now tally.now) }
+        (spec.summary_lines listed positions found.now counts.now) }
 {
     put_counted(b"listed ", listed, text)?;
     put_counted(b"positions ", positions, text)?;
     put_found(found, text)?;
-    put_tally(tally, text)
+    put_verdicts(counts, text)
 }
 
 /// The text of a summary.
@@ -52,14 +52,14 @@ pub(crate) fn summary(
     listed: usize,
     positions: usize,
     found: &Finding,
-    tally: &Tally,
+    counts: &VerdictCounts,
 ) -> Result<Vec<u8>, NoMemory>
     ensures { IfOk result (λ text. text.items
-        ≡ put_lines [] (spec.summary_lines listed positions found.now tally.now)) }
+        ≡ put_lines [] (spec.summary_lines listed positions found.now counts.now)) }
 {
     let mut answer = Vec::new(alloc);
     let mut text = Text::after(&mut answer);
-    let done = put_summary(listed, positions, found, tally, &mut text);
+    let done = put_summary(listed, positions, found, counts, &mut text);
     text.end(done, &mut answer)?;
     Ok(answer)
 }

@@ -6,7 +6,7 @@ use Rattle.krieg_text.specs.Writing.{Pieces}
 use Rattle.krieg_referee.specs.declared.verdict.Judged.{Judged}
 use Rattle.krieg_referee.specs.declared.verdict.Verdict.{Verdict}
 use Rattle.krieg_referee.specs.declared.verdict.Verdict.TheVariants as verdict
-use Rattle.krieg_cli.specs.declared.commands.job.tally.Tally.{Tally}
+use Rattle.krieg_cli.specs.declared.commands.job.verdict_counts.VerdictCounts.{VerdictCounts}
 
 -- the try was done
 abbrev pub is_done : Verdict → Bool
@@ -33,8 +33,8 @@ abbrev pub count_judged : (Verdict → Bool) → List Judged → ℕ
 count_judged so log = count_by (λ j. so j.verdict) log
 
 -- how many tries there are, and of each verdict
-abbrev pub tally_of : List Judged → Tally
-tally_of log = record {
+abbrev pub verdict_counts : List Judged → VerdictCounts
+verdict_counts log = record {
   tries = length log;
   done = count_judged is_done log;
   illegal = count_judged is_illegal log;
@@ -43,8 +43,8 @@ tally_of log = record {
 }
 
 -- the line that tells them
-abbrev pub tally_line : Tally → Pieces
-tally_line t =
+abbrev pub verdicts_line : VerdictCounts → Pieces
+verdicts_line t =
     codes "tries " ∷ number_text t.tries
     ∷ codes " done " ∷ number_text t.done
     ∷ codes " illegal " ∷ number_text t.illegal

@@ -2,7 +2,7 @@ ghost use Rattle.std.specs.Prelude.{◌≡◌, ◌∷◌, [], IfOk};
 ghost use Rattle.krieg_text.specs.Writing.{PutsLines};
 ghost use Rattle.krieg_referee.specs.Games.{judge};
 ghost use Rattle.krieg_make.specs.MadeSessions.{made_session};
-ghost use Rattle.krieg_cli.specs.Tally as spec;
+ghost use Rattle.krieg_cli.specs.VerdictCounts as spec;
 
 use crate::commands::counted::{put_count, put_counted};
 use krieg_board::NoMemory;
@@ -13,7 +13,7 @@ use std::alloc::Global;
 
 /// How many tries there are, and of each verdict.
 #[derive(Clone, Copy, Debug, PartialEq, Eq)]
-pub(crate) struct Tally {
+pub(crate) struct VerdictCounts {
     tries: usize,
     done: usize,
     illegal: usize,
@@ -22,13 +22,13 @@ pub(crate) struct Tally {
 }
 
 /// How the tries of the made session are judged.
-pub(crate) fn made_tally(alloc: Global, number: u32) -> Result<Tally, NoMemory>
+pub(crate) fn made_verdicts(alloc: Global, number: u32) -> Result<VerdictCounts, NoMemory>
     ensures { let session = made_session number in
-        IfOk result (λ tally. tally ≡ spec.tally_of (judge session.start session.events)) }
+        IfOk result (λ counts. counts ≡ spec.verdict_counts (judge session.start session.events)) }
 {
     let session = made_session(alloc, number)?;
     let game = judge(alloc, &session.start, &session.events)?;
-    Ok(tally_of(game.log()))
+    Ok(verdict_counts(game.log()))
 }
 
 fn is_done(verdict: &Verdict) -> bool
@@ -80,10 +80,10 @@ fn count_over(log: &[Judged]) -> usize
 }
 
 /// How the tries were judged.
-fn tally_of(log: &[Judged]) -> Tally
-    ensures { result ≡ spec.tally_of log.now }
+fn verdict_counts(log: &[Judged]) -> VerdictCounts
+    ensures { result ≡ spec.verdict_counts log.now }
 {
-    Tally {
+    VerdictCounts {
         tries: log.len(),
         done: count_done(log),
         illegal: count_illegal(log),
@@ -93,12 +93,12 @@ fn tally_of(log: &[Judged]) -> Tally
 }
 
 /// Adds the line of the tries.
-pub(crate) fn put_tally(tally: &Tally, text: &mut Text) -> Result<(), NoMemory>
-    ensures { PutsLines result text.old text.new (spec.tally_line tally.now ∷ []) }
+pub(crate) fn put_verdicts(counts: &VerdictCounts, text: &mut Text) -> Result<(), NoMemory>
+    ensures { PutsLines result text.old text.new (spec.verdicts_line counts.now ∷ []) }
 {
-    put_count(b"tries ", tally.tries, text)?;
-    put_count(b" done ", tally.done, text)?;
-    put_count(b" illegal ", tally.illegal, text)?;
-    put_count(b" early ", tally.early, text)?;
-    put_counted(b" over ", tally.over, text)
+    put_count(b"tries ", counts.tries, text)?;
+    put_count(b" done ", counts.done, text)?;
+    put_count(b" illegal ", counts.illegal, text)?;
+    put_count(b" early ", counts.early, text)?;
+    put_counted(b" over ", counts.over, text)
 }
