@@ -1,5 +1,6 @@
 //! Players over scripts, texts and streams that fail: what they say and keep at each call.
 
+use crate::streams::Stuck;
 use krieg_board::Move;
 use krieg_fen::{read_move, write_move};
 use krieg_seats::{Say, ScriptSeat, Seat, SeatFault, StreamSeat};
@@ -271,20 +272,6 @@ impl Write for Shaky<'_> {
     fn write(&mut self, piece: &[u8]) -> io::Result<usize> {
         self.meet()?;
         Ok(piece.len().min(1))
-    }
-
-    fn flush(&mut self) -> io::Result<()> {
-        Ok(())
-    }
-}
-
-/// A writer that takes nothing.
-#[derive(Drop)]
-struct Stuck;
-
-impl Write for Stuck {
-    fn write(&mut self, _piece: &[u8]) -> io::Result<usize> {
-        Ok(0)
     }
 
     fn flush(&mut self) -> io::Result<()> {

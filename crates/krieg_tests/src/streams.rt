@@ -171,12 +171,12 @@ fn a_failed_write_leaves_a_front_part(rt: HostRuntime) {
 
 /// A stream of the system that a signal interrupts a few times, and that then works or fails at every call.
 #[derive(Drop)]
-struct Shaky {
+struct SignalStream {
     interrupted: u32,
     works: bool,
 }
 
-impl Shaky {
+impl SignalStream {
     /// What the next call meets before it reads or writes anything.
     fn meet(&mut self) -> io::Result<()> {
         if self.interrupted > 0 {
@@ -191,14 +191,14 @@ impl Shaky {
     }
 }
 
-impl Read for Shaky {
+impl Read for SignalStream {
     fn read(&mut self, _buf: &mut [u8]) -> io::Result<usize> {
         self.meet()?;
         Ok(0)
     }
 }
 
-impl Write for Shaky {
+impl Write for SignalStream {
     fn write(&mut self, piece: &[u8]) -> io::Result<usize> {
         self.meet()?;
         Ok(piece.len())
@@ -211,7 +211,7 @@ impl Write for Shaky {
 
 /// A writer that takes nothing.
 #[derive(Drop)]
-struct Stuck;
+pub(crate) struct Stuck;
 
 impl Write for Stuck {
     fn write(&mut self, _piece: &[u8]) -> io::Result<usize> {
@@ -241,7 +241,12 @@ static INTERRUPTED: [(u32, bool, bool); 4] = [
 
 /// How the reading of a stream ends that is interrupted so often: with nothing where it works.
 fn shaken_end(alloc: Global, interrupted: u32, works: bool) -> Option<ReadEnd> {
-    read_all(alloc, &mut Adapter::new(Shaky { interrupted, works }), 100).err()
+    read_all(
+        alloc,
+        &mut Adapter::new(SignalStream { interrupted, works }),
+        100,
+    )
+    .err()
 }
 
 #[test]
@@ -277,7 +282,7 @@ fn stuck_fails() -> bool {
 #[test]
 fn an_adapter_writes_to_its_writer(rt: HostRuntime) {
     let ends = INTERRUPTED.iter().all(|(interrupted, works, is_written)| {
-        let mut sink = AdapterOut::new(Shaky {
+        let mut sink = AdapterOut::new(SignalStream {
             interrupted: *interrupted,
             works: *works,
         });

@@ -40,7 +40,7 @@ const MOST_BYTES: usize = 20_000_000;
 
 /// Why the files were not gone through to the end.
 #[derive(Clone, Copy)]
-enum Stop {
+enum FilesStop {
     /// A file, or the names of the files, could not be read, or memory was not found.
     Unread,
     /// A line could not be printed.
@@ -48,37 +48,39 @@ enum Stop {
 }
 
 /// The text of the file.
-fn text_of<R: Files<File = File> + AllocGlobal>(rt: &R, name: &str) -> Result<String, Stop> {
+fn text_of<R: Files<File = File> + AllocGlobal>(rt: &R, name: &str) -> Result<String, FilesStop> {
     let Ok(file) = fs::open(rt, name) else {
-        return Err(Stop::Unread);
+        return Err(FilesStop::Unread);
     };
     let Ok(bytes) = read_all(rt.alloc(), &mut Adapter::new(file), MOST_BYTES) else {
-        return Err(Stop::Unread);
+        return Err(FilesStop::Unread);
     };
-    String::from_utf8(bytes).map_err(|_| Stop::Unread)
+    String::from_utf8(bytes).map_err(|_| FilesStop::Unread)
 }
 
 /// Goes through the file, and prints what it finds. It tells whether all holds.
 fn judge_file<R: Files<File = File> + Print + AllocGlobal>(
     rt: &R,
     name: &str,
-) -> Result<bool, Stop> {
+) -> Result<bool, FilesStop> {
     let text = text_of(rt, name)?;
     let (printed, holds) = match judge(rt.alloc(), text.as_str()) {
         Ok(Progress::Runs(runs)) => (println!(rt; "{name}: {runs} runs hold"), true),
         Ok(Progress::Wrong(line)) => (println!(rt; "{name}: line {line} does not hold"), false),
-        Err(_) => return Err(Stop::Unread),
+        Err(_) => return Err(FilesStop::Unread),
     };
     if printed.is_err() {
-        return Err(Stop::Unprinted);
+        return Err(FilesStop::Unprinted);
     }
     Ok(holds)
 }
 
 /// Goes through all files that the words name. It tells whether all holds.
-fn judge_files<R: Env + Files<File = File> + Print + AllocGlobal>(rt: &R) -> Result<bool, Stop> {
+fn judge_files<R: Env + Files<File = File> + Print + AllocGlobal>(
+    rt: &R,
+) -> Result<bool, FilesStop> {
     let Ok(words) = env::args(rt) else {
-        return Err(Stop::Unread);
+        return Err(FilesStop::Unread);
     };
     let mut all_hold = true;
     for name in words.skip(1) {
@@ -91,7 +93,7 @@ fn main(rt: HostRuntime) -> ExitCode {
     ExitCode::from(match judge_files(&rt) {
         Ok(true) => 0,
         Ok(false) => 1,
-        Err(Stop::Unread) => 2,
-        Err(Stop::Unprinted) => 3,
+        Err(FilesStop::Unread) => 2,
+        Err(FilesStop::Unprinted) => 3,
     })
 }

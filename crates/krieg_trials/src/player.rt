@@ -25,7 +25,7 @@ pub enum Manner {
 
 /// A player who is to sit down, behind those of his side who were named before.
 #[derive(Drop)]
-pub struct Player {
+pub struct NamedPlayer {
     pub who: Side,
     pub manner: Manner,
 }
@@ -42,9 +42,9 @@ fn moves_of(alloc: Global, words: &str) -> Result<Option<Vec<Move>>, NoMemory> {
     Ok(Some(moves))
 }
 
-impl Player {
+impl NamedPlayer {
     /// The player of `tries MOVES`, `sends`, `follows` or `forgets`, or none for other words.
-    pub fn new(alloc: Global, who: Side, words: &str) -> Result<Option<Player>, NoMemory> {
+    pub fn new(alloc: Global, who: Side, words: &str) -> Result<Option<NamedPlayer>, NoMemory> {
         let manner = match words.split(' ').next() {
             Some("tries") => match moves_of(alloc, words)? {
                 Some(moves) => Manner::Tries {
@@ -58,7 +58,7 @@ impl Player {
             Some("forgets") => Manner::Forgets,
             _ => return Ok(None),
         };
-        Ok(Some(Player { who, manner }))
+        Ok(Some(NamedPlayer { who, manner }))
     }
 
     /// Adds a text, and how it ends, to what he sends or to his plan file. It tells whether he is one who has a text.

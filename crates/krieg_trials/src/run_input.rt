@@ -1,8 +1,8 @@
 // What the next run is given: its text, how its streams behave, and who plays.
 
 use crate::made::{add_bushes, add_leaves};
-use crate::player::Player;
-use crate::stream::Setting;
+use crate::player::NamedPlayer;
+use crate::stream::StreamSetting;
 use krieg_board::{NoMemory, Side};
 use std::alloc::Global;
 
@@ -31,10 +31,10 @@ impl From<bool> for LineResult {
 #[derive(Drop)]
 pub struct RunInput {
     pub text: Vec<u8>,
-    pub input: Setting,
-    pub out: Setting,
-    pub err: Setting,
-    pub players: Vec<Player>,
+    pub input: StreamSetting,
+    pub out: StreamSetting,
+    pub err: StreamSetting,
+    pub players: Vec<NamedPlayer>,
     /// Whether the seats that were relieved are dismissed behind the run.
     pub dismisses: bool,
 }
@@ -59,9 +59,9 @@ impl RunInput {
     pub fn new(alloc: Global) -> RunInput {
         RunInput {
             text: Vec::new(alloc),
-            input: Setting::new(alloc, 7, 0),
-            out: Setting::new(alloc, 1_000, 100_000),
-            err: Setting::new(alloc, 100, 100),
+            input: StreamSetting::new(alloc, 7, 0),
+            out: StreamSetting::new(alloc, 1_000, 100_000),
+            err: StreamSetting::new(alloc, 100, 100),
             players: Vec::new(alloc),
             dismisses: false,
         }
@@ -102,7 +102,7 @@ impl RunInput {
     }
 
     fn add_player(&mut self, alloc: Global, who: Side, words: &str) -> Result<bool, NoMemory> {
-        match Player::new(alloc, who, words)? {
+        match NamedPlayer::new(alloc, who, words)? {
             Some(player) => self.players.push(player)?,
             None => return Ok(false),
         }

@@ -8,7 +8,7 @@ use std::alloc::Global;
 
 /// How a stream behaves.
 #[derive(Drop)]
-pub struct Setting {
+pub struct StreamSetting {
     /// The calls that fail, from 1 on.
     fails: Vec<u64>,
     /// The count of faults at the start. At its last value each call fails.
@@ -19,10 +19,10 @@ pub struct Setting {
     room: usize,
 }
 
-impl Setting {
+impl StreamSetting {
     /// A stream that does not fail.
-    pub fn new(alloc: Global, piece: usize, room: usize) -> Setting {
-        Setting {
+    pub fn new(alloc: Global, piece: usize, room: usize) -> StreamSetting {
+        StreamSetting {
             fails: Vec::new(alloc),
             faults: 0,
             piece,
