@@ -30,6 +30,7 @@ pub use Rattle.krieg_fen.specs.ListText.{position_line}
 unfoldable pub use Rattle.krieg_fen.specs.MoveText.{move_text}
 pub use Rattle.krieg_fen.specs.MoveText.{move_of}
 pub use Rattle.krieg_fen.specs.declared.forms.Turn.TheVariants.{Own}
+pub use Rattle.krieg_fen.specs.declared.forms.TheConstants.{MOST_LISTED}
 pub use Rattle.krieg_format.specs.Readers.{reader, repeated}
 pub use Rattle.krieg_format.specs.Tables.{table}
 pub use Rattle.krieg_format.specs.Written.{EachFits, Fits, each_text, written}

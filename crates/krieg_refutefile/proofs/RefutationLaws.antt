@@ -1,7 +1,7 @@
 -- A refutation file: what is read is what is spelled, and a fault is the first bad line.
 use Rattle.std.proofs.Common.{◌≡◌, ℕ, ◌≤◌, Bool, true, false, List, ◌++◌, Option, Some, None, Result, Ok, refl, sym, ap, ◌∙◌, arith}
 use Rattle.std.specs.Prelude.{codes}
-use Rattle.krieg_refutefile.proofs.Common.{Pos, Side, White, TextFault, TextKind, Version, Count, Differs, OutOfPlace, Large, number_text, is_beyond_form, Has, number_form, Always, IsReading, whole, Gives, joined, side_form, position_form, unnamed_dialect, dialect_form, Dialect, word_form, RefutationState, a_version, a_moves, a_list, a_claims, a_tries, a_dialect, a_side, a_position, a_claim, a_reason, where_not, listed, Totals, set_format, claim_format, refutation_format, refutation_at, SpellsRefutation, RefutationGrammar, claim_line}
+use Rattle.krieg_refutefile.proofs.Common.{Pos, Side, White, TextFault, TextKind, Version, Count, Differs, OutOfPlace, Large, number_text, is_beyond_form, Has, number_form, Always, IsReading, whole, Gives, joined, side_form, position_form, unnamed_dialect, dialect_form, Dialect, word_form, RefutationState, a_version, a_moves, a_list, a_claims, a_tries, a_dialect, a_side, a_position, a_claim, a_reason, where_not, listed, Totals, set_format, claim_format, refutation_format, refutation_at, SpellsRefutation, RefutationGrammar, claim_line, MOST_MOVES, MOST_LISTED, MOST_CLAIMED, MOST_CLAIMS}
 use Rattle.krieg_text.proofs.FormSpellings.{number_read}
 use Rattle.krieg_fen.proofs.FormSpellings.{positions, side_spells, side_again}
 use Rattle.krieg_fen.proofs.ListGrammars.{lone_kings, kings_valid, written_form}
@@ -14,7 +14,7 @@ use Rattle.krieg_refutefile.proofs.ReasonLines.{reason_law, some_reason}
 
 -- ---- the lines
 
-some_number : (outside : TextKind) (name : List ℕ) (least most : ℕ) → most ≤ 200000 → least ≤ most → number_form outside name least most (name ++ number_text most) ≡ Ok most
+some_number : (outside : TextKind) (name : List ℕ) (least most : ℕ) → most ≤ MOST_CLAIMED → least ≤ most → number_form outside name least most (name ++ number_text most) ≡ Ok most
 some_number outside name least most few low = number_read outside name least most most (omega (arith, few)) low (omega arith)
 
 dialect_law : IsLine a_dialect
@@ -53,7 +53,7 @@ claim_owes d s = (
     λ h. (
       set_owes h.1,
       λ set. (
-        telling_law a_tries _ (λ n kind e. beyond Large refl _ kind e) (number_law Count (codes "tries ") 0 200000 (omega arith)) _ _ (some_number Count (codes "tries ") 0 200000 (omega arith) (omega arith)),
+        telling_law a_tries _ (λ n kind e. beyond Large refl _ kind e) (number_law Count (codes "tries ") 0 MOST_CLAIMED (omega arith)) _ _ (some_number Count (codes "tries ") 0 MOST_CLAIMED (omega arith) (omega arith)),
         λ n last. (tested_law (a_reason d) _ (λ r kind e. beyond OutOfPlace refl _ kind e) (reason_law d), some_reason d),
         λ n rs ls e. each_length n _ _ _ rs _ e,
       ),
@@ -72,13 +72,13 @@ refutation_owes = (
       λ d. (
         (side_law, formed_some side_form _ _ (side_again White)),
         λ who. (
-          (number_law Count (codes "moves ") 1 6 (omega arith), formed_some a_moves.form _ _ (some_number Count (codes "moves ") 1 6 (omega arith) (omega arith))),
+          (number_law Count (codes "moves ") 1 MOST_MOVES (omega arith), formed_some a_moves.form _ _ (some_number Count (codes "moves ") 1 MOST_MOVES (omega arith) (omega arith))),
           λ n. (
-            which_law a_list (number_law Count (codes "list ") 1 200000 (omega arith)) _ _ (some_number Count (codes "list ") 1 200000 (omega arith) (omega arith)),
+            which_law a_list (number_law Count (codes "list ") 1 MOST_LISTED (omega arith)) _ _ (some_number Count (codes "list ") 1 MOST_LISTED (omega arith) (omega arith)),
             λ k. (
               λ first. (tested_law a_position _ (listed_beyond who first) position_law, some_position),
               λ list. (
-                which_law a_claims (number_law Count (codes "claims ") 1 20000 (omega arith)) _ _ (some_number Count (codes "claims ") 1 20000 (omega arith) (omega arith)),
+                which_law a_claims (number_law Count (codes "claims ") 1 MOST_CLAIMS (omega arith)) _ _ (some_number Count (codes "claims ") 1 MOST_CLAIMS (omega arith) (omega arith)),
                 λ c. (λ s. claim_owes d s, λ claims. (literal_law (codes "end"), formed_some (word_form (codes "end")) (codes "end") tt refl)),
                 λ c y ls e. each_length c _ _ _ y.0 _ e.first,
               ),

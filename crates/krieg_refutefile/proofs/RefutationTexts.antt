@@ -1,7 +1,7 @@
 -- The text of a refutation spells it, and is read as it again.
 use Rattle.std.proofs.Common.{◌≡◌, true, Ok, refl, arith}
 use Rattle.std.specs.Prelude.{codes}
-use Rattle.krieg_refutefile.proofs.Common.{Version, Count, lines, is_line, whole, dialect_line, Dialect, Wild16, Anytry, RefutationState, claim_format, refutation_format, refutation_at, SpellsRefutation, a_list, a_claims, a_tries, a_dialect, a_position, a_claim, a_reason, Totals, refutation_text, CanBeWritten}
+use Rattle.krieg_refutefile.proofs.Common.{Version, Count, lines, is_line, whole, dialect_line, Dialect, Wild16, Anytry, RefutationState, claim_format, refutation_format, refutation_at, SpellsRefutation, a_list, a_claims, a_tries, a_dialect, a_position, a_claim, a_reason, Totals, refutation_text, CanBeWritten, MOST_MOVES, MOST_LISTED, MOST_CLAIMED, MOST_CLAIMS}
 use Rattle.krieg_fen.proofs.CleanTexts.{position_line, side_is}
 use Rattle.krieg_fen.proofs.ListSpellings.{written_spells}
 use Rattle.krieg_words.specs.declared.dialects.Dialect.TheVariants.{Plain}
@@ -28,7 +28,7 @@ claim_writes d s = (
   telling_written a_claim _ claim_written,
   λ h. (
     λ last. tested_written a_position _ position_written,
-    λ set. (telling_written a_tries _ (number_written Count (codes "tries ") 0 200000 (omega arith) refl), λ n last. tested_written (a_reason d) _ (reason_written d)),
+    λ set. (telling_written a_tries _ (number_written Count (codes "tries ") 0 MOST_CLAIMED (omega arith) refl), λ n last. tested_written (a_reason d) _ (reason_written d)),
   ),
 )
 
@@ -40,12 +40,12 @@ writes = (
     λ d. (
       λ who f. (refl, side_is who),
       λ who. (
-        number_written Count (codes "moves ") 1 6 (omega arith) refl,
+        number_written Count (codes "moves ") 1 MOST_MOVES (omega arith) refl,
         λ n. (
-          which_written a_list (number_written Count (codes "list ") 1 200000 (omega arith) refl),
+          which_written a_list (number_written Count (codes "list ") 1 MOST_LISTED (omega arith) refl),
           λ k. (
             λ first. tested_written a_position _ position_written,
-            λ list. (which_written a_claims (number_written Count (codes "claims ") 1 20000 (omega arith) refl), λ c. (λ s. claim_writes d s, λ claims. literal_written (codes "end") refl)),
+            λ list. (which_written a_claims (number_written Count (codes "claims ") 1 MOST_CLAIMS (omega arith) refl), λ c. (λ s. claim_writes d s, λ claims. literal_written (codes "end") refl)),
           ),
         ),
       ),

@@ -3,7 +3,7 @@ use Rattle.std.proofs.Common.{◌≡◌, ℕ, ◌+◌, ◌*◌, ◌<◌, ◌≤�
 use Rattle.std.specs.Prelude.{codes}
 use Rattle.std.specs.List.{All, flat_map}
 use Rattle.std.proofs.lemmas.List.Elements.{All-head, All-tail}
-use Rattle.krieg_refutefile.proofs.Common.{Move, number_text, whole, Pieces, alone, joined, put_lines, position_line, move_text, words_text, Dialect, MOST_CLAIMS, MOST_CLAIMED, Reason, Why, Lives, Stale, Class, Refused, refutation_at, ClaimState, RefutationState, numbered, why_pieces, reason_line, claim_line, claim_lines, head_lines, refutation_text, text_bound, CitesBelow, IsToldWhy, IsToldReason, AreToldClaims, positions_in, reasons_in, CanBeWritten}
+use Rattle.krieg_refutefile.proofs.Common.{Move, number_text, whole, Pieces, alone, joined, put_lines, position_line, move_text, words_text, Dialect, MOST_CLAIMS, MOST_CLAIMED, Reason, Why, Lives, Stale, Class, Refused, refutation_at, ClaimState, RefutationState, numbered, why_pieces, reason_line, claim_line, claim_lines, head_lines, refutation_text, text_bound, CitesBelow, IsToldWhy, IsToldReason, AreToldClaims, positions_in, reasons_in, CanBeWritten, MOST_MOVES, MOST_LISTED}
 use Rattle.krieg_refutefile.proofs.RefutationLaws.{refutation_reading}
 use Rattle.krieg_refutefile.proofs.Writables.{cites_any, spelled_can}
 use Rattle.krieg_refutefile.proofs.WrittenLines.{refutation_lines, lines_are}
@@ -40,7 +40,7 @@ reasons_short d own (r ∷ rs) few told =
 numbered_short : (name : List ℕ) (k n : ℕ) → 0 < k → n < 10 ^ k → n ≤ 200000 → length (joined (numbered name n)) ≤ length name + k
 numbered_short name k n some few small = let digits = number_short k n some few small in omega (arith, digits, length-append name (number_text n))
 
-sizes_short : (moves n : ℕ) → moves ≤ 6 → n ≤ 200000 → length (joined (claim_line moves n)) ≤ 14
+sizes_short : (moves n : ℕ) → moves ≤ MOST_MOVES → n ≤ MOST_CLAIMED → length (joined (claim_line moves n)) ≤ 14
 sizes_short moves n low few =
     append_short (codes "claim ") (number_text moves ++ (codes " " ++ number_text n)) 6 8 (lit≤ tt)
     (append_short (number_text moves) (codes " " ++ number_text n) 1 7 (number_short 1 moves (omega arith) (omega (arith, low)) (omega (arith, low)))
@@ -80,10 +80,10 @@ text_short s w =
     let list = positions_short s.list in
     let counted = numbered_short (codes "claims ") 5 (length s.claims) (omega arith) (omega (arith, w.few_claims)) (omega (arith, w.few_claims)) in
     let all = claims_short d 1 s.claims w.told (omega (arith, w.few_claims)) w.few_positions w.few_reasons in
-    let listed : length s.list ≤ 200000 = w.few_listed in
-    let some : length s.claims ≤ 20000 = w.few_claims in
-    let positions : positions_in s.claims ≤ 200000 = w.few_positions in
-    let reasons : reasons_in s.claims ≤ 200000 = w.few_reasons in
+    let listed : length s.list ≤ MOST_LISTED = w.few_listed in
+    let some : length s.claims ≤ MOST_CLAIMS = w.few_claims in
+    let positions : positions_in s.claims ≤ MOST_CLAIMED = w.few_positions in
+    let reasons : reasons_in s.claims ≤ MOST_CLAIMED = w.few_reasons in
     omega (
       arith,
       text,
