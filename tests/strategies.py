@@ -17,7 +17,8 @@ import re
 import sys
 
 sys.dont_write_bytecode = True
-import limits
+sys.path.insert(0, str(pathlib.Path(__file__).resolve().parent.parent / "docs"))
+from limits import MOST_EDGES, MOST_LISTED, MOST_NODES, MOST_ROOTS, MOST_WORST
 import rules
 from refutations import BadLine, Reader
 
@@ -33,9 +34,6 @@ Way = collections.namedtuple("Way", "number position key")
 # What was found of a strategy: the positions that reach each node, each with its way; within how many moves each of these is mated, or None;
 # and what the judgement takes.
 Judgement = collections.namedtuple("Judgement", "reached needs worst units")
-
-# The most listed positions, nodes, own moves that are claimed, edges of all nodes together, and roots.
-MOST_LISTED, MOST_NODES, MOST_WORST, MOST_EDGES, MOST_ROOTS = limits.MOST_LISTED, limits.MOST_NODES, 2_500, 250_000, 50_000
 
 NUMBER = "(0|[1-9][0-9]*)"
 
@@ -293,10 +291,10 @@ def read_node(lines, dialect, number, edges):
         lines.bad("syntax")
     if count > MOST_EDGES:
         lines.bad("count")
-    if edges + count > MOST_EDGES:
-        lines.bad("large")
     if no is not None and not 1 <= number_of(no) < number:
         lines.bad("out of place")
+    if edges + count > MOST_EDGES:
+        lines.bad("large")
     return Node(move, no and number_of(no), read_links(lines, dialect, count, 2, [2], number - 1))
 
 
