@@ -1,4 +1,4 @@
-"""What may be tried in a position, and what may be heard of it. What examples/first-tries, examples/try-of and examples/practice share. The
+"""What may be tried in a position, and what may be heard of it. What examples/try-of and examples/practice share. The
 program says which tries are legal, and what is told of them."""
 
 import texts

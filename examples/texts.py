@@ -25,9 +25,8 @@ def command(words):
     """The program for these words, with them."""
     if not is_built:
         return [KRIEG, *words]
-    if words[0] == "find":
-        return [CRATES / "krieg_find/out/krieg_find", *words[1:]]
-    return [CRATES / "krieg/out/krieg", *words]
+    program = "krieg_find" if words[0] in ("find", "keys") else "krieg"
+    return [CRATES / program / "out" / program, *words]
 
 
 def ask(words, text):
@@ -93,6 +92,18 @@ def parts(sheet):
 def sheet(head, positions, entries=()):
     """The text of a sheet of these parts."""
     return "\n".join([*head, f"list {len(positions)}", *positions, *entries, "end", ""])
+
+
+def keys(text):
+    """What an answer of `keys` tells: for each thing that may be heard before the first try its line, the least number of moves, and the
+    tries, with `no` behind one that may be refused."""
+    lines = text.splitlines()
+    here = next(i for i, line in enumerate(lines) if line.startswith("roots ")) + 1
+    while lines[here] != "end":
+        _, least, _, count = lines[here + 1].split()
+        behind = here + 2 + int(count)
+        yield lines[here], int(least), lines[here + 2 : behind]
+        here = behind
 
 
 def studies(ending):

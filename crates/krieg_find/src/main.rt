@@ -1,8 +1,10 @@
-//! The program `krieg_find`: a start of `find` over the standard streams. It reads a sheet, and writes what `krieg solve` writes with
-//! the same words, mostly for far fewer units. It takes more moves, and more units.
+//! The program `krieg_find`: a start of `find` and `keys` over the standard streams. It reads a sheet. `find` writes what `krieg solve`
+//! writes with the same numbers, mostly for far fewer units; `keys` writes every first try that is as fast as any. Both take more moves,
+//! and more units. `./krieg` runs it for these words.
 //!
 //! ```
 //! ./krieg find 1 64 1 < examples/rook.sheet   # a plan that plays h1h8, and status 0
+//! ./krieg keys 1 64 1 < examples/rook.sheet   # that h1h8 alone mates at once
 //! ./krieg find 0 64 1                         # `krieg: usage` on standard error, and status 1
 //! ```
 #![tactic(auto)]

@@ -52,7 +52,12 @@ fn seats_of(alloc: Global, bench: &Bench) -> Result<Vec<u8>, NoMemory> {
     Ok(text)
 }
 
-/// Runs the words with what is given. Those behind the word `find` are words of the program `krieg_find`.
+/// Whether words that begin with this one are those of the program `krieg_find`.
+fn is_for_find(first: &str) -> bool {
+    first == "find" || first == "keys"
+}
+
+/// Runs the words with what is given, by the program whose words they are.
 pub fn come(alloc: Global, words: &[String], given: RunInput) -> Result<RunResult, NoMemory> {
     let RunInput {
         text,
@@ -83,8 +88,8 @@ pub fn come(alloc: Global, words: &[String], given: RunInput) -> Result<RunResul
             Manner::Forgets => seats.push(forgetful(alloc)?)?,
         }
     }
-    let status = match words.split_first() {
-        Some((first, words)) if first.as_str() == "find" => {
+    let status = match words.first() {
+        Some(first) if is_for_find(first.as_str()) => {
             run_find(alloc, words, &mut input, &mut out, &mut err)
         }
         _ => run(alloc, words, &mut input, &mut out, &mut err, &mut bench),
