@@ -8,7 +8,6 @@
 //! `Seen` in `specs/` says what such a mate is, and `laws` that it is that of `krieg_theory`, whatever the dialect.
 //! `seeing` looks for it move by move, and `memo` has what is known: of a position the greatest number of moves within
 //! which it was found to be no mate, and the least within which it may be one. `flight` asks it of the replies to a try.
-//! Where one side has its king alone, that is kept by the others (`place`), in a row for all squares of his (`king_rows`).
 //!
 //! It calls itself for each move: that takes less than 2,000 bytes of the stack in a program that LLVM builds.
 //!
