@@ -1,21 +1,33 @@
 -- The strategy of the opening sets is that of the best plan.
-use Rattle.std.proofs.Common.{Bool, ◌≡◌, ℕ, ◌<◌, ◌⊎◌, inl, inr, List, [], length, map, Ok, sym, ap, subst, ◌∙◌, arith}
+use Rattle.std.proofs.Common.{false, refl, ◌∷◌, ◌≤◌, true, Bool, ◌≡◌, ℕ, zero, suc, ◌<◌, ◌⊎◌, inl, inr, List, [], length, map, Ok, sym, ap, subst, ◌∙◌, arith}
+use Rattle.std.specs.Prelude.{not}
+use Rattle.std.specs.List.{list_any}
+use Rattle.std.proofs.lemmas.Bool.{and_parts, both_ways}
 use Rattle.std.proofs.lemmas.List.{length-map}
+use Rattle.std.proofs.Math.Nat.{le-max_left}
 use Rattle.krieg_board.specs.Pos.{Pos}
 use Rattle.krieg_board.specs.declared.men.Move.{Move}
 use Rattle.krieg_board.specs.declared.men.Side.{Side}
 use Rattle.krieg_words.specs.declared.dialects.Dialect.{Dialect}
-use Rattle.krieg_theory.specs.Can.{least}
-use Rattle.krieg_theory.specs.Plans.{IsCanonPlan, opening_set, openings, greatest, canon_plan, canon_worst}
+use Rattle.krieg_theory.specs.Sets.{In}
+use Rattle.krieg_theory.specs.Can.{can, least}
+use Rattle.krieg_theory.specs.Plans.{IsCanonPlan, opening_set, openings, greatest, canon_plan, canon_worst, all_starts, is_over}
+use Rattle.krieg_theory.proofs.Ascending.{as_set_ascending}
+use Rattle.krieg_theory.proofs.Lists.{all_at, map_in}
+use Rattle.krieg_theory.proofs.Least.{can_least}
 use Rattle.krieg_theory.proofs.Planned.{canon_plan_is, canon_plan_worst, worst_enough, worst_least}
-use Rattle.krieg_game.specs.Keys.{Key, RootKey}
+use Rattle.krieg_game.specs.Keys.{Key, RootKey, root_lt}
 use Rattle.krieg_game.specs.Chess.{chess}
 use Rattle.krieg_game.specs.Outset.{outset}
+use Rattle.krieg_game.proofs.KeyLaws.{root_order}
+use Rattle.krieg_plan.specs.Order.{is_ascending}
 use Rattle.krieg_game.proofs.ChessLaws.{chess_is_game, outset_is_lawful}
 use Rattle.krieg_plan.specs.Trees.{NodeTree, PlanTrees}
 use Rattle.krieg_table.specs.SetRows.{SetRows, set_at}
 use Rattle.krieg_strategy.specs.Nodes.{Node}
 use Rattle.krieg_strategy.specs.Unfolded.{unfold_plan}
+use Rattle.krieg_strategy.specs.Roots.{root_of}
+use Rattle.krieg_strategy.specs.WellFormed.{AreBelow, IsStrategy}
 use Rattle.krieg_strategy.specs.declared.limits.TheConstants.{MOST_NODES, MOST_EDGES}
 use Rattle.krieg_search.specs.declared.openings.Opening.{Opening}
 use Rattle.krieg_search.specs.declared.decide.Findings.{Findings}
@@ -27,12 +39,13 @@ use Rattle.krieg_share.specs.declared.answer.Answer.{Answer}
 use Rattle.krieg_share.specs.declared.answer.Answer.TheVariants.{Mates, None}
 use Rattle.krieg_share.specs.declared.limits.TheConstants.{MOST_ROOTS}
 use Rattle.krieg_share.specs.declared.sharer.Sharer.{Sharer}
-use Rattle.krieg_share.specs.Sharing.{Shared, nothing_shared, number_of, shared, shared_roots}
+use Rattle.krieg_share.specs.Sharing.{Shared, AreShared, nothing_shared, number_of, shared, shared_roots}
 use Rattle.krieg_share.specs.Parts.{share_sets, numbered, IsOver}
-use Rattle.krieg_share.specs.Sharers.{sets_with_nodes, shared_by}
-use Rattle.krieg_share.specs.Answers.{IsSharedAs, IsShared, IsBestStrategy, IsLargeStrategy, IsStrategyAnswer}
-use Rattle.krieg_share.proofs.Sharing.{shared_unfolds}
+use Rattle.krieg_share.specs.Sharers.{sets_with_nodes, shared_by, IsSharing}
+use Rattle.krieg_share.specs.Answers.{IsSharedAs, IsShared, IsBestStrategy, IsLargeStrategy, IsStrategyAnswer, MakesStrategy}
+use Rattle.krieg_share.proofs.Sharing.{shared_unfolds, roots_shared, none_shared, number_within}
 use Rattle.krieg_share.proofs.Parts.{map_twice, roots_are}
+use Rattle.krieg_share.proofs.Sharers.{ascends}
 
 -- from no nodes on
 module _ (d : Dialect) (j : ℕ) (T : SetRows) (os : List Opening) (s s' : Sharer) (table : s.table ≡ T) (placed : s.placed.keys ≡ []) (nodes : s.nodes ≡ []) where
@@ -40,13 +53,15 @@ module _ (d : Dialect) (j : ℕ) (T : SetRows) (os : List Opening) (s s' : Share
   nothing_yet = λ x. record { sets = map (set_at s.table) (placed x); nodes = nodes x }
 
   pub as_shared : (worst : ℕ) (roots : List (RootKey × ℕ)) → worst ≡ greatest (λ (c : RootKey × List Pos). least (chess d) j c.1) (map (opening_in T) os)
-      → roots ≡ numbered (chess d) (sets_with_nodes s') (map (opening_in s.table) os) → shared_by d s' ≡ share_sets (chess d) j (map (opening_in s.table) os) (shared_by d s) → IsSharedAs d j (map (opening_in T) os) worst s'.nodes roots
-  as_shared worst roots w r e =
+      → roots ≡ numbered (chess d) (sets_with_nodes s') (map (opening_in s.table) os) → shared_by d s' ≡ share_sets (chess d) j (map (opening_in s.table) os) (shared_by d s) → IsSharing d s' → IsSharedAs d j (map (opening_in T) os) worst s'.nodes roots
+  as_shared worst roots w r e k =
       let f = nothing_yet in
       let all : shared_by d s' ≡ share_sets (chess d) j (map (opening_in T) os) (nothing_shared (chess d)) = e ∙ (λ x. share_sets (chess d) j (map (opening_in (table x)) os) (f x)) in
       record {
         greatest_least = w;
         nodes_are = ap (λ (u : Shared (chess d)). u.nodes) all;
+        have_order = k.have_order;
+        few_nodes = k.few_nodes;
         roots_are = r ∙ (λ x. numbered (chess d) (all x).sets (map (opening_in (table x)) os));
       }
 
@@ -102,6 +117,71 @@ module _ (d : Dialect) (who : Side) (S : List Pos) (n : ℕ) (cut : Bool) (w : F
         roots_are = f ∙ ap (λ (p : PlanTrees). shared_roots (chess d) (outset d who) p S) (sym plan);
       }
 
+  -- a root that is there leads to a node
+  root_within : (r : RootKey × NodeTree) → In r P → (place r.0).1 < length (shared (chess d) (outset d who) P S).nodes
+  root_within r i =
+      let h = roots_shared (chess d) (chess_is_game d) (outset d who) P S (nothing_shared (chess d)) canonical.roots (none_shared (chess d) (chess_is_game d)) in
+      let l = number_within (chess d) (chess_is_game d) (opening_set (chess d) (outset d who) S r.0) (shared (chess d) (outset d who) P S).sets (h.1 r i) in
+      let m = h.0.as_many in
+      omega arith
+
+  some_least : (X : List Pos) → can (chess d) n X ≡ true → 0 < least (chess d) n X
+  some_least X c = go (least (chess d) n X) refl (can_least (chess d) (chess_is_game d) n X c)
+    where
+      go : (i : ℕ) → least (chess d) n X ≡ i → can (chess d) (least (chess d) n X) X ≡ true → 0 < least (chess d) n X
+      go zero e h = absurd (both_ways false refl (subst (λ i. can (chess d) i X ≡ true) e h))
+      go (suc i) e h = omega arith
+
+  some_greatest : (qs : List RootKey) → ((key : RootKey) → In key qs → can (chess d) n (opening_set (chess d) (outset d who) S key) ≡ true) → 0 < length qs
+      → 0 < greatest (λ key. least (chess d) n (opening_set (chess d) (outset d who) S key)) qs
+  some_greatest [] h l = absurd (omega arith)
+  some_greatest (q ∷ qs) h l =
+      let a = some_least (opening_set (chess d) (outset d who) S q) (h q (inl refl)) in
+      let b = le-max_left (least (chess d) n (opening_set (chess d) (outset d who) S q)) (greatest (λ key. least (chess d) n (opening_set (chess d) (outset d who) S key)) qs) in
+      omega arith
+
+  pub makes_strategy : n ≤ 255 → (worst : ℕ) (nodes : List (Node Move Key)) (roots : List (RootKey × ℕ)) → IsSharedAs d n (map (opening_in w.table) w.openings.items) worst nodes roots → 0 < length roots → IsStrategy nodes roots worst
+  makes_strategy small worst nodes roots k l = record {
+    some_nodes = (let f = first roots l in let g = below f.0 f.1 in omega arith);
+    few_nodes = k.few_nodes;
+    below = subst (λ (ns : List (Node Move Key)). AreBelow ns) (sym e) h.0.below;
+    have_order = k.have_order;
+    roots_below = below;
+    roots_ascend = ap (λ (rs : List (RootKey × ℕ)). is_ascending root_lt (map (λ (r : RootKey × ℕ). r.0) rs)) f ∙ ap (is_ascending root_lt) keys_are ∙ ascends root_lt ks (as_set_ascending root_lt root_order (map (λ o. o.0) (all_starts (chess d) (outset d who) S)));
+    some_worst = (let c = and_parts (not (list_any (is_over (chess d) (outset d who)) S)) _ a.can in let g = some_greatest ks (all_at (λ key. can (chess d) n (opening_set (chess d) (outset d who) S key)) ks c.1) some_keys in let x = least_is in omega arith);
+    most_worst = (let b = best.within in let x = least_is in omega arith);
+  }
+    where
+      e : nodes ≡ (shared (chess d) (outset d who) P S).nodes
+      e = k.nodes_are ∙ ap (λ (u : Shared (chess d)). u.nodes) shared_is
+
+      f : roots ≡ shared_roots (chess d) (outset d who) P S
+      f = k.roots_are ∙ roots_same
+
+      h : AreShared (chess d) (shared (chess d) (outset d who) P S) × ((r : RootKey × NodeTree) → In r P → In (opening_set (chess d) (outset d who) S r.0) (shared (chess d) (outset d who) P S).sets)
+      h = roots_shared (chess d) (chess_is_game d) (outset d who) P S (nothing_shared (chess d)) canonical.roots (none_shared (chess d) (chess_is_game d))
+
+      least_is : worst ≡ canon_worst (chess d) (outset d who) n S
+      least_is = k.greatest_least ∙ ap (greatest (λ (c : RootKey × List Pos). least (chess d) n c.1)) a.found.sets ∙ worst_of d who S n
+
+      keys_are : map (λ (r : RootKey × ℕ). r.0) (shared_roots (chess d) (outset d who) P S) ≡ ks
+      keys_are = map_twice (λ (r : RootKey × NodeTree). place r.0) (λ (r : RootKey × ℕ). r.0) P ∙ canonical.same_keys
+
+      first : {X : Type 0} (xs : List X) → 0 < length xs → (x : X) × In x xs
+      first [] z = absurd (omega arith)
+      first (x ∷ xs) z = (x, inl refl)
+
+      some_keys : 0 < length ks
+      some_keys = let x = ap length f in let y = ap length keys_are in let z = length-map (shared_roots (chess d) (outset d who) P S) (λ (r : RootKey × ℕ). r.0) in omega arith
+
+      below : (r : RootKey × ℕ) → In r roots → r.1 < length nodes
+      below r i =
+          let t = map_in (λ (x : RootKey × NodeTree). place x.0) P r (subst (λ (rs : List (RootKey × ℕ)). In r rs) f i) in
+          let b = root_within t.0 t.1 in
+          let x = ap (λ (y : RootKey × ℕ). y.1) t.2 in
+          let y = ap length e in
+          omega arith
+
   pub is_large : IsOver (chess d) MOST_NODES MOST_EDGES (share_sets (chess d) n (map (opening_in w.table) w.openings.items) (nothing_shared (chess d))) ⊎ (MOST_ROOTS < length (map (opening_in w.table) w.openings.items)) → IsLargeStrategy d who S n
   is_large h = record { plan = P; worst = canon_worst (chess d) (outset d who) n S; best = best; large = go h }
     where
@@ -116,3 +196,7 @@ module _ (d : Dialect) (who : Side) (S : List Pos) (n : ℕ) (cut : Bool) (w : F
   pub answered : (x : Answer) → IsShared d n (map (opening_in w.table) w.openings.items) (Ok x) → IsStrategyAnswer d who S n (Ok x)
   answered (Mates worst nodes roots) k = is_strategy worst nodes _ k
   answered None k = absurd k
+
+  pub well_formed : n ≤ 255 → (x : Answer) → IsShared d n (map (opening_in w.table) w.openings.items) (Ok x) → MakesStrategy x
+  well_formed small (Mates worst nodes roots) k = λ l. makes_strategy small worst nodes _ k (let e = length-map roots.items root_of in omega arith)
+  well_formed small None k = absurd k

@@ -31,7 +31,7 @@ use Rattle.krieg_table.specs.Entries.{entries}
 use Rattle.krieg_table.specs.Table.{IsMore}
 use Rattle.krieg_strategy.specs.Nodes.{Node}
 use Rattle.krieg_strategy.specs.Edges.{edge_of}
-use Rattle.krieg_strategy.specs.WellFormed.{IsBelow, HasOrder}
+use Rattle.krieg_strategy.specs.WellFormed.{IsBelow, HasOrder, HaveOrder}
 use Rattle.krieg_strategy.specs.declared.edge.StrategyEdge.{StrategyEdge}
 use Rattle.krieg_strategy.specs.declared.limits.TheConstants.{MOST_NODES, MOST_EDGES}
 use Rattle.krieg_search.specs.declared.stop.SearchStop.{SearchStop}
@@ -43,7 +43,7 @@ use Rattle.krieg_share.specs.declared.sharer.Sharer.{Sharer}
 use Rattle.krieg_share.specs.Sharing.{Shared, AreShared, has_node, number_of, node_number, refused_number, share, share_other}
 use Rattle.krieg_share.specs.Parts.{share_sets, numbered, IsOver}
 use Rattle.krieg_share.specs.Sharers.{node_by, sets_with_nodes, AreInTable, shared_by, IsSharing, HasNumber, Shares}
-use Rattle.krieg_share.proofs.Sharing.{node_in}
+use Rattle.krieg_share.proofs.Sharing.{at_each, node_in}
 use Rattle.krieg_share.proofs.Parts as parts
 use Rattle.krieg_share.proofs.Placing.{not_placed}
 
@@ -51,7 +51,7 @@ pub some_is : (X : List Pos) (b : Bool) → (IsTrue b ↔ (X ≡ [])) → b ≡ 
 some_is [] b h e = absurd (both_ways b e (h.1 refl))
 some_is (x ∷ X) b h e = refl
 
-ascends : {K : Type 0} (lt : K → K → Bool) (ks : List K) → Ascending lt ks → is_ascending lt ks ≡ true
+pub ascends : {K : Type 0} (lt : K → K → Bool) (ks : List K) → Ascending lt ks → is_ascending lt ks ≡ true
 ascends lt [] a = refl
 ascends lt (x ∷ []) a = refl
 ascends lt (x ∷ y ∷ zs) a = and_from _ _ (a.0 y (inl refl)) (ascends lt (y ∷ zs) a.1)
@@ -102,6 +102,7 @@ module _ (d : Dialect) where
       paid = still_paid d s.table s'.table sets a.paid;
       in_table = λ i k. (let w = a.in_table i (subst (λ p. In i p.keys) placed k) in let l = sets.more.longer in omega arith);
       counted = edges ∙ a.counted ∙ ap (total (λ (n : Node Move Key). length n.edges)) (sym nodes);
+      have_order = subst (λ (ns : List (Node Move Key)). HaveOrder ns) (sym nodes) a.have_order;
       few_nodes = (let f = a.few_nodes in let e = ap length nodes in omega arith);
       few_edges = (let f = a.few_edges in omega arith);
       shared = subst (λ u. AreShared (chess d) u) (sym still_shared) a.shared;
@@ -239,6 +240,7 @@ module _ (d : Dialect) where
                   paid = subst (λ T. IsPaidFor d true T) (sym table) w2.paid;
                   in_table = in_table;
                   counted = edges ∙ (let f = ap (total (λ (x : Node Move Key). length x.edges)) nodes in let g = total_append (λ (x : Node Move Key). length x.edges) s2.nodes (node_by m next es ∷ []) in let h = length-map es edge_of in let k = w2.counted in omega arith);
+                  have_order = subst (λ (ns : List (Node Move Key)). HaveOrder ns) (sym nodes) (at_each s2.nodes (node_by m next es) (λ i x. HasOrder x) w2.have_order keys_ascend);
                   few_nodes = (let f = ap length nodes in let g = length-append s2.nodes (node_by m next es ∷ []) in omega arith);
                   few_edges = few_edges;
                   shared = subst (λ u. AreShared (chess d) u) (sym same) (parts.whole_shared (chess d) (chess_is_game d) j (number - 1) B m other is (shared_by d s) a.shared new);

@@ -27,7 +27,7 @@ no_more [] = refl
 no_more (x ∷ xs) = ap (λ ys. x ∷ ys) (no_more xs)
 
 -- what holds at each place of a list, and of what is put behind it, holds at each place of both
-at_each : {X : Type 0} (xs : List X) (x : X) (P : ℕ → X → Type 0) → ((i : ℕ) (y : X) → slice_get xs i ≡ Some y → P i y) → P (length xs) x → (i : ℕ) (y : X) → slice_get (xs ++ x ∷ []) i ≡ Some y → P i y
+pub at_each : {X : Type 0} (xs : List X) (x : X) (P : ℕ → X → Type 0) → ((i : ℕ) (y : X) → slice_get xs i ≡ Some y → P i y) → P (length xs) x → (i : ℕ) (y : X) → slice_get (xs ++ x ∷ []) i ≡ Some y → P i y
 at_each [] x P old new zero y e = let d : x ≡ y = cc in subst (P zero) d new
 at_each [] x P old new (suc i) y e = absurd cc
 at_each (z ∷ xs) x P old new zero y e = old zero y e

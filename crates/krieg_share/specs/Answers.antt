@@ -1,5 +1,5 @@
 -- What a search for a strategy answers, and what it takes.
-use Rattle.std.specs.Prelude.{◌≡◌, ℕ, ◌<◌, ◌⊎◌, Bool, List, length, map, Result, Ok, Err, ⊤}
+use Rattle.std.specs.Prelude.{◌≤◌, ◌≡◌, ℕ, ◌<◌, ◌⊎◌, Bool, List, length, map, Result, Ok, Err, ⊤}
 use Rattle.krieg_board.specs.Pos.{Pos}
 use Rattle.krieg_board.specs.declared.men.Move.{Move}
 use Rattle.krieg_board.specs.declared.men.Side.{Side}
@@ -14,6 +14,7 @@ use Rattle.krieg_plan.specs.Trees.{PlanTrees}
 use Rattle.krieg_strategy.specs.Nodes.{Node}
 use Rattle.krieg_strategy.specs.Roots.{root_of}
 use Rattle.krieg_strategy.specs.Unfolded.{unfold_plan}
+use Rattle.krieg_strategy.specs.WellFormed.{HaveOrder, IsStrategy}
 use Rattle.krieg_strategy.specs.declared.limits.TheConstants.{MOST_NODES, MOST_EDGES}
 use Rattle.krieg_search.specs.declared.stop.SearchStop.{SearchStop}
 use Rattle.krieg_search.specs.declared.stop.SearchStop.TheVariants.{Spent, Large, NoMemory}
@@ -31,6 +32,8 @@ module _ (d : Dialect) (j : ℕ) (cs : List (RootKey × List Pos)) where
   pub record IsSharedAs (worst : ℕ) (nodes : List (Node Move Key)) (roots : List (RootKey × ℕ)) : Type 0 where
     pub greatest_least : worst ≡ greatest (λ (c : RootKey × List Pos). least (chess d) j c.1) cs
     pub nodes_are : nodes ≡ (share_sets (chess d) j cs (nothing_shared (chess d))).nodes
+    pub have_order : HaveOrder nodes
+    pub few_nodes : length nodes ≤ MOST_NODES
     pub roots_are : roots ≡ numbered (chess d) (share_sets (chess d) j cs (nothing_shared (chess d))).sets cs
 
   abbrev pub IsShared : Result Answer SearchStop → Type 0
@@ -39,6 +42,11 @@ module _ (d : Dialect) (j : ℕ) (cs : List (RootKey × List Pos)) where
   IsShared (Err Spent) = ⊥
   IsShared (Err Large) = IsOver (chess d) MOST_NODES MOST_EDGES (share_sets (chess d) j cs (nothing_shared (chess d))) ⊎ (MOST_ROOTS < length cs)
   IsShared (Err NoMemory) = ⊤
+
+-- where there is some root, the nodes and roots make a strategy with that worst case
+abbrev pub MakesStrategy : Answer → Type 0
+MakesStrategy (Mates worst nodes roots) = 0 < length roots.items → IsStrategy nodes (map root_of roots.items) worst
+MakesStrategy None = ⊤
 
 module _ (d : Dialect) (who : Side) (S : List Pos) (n : ℕ) where
   -- It unfolds to the best plan, which is canonical: it mates within n, and no plan mates within fewer moves than it. Its nodes and roots

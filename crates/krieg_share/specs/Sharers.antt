@@ -7,6 +7,7 @@ use Rattle.krieg_theory.specs.Sets.{In}
 use Rattle.krieg_game.specs.Keys.{Key}
 use Rattle.krieg_strategy.specs.Nodes.{Node}
 use Rattle.krieg_strategy.specs.Edges.{edge_of}
+use Rattle.krieg_strategy.specs.WellFormed.{HaveOrder}
 use Rattle.krieg_strategy.specs.declared.edge.StrategyEdge.{StrategyEdge}
 use Rattle.krieg_costs.specs.Sums.{total}
 use Rattle.krieg_game.specs.Chess.{chess}
@@ -42,6 +43,7 @@ module _ (d : Dialect) where
     pub paid : IsPaidFor d true s.table
     pub in_table : AreInTable s
     pub counted : s.edges ≡ total (λ n. length n.edges) s.nodes
+    pub have_order : HaveOrder s.nodes
     pub few_nodes : length s.nodes ≤ MOST_NODES
     pub few_edges : s.edges ≤ MOST_EDGES
     pub shared : AreShared (chess d) (shared_by s)

@@ -1,11 +1,11 @@
-ghost use Rattle.std.specs.Prelude.{◌≡◌, ◌⊎◌, ◌<◌, ◌≤◌, ◌^◌, List, length, map, true};
+ghost use Rattle.std.specs.Prelude.{IfOk, ◌≡◌, ◌⊎◌, ◌<◌, ◌≤◌, ◌^◌, List, length, map, true};
 ghost use Rattle.krieg_board.specs.Pos.{Pos};
 ghost use Rattle.krieg_theory.specs.Sets.{In};
 ghost use Rattle.krieg_parting.specs.Turns.{IsOwnTurn, IsOthersTurn};
 ghost use Rattle.krieg_search.specs.Openings.{AreNumbered, opening_in};
 ghost use Rattle.krieg_search.specs.Decision.{sets_in};
 ghost use Rattle.krieg_search.specs.Building.{WonBy, IsPaidFor};
-ghost use Rattle.krieg_share.specs.Answers.{IsStrategyAnswer, TakesAsPlan, IsShared};
+ghost use Rattle.krieg_share.specs.Answers.{IsStrategyAnswer, MakesStrategy, TakesAsPlan, IsShared};
 
 use crate::limits::MOST_ROOTS;
 use crate::roots::{share_openings, worst_of};
@@ -77,6 +77,7 @@ pub fn share(
 ) -> Result<Answer, SearchStop>
     requires turn { IsOwnTurn who b.now ⊎ IsOthersTurn who b.now }
     ensures answer { IsStrategyAnswer way.d who b.now moves result }
+    ensures well_formed { IfOk result MakesStrategy }
     ensures units { TakesAsPlan way.d who b.now moves way.cut result units.old units.new }
 {
     let mut left = Units::new(units.left());

@@ -1,6 +1,6 @@
 use Rattle.std.proofs.Common.{arith}
 use Rattle.krieg_search.proofs.Solving.{none_mates, is_paid}
-use Rattle.krieg_share.proofs.Answering.{is_large, answered}
+use Rattle.krieg_share.proofs.Answering.{is_large, answered, well_formed}
 use Rattle.krieg_share.proofs.answer.share.Goals as goal
 
 pub returns-in-Over-clause-answer : goal.returns-in-Over-clause-answer
@@ -27,3 +27,8 @@ pub returns-in-Err-Large-clause-answer : goal.returns-in-Err-Large-clause-answer
 returns-in-Err-Large-clause-answer c =
     let k = rw c.in-Won.is at c.in_ok-decide.ensures.decided in
     is_large c.args.way.d c.args.who c.args.b.now c.args.moves c.args.way.cut c.in-Won.won c.new-left.result k.0 (rw c.in-Err-Large.field-0-is at c.in-Err-Large.ensures)
+
+pub returns-in-Ok-clause-well_formed : goal.returns-in-Ok-clause-well_formed
+returns-in-Ok-clause-well_formed c =
+    let k = rw c.in-Won.is at c.in_ok-decide.ensures.decided in
+    well_formed c.args.way.d c.args.who c.args.b.now c.args.moves c.args.way.cut c.in-Won.won c.new-left.result k.0 (let f = c.ranges.moves.fits in omega arith) c.in-Ok.answer c.in-Ok.ensures

@@ -34,4 +34,4 @@ returns c =
     let e = c.in_ok-roots.ensures in
     as_shared d j T os c.new-sharer.result c.share_openings.new.sharer new.table new.placed new.nodes c.worst_of-worst.result _
     (c.worst_of-worst.ensures d c.requires.paid.ready ∙ ap (λ (xs : List Opening). greatest (λ (x : RootKey × List Pos). least (chess d) j x.1) (map (opening_in T) xs)) c.deref.ensures.value)
-    e.0 e.3
+    e.0 e.3 e.1
