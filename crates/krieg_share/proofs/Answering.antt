@@ -53,15 +53,22 @@ module _ (d : Dialect) (j : ℕ) (T : SetRows) (os : List Opening) (s s' : Share
   nothing_yet = λ x. record { sets = map (set_at s.table) (placed x); nodes = nodes x }
 
   pub as_shared : (worst : ℕ) (roots : List (RootKey × ℕ)) → worst ≡ greatest (λ (c : RootKey × List Pos). least (chess d) j c.1) (map (opening_in T) os)
-      → roots ≡ numbered (chess d) (sets_with_nodes s') (map (opening_in s.table) os) → shared_by d s' ≡ share_sets (chess d) j (map (opening_in s.table) os) (shared_by d s) → IsSharing d s' → IsSharedAs d j (map (opening_in T) os) worst s'.nodes roots
-  as_shared worst roots w r e k =
+      → roots ≡ numbered (chess d) (sets_with_nodes s') (map (opening_in s.table) os) → shared_by d s' ≡ share_sets (chess d) j (map (opening_in s.table) os) (shared_by d s) → IsSharing d s' → length os ≤ MOST_ROOTS → IsSharedAs d j (map (opening_in T) os) worst s'.nodes roots
+  as_shared worst roots w r e k few =
       let f = nothing_yet in
       let all : shared_by d s' ≡ share_sets (chess d) j (map (opening_in T) os) (nothing_shared (chess d)) = e ∙ (λ x. share_sets (chess d) j (map (opening_in (table x)) os) (f x)) in
       record {
         greatest_least = w;
         nodes_are = ap (λ (u : Shared (chess d)). u.nodes) all;
         have_order = k.have_order;
-        few_nodes = k.few_nodes;
+        fits = record {
+          few_nodes = k.few_nodes;
+          few_edges = (let c = k.counted in let l = k.few_edges in omega arith);
+          few_roots = (
+              let x : length roots ≡ length os =
+              ap length r ∙ length-map (map (opening_in s.table) os) (λ (c : RootKey × List Pos). (c.0, number_of (chess d) c.1 (sets_with_nodes s'))) ∙ length-map os (opening_in s.table) in
+              omega arith);
+        };
         roots_are = r ∙ (λ x. numbered (chess d) (all x).sets (map (opening_in (table x)) os));
       }
 
@@ -115,6 +122,7 @@ module _ (d : Dialect) (who : Side) (S : List Pos) (n : ℕ) (cut : Bool) (w : F
         best = subst (λ (p : PlanTrees). IsBest d who S n worst p) (sym plan) (subst (λ (i : ℕ). IsBest d who S n i P) (sym least_is) best);
         nodes_are = e ∙ ap (λ (p : PlanTrees). (shared (chess d) (outset d who) p S).nodes) (sym plan);
         roots_are = f ∙ ap (λ (p : PlanTrees). shared_roots (chess d) (outset d who) p S) (sym plan);
+        fits = k.fits;
       }
 
   -- a root that is there leads to a node
@@ -143,7 +151,7 @@ module _ (d : Dialect) (who : Side) (S : List Pos) (n : ℕ) (cut : Bool) (w : F
   pub makes_strategy : n ≤ 255 → (worst : ℕ) (nodes : List (Node Move Key)) (roots : List (RootKey × ℕ)) → IsSharedAs d n (map (opening_in w.table) w.openings.items) worst nodes roots → 0 < length roots → IsStrategy nodes roots worst
   makes_strategy small worst nodes roots k l = record {
     some_nodes = (let f = first roots l in let g = below f.0 f.1 in omega arith);
-    few_nodes = k.few_nodes;
+    few_nodes = k.fits.few_nodes;
     below = subst (λ (ns : List (Node Move Key)). AreBelow ns) (sym e) h.0.below;
     have_order = k.have_order;
     roots_below = below;

@@ -6,6 +6,7 @@ use Rattle.krieg_board.specs.declared.men.Side.{Side}
 use Rattle.krieg_words.specs.declared.dialects.Dialect.{Dialect}
 use Rattle.krieg_theory.specs.Can.{least}
 use Rattle.krieg_theory.specs.Plans.{greatest}
+use Rattle.krieg_costs.specs.Sums.{total}
 use Rattle.krieg_costs.specs.Reach.{fresh}
 use Rattle.krieg_game.specs.Keys.{Key, RootKey}
 use Rattle.krieg_game.specs.Chess.{chess}
@@ -26,6 +27,12 @@ use Rattle.krieg_share.specs.declared.limits.TheConstants.{MOST_ROOTS}
 use Rattle.krieg_share.specs.Sharing.{nothing_shared, shared, shared_roots}
 use Rattle.krieg_share.specs.Parts.{share_sets, numbered, IsOver}
 
+-- there are not more nodes, edges and roots than a strategy may have
+pub record IsFit (nodes : List (Node Move Key)) (roots : List (RootKey × ℕ)) : Type 0 where
+  pub few_nodes : length nodes ≤ MOST_NODES
+  pub few_edges : total (λ n. length n.edges) nodes ≤ MOST_EDGES
+  pub few_roots : length roots ≤ MOST_ROOTS
+
 -- What comes of sets that can be won within j, each under what is heard before: their nodes and numbers, and the greatest of their least
 -- numbers. Or they are too many.
 module _ (d : Dialect) (j : ℕ) (cs : List (RootKey × List Pos)) where
@@ -33,7 +40,7 @@ module _ (d : Dialect) (j : ℕ) (cs : List (RootKey × List Pos)) where
     pub greatest_least : worst ≡ greatest (λ (c : RootKey × List Pos). least (chess d) j c.1) cs
     pub nodes_are : nodes ≡ (share_sets (chess d) j cs (nothing_shared (chess d))).nodes
     pub have_order : HaveOrder nodes
-    pub few_nodes : length nodes ≤ MOST_NODES
+    pub fits : IsFit nodes roots
     pub roots_are : roots ≡ numbered (chess d) (share_sets (chess d) j cs (nothing_shared (chess d))).sets cs
 
   abbrev pub IsShared : Result Answer SearchStop → Type 0
@@ -55,6 +62,7 @@ module _ (d : Dialect) (who : Side) (S : List Pos) (n : ℕ) where
     pub best : IsBest d who S n worst (unfold_plan nodes roots)
     pub nodes_are : nodes ≡ (shared (chess d) (outset d who) (unfold_plan nodes roots) S).nodes
     pub roots_are : roots ≡ shared_roots (chess d) (outset d who) (unfold_plan nodes roots) S
+    pub fits : IsFit nodes roots
 
   -- the nodes of the best plan are too many, or the edges that they have, or its roots
   pub record IsLargeStrategy : Type 0 where

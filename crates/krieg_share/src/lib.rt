@@ -15,7 +15,7 @@
 //! `roots`). The winning try of each set is split once more, by units that are made for that alone: the search has paid for them. The
 //! table has a number for each set, and the place of that number among those of the sets that have nodes is the number of the node.
 //!
-//! The call goes a level deeper for each node that leads to the next, at most 5,000. A level takes less than 600 bytes of the stack.
+//! The call goes a level deeper for each node that leads to the next, at most 5,000.
 //!
 //! ```
 //! let mut units = Units::new(5_000_000);

@@ -1,4 +1,4 @@
-use Rattle.std.proofs.Common.{◌∙◌, ◌<◌, List, length, map, sym, ap, subst}
+use Rattle.std.proofs.Common.{arith, ◌∙◌, ◌<◌, List, length, map, sym, ap, subst}
 use Rattle.krieg_board.specs.Pos.{Pos}
 use Rattle.krieg_theory.specs.Sets.{In}
 use Rattle.krieg_theory.specs.Can.{least}
@@ -34,4 +34,4 @@ returns c =
     let e = c.in_ok-roots.ensures in
     as_shared d j T os c.new-sharer.result c.share_openings.new.sharer new.table new.placed new.nodes c.worst_of-worst.result _
     (c.worst_of-worst.ensures d c.requires.paid.ready ∙ ap (λ (xs : List Opening). greatest (λ (x : RootKey × List Pos). least (chess d) j x.1) (map (opening_in T) xs)) c.deref.ensures.value)
-    e.0 e.3 e.1
+    e.0 e.3 e.1 (let l = c.if-len-gt-MOST_ROOTS.false in let m = c.len.ensures in omega arith)
