@@ -19,11 +19,7 @@ use Rattle.krieg_strategy.specs.Nodes.{Node}
 use Rattle.krieg_strategy.specs.WellFormed.{IsBelow}
 use Rattle.krieg_share.specs.Sharing.{Shared, has_node, number_of, refused_number, node_for, with_own, share, share_other, share_edges, share_roots, AreShared}
 use Rattle.krieg_share.specs.Parts.{share_sets, numbered, IsOver}
-use Rattle.krieg_share.proofs.Sharing.{Grows, grows_none, grows_then, own_grows, other_grows, edges_grow, still_in, node_in, number_kept, none_before, own_below, own_shared, other_shared, edges_shared}
-
-no_more : {X : Type 0} (xs : List X) → xs ++ [] ≡ xs
-no_more [] = refl
-no_more (x ∷ xs) = ap (λ ys. x ∷ ys) (no_more xs)
+use Rattle.krieg_share.proofs.Sharing.{no_more, Grows, grows_none, grows_then, own_grows, other_grows, edges_grow, still_in, node_in, number_kept, none_before, own_below, own_shared, other_shared, edges_shared}
 
 map_agree : {X Y : Type 0} (f g : X → Y) (xs : List X) → ((x : X) → In x xs → f x ≡ g x) → map f xs ≡ map g xs
 map_agree f g [] h = refl

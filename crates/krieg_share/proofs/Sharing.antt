@@ -22,7 +22,7 @@ unfoldable use Rattle.krieg_strategy.specs.Unfolded.{trees_of}
 use Rattle.krieg_share.specs.Sharing.{Shared, nothing_shared, has_node, number_of, refused_number, node_for, with_own, share, share_other, share_edges, share_roots, shared, shared_roots, AreShared}
 use Rattle.krieg_strategy.proofs.Unfolding.{get_front, get_next, trees_length}
 
-no_more : {X : Type 0} (xs : List X) → xs ++ [] ≡ xs
+pub no_more : {X : Type 0} (xs : List X) → xs ++ [] ≡ xs
 no_more [] = refl
 no_more (x ∷ xs) = ap (λ ys. x ∷ ys) (no_more xs)
 

@@ -33,9 +33,9 @@ pub record IsFit (nodes : List (Node Move Key)) (roots : List (RootKey × ℕ)) 
   pub few_edges : total (λ n. length n.edges) nodes ≤ MOST_EDGES
   pub few_roots : length roots ≤ MOST_ROOTS
 
--- What comes of sets that can be won within j, each under what is heard before: their nodes and numbers, and the greatest of their least
--- numbers. Or they are too many.
+-- sets that can be won within j, each under what is heard before
 module _ (d : Dialect) (j : ℕ) (cs : List (RootKey × List Pos)) where
+  -- these are their nodes and numbers, and the greatest of their least numbers
   pub record IsSharedAs (worst : ℕ) (nodes : List (Node Move Key)) (roots : List (RootKey × ℕ)) : Type 0 where
     pub greatest_least : worst ≡ greatest (λ (c : RootKey × List Pos). least (chess d) j c.1) cs
     pub nodes_are : nodes ≡ (share_sets (chess d) j cs (nothing_shared (chess d))).nodes
@@ -43,6 +43,7 @@ module _ (d : Dialect) (j : ℕ) (cs : List (RootKey × List Pos)) where
     pub fits : IsFit nodes roots
     pub roots_are : roots ≡ numbered (chess d) (share_sets (chess d) j cs (nothing_shared (chess d))).sets cs
 
+  -- the same, or they have too many nodes or edges, or are too many
   abbrev pub IsShared : Result Answer SearchStop → Type 0
   IsShared (Ok (Mates worst nodes roots)) = IsSharedAs worst nodes (map root_of roots.items)
   IsShared (Ok None) = ⊥

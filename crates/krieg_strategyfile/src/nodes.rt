@@ -53,7 +53,8 @@ fn played_form(nodes: usize, edges: usize, line: &[u8]) -> Result<Play, TextKind
 /// The next line, as that of a node that stands behind so many nodes with so many edges.
 fn read_play(from: &mut Cursor<'_>, nodes: usize, edges: usize) -> Result<Play, TextFault>
     ensures { GivesOn (λ p. p) result from.new
-        (taken (with_test a_play.form (played (record { nodes = nodes; edges = edges }))) from.old) }
+        (taken (with_test a_play.form (played (record { nodes = nodes; edges = edges })))
+        from.old) }
 {
     from.next(|line| played_form(nodes, edges, line))
 }

@@ -50,7 +50,8 @@ fn put_no(no: Option<u32>, text: &mut Text) -> Result<(), NoMemory>
 
 /// Adds the line of a node.
 fn put_play(node: &StrategyNode<'_>, text: &mut Text) -> Result<(), NoMemory>
-    ensures { PutsLines result text.old text.new (line.play_line (play_of (node_of node.now)) ∷ []) }
+    ensures { PutsLines result text.old text.new
+        (line.play_line (play_of (node_of node.now)) ∷ []) }
 {
     text.put(b"play ")?;
     put_move(node.mv, text)?;
@@ -238,7 +239,8 @@ pub fn write_strategy(alloc: Global, s: &Strategy) -> Result<Vec<u8>, NoMemory>
     requires { CanBeWritten (state_of s.now) }
     ensures value { IfOk result (λ text. text.items ≡ spec.strategy_text (state_of s.now)) }
     // The text spells the strategy, and is read as it again.
-    ensures spelled { SpellsStrategy (state_of s.now) (lines (spec.strategy_text (state_of s.now))) }
+    ensures spelled { SpellsStrategy (state_of s.now)
+        (lines (spec.strategy_text (state_of s.now))) }
     ensures again { whole strategy_at (lines (spec.strategy_text (state_of s.now)))
         ≡ Ok (state_of s.now) }
     // It has fewer than 66,000,000 bytes, so that it fits an input.
