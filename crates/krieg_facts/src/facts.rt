@@ -4,6 +4,7 @@ use crate::answer::Answer;
 use crate::plans::Plans;
 use crate::scene::Scene;
 use crate::stop::Stop;
+use crate::strategies::Strategies;
 use crate::terms::{bytes_of, first_word};
 use crate::{
     boards, games, moves, positions, refutations, san, searches, sets, splits, tables, texts, words,
@@ -33,6 +34,7 @@ enum Layer {
     Plans,
     Searches,
     Refutations,
+    Strategies,
 }
 
 fn layer_of(name: &str) -> Result<Layer, Stop> {
@@ -50,6 +52,7 @@ fn layer_of(name: &str) -> Result<Layer, Stop> {
         "plans" => Ok(Layer::Plans),
         "searches" => Ok(Layer::Searches),
         "refutations" => Ok(Layer::Refutations),
+        "strategies" => Ok(Layer::Strategies),
         _ => Err(Stop::Unread),
     }
 }
@@ -61,6 +64,7 @@ struct Trial {
     scene: Scene,
     table: Table,
     plans: Plans,
+    strategies: Strategies,
     facts: u64,
 }
 
@@ -82,6 +86,7 @@ impl Trial {
             Layer::Plans => self.plans.ask(mark, given, answer),
             Layer::Searches => searches::ask(scene, mark, given, answer),
             Layer::Refutations => refutations::ask(scene, mark, given, answer),
+            Layer::Strategies => self.strategies.ask(mark, given, answer),
         }
     }
 
@@ -114,6 +119,7 @@ impl Trial {
             "about" => self.layer = layer_of(given)?,
             "table" => self.table = Table::new(self.scene.alloc),
             "node" | "grid" | "path" | "bush" | "roots" | "plan" => self.plans.set(mark, given)?,
+            "strategy" => self.strategies.set(given)?,
             _ => self.scene.set(mark, given)?,
         }
         Ok(())
@@ -151,6 +157,7 @@ pub fn judge(alloc: Global, text: &str) -> Result<Progress, Stop> {
         scene: Scene::new(alloc)?,
         table: Table::new(alloc),
         plans: Plans::new(alloc)?,
+        strategies: Strategies::new(alloc),
         facts: 0,
     };
     judge_by(&mut trial, text)

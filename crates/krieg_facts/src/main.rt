@@ -23,6 +23,7 @@ mod searches;
 mod sets;
 mod splits;
 mod stop;
+mod strategies;
 mod tables;
 mod terms;
 mod texts;

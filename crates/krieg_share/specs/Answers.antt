@@ -48,7 +48,8 @@ module _ (d : Dialect) (j : ℕ) (cs : List (RootKey × List Pos)) where
   IsShared (Ok (Mates worst nodes roots)) = IsSharedAs worst nodes (map root_of roots.items)
   IsShared (Ok None) = ⊥
   IsShared (Err Spent) = ⊥
-  IsShared (Err Large) = IsOver (chess d) MOST_NODES MOST_EDGES (share_sets (chess d) j cs (nothing_shared (chess d))) ⊎ (MOST_ROOTS < length cs)
+  IsShared (Err Large) =
+      IsOver (chess d) MOST_NODES MOST_EDGES (share_sets (chess d) j cs (nothing_shared (chess d))) ⊎ (MOST_ROOTS < length cs)
   IsShared (Err NoMemory) = ⊤
 
 -- where there is some root, the nodes and roots make a strategy with that worst case

@@ -8,7 +8,8 @@ use Rattle.krieg_share.specs.Sharing.{AreShared, shared, shared_roots}
 module _ (G : Game) (O : Outset G) where
   -- the canonical plan of a list, once it is shared, unfolds to itself
   abbrev pub SharedUnfolds : Type 0
-  SharedUnfolds = (S : List G.Position) (plan : Plan G O) → IsCanonPlan G O plan S → unfold_plan (shared G O plan S).nodes (shared_roots G O plan S) ≡ plan
+  SharedUnfolds = (S : List G.Position) (plan : Plan G O) → IsCanonPlan G O plan S →
+      unfold_plan (shared G O plan S).nodes (shared_roots G O plan S) ≡ plan
 
   -- each set that is reached has one node there, which leads to lower numbers, and whose tree is the canonical one of the set
   abbrev pub SetsHaveOneNode : Type 0

@@ -73,7 +73,8 @@ module _ (G : Game) where
     pub as_many : length s.nodes ≡ length s.sets
     pub once : IsOnce s.sets
     pub below : AreBelow s.nodes
-    pub canonical : (i : ℕ) (X : List G.Position) → slice_get s.sets i ≡ Some X → (n : Tree G.Move G.Key) × IsCanon G n X × (slice_get (trees_of s.nodes) i ≡ Some n)
+    pub canonical : (i : ℕ) (X : List G.Position) → slice_get s.sets i ≡ Some X →
+        (n : Tree G.Move G.Key) × IsCanon G n X × (slice_get (trees_of s.nodes) i ≡ Some n)
 
 module _ (G : Game) (O : Outset G) where
   -- the same for each root of a plan for a list of positions
