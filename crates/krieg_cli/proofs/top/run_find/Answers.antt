@@ -26,5 +26,5 @@ returns-clause-judges g c =
 
 pub returns-clause-completes : goal.returns-clause-completes
 returns-clause-completes g c =
-    let run = runs_alone (LivesBy _ _ _) _ _ _ _ _ _ c.status.ensures c.report.ensures (map string_bytes c.args.words.now) (runs_of (LivesBy _ _ _) _ _ _ _ _ c.find_of.ensures c.obey-ending.ensures.runs) in
+    let run = returns-clause-ends g c in
     completes (λ account. account) nobody nobody run.ending _ _ _ _ run.runs run.status_is
