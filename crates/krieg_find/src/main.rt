@@ -1,6 +1,7 @@
-//! The program `krieg_find`: a start of `find` and `keys` over the standard streams. It reads a sheet. `find` writes what `krieg solve`
-//! writes with the same numbers, mostly for far fewer units; `keys` writes every first try that is as fast as any. Both take more moves,
-//! and more units. `./krieg` runs it for these words.
+//! The program `krieg_find`, for what lies beyond the limits of `krieg`: a start of `find`, `keys` and `judge` over the standard streams.
+//! Of a sheet `find` writes what `krieg solve` writes with the same numbers, mostly for far fewer units, and `keys` every first try that
+//! is as fast as any. Both take more moves, and more units. `judge` says of a strategy that it mates, and in how many moves. `./krieg`
+//! runs it for these words.
 //!
 //! ```
 //! ./krieg find 1 64 1 < examples/rook.sheet   # a plan that plays h1h8, and status 0
