@@ -21,6 +21,7 @@ mod san;
 mod scene;
 mod searches;
 mod sets;
+mod shares;
 mod splits;
 mod stop;
 mod strategies;

@@ -3,6 +3,7 @@
 use crate::answer::Answer;
 use crate::keys::say_keys;
 use crate::scene::Scene;
+use crate::shares::say_share;
 use crate::stop::Stop;
 use crate::terms::{count_of, halves, number_of, side_of, small_of};
 use krieg_board::{MOST_MOVES, Side, Units};
@@ -144,11 +145,12 @@ fn is_one_turn(scene: &Scene) -> Result<bool, Stop> {
     }
 }
 
-/// Answers a question about a search, about keys, or about whose turn it is.
+/// Answers a question about a search, about keys, about a strategy, or about whose turn it is.
 pub fn ask(scene: &Scene, mark: &str, given: &str, answer: &mut Answer) -> Result<(), Stop> {
     match mark {
         "one-turn" => answer.yes_or_no(is_one_turn(scene)?),
         "keys" => say_keys(scene, given, answer),
+        "share" => say_share(scene, given, answer),
         _ => ask_search(scene, mark, given, answer),
     }
 }
