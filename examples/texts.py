@@ -25,7 +25,7 @@ def command(words):
     """The program for these words, with them."""
     if not is_built:
         return [KRIEG, *words]
-    program = "krieg_find" if words[0] in ("find", "keys") else "krieg"
+    program = "krieg_find" if words[0] in ("find", "keys", "judge") else "krieg"
     return [CRATES / program / "out" / program, *words]
 
 
