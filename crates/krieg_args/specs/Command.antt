@@ -9,7 +9,7 @@ use Rattle.krieg_text.specs.Decimals.{number_between}
 use Rattle.krieg_fen.specs.declared.forms.TheConstants.{MOST_LISTED}
 use Rattle.krieg_args.specs.declared.command.TheConstants.{MOST_ASKS, MOST_SEED, MOST_FIND_MOVES, MOST_FIND_UNITS}
 use Rattle.krieg_args.specs.declared.command.Command.{Command}
-use Rattle.krieg_args.specs.declared.command.Command.TheVariants.{Solve, Check, Refute, Deny, Believe, Why, Umpire, San, Unsan, Play, Lead, Next, Find, Keys, Judge, Make, Job}
+use Rattle.krieg_args.specs.declared.command.Command.TheVariants.{Solve, Check, Refute, Deny, Believe, Why, Umpire, San, Unsan, Play, Lead, Next, Find, Keys, Share, Judge, Make, Job}
 use Rattle.krieg_args.specs.declared.command.Made.{Made}
 use Rattle.krieg_args.specs.declared.command.Made.TheVariants.{Session, Sheet}
 
@@ -85,7 +85,7 @@ numbers moves budget limit = do
 abbrev pub search_numbers : List ℕ → List ℕ → List ℕ → Option (ℕ × ℕ × ℕ)
 search_numbers moves budget limit = numbers (moves_of moves) (budget_of budget) (limit_of limit)
 
--- the numbers of `find` and of `keys`
+-- the numbers of `find`, of `keys` and of `share`
 abbrev pub find_numbers : List ℕ → List ℕ → List ℕ → Option (ℕ × ℕ × ℕ)
 find_numbers moves budget limit = numbers (find_moves_of moves) (find_budget_of budget) (limit_of limit)
 
@@ -100,6 +100,10 @@ find n = Find n.0 n.1 n.2
 -- for every try that is as fast
 abbrev pub keys : ℕ × ℕ × ℕ → Command
 keys n = Keys n.0 n.1 n.2
+
+-- for the best plan as a strategy
+abbrev pub share : ℕ × ℕ × ℕ → Command
+share n = Share n.0 n.1 n.2
 
 -- for a refutation
 abbrev pub refute : ℕ × ℕ × ℕ → Command
@@ -168,7 +172,8 @@ find_of_one name word = if bytes_eq name (codes "judge") then option_map Judge (
 abbrev pub find_of_three : List ℕ → List ℕ → List ℕ → List ℕ → Option Command
 find_of_three name moves budget limit =
     if bytes_eq name (codes "find") then option_map find (find_numbers moves budget limit)
-    else (if bytes_eq name (codes "keys") then option_map keys (find_numbers moves budget limit) else None)
+    else (if bytes_eq name (codes "keys") then option_map keys (find_numbers moves budget limit)
+    else (if bytes_eq name (codes "share") then option_map share (find_numbers moves budget limit) else None))
 
 -- The command of these words, where they are the form of one: a name, and after it as many words as the name asks for. The three
 -- numbers of a search without a name are those of `find`.

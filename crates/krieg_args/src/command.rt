@@ -11,10 +11,10 @@ pub const MOST_ASKS: u64 = 4_096;
 /// The greatest number of a made input and of a made job.
 pub const MOST_SEED: u64 = 4_294_967_295;
 
-/// The most own moves that `find` and `keys` may be asked for.
+/// The most own moves that `find`, `keys` and `share` may be asked for.
 pub const MOST_FIND_MOVES: u8 = 100;
 
-/// The most units of work that `find`, `keys` and `judge` may be given.
+/// The most units of work that `find`, `keys`, `share` and `judge` may be given.
 pub const MOST_FIND_UNITS: u64 = 4_000_000_000;
 
 /// What a made input is.
@@ -108,6 +108,15 @@ pub enum Command {
     /// `keys MOVES BUDGET LIMIT`, words of the program `krieg_find`: each first try of a sheet that is as fast as any, with the
     /// numbers of `find`.
     Keys {
+        /// From 1 to [`MOST_FIND_MOVES`].
+        moves: u64,
+        /// From 1 to [`MOST_FIND_UNITS`].
+        budget: u64,
+        /// From 1 to [`MOST_LISTED`].
+        limit: u64,
+    },
+    /// `share MOVES BUDGET LIMIT`, words of the program `krieg_find`: the plan of `find` as a strategy, with the numbers of `find`.
+    Share {
         /// From 1 to [`MOST_FIND_MOVES`].
         moves: u64,
         /// From 1 to [`MOST_FIND_UNITS`].
@@ -246,7 +255,7 @@ fn search_numbers(moves: &str, budget: &str, limit: &str) -> Option<(u64, u64, u
     numbers(moves_of(moves), budget_of(budget), limit_of(limit))
 }
 
-/// The numbers of `find` and of `keys`.
+/// The numbers of `find`, of `keys` and of `share`.
 fn find_numbers(moves: &str, budget: &str, limit: &str) -> Option<(u64, u64, u64)>
     ensures { result ≡ spec.find_numbers moves.now budget.now limit.now }
 {
@@ -295,6 +304,17 @@ fn keys(numbers: (u64, u64, u64)) -> Command
 {
     let (moves, budget, limit) = numbers;
     Command::Keys {
+        moves,
+        budget,
+        limit,
+    }
+}
+
+fn share(numbers: (u64, u64, u64)) -> Command
+    ensures { result ≡ spec.share numbers }
+{
+    let (moves, budget, limit) = numbers;
+    Command::Share {
         moves,
         budget,
         limit,
@@ -434,6 +454,8 @@ fn find_of_three(name: &str, moves: &str, budget: &str, limit: &str) -> Option<C
         Some(find(find_numbers(moves, budget, limit)?))
     } else if is_name(b"keys", name) {
         Some(keys(find_numbers(moves, budget, limit)?))
+    } else if is_name(b"share", name) {
+        Some(share(find_numbers(moves, budget, limit)?))
     } else {
         None
     }
