@@ -122,7 +122,7 @@ pub use Rattle.krieg_make.specs.MadeSessions.{made_session}
 pub use Rattle.krieg_make.specs.MadeSheets.{made_list, made_sheet}
 pub use Rattle.krieg_args.specs.Command.{asks_of, budget_of, command_of, command_of_name, command_of_one, command_of_three, find, find_budget_of, find_moves_of, find_numbers, find_of, find_of_one, find_of_three, lead, lead_from, limit_of, made_input, make, moves_of, number, numbers, place_of, play, refute, search_numbers, seed_of, solve, takes_input, ◌>>=◌}
 pub use Rattle.krieg_args.specs.declared.command.Command.{Command}
-pub use Rattle.krieg_args.specs.declared.command.Command.TheVariants.{Believe, Check, Deny, Find, Job, Judge, Keys, Lead, Make, Next, Play, Refute, San, Solve, Umpire, Unsan, Why}
+pub use Rattle.krieg_args.specs.declared.command.Command.TheVariants.{Believe, Check, Deny, Find, Job, Judge, Keys, Lead, Make, Next, Play, Refute, San, Share, Solve, Umpire, Unsan, Why}
 pub use Rattle.krieg_args.specs.declared.command.Made.{Made}
 pub use Rattle.krieg_args.specs.declared.command.TheConstants.{MOST_FIND_MOVES, MOST_SEED}
 pub use Rattle.krieg_cli.specs.Asked.{IsGiven, Leaves, OfPossible, has_no_turn}
@@ -133,11 +133,13 @@ pub use Rattle.krieg_cli.specs.Judge.{JudgedSo}
 pub use Rattle.krieg_cli.specs.WholeStrategies.{JudgesStrategies, WritesWorst}
 pub use Rattle.krieg_strategyfile.specs.Strategies.{StrategyState}
 unfoldable pub use Rattle.krieg_strategyfile.specs.StrategyFormat.{strategy_at}
-pub use Rattle.krieg_cli.specs.Complete.{BenchHolds, CanBeChecked, CanBeDenied, CanBeJudged, CanBeKeyed, CanBeRefuted, CanBeShown, CanBeSolved, CanBeSummed, CanPlay, Completes, HoldsText, MustAnswer, NoneFailed, seats_since}
+unfoldable pub use Rattle.krieg_strategyfile.specs.StrategyText.{strategy_text}
+pub use Rattle.krieg_share.specs.Answers.{IsBestStrategy, IsStrategyAnswer, MakesStrategy, TakesAsPlan}
+pub use Rattle.krieg_cli.specs.Complete.{BenchHolds, CanBeChecked, CanBeDenied, CanBeJudged, CanBeKeyed, CanBeRefuted, CanBeShared, CanBeShown, CanBeSolved, CanBeSummed, CanPlay, Completes, HoldsText, MustAnswer, NoneFailed, seats_since}
 unfoldable pub use Rattle.krieg_cli.specs.Deny.{refuted_text}
 pub use Rattle.krieg_cli.specs.Deny.{Judged}
 pub use Rattle.krieg_cli.specs.Ending.{line_of, status}
-pub use Rattle.krieg_cli.specs.Headline.{AnswersKeys, AnswersSheet, HasSheet, ListsKeys, WritesKeys, WritesNone, WritesPlan}
+pub use Rattle.krieg_cli.specs.Headline.{AnswersKeys, AnswersShared, AnswersSheet, HasSheet, ListsKeys, SharesPlans, WritesKeys, WritesNone, WritesPlan, WritesStrategy}
 pub use Rattle.krieg_cli.specs.Input.{WasRead, WasTaken}
 unfoldable pub use Rattle.krieg_cli.specs.Job.{summary_text}
 pub use Rattle.krieg_cli.specs.Job.{IsFound, Plans, Summarizes, checked_line, found_lines, mates_line, summary_lines}
@@ -154,6 +156,7 @@ pub use Rattle.krieg_cli.specs.Parts.{Decides, LeavesSeats, SearchedBy, SolvedBy
 pub use Rattle.krieg_cli.specs.Play.{HasBegun, PlaysFrom, PlaysWhole}
 pub use Rattle.krieg_cli.specs.Refusal.{OfText, refusal_status, text_status}
 pub use Rattle.krieg_cli.specs.Refute.{CanBeListed, Claimed, IsDenialText, Refuted, denial_file}
+pub use Rattle.krieg_cli.specs.Share.{IsShared, IsSharedText, SharedBy, SharedFor, TellsShared, strategy_of}
 pub use Rattle.krieg_cli.specs.Solve.{IsBestFile, IsTooLarge, Searched, Tells, file_of, least_units, mates_all}
 pub use Rattle.krieg_cli.specs.VerdictCounts.{verdict_counts}
 pub use Rattle.krieg_cli.specs.Top.{Answers, ComesTo, Ends, Gets, IsRun, LeavesBench, Reports, Runs, RunsAlone, nobody}

@@ -3,7 +3,7 @@ use Rattle.std.proofs.Common.{◌≡◌, Bool, ◌⊎◌, inl, inr, ℕ, ◌<◌
 use Rattle.std.specs.Prelude.{MatchBool}
 use Rattle.std.proofs.lemmas.Bool.{both_ways}
 use Rattle.std.proofs.lemmas.List.{append-nil}
-use Rattle.krieg_cli.proofs.Common.{JudgedSo, Pos, White, Black, SheetState, san_of, unsan_of, IsPossible, is_nil, PlanState, made_sheet, Line, Account, Team, Turns, Service, BrokenCourse, HasFailed, entry_of, now_of, Sides, takes_input, Command, Solve, Check, Refute, Deny, Believe, Why, Umpire, San, Unsan, Play, Lead, Next, Find, Keys, Judge, Make, Job, Made, World, FaultsRose, WasRead, OfText, status, Leaves, has_no_turn, OfPossible, SearchedBy, SolvedBy, Claimed, Refuted, Keyed, KeyedFor, Judged, told_text, Believed, Shows, HeardState, PlaysFrom, PlaysWhole, LeadsFrom, LeadsWhole, Says, LivesBy, Makes, Plans, Summarizes, LiveOutcome, HasOutcome, ComesTo, Ends, Runs, CanBeSolved, CanBeJudged, CanBeKeyed, CanBeRefuted, CanBeDenied, CanBeChecked, CanBeShown, CanBeSummed, HoldsText, MustAnswer, NoneFailed, seats_since, CanPlay, BenchHolds, Completes, Refusal, Ending, MOST_INPUT}
+use Rattle.krieg_cli.proofs.Common.{JudgedSo, Pos, White, Black, SheetState, san_of, unsan_of, IsPossible, is_nil, PlanState, made_sheet, Line, Account, Team, Turns, Service, BrokenCourse, HasFailed, entry_of, now_of, Sides, takes_input, Command, Solve, Check, Refute, Deny, Believe, Why, Umpire, San, Unsan, Play, Lead, Next, Find, Keys, Share, Judge, Make, Job, Made, World, FaultsRose, WasRead, OfText, status, Leaves, has_no_turn, OfPossible, SearchedBy, SolvedBy, Claimed, Refuted, Keyed, KeyedFor, SharedBy, SharedFor, Judged, told_text, Believed, Shows, HeardState, PlaysFrom, PlaysWhole, LeadsFrom, LeadsWhole, Says, LivesBy, Makes, Plans, Summarizes, LiveOutcome, HasOutcome, ComesTo, Ends, Runs, CanBeSolved, CanBeJudged, CanBeKeyed, CanBeShared, CanBeRefuted, CanBeDenied, CanBeChecked, CanBeShown, CanBeSummed, HoldsText, MustAnswer, NoneFailed, seats_since, CanPlay, BenchHolds, Completes, Refusal, Ending, MOST_INPUT}
 use Rattle.krieg_pack.proofs.PositionSets.{same_members}
 use Rattle.krieg_sheet.specs.Turns.{is_over}
 use Rattle.krieg_belief.proofs.Prefixes.{excess_not_within}
@@ -12,7 +12,7 @@ use Rattle.krieg_cli.specs.declared.refusal.Refusal.TheVariants as refusal
 use Rattle.krieg_cli.specs.declared.ending.Ending.TheVariants as ending
 use Rattle.krieg_cli.proofs.WholeGames.{text_read, given_le}
 
--- ---- solve, find, keys and refute
+-- ---- solve, find, keys, share and refute
 
 -- a sheet has one list of possible positions
 one_list : (s : SheetState) (S T : List Pos) → IsPossible s S → IsPossible s T → S ≡ T
@@ -43,6 +43,14 @@ keying n budget limit text can r h = asking limit can.sheet (is_over can.sheet) 
   where
     go : (r : Refusal) → Keyed can.sheet.dialect can.sheet.side can.positions n budget (Err r) → ⊥
     go refusal.BudgetSpent h = let enough = can.enough in omega (arith, h, enough)
+    go _ h = h
+
+sharing : (n budget limit : ℕ) (text : List ℕ) (can : CanBeShared n budget limit text) (r : Refusal) → SharedFor n budget limit can.sheet (Err r) → ⊥
+sharing n budget limit text can r h = asking limit can.sheet (is_over can.sheet) (λ S. SharedBy can.sheet.dialect can.sheet.side S n budget) can.positions can.leaves can.goes_on go r h
+  where
+    go : (r : Refusal) → SharedBy can.sheet.dialect can.sheet.side can.positions n budget (Err r) → ⊥
+    go refusal.BudgetSpent h = let enough = can.enough in omega (arith, h, enough)
+    go refusal.PlanTooLarge h = can.fits h
     go _ h = h
 
 refuting : (n budget limit : ℕ) (text : List ℕ) (can : CanBeRefuted n budget limit text) (r : Refusal) → Refuted n budget limit can.sheet (Err r) → ⊥
@@ -167,6 +175,7 @@ refused account entry now (Solve n budget limit) text r h can bench =
 refused account entry now (Find n budget limit) text r h can bench =
     solving true n budget limit text can r (subst (λ x. OfText x (SolvedBy true n budget limit) (Err r)) can.spelled h)
 refused account entry now (Keys n budget limit) text r h can bench = keying n budget limit text can r (subst (λ x. OfText x (KeyedFor n budget limit) (Err r)) can.spelled h)
+refused account entry now (Share n budget limit) text r h can bench = sharing n budget limit text can r (subst (λ x. OfText x (SharedFor n budget limit) (Err r)) can.spelled h)
 refused account entry now (Judge budget) text r h can bench = judging budget text can r (subst (λ x. OfText x (JudgedSo budget) (Err r)) can.spelled h)
 refused account entry now (Check budget) text r h can bench = checking budget text can r (subst (λ x. OfText x (Checked budget) (Err r)) can.spelled h)
 refused account entry now (Refute n budget limit) text r h can bench =

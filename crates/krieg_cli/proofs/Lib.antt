@@ -20,6 +20,7 @@ mod Limits
 mod Refuting
 mod Reports
 mod Searching
+mod SharedTexts
 mod SheetTurns
 mod Showing
 mod ToldClaims

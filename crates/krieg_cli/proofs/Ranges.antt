@@ -62,7 +62,7 @@ pub record IsAskedAlone (c : Command) : Type 0 where
   pub range : IsInRange c
   pub calm : is_live c ≡ false
 
--- those of `find` and of `keys`
+-- those of `find`, of `keys` and of `share`
 by_find : (moves budget limit : List ℕ) (name : ℕ × ℕ × ℕ → Command) → ((n : ℕ × ℕ × ℕ) → AreRanged MOST_FIND_MOVES n → IsAskedAlone (name n)) → Each IsAskedAlone (option_map name (find_numbers moves budget limit))
 by_find moves budget limit name = searching MOST_FIND_MOVES (find_moves_of moves) (find_budget_of budget) (limit_of limit) name (within 1 MOST_FIND_MOVES moves (omega arith)) (within 1 MOST_LISTED limit (omega arith))
 
@@ -130,7 +130,8 @@ by_numbers moves budget limit = by_find moves budget limit find (λ n h. record 
 by_name : (name moves budget limit : List ℕ) → Each IsAskedAlone (find_of_three name moves budget limit)
 by_name name moves budget limit =
     either (bytes_eq name (codes "find")) _ _ (by_numbers moves budget limit)
-    (either (bytes_eq name (codes "keys")) _ _ (by_find moves budget limit words.keys (λ n h. record { range = (h.1, h.2); calm = refl })) none)
+    (either (bytes_eq name (codes "keys")) _ _ (by_find moves budget limit words.keys (λ n h. record { range = (h.1, h.2); calm = refl }))
+    (either (bytes_eq name (codes "share")) _ _ (by_find moves budget limit words.share (λ n h. record { range = (h.1, h.2); calm = refl })) none))
 
 by_word : (name word : List ℕ) → Each IsAskedAlone (find_of_one name word)
 by_word name word = either (bytes_eq name (codes "judge")) _ _ (mapped Judge (find_budget_of word) (λ n. record { range = tt; calm = refl })) none

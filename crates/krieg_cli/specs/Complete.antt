@@ -29,12 +29,13 @@ use Rattle.krieg_play.specs.Teams.{Team}
 use Rattle.krieg_play.specs.Played.{Sides}
 use Rattle.krieg_args.specs.Command.{takes_input}
 use Rattle.krieg_args.specs.declared.command.Command.{Command}
-use Rattle.krieg_args.specs.declared.command.Command.TheVariants.{Solve, Check, Refute, Deny, Believe, Why, Umpire, San, Unsan, Play, Lead, Next, Find, Keys, Judge, Make, Job}
+use Rattle.krieg_args.specs.declared.command.Command.TheVariants.{Solve, Check, Refute, Deny, Believe, Why, Umpire, San, Unsan, Play, Lead, Next, Find, Keys, Share, Judge, Make, Job}
 use Rattle.krieg_cli.specs.World.{Stream, World, FaultsRose}
 use Rattle.krieg_cli.specs.Asked.{Leaves, has_no_turn}
 use Rattle.krieg_cli.specs.Solve.{mates_all, fresh_units, NoneMates, IsBestFile, IsTooLarge}
 use Rattle.krieg_cli.specs.Refute.{AreTooMany}
 use Rattle.krieg_strategyfile.specs.Strategies.{StrategyState}
+use Rattle.krieg_share.specs.Answers.{IsLargeStrategy}
 use Rattle.krieg_strategyfile.specs.StrategyFormat.{strategy_at}
 use Rattle.krieg_cli.specs.Check.{check_cost}
 use Rattle.krieg_cli.specs.Judge.{judge_cost, unfolded}
@@ -66,6 +67,17 @@ pub record CanBeKeyed (n budget limit : ℕ) (text : List ℕ) : Type 0 where
   pub leaves : Leaves limit sheet positions
   pub goes_on : is_over sheet ≡ false
   pub enough : fresh_units sheet.dialect sheet.side positions n ≤ budget
+
+-- The sheet asks for a plan, the budget is as much as a search may take, and the best plan, where there is one, has not too many nodes,
+-- edges and roots for a strategy.
+pub record CanBeShared (n budget limit : ℕ) (text : List ℕ) : Type 0 where
+  pub sheet : SheetState
+  pub positions : List Pos
+  pub spelled : whole sheet_at (lines text) ≡ Ok sheet
+  pub leaves : Leaves limit sheet positions
+  pub goes_on : is_over sheet ≡ false
+  pub enough : fresh_units sheet.dialect sheet.side positions n ≤ budget
+  pub fits : IsLargeStrategy sheet.dialect sheet.side positions n → ⊥
 
 -- The plan mates from each listed position within the number that the file states, and the budget is as much as a check takes.
 pub record CanBeChecked (budget : ℕ) (text : List ℕ) : Type 0 where
@@ -128,6 +140,7 @@ abbrev pub MustAnswer : Command → List ℕ → Type 0
 MustAnswer (Solve n budget limit) text = CanBeSolved n budget limit text
 MustAnswer (Find n budget limit) text = CanBeSolved n budget limit text
 MustAnswer (Keys n budget limit) text = CanBeKeyed n budget limit text
+MustAnswer (Share n budget limit) text = CanBeShared n budget limit text
 MustAnswer (Check budget) text = CanBeChecked budget text
 MustAnswer (Judge budget) text = CanBeJudged budget text
 MustAnswer (Refute n budget limit) text = CanBeRefuted n budget limit text

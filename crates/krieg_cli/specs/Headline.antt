@@ -1,7 +1,8 @@
 -- The headline. Given the positions in which a game may have started and what one player has heard since, `solve` and `find` write a
 -- plan by which he mates wherever the hidden men are and whatever the opponent plays, within the number of own moves that the
 -- plan states; no plan needs fewer at worst; and it writes that there is none only where no plan mates within the number of
--- moves that was asked for. Of the same positions `keys` writes each first try with which as few moves are enough as with any.
+-- moves that was asked for. Of the same positions `keys` writes each first try with which as few moves are enough as with any, and
+-- `share` the plan of `find` as a strategy: what repeats itself in it is written once.
 use Rattle.std.specs.Prelude.{◌≡◌, ◌≤◌, ◌⊎◌, ℕ, true, false, List, length, Option, Some, Ok}
 use Rattle.std.specs.Io.KnownBytes.{Appends}
 use Rattle.krieg_board.specs.Pos.{Pos}
@@ -15,12 +16,17 @@ use Rattle.krieg_plan.specs.Trees.{PlanTrees}
 use Rattle.krieg_planfile.specs.PlanFiles.{PlanState}
 use Rattle.krieg_planfile.specs.PlanReading.{plan_at}
 use Rattle.krieg_planfile.specs.PlanText.{plan_text}
+use Rattle.krieg_strategyfile.specs.Strategies.{StrategyState}
+use Rattle.krieg_strategyfile.specs.StrategyFormat.{strategy_at}
+use Rattle.krieg_strategyfile.specs.StrategyText.{strategy_text}
 use Rattle.krieg_args.specs.declared.command.Command.{Command}
-use Rattle.krieg_args.specs.declared.command.Command.TheVariants.{Solve, Find, Keys}
+use Rattle.krieg_args.specs.declared.command.Command.TheVariants.{Solve, Find, Keys, Share}
 use Rattle.krieg_cli.specs.World.{Stream, World}
 use Rattle.krieg_cli.specs.Input.{WasRead}
 use Rattle.krieg_cli.specs.Solve.{none_text, mates_all}
+use Rattle.krieg_cli.specs.Judge.{unfolded}
 use Rattle.krieg_cli.specs.Keys.{IsKeysText}
+use Rattle.krieg_cli.specs.Share.{IsShared}
 use Rattle.krieg_cli.specs.declared.input.TheConstants.{MOST_INPUT}
 
 -- The input was the text of this sheet, and these are the positions that are consistent with it, each once: there is one.
@@ -85,3 +91,27 @@ AnswersKeys n before after err err' =
 abbrev pub ListsKeys : Option Command → ℕ → World → World → Stream → Stream → Type 0
 ListsKeys asked code before after err err' =
     (n budget limit : ℕ) → asked ≡ Some (Keys n budget limit) → code ≡ 0 → AnswersKeys n before after err err'
+
+-- The answer is a strategy for these positions, is read as that strategy again, and is short enough to be the input of `judge`. The
+-- plan that it unfolds to mates from each of the positions, against every reply, within the number that the strategy states, which is
+-- at most n; and no plan has a smaller worst case. It is the canonical plan, and each set of positions that is reached has one node.
+pub record WritesStrategy (n : ℕ) (s : SheetState) (S : List Pos) (before after : World) : Type 0 where
+  pub strategy : StrategyState
+  pub shared : IsShared s.dialect s.side S n strategy
+  pub mates : mates_all s.dialect s.side S (unfolded strategy) strategy.worst ≡ true
+  pub within : strategy.worst ≤ n
+  pub least : (plan : PlanTrees) (k : ℕ) → mates_all s.dialect s.side S plan k ≡ true → strategy.worst ≤ k
+  pub written : Appends before.out.bytes after.out.bytes (strategy_text strategy)
+  pub again : whole strategy_at (lines (strategy_text strategy)) ≡ Ok strategy
+  pub short : length (strategy_text strategy) ≤ MOST_INPUT
+
+-- the strategy of a sheet, or that there is none, and err stays as it was
+abbrev pub AnswersShared : ℕ → World → World → Stream → Stream → Type 0
+AnswersShared n before after err err' =
+    (s : SheetState) × (S : List Pos) × HasSheet s S before after × (WritesStrategy n s S before after ⊎ WritesNone n s S before after) × (err' ≡ err)
+
+-- status 0 is that answer, with the words of `share`
+
+abbrev pub SharesPlans : Option Command → ℕ → World → World → Stream → Stream → Type 0
+SharesPlans asked code before after err err' =
+    (n budget limit : ℕ) → asked ≡ Some (Share n budget limit) → code ≡ 0 → AnswersShared n before after err err'

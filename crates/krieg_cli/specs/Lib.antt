@@ -10,6 +10,7 @@ pub mod Judge
 pub mod Refute
 pub mod Deny
 pub mod Keys
+pub mod Share
 pub mod Believe
 pub mod Why
 pub mod Umpire

@@ -2,11 +2,12 @@
 use Rattle.std.specs.Prelude.{ℕ, ◌≤◌, List, Result}
 use Rattle.krieg_fen.specs.declared.forms.TheConstants.{MOST_LISTED}
 use Rattle.krieg_args.specs.declared.command.Command.{Command}
-use Rattle.krieg_args.specs.declared.command.Command.TheVariants.{Solve, Check, Refute, Deny, Believe, Why, Umpire, San, Unsan, Play, Lead, Next, Find, Keys, Judge, Make, Job}
+use Rattle.krieg_args.specs.declared.command.Command.TheVariants.{Solve, Check, Refute, Deny, Believe, Why, Umpire, San, Unsan, Play, Lead, Next, Find, Keys, Share, Judge, Make, Job}
 use Rattle.krieg_args.specs.declared.command.TheConstants.{MOST_SEED, MOST_FIND_MOVES}
 use Rattle.krieg_cli.specs.Solve.{Solves}
 use Rattle.krieg_cli.specs.Find.{Finds}
 use Rattle.krieg_cli.specs.Keys.{FindsKeys}
+use Rattle.krieg_cli.specs.Share.{SharesPlan}
 use Rattle.krieg_cli.specs.Check.{Checks}
 use Rattle.krieg_cli.specs.Judge.{Judges}
 use Rattle.krieg_cli.specs.Refute.{Refutes}
@@ -32,6 +33,7 @@ abbrev pub IsInRange : Command → Type 0
 IsInRange (Solve moves budget limit) = (moves ≤ MOST_MOVES) × (limit ≤ MOST_LISTED)
 IsInRange (Find moves budget limit) = (moves ≤ MOST_FIND_MOVES) × (limit ≤ MOST_LISTED)
 IsInRange (Keys moves budget limit) = (moves ≤ MOST_FIND_MOVES) × (limit ≤ MOST_LISTED)
+IsInRange (Share moves budget limit) = (moves ≤ MOST_FIND_MOVES) × (limit ≤ MOST_LISTED)
 IsInRange (Refute moves budget limit) = (1 ≤ moves) × (moves ≤ MOST_MOVES) × (limit ≤ MOST_LISTED)
 IsInRange (Lead asks number) = 1 ≤ number
 IsInRange (Make what number) = number ≤ MOST_SEED
@@ -43,6 +45,7 @@ abbrev pub HasOutcome : LiveOutcome → Command → List ℕ → Result (List �
 HasOutcome live (Solve moves budget limit) text outcome = Solves moves budget limit text outcome
 HasOutcome live (Find moves budget limit) text outcome = Finds moves budget limit text outcome
 HasOutcome live (Keys moves budget limit) text outcome = FindsKeys moves budget limit text outcome
+HasOutcome live (Share moves budget limit) text outcome = SharesPlan moves budget limit text outcome
 HasOutcome live (Check budget) text outcome = Checks budget text outcome
 HasOutcome live (Judge budget) text outcome = Judges budget text outcome
 HasOutcome live (Refute moves budget limit) text outcome = Refutes moves budget limit text outcome

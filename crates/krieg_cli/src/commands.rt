@@ -15,6 +15,7 @@ pub(crate) mod play;
 pub(crate) mod recorded;
 pub(crate) mod refute;
 pub(crate) mod san;
+pub(crate) mod share;
 pub(crate) mod solve;
 pub(crate) mod umpire;
 pub(crate) mod unsan;

@@ -7,8 +7,8 @@ ghost use Rattle.krieg_cli.specs.Outcome as spec;
 use crate::answers::{CommandAnswer, in_pieces, whole};
 use crate::commands::solve::Terms;
 use crate::commands::{
-    believe, check, deny, job, judge, keys, lead, make, next, play, refute, san, solve, umpire,
-    unsan, why,
+    believe, check, deny, job, judge, keys, lead, make, next, play, refute, san, share, solve,
+    umpire, unsan, why,
 };
 use crate::ending::Ending;
 use krieg_args::Command;
@@ -70,6 +70,19 @@ fn whole_outcome(
                 limit: *limit,
             };
             keys::answer(alloc, terms, text)
+        }
+        Command::Share {
+            moves,
+            budget,
+            limit,
+        } => {
+            let terms = Terms {
+                cut: true,
+                moves: *moves,
+                budget: *budget,
+                limit: *limit,
+            };
+            share::answer(alloc, terms, text)
         }
         Command::Check { budget } => check::answer(alloc, *budget, text),
         Command::Judge { budget } => judge::answer(alloc, *budget, text),

@@ -13,7 +13,7 @@ ghost use Rattle.krieg_cli.specs.WholeStrategies.{JudgesStrategies};
 ghost use Rattle.krieg_cli.specs.WholeRefutations.{RefutesSheets, DeniesRefutations};
 ghost use Rattle.krieg_cli.specs.LedGames.{LeadsToMate};
 ghost use Rattle.krieg_cli.specs.WholeRecords.{ReturnsGames};
-ghost use Rattle.krieg_cli.specs.Headline.{SolvesSheets, FindsSheets, ListsKeys};
+ghost use Rattle.krieg_cli.specs.Headline.{SolvesSheets, FindsSheets, ListsKeys, SharesPlans};
 ghost use Rattle.krieg_cli.specs.Complete.{Completes};
 
 use crate::answers::write_answer;
@@ -205,7 +205,7 @@ pub fn run<S: Source, O: Sink, E: Sink>(
 
 /// Does all that the program `krieg_find` does, over streams, and gives the status with which it ends.
 ///
-/// The commands, `find` and `keys` on any sheet and `judge` on any strategy, with numbers that go further than those of `solve`:
+/// The commands, `find`, `keys` and `share` on any sheet and `judge` on any strategy, with numbers that go further than those of `solve`:
 /// [`MOST_FIND_MOVES`](krieg_args::MOST_FIND_MOVES) and [`MOST_FIND_UNITS`](krieg_args::MOST_FIND_UNITS):
 ///
 /// - `find MOVES BUDGET LIMIT`, or these numbers alone, for which `out` gets what `solve` writes: the plan file of the canonical
@@ -214,6 +214,7 @@ pub fn run<S: Source, O: Sink, E: Sink>(
 ///   an answer takes;
 /// - `keys MOVES BUDGET LIMIT`, for which it gets, for each thing that may be heard before the first own turn, the least number of own
 ///   moves and every try with which that many are enough; or the line `none MOVES` by the same rule;
+/// - `share MOVES BUDGET LIMIT`, for which it gets the plan of `find` as a strategy, or the line `none MOVES` by the same rule;
 /// - `judge BUDGET`, for which it gets the worst case of the plan that the strategy unfolds to.
 ///
 /// The status tells how it ended, and is that of [`run`] by the same causes:
@@ -227,9 +228,9 @@ pub fn run<S: Source, O: Sink, E: Sink>(
 /// | 5 | of a sheet, exactly where no position is possible |
 /// | 6 | of a sheet, exactly where the game is over |
 /// | 7 | of a sheet, exactly where more positions are possible after some part of it than the limit allows |
-/// | 8 | of `find` and `keys` only where the budget is less than a search may take; of `judge` exactly where it is less than the judgement takes |
+/// | 8 | of `find`, `keys` and `share` only where the budget is less than a search may take; of `judge` exactly where it is less than the judgement takes |
 /// | 13 | of `judge`, exactly where the plan does not mate all that is listed within the number that the strategy claims |
-/// | 14 | of `find`, exactly where the best plan is too large for a text; the budget is not spent then |
+/// | 14 | of `find` and `share`, exactly where the best plan is too large for a text or for a strategy; the budget is not spent then |
 /// | 9 | where a read failed, with no more bytes read than an input may have |
 /// | 10 | where a write to `out` failed, which has got a front part of the answer then |
 /// | 11 | for want of memory |
@@ -261,6 +262,12 @@ pub fn run_find<S: Source, O: Sink, E: Sink>(
     ensures keys { let seen = world S.left S.faults O.got O.faults in
         let heard = stream E.got E.faults in
         ListsKeys (asked_to_find words.now) result
+        (seen input.old out.old) (seen input.new out.new) (heard err.old) (heard err.new) }
+
+    // What `share` has written is the best plan for the sheet as a strategy, or that there is none.
+    ensures shares { let seen = world S.left S.faults O.got O.faults in
+        let heard = stream E.got E.faults in
+        SharesPlans (asked_to_find words.now) result
         (seen input.old out.old) (seen input.new out.new) (heard err.old) (heard err.new) }
 
     // What `judge` has written is the worst case of the plan that the strategy unfolds to.

@@ -9,6 +9,9 @@ returns-in-Find-clause-outcome g c = rw c.in-Find.is c.answer-in-Find.ensures
 pub returns-in-Keys-clause-outcome : goal.returns-in-Keys-clause-outcome
 returns-in-Keys-clause-outcome g c = rw c.in-Keys.is c.answer-in-Keys.ensures
 
+pub returns-in-Share-clause-outcome : goal.returns-in-Share-clause-outcome
+returns-in-Share-clause-outcome g c = rw c.in-Share.is c.answer-in-Share.ensures
+
 pub returns-in-Lead-clause-outcome : goal.returns-in-Lead-clause-outcome
 returns-in-Lead-clause-outcome g c = rw c.in-Lead.is c.answer-in-Lead.ensures.outcome
 

@@ -3,7 +3,7 @@ use Rattle.std.specs.Prelude.{string_bytes}
 use Rattle.krieg_cli.proofs.Common.{LivesBy, nobody}
 use Rattle.krieg_cli.proofs.Tables.{runs_of}
 use Rattle.krieg_cli.proofs.Finding.{runs_alone}
-use Rattle.krieg_cli.proofs.Headline.{answers_sheets, lists_keys}
+use Rattle.krieg_cli.proofs.Headline.{answers_sheets, lists_keys, shares_plans}
 use Rattle.krieg_cli.proofs.Judging.{judges_strategies}
 use Rattle.krieg_cli.proofs.Complete.{completes}
 use Rattle.krieg_cli.proofs.top.run_find.Goals as goal
@@ -19,6 +19,10 @@ returns-clause-finds g c =
 pub returns-clause-keys : goal.returns-clause-keys
 returns-clause-keys g c =
     lists_keys (LivesBy _ _ _) _ _ _ _ _ _ _ (runs_of (LivesBy _ _ _) _ _ _ _ _ c.find_of.ensures c.obey-ending.ensures.runs) c.report.ensures c.status.ensures
+
+pub returns-clause-shares : goal.returns-clause-shares
+returns-clause-shares g c =
+    shares_plans (LivesBy _ _ _) _ _ _ _ _ _ _ (runs_of (LivesBy _ _ _) _ _ _ _ _ c.find_of.ensures c.obey-ending.ensures.runs) c.report.ensures c.status.ensures
 
 pub returns-clause-judges : goal.returns-clause-judges
 returns-clause-judges g c =

@@ -1,0 +1,24 @@
+use Rattle.std.proofs.Common.{sym, ◌∙◌, arith}
+use Rattle.krieg_sheet.specs.Turns.{is_over}
+use Rattle.krieg_cli.proofs.Common.{SharedBy}
+use Rattle.krieg_cli.proofs.Asking.{given, asked}
+use Rattle.krieg_cli.proofs.Searching.{few_possible}
+use Rattle.krieg_cli.proofs.SharedTexts.{later}
+use Rattle.krieg_cli.proofs.SheetTurns.{valid_possible}
+use Rattle.krieg_cli.proofs.commands.share.shared.Goals as goal
+
+pub searched-requires-clause-few : goal.searched-requires-clause-few
+searched-requires-clause-few c =
+    let leaves = (given c.args.terms.limit c.args.sheet c.is_over.result c.in_ok-set.set c.in_ok-set.ensures.set).0 in
+    omega (arith, few_possible c.args.sheet c.args.terms.limit c.in_ok-set.set leaves.within leaves.possible, c.requires.terms.few)
+
+pub searched-requires-clause-valid : goal.searched-requires-clause-valid
+searched-requires-clause-valid c =
+    let leaves = (given c.args.terms.limit c.args.sheet c.is_over.result c.in_ok-set.set c.in_ok-set.ensures.set).0 in
+    valid_possible c.args.sheet c.in_ok-set.set c.dialect-dialect.ensures.sheet leaves.possible
+
+pub returns : goal.returns
+returns c =
+    let is = given c.args.terms.limit c.args.sheet c.is_over.result c.in_ok-set.set c.in_ok-set.ensures.set in
+    asked c.args.terms.limit c.args.sheet (is_over c.args.sheet) (λ d who S. SharedBy d who S c.args.terms.moves c.args.terms.budget) (later c.args.terms.moves c.args.terms.budget) c.in_ok-set.set is.0 (sym c.is_over.ensures.value ∙ is.1)
+    (λ answer. answer.items) c.searched.result c.dialect-dialect.result c.side-side.result c.dialect-dialect.ensures.value c.side-side.ensures.value c.searched.ensures
