@@ -108,7 +108,8 @@ pub record WritesStrategy (n : ℕ) (s : SheetState) (S : List Pos) (before afte
 -- the strategy of a sheet, or that there is none, and err stays as it was
 abbrev pub AnswersShared : ℕ → World → World → Stream → Stream → Type 0
 AnswersShared n before after err err' =
-    (s : SheetState) × (S : List Pos) × HasSheet s S before after × (WritesStrategy n s S before after ⊎ WritesNone n s S before after) × (err' ≡ err)
+    (s : SheetState) × (S : List Pos) × HasSheet s S before after ×
+    (WritesStrategy n s S before after ⊎ WritesNone n s S before after) × (err' ≡ err)
 
 -- status 0 is that answer, with the words of `share`
 
