@@ -54,7 +54,7 @@ fn seats_of(alloc: Global, bench: &Bench) -> Result<Vec<u8>, NoMemory> {
 
 /// Whether words that begin with this one are those of the program `krieg_find`.
 fn is_for_find(first: &str) -> bool {
-    first == "find" || first == "keys" || first == "judge"
+    first == "find" || first == "keys" || first == "share" || first == "judge"
 }
 
 /// Runs the words with what is given, by the program whose words they are.
