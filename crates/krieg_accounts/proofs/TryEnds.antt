@@ -28,9 +28,6 @@ some_fails p (x ∷ xs) a = go (cases_Bool (p x)) (some_fails p xs)
     go (inr e) r = (x, cond-true (not (p x)) (Some x) _ (not_from_false _ e))
 
 module _ (G : Game) (L : IsGame G) where
-  pub begins_stale : (i : ℕ) (B : List G.Position) (t : G.Move) → stale_in_some G B t ≡ true → begins G (suc i) B t ≡ false
-  begins_stale i B t e = and_right (legal_in_some G B t) _ (and_left (not (stale_in_some G B t)) _ (not_from_true _ e))
-
   pub begins_class : (i : ℕ) (B : List G.Position) (t : G.Move) → list_all (can G i) (classes G B t) ≡ false → begins G (suc i) B t ≡ false
   begins_class i B t e = and_right (legal_in_some G B t) _ (and_right (not (stale_in_some G B t)) _ (and_left _ _ (sym (all_map (λ key. class G B t key) (can G i) (keys G B t)) ∙ e)))
 
@@ -76,14 +73,6 @@ module _ (G : Game) (L : IsGame G) where
         after_lives LostRefused (cond-false _ _ _ s ∙ ap (by_class G (suc i) B t) f ∙ cond-false (is_nil (refused G B t) || can G (suc i) (refused G B t)) NoBlock LostRefused (ap (λ x. x || can G (suc i) (refused G B t)) e ∙ c)) (λ l. h)
 
 module _ (G : Game) (L : IsGame G) (cut : Bool) (T : Table G) (B : List G.Position) (i : ℕ) (t : G.Move) where
-  -- the try stalemates in some member
-  pub answered_stale : stale_in_some G B t ≡ true → AnswersTry G cut T B (suc i) t false
-  answered_stale s = record {
-    classes = λ e. absurd (both_ways false refl e);
-    refused_part = λ e. absurd (both_ways false refl e);
-    blocked = λ c e. blocked_stale G L (λ q. StoredLost G T q) i B t s;
-  }
-
   -- some class cannot be won
   pub answered_class : stale_in_some G B t ≡ false → list_all (can G i) (classes G B t) ≡ false → AnswersSets G T (classes G B t) i false → AnswersTry G cut T B (suc i) t false
   answered_class s a r = record {

@@ -7,7 +7,6 @@ use Rattle.krieg_plan.specs.declared.limits.TheConstants.{MOST_NODES, MOST_ON_PA
 use Rattle.krieg_planfile.specs.PlanReading as plan
 use Rattle.krieg_strategy.specs.declared.limits.TheConstants as strategy
 use Rattle.krieg_strategyfile.specs.StrategyText as shared
-use Rattle.krieg_strategyfile.specs.declared.forms.TheConstants.{MOST_ROOTS}
 use Rattle.krieg_refute.specs.declared.refutation.TheConstants.{MOST_CLAIMS, MOST_CLAIMED}
 use Rattle.krieg_refutefile.specs.RefutationText as refutation
 use Rattle.krieg_args.specs.declared.command.TheConstants.{MOST_ASKS, MOST_SEED, MOST_FIND_MOVES, MOST_FIND_UNITS}
@@ -40,7 +39,7 @@ pub record AreLimits : Type 0 where
   -- the nodes of a strategy, the edges of all of them, its roots, and the own moves that it claims
   pub strategy_nodes : strategy.MOST_NODES ≡ 100000
   pub edges : strategy.MOST_EDGES ≡ 250000
-  pub roots : MOST_ROOTS ≡ 50000
+  pub roots : strategy.MOST_ROOTS ≡ 50000
   pub worst : strategy.MOST_WORST ≡ 2500
   -- the claims of a refutation, and the positions of all of these, and so their reasons
   pub claims : MOST_CLAIMS ≡ 20000

@@ -57,10 +57,6 @@ module _ (d : Dialect) (trees : List NodeTree) where
   }
 
 module _ {K : Type 0} (d : Dialect) (lt : K → K → Bool) (links : List (K × ℕ)) (done : ℕ) where
-  -- no outcome
-  pub links_none : (a : Findings) → LinksAdd d lt links done a a []
-  links_none a trees = adds_none d trees a
-
   -- one
   pub link_one : (a b : Findings) (o : K × Pos) → ((d : Dialect) (trees : List NodeTree) → Adds d trees a b (λ k. wins_other (chess d) (led_to trees (first_to lt links o.0)) o.1 (k - done)) (pair_at (chess d) (first_to lt links o.0) o.1)) → LinksAdd d lt links done a b (o ∷ [])
   link_one a b o h trees =

@@ -28,7 +28,7 @@ use Rattle.krieg_strategy.specs.Nodes.{Node}
 use Rattle.krieg_strategy.specs.Unfolded.{unfold_plan}
 use Rattle.krieg_strategy.specs.Roots.{root_of}
 use Rattle.krieg_strategy.specs.WellFormed.{AreBelow, IsStrategy}
-use Rattle.krieg_strategy.specs.declared.limits.TheConstants.{MOST_NODES, MOST_EDGES}
+use Rattle.krieg_strategy.specs.declared.limits.TheConstants.{MOST_NODES, MOST_EDGES, MOST_ROOTS}
 use Rattle.krieg_search.specs.declared.openings.Opening.{Opening}
 use Rattle.krieg_search.specs.declared.decide.Findings.{Findings}
 use Rattle.krieg_search.specs.Openings.{opening_in}
@@ -37,7 +37,6 @@ use Rattle.krieg_search.specs.Solutions.{IsBest}
 use Rattle.krieg_search.proofs.Solving.{worst_of}
 use Rattle.krieg_share.specs.declared.answer.Answer.{Answer}
 use Rattle.krieg_share.specs.declared.answer.Answer.TheVariants.{Mates, None}
-use Rattle.krieg_share.specs.declared.limits.TheConstants.{MOST_ROOTS}
 use Rattle.krieg_share.specs.declared.sharer.Sharer.{Sharer}
 use Rattle.krieg_share.specs.Sharing.{Shared, AreShared, nothing_shared, number_of, shared, shared_roots}
 use Rattle.krieg_share.specs.Parts.{share_sets, numbered, IsOver}

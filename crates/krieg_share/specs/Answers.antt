@@ -16,14 +16,13 @@ use Rattle.krieg_strategy.specs.Nodes.{Node}
 use Rattle.krieg_strategy.specs.Roots.{root_of}
 use Rattle.krieg_strategy.specs.Unfolded.{unfold_plan}
 use Rattle.krieg_strategy.specs.WellFormed.{HaveOrder, IsStrategy}
-use Rattle.krieg_strategy.specs.declared.limits.TheConstants.{MOST_NODES, MOST_EDGES}
+use Rattle.krieg_strategy.specs.declared.limits.TheConstants.{MOST_NODES, MOST_EDGES, MOST_ROOTS}
 use Rattle.krieg_search.specs.declared.stop.SearchStop.{SearchStop}
 use Rattle.krieg_search.specs.declared.stop.SearchStop.TheVariants.{Spent, Large, NoMemory}
 use Rattle.krieg_search.specs.Decision.{IsAccount}
 use Rattle.krieg_search.specs.Solutions.{IsBest, NoneMates}
 use Rattle.krieg_share.specs.declared.answer.Answer.{Answer}
 use Rattle.krieg_share.specs.declared.answer.Answer.TheVariants.{Mates, None}
-use Rattle.krieg_share.specs.declared.limits.TheConstants.{MOST_ROOTS}
 use Rattle.krieg_share.specs.Sharing.{nothing_shared, shared, shared_roots}
 use Rattle.krieg_share.specs.Parts.{share_sets, numbered, IsOver}
 

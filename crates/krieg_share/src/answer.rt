@@ -7,14 +7,13 @@ ghost use Rattle.krieg_search.specs.Decision.{sets_in};
 ghost use Rattle.krieg_search.specs.Building.{WonBy, IsPaidFor};
 ghost use Rattle.krieg_share.specs.Answers.{IsStrategyAnswer, MakesStrategy, TakesAsPlan, IsShared};
 
-use crate::limits::MOST_ROOTS;
 use crate::roots::{share_openings, worst_of};
 use crate::sharer::Sharer;
 use krieg_board::{Side, Units};
 use krieg_pack::Belief;
 use krieg_search::decide::{Decision, Findings, decide};
 use krieg_search::{SearchStop, Way};
-use krieg_strategy::{Nodes, StrategyRoot};
+use krieg_strategy::{MOST_ROOTS, Nodes, StrategyRoot};
 
 /// What a search for a strategy finds.
 #[derive(Drop)]

@@ -38,4 +38,3 @@ mod roots;
 mod sharer;
 
 pub use answer::{Answer, share};
-pub use limits::MOST_ROOTS;

@@ -1,5 +1,2 @@
-/// The most roots of a strategy.
-pub const MOST_ROOTS: usize = 50_000;
-
 /// Nodes are looked for so many levels deep at most: each level stands for a node that leads to the next.
 pub(crate) const MOST_LEVELS: u16 = 5_000;

@@ -31,7 +31,7 @@ mod strategy;
 pub mod toy;
 
 pub use edge::{StrategyEdge, find_edge_to};
-pub use limits::{MOST_EDGES, MOST_NODES, MOST_WORST};
+pub use limits::{MOST_EDGES, MOST_NODES, MOST_ROOTS, MOST_WORST};
 pub use node::StrategyNode;
 pub use nodes::Nodes;
 pub use root::{StrategyRoot, find_root_to};

@@ -59,7 +59,6 @@ pub use Rattle.krieg_strategyfile.specs.StrategyText.{text_bound}
 pub use Rattle.krieg_strategyfile.specs.Strategies.{StrategyState, state_of}
 pub use Rattle.krieg_strategyfile.specs.Writable.{CanBeWritten, IsToldNode, edges_in}
 pub use Rattle.krieg_strategyfile.specs.declared.forms.Play.{Play}
-pub use Rattle.krieg_strategyfile.specs.declared.forms.TheConstants.{MOST_ROOTS}
 pub use Rattle.krieg_strategyfile.specs.Parts.{heading_lines, node_lines, nodes_lines, roots_lines, strategy_lines}
 pub use Rattle.krieg_strategy.specs.Edges.{edge_of}
 pub use Rattle.krieg_strategy.specs.Roots.{root_of}

@@ -23,10 +23,9 @@ use Rattle.krieg_planfile.specs.NodeText.{IsToldKey}
 use Rattle.krieg_planfile.specs.PlanFiles.{IsToldRoot}
 use Rattle.krieg_planfile.specs.PlanReading.{is_root_of}
 use Rattle.krieg_strategy.specs.Nodes.{Node}
-use Rattle.krieg_strategy.specs.declared.limits.TheConstants.{MOST_NODES, MOST_EDGES, MOST_WORST}
+use Rattle.krieg_strategy.specs.declared.limits.TheConstants.{MOST_NODES, MOST_EDGES, MOST_ROOTS, MOST_WORST}
 use Rattle.krieg_format.specs.Lines.{Line, formed, number_line, literal}
 use Rattle.krieg_strategyfile.specs.declared.forms.Play.{Play}
-use Rattle.krieg_strategyfile.specs.declared.forms.TheConstants.{MOST_ROOTS}
 use Rattle.krieg_strategyfile.specs.LineForms.{play_form, edge_form, root_form, play_line, edge_line, root_to_line}
 
 -- ---- lines

@@ -12,9 +12,8 @@ use Rattle.krieg_planfile.specs.NodeText.{IsToldKey}
 use Rattle.krieg_planfile.specs.PlanFiles.{AreAlike, IsToldRoot, waits}
 use Rattle.krieg_strategy.specs.Nodes.{Node}
 use Rattle.krieg_strategy.specs.WellFormed.{IsStrategy}
-use Rattle.krieg_strategy.specs.declared.limits.TheConstants.{MOST_EDGES}
+use Rattle.krieg_strategy.specs.declared.limits.TheConstants.{MOST_EDGES, MOST_ROOTS}
 use Rattle.krieg_strategyfile.specs.Strategies.{StrategyState}
-use Rattle.krieg_strategyfile.specs.declared.forms.TheConstants.{MOST_ROOTS}
 
 -- its try is a move of the board, and the words of its edges can be told
 pub record IsToldNode (d : Dialect) (n : Node Move Key) : Type 0 where

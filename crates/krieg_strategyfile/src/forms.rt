@@ -13,9 +13,6 @@ use krieg_strategy::{MOST_EDGES, MOST_NODES};
 use krieg_text::{NumberFault, TextKind, behind, cut, cut_last, read_number_between};
 use krieg_words::{Dialect, Words, read_words_in};
 
-/// The most roots of a strategy file: with more it could be too long for an input.
-pub const MOST_ROOTS: usize = 50_000;
-
 /// What the line of a node says: its try, the number of the node to go on with if it is illegal, and how many edges there
 /// are.
 #[derive(Clone, Copy)]

@@ -30,6 +30,5 @@ mod reading;
 mod roots;
 mod writing;
 
-pub use forms::MOST_ROOTS;
 pub use reading::read_strategy;
 pub use writing::write_strategy;

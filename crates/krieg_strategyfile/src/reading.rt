@@ -11,12 +11,11 @@ ghost use Rattle.krieg_strategyfile.specs.StrategyFormat.{strategy_at, SpellsStr
 ghost use Rattle.krieg_strategyfile.specs.StrategyLines.{a_worst};
 ghost use Rattle.krieg_strategyfile.specs.Writable.{CanBeWritten};
 
-use crate::forms::MOST_ROOTS;
 use crate::nodes::read_nodes;
 use crate::roots::{RootRules, read_roots};
 use krieg_board::{Position, Side};
 use krieg_fen::{Turn, read_listing};
-use krieg_strategy::{MOST_NODES, MOST_WORST, Nodes, Strategy, StrategyRoot};
+use krieg_strategy::{MOST_NODES, MOST_ROOTS, MOST_WORST, Nodes, Strategy, StrategyRoot};
 use krieg_text::{Cursor, LineSource, TextFault, read_count, read_version, read_word};
 use krieg_words::{Dialect, read_dialect_line};
 use std::alloc::Global;
