@@ -1,6 +1,6 @@
 -- Names and separators in a text.
-use Rattle.std.proofs.Common.{◌≡◌, ℕ, zero, suc, ◌+◌, ◌-◌, ◌<◌, Bool, true, false, cond, eqb, List, [], ◌∷◌, ◌++◌, length, get_or, take, drop, Option, Some, None, refl, sym, ap, ◌∙◌, arith, add-one, not, eqb-true, eq-eqb}
-use Rattle.std.proofs.lemmas.List.{take_rest, take_at, drop_at, take-append-drop}
+use Rattle.std.proofs.Common.{◌≡◌, ℕ, zero, suc, ◌+◌, ◌-◌, ◌<◌, Bool, true, false, cond, eqb, List, [], ◌∷◌, ◌++◌, length, get_or, take, drop, Option, Some, None, is_some, refl, sym, ap, ◌∙◌, arith, add-one, not, eqb-true, eq-eqb}
+use Rattle.std.proofs.lemmas.List.{take_all, take_rest, take_at, drop_at, take-append-drop}
 use Rattle.std.proofs.lemmas.Slice.Eq.{bytes_eq-Decides}
 use Rattle.std.proofs.lemmas.Option.{cond_some}
 use Rattle.std.proofs.lemmas.Bool.{and_parts, not-true}
@@ -25,6 +25,65 @@ cut_none c (b ∷ bs) none =
     rw here (ap (λ (x : List ℕ × Option (List ℕ)). (b ∷ x.0, x.1)) (cut_none c bs (λ k h. none (suc k) (omega arith))))
 
 pub ruleset cuts = (cut_there, cut_none)
+
+-- the text begins with another byte, or with none, or with this one
+pub byte_none : (b : ℕ) (text : List ℕ) → length text ≡ 0 → None ≡ behind (b ∷ []) text
+unfolding behind
+byte_none b [] e = refl
+byte_none b (c ∷ text) e = absurd (omega (arith, e))
+
+pub byte_other : (b : ℕ) (text : List ℕ) → eqb (get_or text 0 0) b ≡ false → None ≡ behind (b ∷ []) text
+unfolding behind
+byte_other b [] e = refl
+byte_other b (c ∷ text) e = rw e refl
+
+pub byte_there : (b : ℕ) (text : List ℕ) → 0 < length text → eqb (get_or text 0 0) b ≡ true → Some (drop 1 text) ≡ behind (b ∷ []) text
+unfolding behind
+byte_there b [] lt e = absurd (omega arith)
+byte_there b (c ∷ text) lt e = rw e refl
+
+pub ruleset bytes = (byte_none, byte_other, byte_there)
+
+-- the text begins with the byte and goes on, or it does not
+behind_one : (b c : ℕ) (name text : List ℕ) (t : Bool) → eqb c b ≡ t → behind (b ∷ name) (c ∷ text) ≡ cond t (behind name text) None
+unfolding behind
+behind_one b c name text true e = rw e refl
+behind_one b c name text false e = rw e refl
+
+pub behind_stops : (b : ℕ) (name text : List ℕ) → None ≡ behind (b ∷ []) text → behind (b ∷ name) text ≡ None
+unfolding behind
+behind_stops b name [] e = refl
+behind_stops b name (c ∷ text) e = go (eqb c b) refl
+  where
+    go : (t : Bool) → eqb c b ≡ t → behind (b ∷ name) (c ∷ text) ≡ None
+    go true h = absurd (let none : None ≡ Some text = e ∙ behind_one b c [] text true h in cc)
+    go false h = behind_one b c name text false h
+
+pub behind_goes : (b : ℕ) (name text rest : List ℕ) → Some rest ≡ behind (b ∷ []) text → behind (b ∷ name) text ≡ behind name rest
+unfolding behind
+behind_goes b name [] rest e = absurd (let none : Some rest ≡ None = e in cc)
+behind_goes b name (c ∷ text) rest e =
+    let p = cond_some (eqb c b) text rest (sym (behind_one b c [] text (eqb c b) refl) ∙ sym e) in
+    behind_one b c name text true p.0 ∙ ap (behind name) p.1
+
+-- the text is the name where it is as long and begins with it
+pub name_there : (name text : List ℕ) → length text ≡ length name → is_some (behind name text) ≡ bytes_eq text name
+unfolding behind
+name_there name text e =
+    rw (sym e, take_all (length text) text (omega arith)) (go (bytes_eq text name))
+  where
+    go : (t : Bool) → is_some (cond t (Some (drop (length text) text)) None) ≡ t
+    go true = refl
+    go false = refl
+
+pub name_longer : (name text : List ℕ) → ¬ (length text ≡ length name) → false ≡ bytes_eq text name
+name_longer name text other = go (bytes_eq text name) (bytes_eq-Decides text name).0
+  where
+    go : (t : Bool) → (t ≡ true → text ≡ name) → false ≡ t
+    go true same = absurd (other (ap length (same refl)))
+    go false same = refl
+
+pub ruleset whole_names = (name_there, name_longer)
 
 pub behind_again : (name rest : List ℕ) → behind name (name ++ rest) ≡ Some rest
 unfolding behind
