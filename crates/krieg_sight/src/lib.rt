@@ -7,7 +7,8 @@
 //!
 //! `Seen` in `specs/` says what such a mate is, and `laws` that it is that of `krieg_theory`, whatever the dialect.
 //! `seeing` looks for it move by move, and `memo` has what is known: of a position the greatest number of moves within
-//! which it was found to be no mate, and the least within which it may be one. `flight` asks it of the replies to a try.
+//! which it was found to be no mate, and the least within which it may be one. `last_moves` has it of last moves with more men, as long as
+//! they are met again and again. `flight` asks it of the replies to a try.
 //!
 //! It calls itself for each move: that takes less than 2,000 bytes of the stack in a program that LLVM builds.
 //!
@@ -20,6 +21,7 @@
 
 mod flight;
 mod king_rows;
+mod last_moves;
 pub mod laws;
 mod memo;
 mod place;

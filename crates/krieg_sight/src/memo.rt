@@ -4,6 +4,7 @@ ghost use Rattle.krieg_sight.specs.Seen.{leaves_none, mates_within};
 ghost use Rattle.krieg_sight.specs.Memo.{IsRight};
 
 use crate::king_rows::KingRows;
+use crate::last_moves::LastMoves;
 use crate::place::place_of;
 use crate::told::Told;
 use indexmap::IndexMap;
@@ -21,6 +22,8 @@ pub struct Sight {
     told: IndexMap<Packed, Told>,
     /// The same of positions in which one side has its king alone.
     kings: KingRows,
+    /// The same of positions at their last move, of the last ones that were met.
+    last: LastMoves,
     left: u64,
     /// The place of the member of a set that was found to be no mate last. It is asked first, since it mostly is none again.
     first: usize,
@@ -44,6 +47,7 @@ impl Sight {
         Sight {
             told: IndexMap::new(alloc),
             kings: KingRows::new(alloc),
+            last: LastMoves::new(alloc),
             left: positions,
             first: 0,
         }
@@ -124,6 +128,21 @@ impl Sight {
             return Some(true);
         }
         None
+    }
+
+    /// Whether there may be a mate in one move, where it is known.
+    pub(crate) fn told_of_last(&self, p: &Packed) -> Option<bool>
+        ensures { result ≡ Some false → mates_within 1 p.now ≡ false }
+    {
+        self.last.of(p)
+    }
+
+    /// Notes whether there may be a mate in one move.
+    pub(crate) fn note_last(&mut self, p: &Packed, may: bool)
+        requires { may ≡ false → mates_within 1 p.now ≡ false }
+        ensures { self.new ≡ self.old }
+    {
+        self.last.keep(p, may);
     }
 
     /// Keeps what is known of a position in which no king is alone, where there is room and memory for it.

@@ -7,6 +7,7 @@ ghost use Rattle.krieg_sight.specs.Seen.{is_met, leaves_none, mates_within};
 use crate::memo::Sight;
 use krieg_board::{Move, Position};
 use krieg_moves::{after, is_mate, is_stalemate, legal_moves};
+use krieg_pack::pack;
 use std::alloc::Global;
 
 /// With so few men on the board the same positions come again and again.
@@ -19,15 +20,17 @@ fn has_few_men(p: &Position) -> bool {
 
 /// Whether some move may mate within so many, if the player sees the position: `false` only where none does.
 ///
-/// What is found is kept from two moves on, and with few men on the board from the last move on: there the same positions
-/// come again and again. With more men a last move is looked for anew, since to keep it would take more than it saves.
+/// What is found is kept. Of last moves with more than a few men it is kept for a while alone: there are too many of them.
 #[cycle(seeing)]
 pub(crate) fn may_mate(alloc: Global, sight: &mut Sight, p: &Position, moves: u8) -> bool
     ensures none { result ≡ false → mates_within moves p.now ≡ false }
     ensures no_more { sight.new.left ≤ sight.old.left }
 {
-    if moves == 0 || (moves == 1 && !has_few_men(p)) {
-        return may_mate_anew(alloc, sight, p, moves);
+    if moves == 0 {
+        return false;
+    }
+    if moves == 1 && !has_few_men(p) {
+        return may_mate_at_once(alloc, sight, p);
     }
     if let Some(told) = sight.told(p, moves) {
         return told;
@@ -38,6 +41,21 @@ pub(crate) fn may_mate(alloc: Global, sight: &mut Sight, p: &Position, moves: u8
     }
     sight.note_none(p, moves);
     false
+}
+
+/// Whether some move may mate.
+#[cycle(seeing)]
+fn may_mate_at_once(alloc: Global, sight: &mut Sight, p: &Position) -> bool
+    ensures none { result ≡ false → mates_within 1 p.now ≡ false }
+    ensures no_more { sight.new.left ≤ sight.old.left }
+{
+    let key = pack(p);
+    if let Some(may) = sight.told_of_last(&key) {
+        return may;
+    }
+    let may = may_mate_anew(alloc, sight, p, 1);
+    sight.note_last(&key, may);
+    may
 }
 
 /// The same, whatever is known. It looks at the position, and where none may be looked at any more it tells nothing.

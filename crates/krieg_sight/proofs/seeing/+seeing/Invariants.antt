@@ -5,25 +5,28 @@ use Rattle.krieg_sight.proofs.Common.{is_met, mates_within}
 use Rattle.krieg_sight.proofs.seeing.+seeing.Given as goal
 
 abbrev pub decreases-may_mate_anew : goal.decreases-may_mate_anew
-decreases-may_mate_anew l = 7 * l.moves
+decreases-may_mate_anew l = 8 * l.moves
 
 abbrev pub decreases-may_mate : goal.decreases-may_mate
-decreases-may_mate l = 7 * l.moves + 1
+decreases-may_mate l = 8 * l.moves + 2
+
+abbrev pub decreases-may_mate_at_once : goal.decreases-may_mate_at_once
+decreases-may_mate_at_once l = 9
 
 abbrev pub decreases-each_may_mate : goal.decreases-each_may_mate
-decreases-each_may_mate l = 7 * l.moves + 2
+decreases-each_may_mate l = 8 * l.moves + 3
 
 abbrev pub decreases-all_may_mate_anew : goal.decreases-all_may_mate_anew
-decreases-all_may_mate_anew l = 7 * l.moves + 3
+decreases-all_may_mate_anew l = 8 * l.moves + 4
 
 abbrev pub decreases-all_may_mate : goal.decreases-all_may_mate
-decreases-all_may_mate l = 7 * l.moves + 4
+decreases-all_may_mate l = 8 * l.moves + 5
 
 abbrev pub decreases-may_follow : goal.decreases-may_follow
-decreases-may_follow l = 7 * l.moves + 5
+decreases-may_follow l = 8 * l.moves + 6
 
 abbrev pub decreases-one_may_mate : goal.decreases-one_may_mate
-decreases-one_may_mate l = 7 * l.fewer + 6
+decreases-one_may_mate l = 8 * l.fewer + 7
 
 abbrev pub invariant-each_may_mate-loop-mv : goal.invariant-each_may_mate-loop-mv
 invariant-each_may_mate-loop-mv l = l.sight.left ≤ l.fn.sight.left
