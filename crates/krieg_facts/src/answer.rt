@@ -1,6 +1,6 @@
 // What comes of a question, as a text.
 
-use crate::stop::Stop;
+use crate::stop::LineStop;
 use krieg_board::{BadPosition, Position, lowest, without_lowest};
 use krieg_fen::{put_square, write_position};
 use krieg_text::{Text, TextFault, TextKind, put_number};
@@ -8,14 +8,14 @@ use std::alloc::Global;
 
 /// A text that grows by words and by parts.
 #[derive(Drop)]
-pub struct Answer {
+pub struct AnswerText {
     pub text: Vec<u8>,
 }
 
-impl Answer {
+impl AnswerText {
     /// An empty text.
-    pub fn new(alloc: Global) -> Answer {
-        Answer {
+    pub fn new(alloc: Global) -> AnswerText {
+        AnswerText {
             text: Vec::new(alloc),
         }
     }
@@ -30,12 +30,12 @@ impl Answer {
     }
 
     /// Adds the bytes, right behind what stands there.
-    pub fn put(&mut self, bytes: &[u8]) -> Result<(), Stop> {
+    pub fn put(&mut self, bytes: &[u8]) -> Result<(), LineStop> {
         Ok(self.text.extend_from_slice(bytes)?)
     }
 
     /// A word: a space stands before each but the first.
-    pub fn word(&mut self, bytes: &[u8]) -> Result<(), Stop> {
+    pub fn word(&mut self, bytes: &[u8]) -> Result<(), LineStop> {
         if !self.text.is_empty() {
             self.put(b" ")?;
         }
@@ -43,7 +43,7 @@ impl Answer {
     }
 
     /// Begins a part: a semicolon and a space stand before each but the first.
-    pub fn part(&mut self, bytes: &[u8]) -> Result<(), Stop> {
+    pub fn part(&mut self, bytes: &[u8]) -> Result<(), LineStop> {
         if !self.text.is_empty() {
             self.put(b"; ")?;
         }
@@ -51,25 +51,25 @@ impl Answer {
     }
 
     /// `yes` or `no` as a word.
-    pub fn yes_or_no(&mut self, is_so: bool) -> Result<(), Stop> {
+    pub fn yes_or_no(&mut self, is_so: bool) -> Result<(), LineStop> {
         self.word(if is_so { b"yes" } else { b"no" })
     }
 
     /// The digits of a number, right behind what stands there.
-    pub fn digits(&mut self, number: u64) -> Result<(), Stop> {
+    pub fn digits(&mut self, number: u64) -> Result<(), LineStop> {
         let mut text = Text::after(&mut self.text);
         let done = put_number(number, &mut text);
         Ok(text.end(done, &mut self.text)?)
     }
 
     /// A number as a word.
-    pub fn number(&mut self, number: u64) -> Result<(), Stop> {
+    pub fn number(&mut self, number: u64) -> Result<(), LineStop> {
         self.word(b"")?;
         self.digits(number)
     }
 
     /// The squares of a set, the lowest first.
-    pub fn squares(&mut self, set: u64) -> Result<(), Stop> {
+    pub fn squares(&mut self, set: u64) -> Result<(), LineStop> {
         let mut rest = set;
         for _ in 0..64 {
             if rest == 0 {
@@ -85,14 +85,14 @@ impl Answer {
     }
 
     /// The text of a position, right behind what stands there.
-    pub fn position(&mut self, p: &Position) -> Result<(), Stop> {
+    pub fn position(&mut self, p: &Position) -> Result<(), LineStop> {
         Ok(write_position(p, &mut self.text)?)
     }
 
     /// A fault of a text, as `line 3: syntax`.
-    pub fn fault(&mut self, fault: TextFault) -> Result<(), Stop> {
+    pub fn fault(&mut self, fault: TextFault) -> Result<(), LineStop> {
         let TextFault::At { line, kind } = fault else {
-            return Err(Stop::Memory);
+            return Err(LineStop::Memory);
         };
         self.put(b"line ")?;
         self.digits(line as u64)?;

@@ -1,8 +1,8 @@
 // Facts of boards and of sets of squares.
 
-use crate::answer::Answer;
+use crate::answer::AnswerText;
 use crate::scene::Scene;
-use crate::stop::Stop;
+use crate::stop::LineStop;
 use crate::terms::{
     halves, letter_of, number_of, placed_of, side_of, sided_of, small_of, square_of, squares_of,
 };
@@ -17,16 +17,16 @@ use krieg_rays::{
 };
 
 /// The set, where it was told twice alike.
-fn agreed(set: u64, again: u64) -> Result<u64, Stop> {
+fn agreed(set: u64, again: u64) -> Result<u64, LineStop> {
     if set == again {
         Ok(set)
     } else {
-        Err(Stop::Unread)
+        Err(LineStop::Unread)
     }
 }
 
 /// The set of the men of a side or of a kind.
-fn men_of(bits: &Bits, name: &str) -> Result<u64, Stop> {
+fn men_of(bits: &Bits, name: &str) -> Result<u64, LineStop> {
     match name {
         "white" => Ok(bits.sets().white),
         "black" => Ok(bits.sets().black),
@@ -37,12 +37,12 @@ fn men_of(bits: &Bits, name: &str) -> Result<u64, Stop> {
         "queens" => Ok(bits.sets().queens),
         "kings" => Ok(bits.sets().kings),
         "all" => Ok(bits.occupied()),
-        _ => Err(Stop::Unread),
+        _ => Err(LineStop::Unread),
     }
 }
 
 /// The same of the board by sets and of the board square by square.
-fn men_of_both(bits: &Bits, name: &str) -> Result<u64, Stop> {
+fn men_of_both(bits: &Bits, name: &str) -> Result<u64, LineStop> {
     let again = Bits::from_board(&bits.to_board());
     agreed(men_of(bits, name)?, men_of(&again, name)?)
 }
@@ -60,26 +60,26 @@ fn attackers_by_rule(bits: &Bits, by: Side, to: Square) -> u64 {
 }
 
 /// The men of a side that attack a square, by lines of squares and by the rule.
-fn attackers_of(bits: &Bits, text: &str) -> Result<u64, Stop> {
+fn attackers_of(bits: &Bits, text: &str) -> Result<u64, LineStop> {
     let (by, to) = sided_of(text)?;
     agreed(attackers(bits, to, by), attackers_by_rule(bits, by, to))
 }
 
 /// The squares that the side attacks, where each square is told alike.
-fn attacked_of(bits: &Bits, by: Side) -> Result<u64, Stop> {
+fn attacked_of(bits: &Bits, by: Side) -> Result<u64, LineStop> {
     let board = bits.to_board();
     let set = attacked_by(bits, by);
     for s in 0..64u8 {
         let is_attacked = krieg_board::is_attacked(&board, s, by);
         if is_attacked != has(set, s) || is_attacked != krieg_rays::is_attacked(bits, s, by) {
-            return Err(Stop::Unread);
+            return Err(LineStop::Unread);
         }
     }
     Ok(set)
 }
 
 /// The squares between two, also where the two are exchanged.
-fn between_of(text: &str) -> Result<u64, Stop> {
+fn between_of(text: &str) -> Result<u64, LineStop> {
     let (first, second) = halves(text, " ")?;
     let (a, c) = (square_of(first)?, square_of(second)?);
     agreed(
@@ -94,13 +94,13 @@ fn pinned_of(p: &Position, who: Side) -> u64 {
 }
 
 /// The squares that a man on a square attacks.
-fn reach_of(bits: &Bits, text: &str) -> Result<u64, Stop> {
+fn reach_of(bits: &Bits, text: &str) -> Result<u64, LineStop> {
     let (man, from) = placed_of(text)?;
     Ok(attacked_from(bits, man, from.number()))
 }
 
 /// The squares that a pawn attacks or steps to.
-fn of_pawn(mark: &str, given: &str) -> Result<u64, Stop> {
+fn of_pawn(mark: &str, given: &str) -> Result<u64, LineStop> {
     let (side, s) = sided_of(given)?;
     match mark {
         "pawn-attacks" => Ok(pawn_attacks(side, s.number())),
@@ -109,7 +109,7 @@ fn of_pawn(mark: &str, given: &str) -> Result<u64, Stop> {
 }
 
 /// The squares on the lines from a square, as far as none of these stands before them.
-fn along(mark: &str, given: &str) -> Result<u64, Stop> {
+fn along(mark: &str, given: &str) -> Result<u64, LineStop> {
     let (s, taken) = halves(given, " ")?;
     let (s, taken) = (square_of(s)?.number(), squares_of(taken)?);
     match mark {
@@ -119,7 +119,7 @@ fn along(mark: &str, given: &str) -> Result<u64, Stop> {
 }
 
 /// The squares that are told by a square alone, or by words of their own.
-fn around(mark: &str, given: &str) -> Result<u64, Stop> {
+fn around(mark: &str, given: &str) -> Result<u64, LineStop> {
     match mark {
         "squares" => number_of(given),
         "knight" => Ok(knight_attacks(square_of(given)?.number())),
@@ -131,12 +131,12 @@ fn around(mark: &str, given: &str) -> Result<u64, Stop> {
         "between" => between_of(given),
         "pawn-attacks" | "pawn-steps" => of_pawn(mark, given),
         "straight" | "diagonal" => along(mark, given),
-        _ => Err(Stop::Unread),
+        _ => Err(LineStop::Unread),
     }
 }
 
 /// The squares that answer the question.
-fn squares_asked(scene: &Scene, mark: &str, given: &str) -> Result<u64, Stop> {
+fn squares_asked(scene: &Scene, mark: &str, given: &str) -> Result<u64, LineStop> {
     match mark {
         "men" => men_of_both(&scene.bits, given),
         "attackers" => attackers_of(&scene.bits, given),
@@ -148,7 +148,7 @@ fn squares_asked(scene: &Scene, mark: &str, given: &str) -> Result<u64, Stop> {
 }
 
 /// Whether the diagonal through both squares is the longer one through the first.
-fn is_longer(text: &str) -> Result<bool, Stop> {
+fn is_longer(text: &str) -> Result<bool, LineStop> {
     let (king, other) = halves(text, " ")?;
     let (king, other) = (square_of(king)?, square_of(other)?);
     let files = apart(file_of(king.number()), file_of(other.number()));
@@ -156,11 +156,11 @@ fn is_longer(text: &str) -> Result<bool, Stop> {
     if files == ranks && king.number() != other.number() {
         Ok(long_diagonal(king, other))
     } else {
-        Err(Stop::Unread)
+        Err(LineStop::Unread)
     }
 }
 
-fn say_man(man: Option<Man>, answer: &mut Answer) -> Result<(), Stop> {
+fn say_man(man: Option<Man>, answer: &mut AnswerText) -> Result<(), LineStop> {
     match man {
         Some(man) => answer.put(letter_of(man).as_bytes()),
         None => Ok(()),
@@ -168,7 +168,7 @@ fn say_man(man: Option<Man>, answer: &mut Answer) -> Result<(), Stop> {
 }
 
 /// The names of the kinds of check.
-fn say_kinds(kinds: Kinds, answer: &mut Answer) -> Result<(), Stop> {
+fn say_kinds(kinds: Kinds, answer: &mut AnswerText) -> Result<(), LineStop> {
     let named: [(bool, &[u8]); 5] = [
         (kinds.file, b"file"),
         (kinds.rank, b"rank"),
@@ -185,16 +185,21 @@ fn say_kinds(kinds: Kinds, answer: &mut Answer) -> Result<(), Stop> {
 }
 
 /// The kinds of check of a number.
-fn say_kinds_by(number: u8, answer: &mut Answer) -> Result<(), Stop> {
+fn say_kinds_by(number: u8, answer: &mut AnswerText) -> Result<(), LineStop> {
     match Kinds::new(number) {
         Some(kinds) if kinds.bits() == number => say_kinds(kinds, answer),
-        Some(_) => Err(Stop::Unread),
+        Some(_) => Err(LineStop::Unread),
         None => answer.put(b"no kinds"),
     }
 }
 
 /// Answers a question about the board.
-pub fn ask(scene: &Scene, mark: &str, given: &str, answer: &mut Answer) -> Result<(), Stop> {
+pub fn ask(
+    scene: &Scene,
+    mark: &str,
+    given: &str,
+    answer: &mut AnswerText,
+) -> Result<(), LineStop> {
     match mark {
         "set" => answer.number(squares_of(given)?),
         "on" => say_man(scene.bits.man_at(square_of(given)?.number()), answer),

@@ -1,9 +1,9 @@
 // Lines of facts, and whether they hold.
 
-use crate::answer::Answer;
+use crate::answer::AnswerText;
 use crate::plans::Plans;
 use crate::scene::Scene;
-use crate::stop::Stop;
+use crate::stop::LineStop;
 use crate::strategies::Strategies;
 use crate::terms::{bytes_of, first_word};
 use crate::{
@@ -37,7 +37,7 @@ enum Layer {
     Strategies,
 }
 
-fn layer_of(name: &str) -> Result<Layer, Stop> {
+fn layer_of(name: &str) -> Result<Layer, LineStop> {
     match name {
         "boards" => Ok(Layer::Boards),
         "positions" => Ok(Layer::Positions),
@@ -53,13 +53,13 @@ fn layer_of(name: &str) -> Result<Layer, Stop> {
         "searches" => Ok(Layer::Searches),
         "refutations" => Ok(Layer::Refutations),
         "strategies" => Ok(Layer::Strategies),
-        _ => Err(Stop::Unread),
+        _ => Err(LineStop::Unread),
     }
 }
 
 /// What stands, and how many facts held.
 #[derive(Drop)]
-struct Trial {
+struct FactState {
     layer: Layer,
     scene: Scene,
     table: Table,
@@ -68,9 +68,9 @@ struct Trial {
     facts: u64,
 }
 
-impl Trial {
+impl FactState {
     /// Answers the question.
-    fn ask(&mut self, mark: &str, given: &str, answer: &mut Answer) -> Result<(), Stop> {
+    fn ask(&mut self, mark: &str, given: &str, answer: &mut AnswerText) -> Result<(), LineStop> {
         let scene = &self.scene;
         match self.layer {
             Layer::Boards => boards::ask(scene, mark, given, answer),
@@ -91,18 +91,18 @@ impl Trial {
     }
 
     /// Answers by how many words the answer of the question has.
-    fn ask_count(&mut self, asked: &str, answer: &mut Answer) -> Result<(), Stop> {
+    fn ask_count(&mut self, asked: &str, answer: &mut AnswerText) -> Result<(), LineStop> {
         let (mark, given) = first_word(asked);
-        let mut counted = Answer::new(self.scene.alloc);
+        let mut counted = AnswerText::new(self.scene.alloc);
         self.ask(mark, given, &mut counted)?;
         let spaces = counted.told().iter().filter(|byte| **byte == b' ').count();
         answer.number((spaces as u64).saturating_add(1))
     }
 
     /// Whether the answer of the question is what is told.
-    fn holds(&mut self, asked: &str, told: &str) -> Result<bool, Stop> {
+    fn holds(&mut self, asked: &str, told: &str) -> Result<bool, LineStop> {
         let (mark, given) = first_word(asked);
-        let mut answer = Answer::new(self.scene.alloc);
+        let mut answer = AnswerText::new(self.scene.alloc);
         match mark {
             "count" => self.ask_count(given, &mut answer)?,
             _ => self.ask(mark, given, &mut answer)?,
@@ -112,7 +112,7 @@ impl Trial {
     }
 
     /// Takes a line that is no fact.
-    fn set(&mut self, line: &str) -> Result<(), Stop> {
+    fn set(&mut self, line: &str) -> Result<(), LineStop> {
         let (mark, given) = first_word(line);
         match mark {
             "" | "case" => {}
@@ -126,20 +126,20 @@ impl Trial {
     }
 
     /// Takes a line, and tells whether it holds.
-    fn take(&mut self, line: &str) -> Result<bool, Stop> {
+    fn take(&mut self, line: &str) -> Result<bool, LineStop> {
         let taken = match line.split_once(" = ") {
             Some((asked, told)) => self.holds(asked, told),
             None => self.set(line).map(|()| true),
         };
         match taken {
-            Err(Stop::Unread | Stop::Spent) => Ok(false),
+            Err(LineStop::Unread | LineStop::Spent) => Ok(false),
             done => done,
         }
     }
 }
 
 /// Goes through the lines, up to the first that does not hold.
-fn judge_by(trial: &mut Trial, text: &str) -> Result<Progress, Stop> {
+fn judge_by(trial: &mut FactState, text: &str) -> Result<Progress, LineStop> {
     let mut number = 1u64;
     for line in text.split('\n') {
         if !trial.take(line)? {
@@ -151,8 +151,8 @@ fn judge_by(trial: &mut Trial, text: &str) -> Result<Progress, Stop> {
 }
 
 /// How far the facts of a text hold.
-pub fn judge(alloc: Global, text: &str) -> Result<Progress, Stop> {
-    let mut trial = Trial {
+pub fn judge(alloc: Global, text: &str) -> Result<Progress, LineStop> {
+    let mut trial = FactState {
         layer: Layer::Boards,
         scene: Scene::new(alloc)?,
         table: Table::new(alloc),

@@ -1,8 +1,8 @@
 // Facts of the keys of the set of the positions that are listed.
 
-use crate::answer::Answer;
+use crate::answer::AnswerText;
 use crate::scene::Scene;
-use crate::stop::Stop;
+use crate::stop::LineStop;
 use crate::terms::{halves, number_of, side_of, small_of};
 use krieg_board::{Side, Units};
 use krieg_fen::write_move;
@@ -11,10 +11,10 @@ use krieg_search::{KeyAnswer, KeyTry, Keys, KeysAt, SearchStop, Way, find_keys, 
 /// What a search for keys comes to.
 type KeySearch = Result<KeyAnswer, SearchStop>;
 
-fn search(scene: &Scene, who: Side, moves: u8, most: u64) -> Result<KeySearch, Stop> {
+fn search(scene: &Scene, who: Side, moves: u8, most: u64) -> Result<KeySearch, LineStop> {
     let b = &scene.belief()?;
     if !has_one_turn(b) {
-        return Err(Stop::Unread);
+        return Err(LineStop::Unread);
     }
     let Scene { alloc, dialect, .. } = scene;
     let mut units = Units::new(most);
@@ -28,7 +28,7 @@ fn search(scene: &Scene, who: Side, moves: u8, most: u64) -> Result<KeySearch, S
 }
 
 /// A key, and `no` where some position refuses it.
-fn say_key(key: &KeyTry, answer: &mut Answer) -> Result<(), Stop> {
+fn say_key(key: &KeyTry, answer: &mut AnswerText) -> Result<(), LineStop> {
     answer.word(b"")?;
     write_move(key.mv, &mut answer.text)?;
     if key.may_be_refused {
@@ -38,7 +38,7 @@ fn say_key(key: &KeyTry, answer: &mut Answer) -> Result<(), Stop> {
 }
 
 /// The least number of moves of an opening, and its keys.
-fn say_opening(opening: &KeysAt, answer: &mut Answer) -> Result<(), Stop> {
+fn say_opening(opening: &KeysAt, answer: &mut AnswerText) -> Result<(), LineStop> {
     answer.part(b"")?;
     answer.digits(u64::from(opening.least))?;
     for key in &opening.tries {
@@ -47,7 +47,7 @@ fn say_opening(opening: &KeysAt, answer: &mut Answer) -> Result<(), Stop> {
     Ok(())
 }
 
-fn say_all(keys: &Keys, answer: &mut Answer) -> Result<(), Stop> {
+fn say_all(keys: &Keys, answer: &mut AnswerText) -> Result<(), LineStop> {
     answer.put(b"worst ")?;
     answer.digits(u64::from(keys.worst))?;
     for opening in &keys.roots {
@@ -57,14 +57,14 @@ fn say_all(keys: &Keys, answer: &mut Answer) -> Result<(), Stop> {
 }
 
 /// The keys by a search with so many moves and units: the worst case, and then what each opening has.
-pub fn say_keys(scene: &Scene, text: &str, answer: &mut Answer) -> Result<(), Stop> {
+pub fn say_keys(scene: &Scene, text: &str, answer: &mut AnswerText) -> Result<(), LineStop> {
     let (who, rest) = halves(text, " ")?;
     let (moves, most) = halves(rest, " ")?;
     match search(scene, side_of(who)?, small_of(moves)?, number_of(most)?)? {
         Ok(KeyAnswer::Found(keys)) => say_all(&keys, answer),
         Ok(KeyAnswer::None) => answer.put(b"no plan"),
         Err(SearchStop::Spent) => answer.put(b"spent"),
-        Err(SearchStop::Large) => Err(Stop::Unread),
-        Err(SearchStop::NoMemory) => Err(Stop::Memory),
+        Err(SearchStop::Large) => Err(LineStop::Unread),
+        Err(SearchStop::NoMemory) => Err(LineStop::Memory),
     }
 }

@@ -1,8 +1,8 @@
 // Facts of moves: which are legal, what they change, how many games there are, and how one ends.
 
-use crate::answer::Answer;
+use crate::answer::AnswerText;
 use crate::scene::Scene;
-use crate::stop::Stop;
+use crate::stop::LineStop;
 use crate::terms::{move_of, small_of, square_of};
 use krieg_board::{Move, NoMemory, Position, Promo, Square, only};
 use krieg_fen::write_move;
@@ -62,7 +62,7 @@ fn has_the_legal_moves(p: &Position, listed: &[Move]) -> bool {
 }
 
 /// Moves as words.
-pub fn say_moves(moves: &[Move], answer: &mut Answer) -> Result<(), Stop> {
+pub fn say_moves(moves: &[Move], answer: &mut AnswerText) -> Result<(), LineStop> {
     for mv in moves {
         answer.word(b"")?;
         write_move(*mv, &mut answer.text)?;
@@ -71,25 +71,25 @@ pub fn say_moves(moves: &[Move], answer: &mut Answer) -> Result<(), Stop> {
 }
 
 /// The legal moves, where they are the legal ones of all moves.
-fn say_listed(alloc: Global, p: &Position, answer: &mut Answer) -> Result<(), Stop> {
+fn say_listed(alloc: Global, p: &Position, answer: &mut AnswerText) -> Result<(), LineStop> {
     let moves = legal_moves(alloc, p)?;
     if !has_the_legal_moves(p, moves.as_slice()) {
-        return Err(Stop::Unread);
+        return Err(LineStop::Unread);
     }
     say_moves(moves.as_slice(), answer)
 }
 
 /// The position after the move, where each way to make it gives the same.
-fn say_after(p: &Position, mv: &Move, answer: &mut Answer) -> Result<(), Stop> {
+fn say_after(p: &Position, mv: &Move, answer: &mut AnswerText) -> Result<(), LineStop> {
     let Some(found) = after_if_legal(p, *mv) else {
         return answer.put(b"illegal");
     };
     if !is_legal(p, *mv) {
-        return Err(Stop::Unread);
+        return Err(LineStop::Unread);
     }
     let made = make_move(p, *mv).position;
     if order(&made, &found) != Ordering::Equal || order(&after(p, *mv), &found) != Ordering::Equal {
-        return Err(Stop::Unread);
+        return Err(LineStop::Unread);
     }
     answer.position(&found)
 }
@@ -103,7 +103,7 @@ fn passed_by(p: &Position, mv: &Move) -> u64 {
 }
 
 /// What holds of the side to move.
-fn say_state(p: &Position, answer: &mut Answer) -> Result<(), Stop> {
+fn say_state(p: &Position, answer: &mut AnswerText) -> Result<(), LineStop> {
     let named: [(bool, &[u8]); 4] = [
         (has_move(p), b"moves"),
         (in_check(p), b"check"),
@@ -119,25 +119,30 @@ fn say_state(p: &Position, answer: &mut Answer) -> Result<(), Stop> {
 }
 
 /// The king's square and then those of his pinned men.
-fn say_guard(p: &Position, answer: &mut Answer) -> Result<(), Stop> {
+fn say_guard(p: &Position, answer: &mut AnswerText) -> Result<(), LineStop> {
     let guard = Guard::of(p);
-    let king = Square::new(guard.king).ok_or(Stop::Unread)?;
+    let king = Square::new(guard.king).ok_or(LineStop::Unread)?;
     answer.squares(only(king.number()))?;
     answer.squares(guard.pinned)
 }
 
 /// Where a man may go, where the guard and the list agree about whether there is a move.
-fn targets_of(p: &Position, from: Square) -> Result<u64, Stop> {
+fn targets_of(p: &Position, from: Square) -> Result<u64, LineStop> {
     let guard = Guard::of(p);
     if has_move_by(p, &guard) == has_move(p) {
         Ok(targets(p, &guard, from))
     } else {
-        Err(Stop::Unread)
+        Err(LineStop::Unread)
     }
 }
 
 /// Answers a question about the moves of the position.
-pub fn ask(scene: &Scene, mark: &str, given: &str, answer: &mut Answer) -> Result<(), Stop> {
+pub fn ask(
+    scene: &Scene,
+    mark: &str,
+    given: &str,
+    answer: &mut AnswerText,
+) -> Result<(), LineStop> {
     let (alloc, p) = (scene.alloc, &scene.position);
     match mark {
         "moves" => answer.number(count_moves(p) as u64),
@@ -150,6 +155,6 @@ pub fn ask(scene: &Scene, mark: &str, given: &str, answer: &mut Answer) -> Resul
         "targets" => answer.squares(targets_of(p, square_of(given)?)?),
         "perft" => answer.number(perft(alloc, p, small_of(given)?, false)?),
         "perft-by-count" => answer.number(perft(alloc, p, small_of(given)?, true)?),
-        _ => Err(Stop::Unread),
+        _ => Err(LineStop::Unread),
     }
 }

@@ -1,10 +1,10 @@
 // Facts of refutations of the positions that are listed: the claims that are written of their set, and whether a
 // refutation holds.
 
-use crate::answer::Answer;
+use crate::answer::AnswerText;
 use crate::scene::Scene;
 use crate::sets::say_members;
-use crate::stop::Stop;
+use crate::stop::LineStop;
 use crate::terms::{halves, number_of, small_of};
 use krieg_board::{MOST_MOVES, Side, Units};
 use krieg_fen::write_move;
@@ -21,27 +21,27 @@ fn refuted(
     scene: &Scene,
     moves: u8,
     units: &mut Units,
-) -> Result<Result<Denied, RefuteStop>, Stop> {
+) -> Result<Result<Denied, RefuteStop>, LineStop> {
     let b = &scene.belief()?;
     if moves == 0 || moves > MOST_MOVES {
-        return Err(Stop::Unread);
+        return Err(LineStop::Unread);
     }
     if !has_one_turn(b) {
-        return Err(Stop::Unread);
+        return Err(LineStop::Unread);
     }
     Ok(refute(scene.alloc, scene.dialect, b, moves, units))
 }
 
 /// The claims that no plan mates within so many moves.
-fn claims_of(scene: &Scene, moves: u8) -> Result<Vec<Claim>, Stop> {
+fn claims_of(scene: &Scene, moves: u8) -> Result<Vec<Claim>, LineStop> {
     match refuted(scene, moves, &mut Units::new(ENOUGH))? {
         Ok(Denied::Denial(claims)) => Ok(claims),
-        _ => Err(Stop::Unread),
+        _ => Err(LineStop::Unread),
     }
 }
 
 /// The refutation of the list by these claims.
-fn refutation_of(scene: &Scene, moves: u8) -> Result<Refutation, Stop> {
+fn refutation_of(scene: &Scene, moves: u8) -> Result<Refutation, LineStop> {
     Ok(Refutation {
         dialect: scene.dialect,
         side: scene.list.first().map_or(Side::White, |p| p.side()),
@@ -52,7 +52,7 @@ fn refutation_of(scene: &Scene, moves: u8) -> Result<Refutation, Stop> {
 }
 
 /// How many claims there are, and how many positions and reasons they have in all.
-fn say_sizes(claims: &[Claim], answer: &mut Answer) -> Result<(), Stop> {
+fn say_sizes(claims: &[Claim], answer: &mut AnswerText) -> Result<(), LineStop> {
     let mut positions = 0u64;
     let mut reasons = 0u64;
     for c in claims {
@@ -64,45 +64,55 @@ fn say_sizes(claims: &[Claim], answer: &mut Answer) -> Result<(), Stop> {
     answer.number(reasons)
 }
 
-fn say_refuted(found: Result<Denied, RefuteStop>, answer: &mut Answer) -> Result<(), Stop> {
+fn say_refuted(found: Result<Denied, RefuteStop>, answer: &mut AnswerText) -> Result<(), LineStop> {
     match found {
         Ok(Denied::Denial(claims)) => say_sizes(&claims, answer),
         Ok(Denied::Exists) => answer.put(b"a plan exists"),
         Err(RefuteStop::Spent) => answer.put(b"spent"),
         Err(RefuteStop::Large) => answer.put(b"large"),
-        Err(RefuteStop::NoMemory) => Err(Stop::Memory),
+        Err(RefuteStop::NoMemory) => Err(LineStop::Memory),
     }
 }
 
 /// The units that an answer takes, or an error.
-fn taken(scene: &Scene, moves: u8, most: u64) -> Result<u64, Stop> {
+fn taken(scene: &Scene, moves: u8, most: u64) -> Result<u64, LineStop> {
     let mut units = Units::new(most);
     let _found = refuted(scene, moves, &mut units)?;
     Ok(most.saturating_sub(units.left()))
 }
 
 /// Whether the refutation holds, and the units that it takes to look.
-fn ask_denied(scene: &Scene, f: &Refutation, most: u64, answer: &mut Answer) -> Result<(), Stop> {
+fn ask_denied(
+    scene: &Scene,
+    f: &Refutation,
+    most: u64,
+    answer: &mut AnswerText,
+) -> Result<(), LineStop> {
     let mut units = Units::new(most);
     match deny(scene.alloc, f, &mut units) {
         Ok(true) => answer.put(b"holds")?,
         Ok(false) => answer.put(b"fails")?,
         Err(DenyStop::Spent) => answer.put(b"spent")?,
-        Err(DenyStop::NoMemory) => return Err(Stop::Memory),
+        Err(DenyStop::NoMemory) => return Err(LineStop::Memory),
     }
     answer.part(b"")?;
     answer.digits(most.saturating_sub(units.left()))
 }
 
 /// What is heard in a class.
-fn say_heard(scene: &Scene, own: Words, reply: Words, answer: &mut Answer) -> Result<(), Stop> {
+fn say_heard(
+    scene: &Scene,
+    own: Words,
+    reply: Words,
+    answer: &mut AnswerText,
+) -> Result<(), LineStop> {
     let d = scene.dialect;
     write_words_in(d, told(d, own), &mut answer.text)?;
     answer.put(b" / ")?;
     Ok(write_words_in(d, told(d, reply), &mut answer.text)?)
 }
 
-fn say_why(scene: &Scene, why: Why, answer: &mut Answer) -> Result<(), Stop> {
+fn say_why(scene: &Scene, why: Why, answer: &mut AnswerText) -> Result<(), LineStop> {
     match why {
         Why::Lives => answer.put(b"lives"),
         Why::Stale => answer.put(b"stale"),
@@ -119,7 +129,7 @@ fn say_why(scene: &Scene, why: Why, answer: &mut Answer) -> Result<(), Stop> {
     }
 }
 
-fn say_reasons(scene: &Scene, reasons: &[Reason], answer: &mut Answer) -> Result<(), Stop> {
+fn say_reasons(scene: &Scene, reasons: &[Reason], answer: &mut AnswerText) -> Result<(), LineStop> {
     for r in reasons {
         answer.part(b"")?;
         write_move(r.mv, &mut answer.text)?;
@@ -130,7 +140,12 @@ fn say_reasons(scene: &Scene, reasons: &[Reason], answer: &mut Answer) -> Result
 }
 
 /// The number of moves and the set of a claim, or its reasons.
-fn ask_claim(scene: &Scene, mark: &str, c: &Claim, answer: &mut Answer) -> Result<(), Stop> {
+fn ask_claim(
+    scene: &Scene,
+    mark: &str,
+    c: &Claim,
+    answer: &mut AnswerText,
+) -> Result<(), LineStop> {
     match mark {
         "claim" => {
             answer.number(u64::from(c.moves))?;
@@ -138,7 +153,7 @@ fn ask_claim(scene: &Scene, mark: &str, c: &Claim, answer: &mut Answer) -> Resul
             say_members(scene, &c.set, answer)
         }
         "reasons" => say_reasons(scene, &c.reasons, answer),
-        _ => Err(Stop::Unread),
+        _ => Err(LineStop::Unread),
     }
 }
 
@@ -150,7 +165,12 @@ fn drop_reason(f: &mut Refutation) {
 }
 
 /// Answers a question about claims.
-pub fn ask(scene: &Scene, mark: &str, given: &str, answer: &mut Answer) -> Result<(), Stop> {
+pub fn ask(
+    scene: &Scene,
+    mark: &str,
+    given: &str,
+    answer: &mut AnswerText,
+) -> Result<(), LineStop> {
     let (moves, rest) = halves(given, " ")?;
     let moves = small_of(moves)?;
     let number = number_of(rest)?;
@@ -168,7 +188,7 @@ pub fn ask(scene: &Scene, mark: &str, given: &str, answer: &mut Answer) -> Resul
             let place = number.saturating_sub(1) as usize;
             match claims.get(place) {
                 Some(claim) => ask_claim(scene, mark, claim, answer),
-                None => Err(Stop::Unread),
+                None => Err(LineStop::Unread),
             }
         }
     }

@@ -1,6 +1,6 @@
 // What the facts are about.
 
-use crate::stop::Stop;
+use crate::stop::LineStop;
 use crate::terms::{count_of, first_word, square_of, with_men};
 use krieg_board::{Bits, NoMemory, Position};
 use krieg_fen::read_position;
@@ -36,7 +36,7 @@ pub struct Scene {
 
 impl Scene {
     /// The start of a game, in wild16.
-    pub fn new(alloc: Global) -> Result<Scene, Stop> {
+    pub fn new(alloc: Global) -> Result<Scene, LineStop> {
         let start = read_position(START)?;
         Ok(Scene {
             alloc,
@@ -49,7 +49,7 @@ impl Scene {
     }
 
     /// The position that has the name, or that the text spells.
-    pub fn position_of(&self, text: &str) -> Result<Position, Stop> {
+    pub fn position_of(&self, text: &str) -> Result<Position, LineStop> {
         for named in &self.named {
             if named.name.as_str() == text {
                 return Ok(named.position);
@@ -59,7 +59,7 @@ impl Scene {
     }
 
     /// The positions of these names.
-    fn positions_of(&self, names: &str) -> Result<Vec<Position>, Stop> {
+    fn positions_of(&self, names: &str) -> Result<Vec<Position>, LineStop> {
         let mut list = Vec::new(self.alloc);
         if names != "none" {
             for name in names.split(' ') {
@@ -80,17 +80,17 @@ impl Scene {
     }
 
     /// The set of these positions.
-    pub fn set_of(&self, names: &str) -> Result<Belief, Stop> {
+    pub fn set_of(&self, names: &str) -> Result<Belief, LineStop> {
         Ok(Belief::from_positions(self.alloc, &self.positions_of(names)?)?)
     }
 
     /// The set of the positions that are listed.
-    pub fn belief(&self) -> Result<Belief, Stop> {
+    pub fn belief(&self) -> Result<Belief, LineStop> {
         Ok(Belief::from_positions(self.alloc, &self.list)?)
     }
 
     /// The words of a text in the dialect.
-    pub fn words_of(&self, text: &str) -> Result<Words, Stop> {
+    pub fn words_of(&self, text: &str) -> Result<Words, LineStop> {
         Ok(read_words_in(self.dialect, text.as_bytes())?)
     }
 }
@@ -117,21 +117,21 @@ fn next_positions(alloc: Global, list: &[Position]) -> Result<Vec<Position>, NoM
 /// Lines that set what stands.
 impl Scene {
     /// Names a position.
-    fn add_named(&mut self, text: &str) -> Result<(), Stop> {
+    fn add_named(&mut self, text: &str) -> Result<(), LineStop> {
         let (name, fen) = first_word(text);
         let position = read_position(fen.as_bytes())?;
         let name = String::from_str(self.alloc, name)?;
         Ok(self.named.push(NamedPosition { name, position })?)
     }
 
-    fn set_position(&mut self, text: &str) -> Result<(), Stop> {
+    fn set_position(&mut self, text: &str) -> Result<(), LineStop> {
         self.position = self.position_of(text)?;
         self.bits = *self.position.bits();
         Ok(())
     }
 
     /// The board that a line makes of the one that stands.
-    fn board_of(&self, mark: &str, given: &str) -> Result<Bits, Stop> {
+    fn board_of(&self, mark: &str, given: &str) -> Result<Bits, LineStop> {
         match mark {
             "board" => with_men(&Bits::from_board(&[None; 64]), given),
             "put" => with_men(&self.bits, given),
@@ -140,7 +140,7 @@ impl Scene {
     }
 
     /// All positions behind games of so many moves.
-    fn behind(&self, plies: u32) -> Result<Vec<Position>, Stop> {
+    fn behind(&self, plies: u32) -> Result<Vec<Position>, LineStop> {
         let mut list = vec![in self.alloc; self.position]?;
         for _ in 0..plies {
             list = next_positions(self.alloc, &list)?;
@@ -149,7 +149,7 @@ impl Scene {
     }
 
     /// The positions that a line lists.
-    fn list_of(&self, mark: &str, given: &str) -> Result<Vec<Position>, Stop> {
+    fn list_of(&self, mark: &str, given: &str) -> Result<Vec<Position>, LineStop> {
         match mark {
             "members" => self.positions_of(given),
             "behind" => self.behind(count_of(given)?),
@@ -162,14 +162,14 @@ impl Scene {
     }
 
     /// Takes a line that sets what stands.
-    pub fn set(&mut self, mark: &str, given: &str) -> Result<(), Stop> {
+    pub fn set(&mut self, mark: &str, given: &str) -> Result<(), LineStop> {
         match mark {
-            "dialect" => self.dialect = read_dialect(given.as_bytes()).ok_or(Stop::Unread)?,
+            "dialect" => self.dialect = read_dialect(given.as_bytes()).ok_or(LineStop::Unread)?,
             "position" => self.set_position(given)?,
             "name" => self.add_named(given)?,
             "board" | "put" | "take" => self.bits = self.board_of(mark, given)?,
             "members" | "behind" | "made" => self.list = self.list_of(mark, given)?,
-            _ => return Err(Stop::Unread),
+            _ => return Err(LineStop::Unread),
         }
         Ok(())
     }

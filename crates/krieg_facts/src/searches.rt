@@ -1,10 +1,10 @@
 // Facts of searches of the set of the positions that are listed: what they come to, and the units that they take.
 
-use crate::answer::Answer;
+use crate::answer::AnswerText;
 use crate::keys::say_keys;
 use crate::scene::Scene;
 use crate::shares::say_share;
-use crate::stop::Stop;
+use crate::stop::LineStop;
 use crate::terms::{count_of, halves, number_of, side_of, small_of};
 use krieg_board::{MOST_MOVES, Side, Units};
 use krieg_checker::has_one_turn as lists_one_turn;
@@ -26,7 +26,7 @@ type Outcome = (SearchResult, u64);
 
 /// Which call searches.
 #[derive(Clone, Copy)]
-enum Call {
+enum SearchCall {
     Solve,
     Find,
 }
@@ -34,28 +34,28 @@ enum Call {
 /// A search without the units.
 #[derive(Clone, Copy)]
 struct Task {
-    call: Call,
+    call: SearchCall,
     who: Side,
     moves: u8,
     nodes: usize,
 }
 
-fn came_of(answer: Result<Solved, SearchStop>) -> Result<SearchResult, Stop> {
+fn came_of(answer: Result<Solved, SearchStop>) -> Result<SearchResult, LineStop> {
     match answer {
         Ok(Solved::Mates { worst, .. }) => Ok(SearchResult::Mates(worst)),
         Ok(Solved::None) => Ok(SearchResult::None),
         Err(SearchStop::Spent) => Ok(SearchResult::Spent),
         Err(SearchStop::Large) => Ok(SearchResult::Large),
-        Err(SearchStop::NoMemory) => Err(Stop::Memory),
+        Err(SearchStop::NoMemory) => Err(LineStop::Memory),
     }
 }
 
-fn search(scene: &Scene, task: Task, b: &Belief, most: u64) -> Result<Outcome, Stop> {
+fn search(scene: &Scene, task: Task, b: &Belief, most: u64) -> Result<Outcome, LineStop> {
     if task.moves > MOST_MOVES {
-        return Err(Stop::Unread);
+        return Err(LineStop::Unread);
     }
     if !has_one_turn(b) {
-        return Err(Stop::Unread);
+        return Err(LineStop::Unread);
     }
     let Scene { alloc, dialect, .. } = scene;
     let Task {
@@ -66,15 +66,20 @@ fn search(scene: &Scene, task: Task, b: &Belief, most: u64) -> Result<Outcome, S
     } = task;
     let mut units = Units::new(most);
     let answer = match task.call {
-        Call::Solve => solve(*alloc, *dialect, who, b, moves, nodes, &mut units),
-        Call::Find => find(*alloc, *dialect, who, b, moves, nodes, &mut units),
+        SearchCall::Solve => solve(*alloc, *dialect, who, b, moves, nodes, &mut units),
+        SearchCall::Find => find(*alloc, *dialect, who, b, moves, nodes, &mut units),
     };
     Ok((came_of(answer)?, most.saturating_sub(units.left())))
 }
 
 /// What the search comes to with what is fresh, where it takes units from the floor on; with just so many comes to
 /// the same; and with one less, and with less than the floor, is spent and takes none.
-fn came_between(scene: &Scene, task: Task, floor: u64, fresh: u64) -> Result<SearchResult, Stop> {
+fn came_between(
+    scene: &Scene,
+    task: Task,
+    floor: u64,
+    fresh: u64,
+) -> Result<SearchResult, LineStop> {
     let b = &scene.belief()?;
     let enough = search(scene, task, b, fresh)?;
     let (came, took) = enough;
@@ -84,12 +89,12 @@ fn came_between(scene: &Scene, task: Task, floor: u64, fresh: u64) -> Result<Sea
     if is_exact && few == (SearchResult::Spent, 0) && fewer == few {
         Ok(came)
     } else {
-        Err(Stop::Unread)
+        Err(LineStop::Unread)
     }
 }
 
 /// The side, the moves and the nodes of a search by that call, and what stands behind them.
-fn task_of(call: Call, text: &str) -> Result<(Task, &str), Stop> {
+fn task_of(call: SearchCall, text: &str) -> Result<(Task, &str), LineStop> {
     let (who, rest) = halves(text, " ")?;
     let (moves, rest) = halves(rest, " ")?;
     let (nodes, rest) = halves(rest, " ")?;
@@ -102,7 +107,7 @@ fn task_of(call: Call, text: &str) -> Result<(Task, &str), Stop> {
     Ok((task, rest))
 }
 
-fn say_came(came: SearchResult, answer: &mut Answer) -> Result<(), Stop> {
+fn say_came(came: SearchResult, answer: &mut AnswerText) -> Result<(), LineStop> {
     match came {
         SearchResult::Mates(worst) => {
             answer.put(b"mates ")?;
@@ -115,12 +120,17 @@ fn say_came(came: SearchResult, answer: &mut Answer) -> Result<(), Stop> {
 }
 
 /// What a search with so many units comes to, and those that it takes.
-fn searched(scene: &Scene, task: Task, most: &str) -> Result<Outcome, Stop> {
+fn searched(scene: &Scene, task: Task, most: &str) -> Result<Outcome, LineStop> {
     search(scene, task, &scene.belief()?, number_of(most)?)
 }
 
 /// What a search comes to, where its units are between two numbers.
-fn say_between(scene: &Scene, task: Task, text: &str, answer: &mut Answer) -> Result<(), Stop> {
+fn say_between(
+    scene: &Scene,
+    task: Task,
+    text: &str,
+    answer: &mut AnswerText,
+) -> Result<(), LineStop> {
     let (floor, fresh) = halves(text, " ")?;
     say_came(
         came_between(scene, task, number_of(floor)?, number_of(fresh)?)?,
@@ -129,7 +139,7 @@ fn say_between(scene: &Scene, task: Task, text: &str, answer: &mut Answer) -> Re
 }
 
 /// Whether the same side is to move in all listed positions, asked of their set and of a plan file that lists them.
-fn is_one_turn(scene: &Scene) -> Result<bool, Stop> {
+fn is_one_turn(scene: &Scene) -> Result<bool, LineStop> {
     let file = PlanFile {
         dialect: scene.dialect,
         side: Side::White,
@@ -141,12 +151,17 @@ fn is_one_turn(scene: &Scene) -> Result<bool, Stop> {
     if lists_one_turn(&file) == is_one {
         Ok(is_one)
     } else {
-        Err(Stop::Unread)
+        Err(LineStop::Unread)
     }
 }
 
 /// Answers a question about a search, about keys, about a strategy, or about whose turn it is.
-pub fn ask(scene: &Scene, mark: &str, given: &str, answer: &mut Answer) -> Result<(), Stop> {
+pub fn ask(
+    scene: &Scene,
+    mark: &str,
+    given: &str,
+    answer: &mut AnswerText,
+) -> Result<(), LineStop> {
     match mark {
         "one-turn" => answer.yes_or_no(is_one_turn(scene)?),
         "keys" => say_keys(scene, given, answer),
@@ -156,17 +171,22 @@ pub fn ask(scene: &Scene, mark: &str, given: &str, answer: &mut Answer) -> Resul
 }
 
 /// Answers a question about a search.
-fn ask_search(scene: &Scene, mark: &str, given: &str, answer: &mut Answer) -> Result<(), Stop> {
+fn ask_search(
+    scene: &Scene,
+    mark: &str,
+    given: &str,
+    answer: &mut AnswerText,
+) -> Result<(), LineStop> {
     let call = if mark == "find" {
-        Call::Find
+        SearchCall::Find
     } else {
-        Call::Solve
+        SearchCall::Solve
     };
     let (task, rest) = task_of(call, given)?;
     match mark {
         "search" | "find" => say_came(searched(scene, task, rest)?.0, answer),
         "took" => answer.number(searched(scene, task, rest)?.1),
         "search-between" => say_between(scene, task, rest, answer),
-        _ => Err(Stop::Unread),
+        _ => Err(LineStop::Unread),
     }
 }

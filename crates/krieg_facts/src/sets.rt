@@ -1,15 +1,15 @@
 // Facts of packed positions and of sets of them.
 
-use crate::answer::Answer;
+use crate::answer::AnswerText;
 use crate::scene::Scene;
-use crate::stop::Stop;
+use crate::stop::LineStop;
 use crate::terms::{count_of, halves};
 use krieg_board::{NoMemory, Position};
 use krieg_pack::{Belief, KeptSet, Packed, order, pack, trim, unpack};
 use std::cmp::Ordering;
 
 /// The bytes of a packed position.
-fn say_code(p: &Position, answer: &mut Answer) -> Result<(), Stop> {
+fn say_code(p: &Position, answer: &mut AnswerText) -> Result<(), LineStop> {
     for byte in pack(p).bytes() {
         answer.number(u64::from(byte))?;
     }
@@ -17,17 +17,17 @@ fn say_code(p: &Position, answer: &mut Answer) -> Result<(), Stop> {
 }
 
 /// How the first position stands to the second, which stands to it the other way round.
-fn say_order(a: &Position, c: &Position, answer: &mut Answer) -> Result<(), Stop> {
+fn say_order(a: &Position, c: &Position, answer: &mut AnswerText) -> Result<(), LineStop> {
     match (order(a, c), order(c, a)) {
         (Ordering::Less, Ordering::Greater) => answer.put(b"less"),
         (Ordering::Equal, Ordering::Equal) => answer.put(b"equal"),
         (Ordering::Greater, Ordering::Less) => answer.put(b"greater"),
-        _ => Err(Stop::Unread),
+        _ => Err(LineStop::Unread),
     }
 }
 
 /// Adds the names of the members, where each has one, and tells whether they have.
-fn add_names(scene: &Scene, b: &Belief, names: &mut Answer) -> Result<bool, Stop> {
+fn add_names(scene: &Scene, b: &Belief, names: &mut AnswerText) -> Result<bool, LineStop> {
     for i in 0..b.len() {
         match scene.name_of(&b.get(i)) {
             Some(name) => names.word(name.as_bytes())?,
@@ -38,8 +38,8 @@ fn add_names(scene: &Scene, b: &Belief, names: &mut Answer) -> Result<bool, Stop
 }
 
 /// The members of a set in their order by name, or how many they are where one of them has no name.
-pub fn say_members(scene: &Scene, b: &Belief, answer: &mut Answer) -> Result<(), Stop> {
-    let mut names = Answer::new(scene.alloc);
+pub fn say_members(scene: &Scene, b: &Belief, answer: &mut AnswerText) -> Result<(), LineStop> {
+    let mut names = AnswerText::new(scene.alloc);
     if add_names(scene, b, &mut names)? {
         answer.put(names.told())
     } else {
@@ -48,20 +48,20 @@ pub fn say_members(scene: &Scene, b: &Belief, answer: &mut Answer) -> Result<(),
 }
 
 /// The members of the set, where a copy is the same set and holds each of the list.
-fn say_set(scene: &Scene, b: &Belief, answer: &mut Answer) -> Result<(), Stop> {
+fn say_set(scene: &Scene, b: &Belief, answer: &mut AnswerText) -> Result<(), LineStop> {
     if scene.list.iter().all(|p| b.holds(p)) && b.copy()?.same(b) {
         say_members(scene, b, answer)
     } else {
-        Err(Stop::Unread)
+        Err(LineStop::Unread)
     }
 }
 
 /// The members of a set that was kept and opened again, where another one of the same set is equal, and how it was kept.
-fn say_kept(scene: &Scene, b: Belief, answer: &mut Answer) -> Result<(), Stop> {
+fn say_kept(scene: &Scene, b: Belief, answer: &mut AnswerText) -> Result<(), LineStop> {
     let other = KeptSet::of(b.copy()?);
     let kept = KeptSet::of(b);
     if kept != other {
-        return Err(Stop::Unread);
+        return Err(LineStop::Unread);
     }
     let form: &[u8] = if kept.listed().is_some() {
         b"list"
@@ -83,7 +83,7 @@ fn add_times(list: &[Position], times: u32, buffer: &mut Vec<Packed>) -> Result<
 }
 
 /// How long a buffer is after each time that the list was added to it so many times and it was trimmed.
-fn say_trims(scene: &Scene, text: &str, answer: &mut Answer) -> Result<(), Stop> {
+fn say_trims(scene: &Scene, text: &str, answer: &mut AnswerText) -> Result<(), LineStop> {
     let (limit, adds) = halves(text, " ")?;
     let limit = count_of(limit)? as usize;
     let mut buffer = Vec::new(scene.alloc);
@@ -98,7 +98,12 @@ fn say_trims(scene: &Scene, text: &str, answer: &mut Answer) -> Result<(), Stop>
 }
 
 /// Answers a question about the position, or about the set of the positions that are listed.
-pub fn ask(scene: &Scene, mark: &str, given: &str, answer: &mut Answer) -> Result<(), Stop> {
+pub fn ask(
+    scene: &Scene,
+    mark: &str,
+    given: &str,
+    answer: &mut AnswerText,
+) -> Result<(), LineStop> {
     match mark {
         "code" => say_code(&scene.position, answer),
         "unpacked" => answer.position(&unpack(&pack(&scene.position))),
@@ -108,6 +113,6 @@ pub fn ask(scene: &Scene, mark: &str, given: &str, answer: &mut Answer) -> Resul
         "same-set" => answer.yes_or_no(scene.belief()?.same(&scene.set_of(given)?)),
         "kept" => say_kept(scene, scene.belief()?, answer),
         "trims" => say_trims(scene, given, answer),
-        _ => Err(Stop::Unread),
+        _ => Err(LineStop::Unread),
     }
 }

@@ -1,10 +1,10 @@
 // Facts of what a try makes of the set of the positions that are listed, and of what this takes.
 
-use crate::answer::Answer;
+use crate::answer::AnswerText;
 use crate::moves::say_moves;
 use crate::scene::Scene;
 use crate::sets::say_members;
-use crate::stop::Stop;
+use crate::stop::LineStop;
 use crate::terms::move_of;
 use crate::words::say_told;
 use krieg_board::{Move, Units};
@@ -18,9 +18,9 @@ use krieg_words::{Words, told};
 const PLENTY: u64 = 10_000_000;
 
 /// Words that were told in the dialect.
-fn say_words(scene: &Scene, words: Words, answer: &mut Answer) -> Result<(), Stop> {
+fn say_words(scene: &Scene, words: Words, answer: &mut AnswerText) -> Result<(), LineStop> {
     if told(scene.dialect, words) != words {
-        return Err(Stop::Unread);
+        return Err(LineStop::Unread);
     }
     say_told(scene.dialect, words, answer)
 }
@@ -31,8 +31,8 @@ fn say_part(
     first: Words,
     next: Option<Words>,
     b: &Belief,
-    answer: &mut Answer,
-) -> Result<(), Stop> {
+    answer: &mut AnswerText,
+) -> Result<(), LineStop> {
     answer.part(b"")?;
     say_words(scene, first, answer)?;
     if let Some(words) = next {
@@ -43,7 +43,7 @@ fn say_part(
     say_members(scene, b, answer)
 }
 
-fn say_parted(scene: &Scene, parted: &Parted, answer: &mut Answer) -> Result<(), Stop> {
+fn say_parted(scene: &Scene, parted: &Parted, answer: &mut AnswerText) -> Result<(), LineStop> {
     if !parted.refused.is_empty() {
         answer.part(b"refused: ")?;
         say_members(scene, &parted.refused, answer)?;
@@ -57,7 +57,7 @@ fn say_parted(scene: &Scene, parted: &Parted, answer: &mut Answer) -> Result<(),
     Ok(())
 }
 
-fn say_firsts(scene: &Scene, firsts: &Firsts, answer: &mut Answer) -> Result<(), Stop> {
+fn say_firsts(scene: &Scene, firsts: &Firsts, answer: &mut AnswerText) -> Result<(), LineStop> {
     if firsts.ended {
         answer.part(b"ended")?;
     }
@@ -68,7 +68,11 @@ fn say_firsts(scene: &Scene, firsts: &Firsts, answer: &mut Answer) -> Result<(),
 }
 
 /// The parts, or `none` where there is no split.
-fn say_split(scene: &Scene, parted: &Option<Parted>, answer: &mut Answer) -> Result<(), Stop> {
+fn say_split(
+    scene: &Scene,
+    parted: &Option<Parted>,
+    answer: &mut AnswerText,
+) -> Result<(), LineStop> {
     match parted {
         Some(parted) => say_parted(scene, parted, answer),
         None => answer.part(b"none"),
@@ -76,7 +80,7 @@ fn say_split(scene: &Scene, parted: &Option<Parted>, answer: &mut Answer) -> Res
 }
 
 /// Who is left, or `none` where the try does not mate wherever it is legal.
-fn say_left(scene: &Scene, left: &Option<Belief>, answer: &mut Answer) -> Result<(), Stop> {
+fn say_left(scene: &Scene, left: &Option<Belief>, answer: &mut AnswerText) -> Result<(), LineStop> {
     match left {
         Some(left) => {
             answer.part(b"left: ")?;
@@ -96,13 +100,13 @@ enum Work {
 }
 
 /// The work of a question.
-fn work_of(mark: &str, given: &str) -> Result<Work, Stop> {
+fn work_of(mark: &str, given: &str) -> Result<Work, LineStop> {
     match mark {
         "split" => Ok(Work::Split(move_of(given)?)),
         "split-to-mate" => Ok(Work::SplitToMate(move_of(given)?)),
         "split-unless-stale" => Ok(Work::SplitUnlessStale(move_of(given)?)),
         "firsts" => Ok(Work::FirstReplies),
-        _ => Err(Stop::Unread),
+        _ => Err(LineStop::Unread),
     }
 }
 
@@ -112,8 +116,8 @@ fn do_work(
     work: &Work,
     b: &Belief,
     most: u64,
-    answer: &mut Answer,
-) -> Result<u64, Stop> {
+    answer: &mut AnswerText,
+) -> Result<u64, LineStop> {
     let (alloc, d) = (scene.alloc, scene.dialect);
     let units = &mut Units::new(most);
     match work {
@@ -131,20 +135,20 @@ fn do_work(
 
 /// What comes of the work, and the units that it takes: with just these it comes to the same, and with one less it is
 /// spent.
-fn say_work(scene: &Scene, work: &Work, answer: &mut Answer) -> Result<(), Stop> {
+fn say_work(scene: &Scene, work: &Work, answer: &mut AnswerText) -> Result<(), LineStop> {
     let b = &scene.belief()?;
     let cost = PLENTY.saturating_sub(do_work(scene, work, b, PLENTY, answer)?);
-    let mut again = Answer::new(scene.alloc);
+    let mut again = AnswerText::new(scene.alloc);
     let left = do_work(scene, work, b, cost, &mut again)?;
     let few = do_work(
         scene,
         work,
         b,
         cost.saturating_sub(1),
-        &mut Answer::new(scene.alloc),
+        &mut AnswerText::new(scene.alloc),
     );
-    if left != 0 || again.text != answer.text || few != Err(Stop::Spent) {
-        return Err(Stop::Unread);
+    if left != 0 || again.text != answer.text || few != Err(LineStop::Spent) {
+        return Err(LineStop::Unread);
     }
     answer.part(b"")?;
     answer.digits(cost)?;
@@ -152,7 +156,7 @@ fn say_work(scene: &Scene, work: &Work, answer: &mut Answer) -> Result<(), Stop>
 }
 
 /// The units of all splits of the set, or of all splits that must mate.
-fn price_of(scene: &Scene, is_to_mate: bool) -> Result<u64, Stop> {
+fn price_of(scene: &Scene, is_to_mate: bool) -> Result<u64, LineStop> {
     let b = &scene.belief()?;
     let mut units = Units::new(PLENTY);
     for mv in &tries(scene.alloc, b)? {
@@ -166,7 +170,7 @@ fn price_of(scene: &Scene, is_to_mate: bool) -> Result<u64, Stop> {
 }
 
 /// The sets by opening words.
-fn say_openings(scene: &Scene, answer: &mut Answer) -> Result<(), Stop> {
+fn say_openings(scene: &Scene, answer: &mut AnswerText) -> Result<(), LineStop> {
     for opened in &openings(scene.alloc, scene.dialect, &scene.belief()?)? {
         say_part(scene, opened.opens, None, &opened.belief, answer)?;
     }
@@ -174,7 +178,12 @@ fn say_openings(scene: &Scene, answer: &mut Answer) -> Result<(), Stop> {
 }
 
 /// Answers a question about tries in the set.
-pub fn ask(scene: &Scene, mark: &str, given: &str, answer: &mut Answer) -> Result<(), Stop> {
+pub fn ask(
+    scene: &Scene,
+    mark: &str,
+    given: &str,
+    answer: &mut AnswerText,
+) -> Result<(), LineStop> {
     match mark {
         "set-tries" => say_moves(&tries(scene.alloc, &scene.belief()?)?, answer),
         "all-splits" => answer.number(price_of(scene, false)?),

@@ -10,7 +10,7 @@ use std::alloc::{AllocError, AllocFailed};
 
 /// Why a line is not answered.
 #[derive(Clone, Copy, Debug, PartialEq, Eq)]
-pub enum Stop {
+pub enum LineStop {
     /// Memory was not found.
     Memory,
     /// Part of the line has none of the forms of its place, or what it asks for does not stand.
@@ -19,71 +19,71 @@ pub enum Stop {
     Spent,
 }
 
-impl From<NoMemory> for Stop {
-    fn from(_error: NoMemory) -> Stop {
-        Stop::Memory
+impl From<NoMemory> for LineStop {
+    fn from(_error: NoMemory) -> LineStop {
+        LineStop::Memory
     }
 }
 
-impl From<AllocError> for Stop {
-    fn from(_error: AllocError) -> Stop {
-        Stop::Memory
+impl From<AllocError> for LineStop {
+    fn from(_error: AllocError) -> LineStop {
+        LineStop::Memory
     }
 }
 
-impl<T: Drop> From<AllocFailed<T>> for Stop {
-    fn from(_error: AllocFailed<T>) -> Stop {
-        Stop::Memory
+impl<T: Drop> From<AllocFailed<T>> for LineStop {
+    fn from(_error: AllocFailed<T>) -> LineStop {
+        LineStop::Memory
     }
 }
 
-impl From<FenFault> for Stop {
-    fn from(_error: FenFault) -> Stop {
-        Stop::Unread
+impl From<FenFault> for LineStop {
+    fn from(_error: FenFault) -> LineStop {
+        LineStop::Unread
     }
 }
 
-impl From<MoveFault> for Stop {
-    fn from(_error: MoveFault) -> Stop {
-        Stop::Unread
+impl From<MoveFault> for LineStop {
+    fn from(_error: MoveFault) -> LineStop {
+        LineStop::Unread
     }
 }
 
-impl From<WordsFault> for Stop {
-    fn from(_error: WordsFault) -> Stop {
-        Stop::Unread
+impl From<WordsFault> for LineStop {
+    fn from(_error: WordsFault) -> LineStop {
+        LineStop::Unread
     }
 }
 
-impl From<LineFault> for Stop {
-    fn from(_error: LineFault) -> Stop {
-        Stop::Unread
+impl From<LineFault> for LineStop {
+    fn from(_error: LineFault) -> LineStop {
+        LineStop::Unread
     }
 }
 
-impl From<SheetFault> for Stop {
-    fn from(error: SheetFault) -> Stop {
+impl From<SheetFault> for LineStop {
+    fn from(error: SheetFault) -> LineStop {
         match error {
-            SheetFault::NoMemory => Stop::Memory,
-            _ => Stop::Unread,
+            SheetFault::NoMemory => LineStop::Memory,
+            _ => LineStop::Unread,
         }
     }
 }
 
-impl From<SplitStop> for Stop {
-    fn from(error: SplitStop) -> Stop {
+impl From<SplitStop> for LineStop {
+    fn from(error: SplitStop) -> LineStop {
         match error {
-            SplitStop::Spent => Stop::Spent,
-            SplitStop::NoMemory => Stop::Memory,
+            SplitStop::Spent => LineStop::Spent,
+            SplitStop::NoMemory => LineStop::Memory,
         }
     }
 }
 
-impl From<WhyStop> for Stop {
-    fn from(error: WhyStop) -> Stop {
+impl From<WhyStop> for LineStop {
+    fn from(error: WhyStop) -> LineStop {
         match error {
-            WhyStop::NoMemory => Stop::Memory,
-            _ => Stop::Unread,
+            WhyStop::NoMemory => LineStop::Memory,
+            _ => LineStop::Unread,
         }
     }
 }

@@ -1,7 +1,7 @@
 // Facts of strategies: their texts, and whether they mate.
 
-use crate::answer::Answer;
-use crate::stop::Stop;
+use crate::answer::AnswerText;
+use crate::stop::LineStop;
 use crate::terms::{bytes_of, number_of};
 use krieg_board::Units;
 use krieg_judge::{JudgeStop, Judgement, judge};
@@ -17,7 +17,12 @@ pub struct Strategies {
 }
 
 /// What is found with so many units, and how many that takes.
-fn say_judged(alloc: Global, s: &Strategy, most: u64, answer: &mut Answer) -> Result<(), Stop> {
+fn say_judged(
+    alloc: Global,
+    s: &Strategy,
+    most: u64,
+    answer: &mut AnswerText,
+) -> Result<(), LineStop> {
     let mut units = Units::new(most);
     match judge(alloc, s, &mut units) {
         Ok(Judgement::Mates(worst)) => {
@@ -26,7 +31,7 @@ fn say_judged(alloc: Global, s: &Strategy, most: u64, answer: &mut Answer) -> Re
         }
         Ok(Judgement::Fails) => answer.put(b"fails")?,
         Err(JudgeStop::Spent) => return answer.put(b"spent"),
-        Err(JudgeStop::NoMemory) => return Err(Stop::Memory),
+        Err(JudgeStop::NoMemory) => return Err(LineStop::Memory),
     }
     answer.part(b"")?;
     answer.digits(most.saturating_sub(units.left()))
@@ -42,13 +47,13 @@ impl Strategies {
     }
 
     /// Takes a text.
-    pub fn set(&mut self, given: &str) -> Result<(), Stop> {
+    pub fn set(&mut self, given: &str) -> Result<(), LineStop> {
         self.text = bytes_of(self.alloc, given)?;
         Ok(())
     }
 
     /// Whether the text is that which is written of what is read.
-    fn say_again(&self, answer: &mut Answer) -> Result<(), Stop> {
+    fn say_again(&self, answer: &mut AnswerText) -> Result<(), LineStop> {
         match read_strategy(self.alloc, &self.text) {
             Ok(s) => {
                 let again = write_strategy(self.alloc, &s)?;
@@ -59,19 +64,19 @@ impl Strategies {
     }
 
     /// Answers a question about the strategy that is read.
-    fn ask_read(&self, mark: &str, given: &str, answer: &mut Answer) -> Result<(), Stop> {
+    fn ask_read(&self, mark: &str, given: &str, answer: &mut AnswerText) -> Result<(), LineStop> {
         match read_strategy(self.alloc, &self.text) {
             Ok(s) => match mark {
                 "nodes" => answer.number(s.nodes.len() as u64),
                 "judge" => say_judged(self.alloc, &s, number_of(given)?, answer),
-                _ => Err(Stop::Unread),
+                _ => Err(LineStop::Unread),
             },
             Err(fault) => answer.fault(fault),
         }
     }
 
     /// Answers a question about the text, by its first bad line where it spells no strategy.
-    pub fn ask(&self, mark: &str, given: &str, answer: &mut Answer) -> Result<(), Stop> {
+    pub fn ask(&self, mark: &str, given: &str, answer: &mut AnswerText) -> Result<(), LineStop> {
         match mark {
             "again" => self.say_again(answer),
             _ => self.ask_read(mark, given, answer),

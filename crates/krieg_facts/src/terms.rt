@@ -1,14 +1,14 @@
 // The words of which lines are made, as they are read.
 
-use crate::stop::Stop;
+use crate::stop::LineStop;
 use krieg_board::{Bits, Kind, Man, Move, Side, Square, only};
 use krieg_fen::{read_move, read_square};
 use krieg_text::read_number;
 use std::alloc::{AllocError, Global};
 
 /// What stands before and behind the first of these separators.
-pub fn halves<'a>(text: &'a str, separator: &str) -> Result<(&'a str, &'a str), Stop> {
-    text.split_once(separator).ok_or(Stop::Unread)
+pub fn halves<'a>(text: &'a str, separator: &str) -> Result<(&'a str, &'a str), LineStop> {
+    text.split_once(separator).ok_or(LineStop::Unread)
 }
 
 /// The first word, and what stands behind it.
@@ -17,47 +17,47 @@ pub fn first_word(text: &str) -> (&str, &str) {
 }
 
 /// The side that `w` or `b` names.
-pub fn side_of(text: &str) -> Result<Side, Stop> {
+pub fn side_of(text: &str) -> Result<Side, LineStop> {
     match text {
         "w" => Ok(Side::White),
         "b" => Ok(Side::Black),
-        _ => Err(Stop::Unread),
+        _ => Err(LineStop::Unread),
     }
 }
 
 /// A square by its name, as `e4`.
-pub fn square_of(text: &str) -> Result<Square, Stop> {
-    read_square(text.as_bytes()).ok_or(Stop::Unread)
+pub fn square_of(text: &str) -> Result<Square, LineStop> {
+    read_square(text.as_bytes()).ok_or(LineStop::Unread)
 }
 
 /// A move, as `e2e4` or `e7e8q`.
-pub fn move_of(text: &str) -> Result<Move, Stop> {
+pub fn move_of(text: &str) -> Result<Move, LineStop> {
     Ok(read_move(text.as_bytes())?)
 }
 
 /// A number in plain decimal digits.
-pub fn number_of(text: &str) -> Result<u64, Stop> {
-    read_number(text.as_bytes(), u64::MAX).ok_or(Stop::Unread)
+pub fn number_of(text: &str) -> Result<u64, LineStop> {
+    read_number(text.as_bytes(), u64::MAX).ok_or(LineStop::Unread)
 }
 
 /// A number below the 32nd power of two.
-pub fn count_of(text: &str) -> Result<u32, Stop> {
-    u32::try_from(number_of(text)?).map_err(|_| Stop::Unread)
+pub fn count_of(text: &str) -> Result<u32, LineStop> {
+    u32::try_from(number_of(text)?).map_err(|_| LineStop::Unread)
 }
 
 /// A number below 256.
-pub fn small_of(text: &str) -> Result<u8, Stop> {
-    u8::try_from(number_of(text)?).map_err(|_| Stop::Unread)
+pub fn small_of(text: &str) -> Result<u8, LineStop> {
+    u8::try_from(number_of(text)?).map_err(|_| LineStop::Unread)
 }
 
 /// A side and a square, as `w e2`.
-pub fn sided_of(text: &str) -> Result<(Side, Square), Stop> {
+pub fn sided_of(text: &str) -> Result<(Side, Square), LineStop> {
     let (side, square) = halves(text, " ")?;
     Ok((side_of(side)?, square_of(square)?))
 }
 
 /// The set of these squares.
-pub fn squares_of(text: &str) -> Result<u64, Stop> {
+pub fn squares_of(text: &str) -> Result<u64, LineStop> {
     let mut set = 0;
     for word in text.split(' ') {
         set |= only(square_of(word)?.number());
@@ -81,13 +81,13 @@ const LETTERS: [(&str, Side, Kind); 12] = [
     ("k", Side::Black, Kind::King),
 ];
 
-fn man_of(text: &str) -> Result<Man, Stop> {
+fn man_of(text: &str) -> Result<Man, LineStop> {
     for (letter, side, kind) in LETTERS {
         if letter == text {
             return Ok(Man { side, kind });
         }
     }
-    Err(Stop::Unread)
+    Err(LineStop::Unread)
 }
 
 /// The letter of a man.
@@ -101,13 +101,13 @@ pub fn letter_of(man: Man) -> &'static str {
 }
 
 /// A man on a square, as `Qd1`.
-pub fn placed_of(text: &str) -> Result<(Man, Square), Stop> {
-    let (letter, square) = text.split_at_checked(1).ok_or(Stop::Unread)?;
+pub fn placed_of(text: &str) -> Result<(Man, Square), LineStop> {
+    let (letter, square) = text.split_at_checked(1).ok_or(LineStop::Unread)?;
     Ok((man_of(letter)?, square_of(square)?))
 }
 
 /// The board with these men on it too.
-pub fn with_men(bits: &Bits, text: &str) -> Result<Bits, Stop> {
+pub fn with_men(bits: &Bits, text: &str) -> Result<Bits, LineStop> {
     let mut bits = *bits;
     for word in text.split(' ') {
         let (man, square) = placed_of(word)?;

@@ -1,8 +1,8 @@
 // Facts of texts that are read and written again.
 
-use crate::answer::Answer;
+use crate::answer::AnswerText;
 use crate::scene::Scene;
-use crate::stop::Stop;
+use crate::stop::LineStop;
 use crate::terms::{bytes_of, count_of, halves, number_of, side_of};
 use krieg_board::NoMemory;
 use krieg_fen::{Turn, put_list, put_listing, read_list, read_listing, read_move, write_move};
@@ -12,7 +12,7 @@ use krieg_text::{Cursor, NumberFault, Text, lines_of, put_number, read_number_be
 use std::alloc::Global;
 
 /// A number between two others.
-fn say_number(text: &str, answer: &mut Answer) -> Result<(), Stop> {
+fn say_number(text: &str, answer: &mut AnswerText) -> Result<(), LineStop> {
     let (least, rest) = halves(text, " ")?;
     let (most, text) = halves(rest, " ")?;
     match read_number_between(text.as_bytes(), number_of(least)?, number_of(most)?) {
@@ -22,7 +22,7 @@ fn say_number(text: &str, answer: &mut Answer) -> Result<(), Stop> {
     }
 }
 
-fn say_move(text: &str, answer: &mut Answer) -> Result<(), Stop> {
+fn say_move(text: &str, answer: &mut AnswerText) -> Result<(), LineStop> {
     match read_move(text.as_bytes()) {
         Ok(mv) => Ok(write_move(mv, &mut answer.text)?),
         Err(_) => answer.put(b"refused"),
@@ -30,7 +30,11 @@ fn say_move(text: &str, answer: &mut Answer) -> Result<(), Stop> {
 }
 
 /// A line of a number behind a content, where the writing ends so.
-fn say_ended(text: &str, done: Result<(), NoMemory>, answer: &mut Answer) -> Result<(), Stop> {
+fn say_ended(
+    text: &str,
+    done: Result<(), NoMemory>,
+    answer: &mut AnswerText,
+) -> Result<(), LineStop> {
     let (content, number) = halves(text, " ")?;
     answer.put(content.as_bytes())?;
     let mut all = Text::after(&mut answer.text);
@@ -39,20 +43,20 @@ fn say_ended(text: &str, done: Result<(), NoMemory>, answer: &mut Answer) -> Res
     if all.end(done, &mut answer.text) == done {
         Ok(())
     } else {
-        Err(Stop::Unread)
+        Err(LineStop::Unread)
     }
 }
 
-fn turn_of(text: &str) -> Result<Turn, Stop> {
+fn turn_of(text: &str) -> Result<Turn, LineStop> {
     match text {
         "either" => Ok(Turn::Either),
         "own" => Ok(Turn::Own),
-        _ => Err(Stop::Unread),
+        _ => Err(LineStop::Unread),
     }
 }
 
 /// A side and positions, with the number of the line behind them.
-fn say_listing(alloc: Global, given: &str, answer: &mut Answer) -> Result<(), Stop> {
+fn say_listing(alloc: Global, given: &str, answer: &mut AnswerText) -> Result<(), LineStop> {
     let (turn, text) = halves(given, " ")?;
     let (turn, text) = (turn_of(turn)?, bytes_of(alloc, text)?);
     let mut from = Cursor::new(&text);
@@ -69,7 +73,7 @@ fn say_listing(alloc: Global, given: &str, answer: &mut Answer) -> Result<(), St
 }
 
 /// So many positions, of which the first stands in line 7.
-fn say_list(alloc: Global, given: &str, answer: &mut Answer) -> Result<(), Stop> {
+fn say_list(alloc: Global, given: &str, answer: &mut AnswerText) -> Result<(), LineStop> {
     let (who, rest) = halves(given, " ")?;
     let (count, text) = halves(rest, " ")?;
     let (who, count, text) = (side_of(who)?, count_of(count)?, bytes_of(alloc, text)?);
@@ -83,21 +87,21 @@ fn say_list(alloc: Global, given: &str, answer: &mut Answer) -> Result<(), Stop>
     }
 }
 
-fn say_start(text: &[u8], answer: &mut Answer) -> Result<(), Stop> {
+fn say_start(text: &[u8], answer: &mut AnswerText) -> Result<(), LineStop> {
     match read_start(text) {
         Ok(p) => answer.position(&p),
         Err(fault) => answer.fault(fault),
     }
 }
 
-fn say_session(alloc: Global, text: &[u8], answer: &mut Answer) -> Result<(), Stop> {
+fn say_session(alloc: Global, text: &[u8], answer: &mut AnswerText) -> Result<(), LineStop> {
     match read_session(alloc, text) {
         Ok(session) => Ok(write_session(&session, &mut answer.text)?),
         Err(fault) => answer.fault(fault),
     }
 }
 
-fn say_refutation(alloc: Global, text: Vec<u8>, answer: &mut Answer) -> Result<(), Stop> {
+fn say_refutation(alloc: Global, text: Vec<u8>, answer: &mut AnswerText) -> Result<(), LineStop> {
     match read_refutation(alloc, text) {
         Ok(file) => {
             for piece in write_refutation(alloc, &file)?.pieces() {
@@ -110,19 +114,29 @@ fn say_refutation(alloc: Global, text: Vec<u8>, answer: &mut Answer) -> Result<(
 }
 
 /// Answers a question about a text of several lines.
-fn ask_lines(alloc: Global, mark: &str, given: &str, answer: &mut Answer) -> Result<(), Stop> {
+fn ask_lines(
+    alloc: Global,
+    mark: &str,
+    given: &str,
+    answer: &mut AnswerText,
+) -> Result<(), LineStop> {
     let text = bytes_of(alloc, given)?;
     match mark {
         "lines" => answer.number(lines_of(&text).count() as u64),
         "start" => say_start(&text, answer),
         "session" => say_session(alloc, &text, answer),
         "refutation" => say_refutation(alloc, text, answer),
-        _ => Err(Stop::Unread),
+        _ => Err(LineStop::Unread),
     }
 }
 
 /// Answers a question about texts.
-pub fn ask(scene: &Scene, mark: &str, given: &str, answer: &mut Answer) -> Result<(), Stop> {
+pub fn ask(
+    scene: &Scene,
+    mark: &str,
+    given: &str,
+    answer: &mut AnswerText,
+) -> Result<(), LineStop> {
     match mark {
         "number" => say_number(given, answer),
         "move" => say_move(given, answer),

@@ -1,8 +1,8 @@
 // Facts of what the umpire says, in the dialect that stands.
 
-use crate::answer::Answer;
+use crate::answer::AnswerText;
 use crate::scene::Scene;
-use crate::stop::Stop;
+use crate::stop::LineStop;
 use crate::terms::{bytes_of, halves, move_of};
 use krieg_board::{Move, Position};
 use krieg_moves::is_legal;
@@ -17,35 +17,35 @@ use krieg_words::{
 use std::cmp::Ordering;
 
 /// Words as the dialect tells them.
-pub fn say_told(d: Dialect, words: Words, answer: &mut Answer) -> Result<(), Stop> {
+pub fn say_told(d: Dialect, words: Words, answer: &mut AnswerText) -> Result<(), LineStop> {
     Ok(write_words_in(d, told(d, words), &mut answer.text)?)
 }
 
 /// What is heard of the move.
-fn say_move(d: Dialect, p: &Position, mv: &Move, answer: &mut Answer) -> Result<(), Stop> {
+fn say_move(d: Dialect, p: &Position, mv: &Move, answer: &mut AnswerText) -> Result<(), LineStop> {
     let Some(made) = make_if_legal(p, *mv) else {
         return answer.put(b"illegal");
     };
     if !is_legal(p, *mv) {
-        return Err(Stop::Unread);
+        return Err(LineStop::Unread);
     }
     if make_move(p, *mv).words != made.words || words_of(p, *mv) != made.words {
-        return Err(Stop::Unread);
+        return Err(LineStop::Unread);
     }
     say_told(d, made.words, answer)
 }
 
 /// One position, where it was found in two ways alike.
-fn say_same(next: &Position, again: &Position, answer: &mut Answer) -> Result<(), Stop> {
+fn say_same(next: &Position, again: &Position, answer: &mut AnswerText) -> Result<(), LineStop> {
     if order(next, again) == Ordering::Equal {
         answer.position(next)
     } else {
-        Err(Stop::Unread)
+        Err(LineStop::Unread)
     }
 }
 
 /// The position after the move, where those words are told of it.
-fn say_after_told(scene: &Scene, text: &str, answer: &mut Answer) -> Result<(), Stop> {
+fn say_after_told(scene: &Scene, text: &str, answer: &mut AnswerText) -> Result<(), LineStop> {
     let (mv, words) = halves(text, " ")?;
     let (mv, words) = (&move_of(mv)?, &scene.words_of(words)?);
     let p = &scene.position;
@@ -53,18 +53,18 @@ fn say_after_told(scene: &Scene, text: &str, answer: &mut Answer) -> Result<(), 
     if !is_legal(p, *mv) {
         return match tried {
             None => answer.put(b"illegal"),
-            Some(_) => Err(Stop::Unread),
+            Some(_) => Err(LineStop::Unread),
         };
     }
     match (&after_told(scene.dialect, words, p, *mv), &tried) {
         (Some(next), Some(again)) => say_same(next, again, answer),
         (None, None) => Ok(()),
-        _ => Err(Stop::Unread),
+        _ => Err(LineStop::Unread),
     }
 }
 
 /// The words that the text spells, written again.
-fn say_words(d: Dialect, text: &[u8], answer: &mut Answer) -> Result<(), Stop> {
+fn say_words(d: Dialect, text: &[u8], answer: &mut AnswerText) -> Result<(), LineStop> {
     match read_words_in(d, text) {
         Ok(words) => Ok(write_words_in(d, words, &mut answer.text)?),
         Err(_) => answer.put(b"refused"),
@@ -72,7 +72,7 @@ fn say_words(d: Dialect, text: &[u8], answer: &mut Answer) -> Result<(), Stop> {
 }
 
 /// The line that the text spells, written again.
-fn say_line(d: Dialect, text: &[u8], answer: &mut Answer) -> Result<(), Stop> {
+fn say_line(d: Dialect, text: &[u8], answer: &mut AnswerText) -> Result<(), LineStop> {
     match read_line_in(d, text) {
         Ok(line) => Ok(write_line_in(d, line, &mut answer.text)?),
         Err(_) => answer.put(b"refused"),
@@ -80,7 +80,7 @@ fn say_line(d: Dialect, text: &[u8], answer: &mut Answer) -> Result<(), Stop> {
 }
 
 /// A line in wild16, as the dialect tells it.
-fn say_told_line(d: Dialect, text: &str, answer: &mut Answer) -> Result<(), Stop> {
+fn say_told_line(d: Dialect, text: &str, answer: &mut AnswerText) -> Result<(), LineStop> {
     let line = told_line(d, read_line(text.as_bytes())?);
     Ok(write_line_in(d, line, &mut answer.text)?)
 }
@@ -106,7 +106,7 @@ fn do_ascend(list: &[Words]) -> bool {
 }
 
 /// Words with semicolons between.
-fn listed(scene: &Scene, text: &str) -> Result<Vec<Words>, Stop> {
+fn listed(scene: &Scene, text: &str) -> Result<Vec<Words>, LineStop> {
     let mut list = Vec::new(scene.alloc);
     for words in text.split("; ") {
         list.push(scene.words_of(words)?)?;
@@ -115,7 +115,7 @@ fn listed(scene: &Scene, text: &str) -> Result<Vec<Words>, Stop> {
 }
 
 /// The name of the dialect that has this name.
-fn say_dialect_name(name: &[u8], answer: &mut Answer) -> Result<(), Stop> {
+fn say_dialect_name(name: &[u8], answer: &mut AnswerText) -> Result<(), LineStop> {
     match read_dialect(name) {
         Some(d) => answer.put(dialect_name(d)),
         None => Ok(()),
@@ -123,7 +123,7 @@ fn say_dialect_name(name: &[u8], answer: &mut Answer) -> Result<(), Stop> {
 }
 
 /// The dialect that the first lines of a sheet tell.
-fn say_dialect_of(text: &[u8], answer: &mut Answer) -> Result<(), Stop> {
+fn say_dialect_of(text: &[u8], answer: &mut AnswerText) -> Result<(), LineStop> {
     match read_version_lines(&mut Cursor::new(text), b"krieg sheet ") {
         Ok(d) => answer.put(dialect_name(d)),
         Err(fault) => answer.fault(fault),
@@ -131,14 +131,19 @@ fn say_dialect_of(text: &[u8], answer: &mut Answer) -> Result<(), Stop> {
 }
 
 /// The first lines of a sheet in the dialect.
-fn say_first_lines(d: Dialect, answer: &mut Answer) -> Result<(), Stop> {
+fn say_first_lines(d: Dialect, answer: &mut AnswerText) -> Result<(), LineStop> {
     let mut text = Text::after(&mut answer.text);
     let done = put_version_lines(b"krieg sheet ", d, &mut text);
     Ok(text.end(done, &mut answer.text)?)
 }
 
 /// Answers a question about texts of words.
-fn ask_texts(scene: &Scene, mark: &str, given: &str, answer: &mut Answer) -> Result<(), Stop> {
+fn ask_texts(
+    scene: &Scene,
+    mark: &str,
+    given: &str,
+    answer: &mut AnswerText,
+) -> Result<(), LineStop> {
     match mark {
         "said" => say_words(scene.dialect, &bytes_of(scene.alloc, given)?, answer),
         "line" => say_line(scene.dialect, given.as_bytes(), answer),
@@ -146,12 +151,17 @@ fn ask_texts(scene: &Scene, mark: &str, given: &str, answer: &mut Answer) -> Res
         "dialect-name" => say_dialect_name(given.as_bytes(), answer),
         "dialect-of" => say_dialect_of(&bytes_of(scene.alloc, given)?, answer),
         "first-lines" => say_first_lines(scene.dialect, answer),
-        _ => Err(Stop::Unread),
+        _ => Err(LineStop::Unread),
     }
 }
 
 /// Answers a question about words.
-pub fn ask(scene: &Scene, mark: &str, given: &str, answer: &mut Answer) -> Result<(), Stop> {
+pub fn ask(
+    scene: &Scene,
+    mark: &str,
+    given: &str,
+    answer: &mut AnswerText,
+) -> Result<(), LineStop> {
     match mark {
         "opens" => say_told(scene.dialect, opening(&scene.position), answer),
         "tries" => answer.number(u64::from(tries(&scene.position))),
