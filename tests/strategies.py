@@ -2,10 +2,16 @@
 """Reads and judges strategies without krieg, from docs/RULES.md and docs/FORMATS.md alone. It is slow.
 
 usage: tests/strategies.py FILE..
+       tests/strategies.py --unfold < STRATEGY > PLAN
+       tests/strategies.py --next < STRATEGY_AND_LINES
 
 Of each FILE it says `mates W`, where W is the most own moves that the strategy needs, or why it does not mate: the node, what is heard there,
 and the game that comes to it, line by line as its player hears it. Of a text that is no strategy it says `line N: ` and what is wrong with the
-first bad line. It also says how many units the judgement takes. The status is 0 where each of them mates in time.
+first bad line. It also says how many units the judgement takes, and of one that mates how many nodes the plan has that it stands for. The
+status is 0 where each of them mates in time.
+
+With --unfold it writes the plan that a strategy stands for, if that has at most 100,000 nodes. With --next it says what comes next for a player
+who follows a strategy, of whom the lines that he heard stand behind it, in the words of `next` for a plan: a try, `wait`, `mated` or `lost`.
 
 A node has a try, the number of the node to go on with where the try is illegal, or None, and such numbers by what is heard where it is legal.
 What is heard is a key: the words of the try and of the reply. The key of a root has the opening words, and at the opponent's turn also those
@@ -233,9 +239,104 @@ def said(text):
     there = f"{pairs} positions at {nodes} of {len(strategy.nodes)} nodes"
     price_line = f"{found.units} units: {there}, {found.units - pairs} moves of the opponent"
     if found.worst is not None and found.worst <= strategy.worst:
-        return True, [f"mates {found.worst}", price_line]
+        return True, [f"mates {found.worst}", price_line, f"as a tree {size_of_plan(strategy)} nodes"]
     first, *rest = why(strategy, found)
     return False, [f"strategy fails: {first}", *(f"  {line}" for line in rest), price_line]
+
+
+# ---- the plan
+
+
+def sizes(strategy):
+    """How many nodes the tree of each node has, by its number."""
+    found = [0]
+    for node in strategy.nodes:
+        found.append(1 + found[node.no or 0] + sum(found[to] for to in node.edges.values()))
+    return found
+
+
+def size_of_plan(strategy):
+    """How many nodes the plan has that a strategy unfolds to."""
+    found = sizes(strategy)
+    return sum(found[to] for to in strategy.roots.values())
+
+
+def links_text(strategy, links, trees):
+    """The lines of edges or roots, each with the tree to which it leads."""
+    return "".join(f"on {key_text(strategy, key)}\n{trees[to]}" for key, to in links.items())
+
+
+def trees_of(strategy):
+    """The text of the tree of each node, by its number."""
+    trees = [""]
+    for node in strategy.nodes:
+        refused = " no" * (node.no is not None)
+        play = f"play {rules.move_text(node.move)}{refused} {len(node.edges)}\n"
+        trees.append(play + trees[node.no or 0] + links_text(strategy, node.edges, trees))
+    return trees
+
+
+def unfolded(strategy):
+    """The text of the plan that a strategy unfolds to, or None where the tree of a node has too many nodes. As a plan is written, it is in the
+    first version where that says all."""
+    if max(sizes(strategy)) > MOST_NODES:
+        return None
+    is_first = strategy.dialect == "wild16" and not waits(strategy, strategy.listed[0])
+    head = ["krieg plan 1"] if is_first else ["krieg plan 2", f"dialect {strategy.dialect}"]
+    listed = [rules.position_text(position) for position in strategy.listed]
+    head += [f"side {strategy.side}", f"list {len(listed)}", *listed, f"worst {strategy.worst}", f"roots {len(strategy.roots)}", ""]
+    return "\n".join(head) + links_text(strategy, strategy.roots, trees_of(strategy)) + "end\n"
+
+
+# ---- a player who follows it
+
+# Where a player stands who follows a strategy: at a node; or behind its try, or before the first own turn, with the words that he heard and the
+# ways on from there. Of one who heard nothing yet, who has mated, or who is lost, `what` says it.
+Stand = collections.namedtuple("Stand", "what number links key", defaults=[None, {}, ()])
+LOST, MATED = Stand("lost"), Stand("mated")
+
+
+def at(number):
+    """He stands at a node, or is lost where there is none."""
+    return LOST if number is None else Stand("try", number)
+
+
+def read_line(lines, dialect):
+    """The next line that a player heard: what it is, and its words or its move."""
+    found = lines.line("(opens|heard) (.+)|try ([^ ]+) (illegal|early|over|ok (.+))")
+    kind, words = (found[1], found[2]) if found[1] else (found[4].split(" ")[0], found[5])
+    move = found[3] and rules.read_move(found[3])
+    if words and not rules.are_words(dialect, words) or found[3] and move is None:
+        lines.bad("syntax")
+    return kind, words and words_of_text(dialect, words), move
+
+
+def stand_behind(strategy, stand, kind, words, move):
+    """Where a player stands behind one line more."""
+    if kind in ("early", "over"):
+        return stand
+    if kind == "opens" and stand.what == "new":
+        return Stand("wait", None, strategy.roots, (words,)) if waits(strategy, strategy.listed[0]) else at(strategy.roots.get((words,)))
+    if kind == "heard" and stand.links:
+        return at(stand.links.get((*stand.key, words)))
+    node = strategy.nodes[stand.number - 1] if stand.number else None
+    if node is None or move != node.move:
+        return LOST
+    if kind == "illegal":
+        return at(node.no)
+    return MATED if words.end == 1 else Stand("wait", None, node.edges, (words,))
+
+
+def advised(text):
+    """What comes next for a player who follows a strategy, behind which stand the lines that he heard."""
+    head, mark, behind = text.partition(b"\nend\n")
+    strategy, lines = read(head + mark), Reader(text)
+    lines.number, stand = head.count(b"\n") + 2, Stand("new")
+    for _ in range(len(lines.lines) - lines.number):
+        stand = stand_behind(strategy, stand, *read_line(lines, strategy.dialect))
+    if stand.what == "try":
+        return f"try {rules.move_text(strategy.nodes[stand.number - 1].move)}"
+    return "wait" if stand.what == "new" else stand.what
 
 
 # ---- the text
@@ -329,8 +430,20 @@ def words_of_text(dialect, text):
     return rules.Words(rules.ENDS.index(found["end"] or ""), kind and kind + rules.NUMBER[took[-2:]], sum(bits), int(number))
 
 
+def answer(option, text):
+    """What is written with an option."""
+    try:
+        said = unfolded(read(text)) if option == "--unfold" else f"{advised(text)}\n"
+    except BadLine as bad:
+        sys.exit(f"strategies.py: {bad}")
+    return said or sys.exit(f"strategies.py: the plan has more than {MOST_NODES:,} nodes")
+
+
 def main():
     files = sys.argv[1:]
+    if files in (["--unfold"], ["--next"]):
+        print(answer(files[0], sys.stdin.buffer.read()), end="")
+        return
     if not files or files[0].startswith("-"):
         sys.exit(__doc__)
     are_won = True
