@@ -8,8 +8,11 @@ import pathlib
 import re
 import shutil
 import subprocess
+import sys
 
 TOP = pathlib.Path(__file__).resolve().parent.parent
+sys.path.insert(1, str(TOP / "examples"))
+from texts import FINDER
 
 # No run of a script takes longer.
 SECONDS = 5
@@ -54,6 +57,8 @@ STATUSES = {
     "judge": {0, 3, 4, 8, 13},
     "refute": {0, 3, 4, 5, 6, 7, 8, 14, 17},
     "deny": {0, 3, 4, 8, 18},
+    "advise": {0, 3, 4},
+    "conduct": {0, 3, 4, 12, 20},
     "next": {0, 3, 4},
     "lead": {0, 3, 4, 12, 20},
     "play": {0, 3, 4, 12},
@@ -73,8 +78,11 @@ ANSWERS = {
     "keys": rb"krieg keys 1\n|none [1-9][0-9]*\n$",
     "share": rb"krieg strategy 1\n|none [1-9][0-9]*\n$",
     "check": rb"mates [1-9][0-9]*\n$",
+    "judge": rb"mates [1-9][0-9]*\n$",
     "refute": rb"krieg refutation 1\n",
     "deny": rb"refuted [1-6]\n$",
+    "advise": rb"(?:try [a-h][1-8][a-h][1-8][qrbn]?|wait|mated|lost)\n$",
+    "conduct": rb"krieg session [12]\n",
     "next": rb"(?:try [a-h][1-8][a-h][1-8][qrbn]?|wait|mated|lost)\n$",
     "lead": rb"krieg session [12]\n",
     "play": rb"krieg session 1\n",
@@ -101,6 +109,11 @@ def finder(krieg, argument=None):
     named = argument or os.environ.get("KRIEG_FIND")
     beside = pathlib.Path(krieg).resolve().parent.parent.parent / "krieg_find/out/krieg_find"
     return str(pathlib.Path(named).resolve() if named else beside)
+
+
+def program_of(krieg, words):
+    """The program that has a command: krieg, or its krieg_find."""
+    return finder(krieg) if words[0] in FINDER else krieg
 
 
 def checkout(folder, krieg):

@@ -54,6 +54,8 @@ on silent|on silent / silent|on mate|on silent / silent / silent|play h1h8 0|pla
 play h1h8 100000|play h1h8 100001|w e2e4|b e7e5|w  e2e4|heard silent|opens silent|try e2e4 illegal|try e2e4 ok silent
 try e2e4 early|try e2e4 over|try e2e4|try e2e4 ok
 krieg refutation 1|krieg refutation 2|moves 1|moves 6|moves 7|moves 0|claims 1|claims 2|claims 20000|claims 20001|claims 0
+krieg strategy 1|krieg strategy 2|nodes 1|nodes 2|nodes 100000|nodes 100001|nodes 0|on silent 1|on silent 2|on silent / silent 1
+on silent / piece d1 2|on check 1|play h1h8 no 1 0|play g1g8 no 1 1|play h1h8 250000|play h1h8 250001|play h1h8 no 0 0|on silent 0
 claim 1 1|claim 2 1|claim 6 200000|claim 7 1|claim 0 1|claim 1 200001|tries 0|tries 1|tries 200000|tries 200001|h1h8 lives|h1h8 stale
 h1h8 class silent / silent 1|h1h8 class silent / silent 0|h1h8 class silent 1|h1h8 refused 1|h1h8 refused 0|h1h8 refused|h1h8 class
 """.strip().replace("\n", "|").split("|") + [""]
@@ -209,6 +211,66 @@ g3f4 lives
 g3g4 lives
 g3h4 lives
 end
+
+krieg strategy 1
+dialect wild16
+side w
+list 2
+k7/8/1K6/8/8/8/8/7R w - -
+2k5/8/1K6/8/8/8/8/3n3R w - -
+worst 2
+nodes 2
+play d1d8 0
+play h1d1 2
+on silent / silent 1
+on piece d1 / silent 1
+roots 1
+on silent 2
+end
+
+krieg strategy 1
+dialect wild16
+side w
+list 2
+1k6/8/1K6/7n/8/8/8/6RR w - -
+1k6/8/1K6/6n1/8/8/8/6RR w - -
+worst 1
+nodes 2
+play h1h8 0
+play g1g8 no 1 0
+roots 1
+on silent 2
+end
+
+krieg strategy 1
+dialect anytry
+side w
+list 1
+k7/8/1K6/4p3/3P4/8/8/7R b - -
+worst 1
+nodes 3
+play h1h8 0
+play h1h8 0
+play h1h8 0
+roots 3
+on tries some / silent 1
+on tries some / tries some 2
+on tries some / pawn d4 3
+end
+
+krieg strategy 1
+dialect plain
+side w
+list 1
+6k1/8/5KQ1/8/8/8/8/8 b - -
+worst 2
+nodes 2
+play g7e7 0
+play g6g7 1
+on check / silent 1
+roots 1
+on check / silent 2
+end
 """.split("\n\n")
 ]
 
@@ -229,6 +291,7 @@ def pieces():
     lines += [f"h1h8 {reason}" for reason in REASONS]
     lines += [form % n for form in ("list %s", "worst %s", "roots %s", "play h1h8 %s", "krieg plan %s", "krieg record %s") for n in NUMBERS]
     lines += [form % n for form in ("moves %s", "claims %s", "claim 1 %s", "claim %s 1", "tries %s", "h1h8 refused %s") for n in NUMBERS]
+    lines += [form % n for form in ("nodes %s", "on silent %s", "on silent / silent %s", "play h1h8 no %s 0", "play h1h8 no 1 %s") for n in NUMBERS]
     return [line.encode() for line in lines]
 
 

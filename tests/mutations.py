@@ -135,12 +135,13 @@ def list_more(rng, text):
 
 
 def add_entry(rng, text):
-    """Puts a try, a move or an entry before the last line, or an entry behind a plan."""
+    """Puts a try, a move, an entry or a root before the last line, or an entry behind a plan."""
     mv, words, algebraic = any_move(rng), rng.choice(WORDS).encode(), rng.choice(ALGEBRAIC).encode()
     session = [b"w " + mv, b"b " + mv]
     record = [b"w " + algebraic, b"b " + algebraic]
     sheet = [b"heard " + words, b"try %s ok %s" % (mv, words), b"try %s illegal" % mv, b"try %s early" % mv]
-    entry = rng.choice({b"session": session, b"record": record}.get(text[6:14].split(b" ")[0], sheet))
+    roots = [b"on %s 1" % words, b"on silent / %s 1" % words]
+    entry = rng.choice({b"session": session, b"record": record, b"strategy": roots}.get(text[6:14].split(b" ")[0], sheet))
     if text.startswith(b"krieg plan"):
         return text + entry + b"\n"
     return re.sub(rb"\nend(?=[^\n]*\n?$)", lambda _: b"\n" + entry + b"\nend", text)
@@ -151,6 +152,8 @@ NUMBER = re.compile(rb"(?<= )[0-9]{1,18}(?=\n|$)")
 REASON = re.compile(rb"(?<= )(?:lives|stale|refused|class)(?= |\n)[^\n]*")
 CLAIM = re.compile(rb"(?<=\nclaim )[0-9]+(?= )")
 ALGEBRAIC_PLACE = re.compile(rb"(?<=\n[wb] )[^\n]+")
+KEY_PART = re.compile(rb"(?<=[n/] )[^\n/]+(?= (?:/ |[0-9]+\n))")
+NODE = re.compile(rb"(?<= no )[0-9]+(?= [0-9])|(?<=\non silent / silent )[0-9]+|(?<=\non silent )[0-9]+")
 BOARD = re.compile(rb"(?:[1-8pnbrqkPNBRQK]+/){7}[1-8pnbrqkPNBRQK]+")
 
 # Changes after which the text is mostly refused.
@@ -184,6 +187,8 @@ GENTLE = [
     add_entry,
     add_entry,
     replace_match(re.compile(rb"(?<=ok |ns |rd |on )[^\n]*"), WORDS),
+    replace_match(KEY_PART, WORDS),
+    replace_match(NODE, list("0123")),
     replace_match(re.compile(rb"(?<= )[wb](?= |\n)"), ["w", "b"]),
 ]
 
