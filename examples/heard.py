@@ -1,7 +1,13 @@
-"""What may be tried in a position, and what may be heard of it. What examples/try-of and examples/practice share. The
-program says which tries are legal, and what is told of them."""
+"""What may be tried in a position, and what may be heard of it; what comes next in a plan. What examples/try-of and examples/practice share.
+The program says which tries are legal, and what is told of them."""
+
+import pathlib
+import sys
 
 import texts
+
+sys.path.insert(0, str(pathlib.Path(__file__).resolve().parent.parent / "tests"))
+import strategies
 
 OTHER = {"w": "b", "b": "w"}
 SQUARES = [file + rank for rank in "12345678" for file in "abcdefgh"]
@@ -72,3 +78,17 @@ def openings(head, positions):
 def after(head, position, side, move, words):
     """The position after a legal move of a side, of which it is told these words: the only one that its sheet of that move leaves open."""
     return believed([*head[:-1], f"side {side}"], [position], [f"try {move} ok {words}"])[0]
+
+
+def advised(text, lines):
+    """What comes next for a player who follows a plan or a strategy and heard these lines."""
+    followed = "\n".join([text.rstrip("\n"), *lines, ""])
+    if text.startswith("krieg plan "):
+        return texts.answer(["next"], followed).strip()
+    if "advise" in texts.FINDER:
+        return texts.answer(["advise"], followed).strip()
+    # The script that judges strategies without krieg says it too.
+    try:
+        return strategies.advised(followed.encode())
+    except strategies.BadLine as bad:
+        sys.exit(f"{pathlib.Path(sys.argv[0]).name}: {bad}")
