@@ -1,11 +1,15 @@
-//! The program `krieg_find`, for what lies beyond the limits of `krieg`: a start of `find`, `keys` and `judge` over the standard streams.
-//! Of a sheet `find` writes what `krieg solve` writes with the same numbers, mostly for far fewer units, and `keys` every first try that
-//! is as fast as any. Both take more moves, and more units. `judge` says of a strategy that it mates, and in how many moves. `./krieg`
-//! runs it for these words.
+//! The program `krieg_find`, for what lies beyond the limits of `krieg`: a start of these commands over the standard streams. `./krieg` runs
+//! it for their words.
+//!
+//! - `find` writes of a sheet what `krieg solve` writes with the same numbers, mostly for far fewer units, and takes more moves and units.
+//! - `keys` writes every first try that is as fast as any.
+//! - `share` writes the plan of `find` as a strategy, in which what repeats itself is written once.
+//! - `judge` says of a strategy that it mates, and in how many moves.
 //!
 //! ```
 //! ./krieg find 1 64 1 < examples/rook.sheet   # a plan that plays h1h8, and status 0
 //! ./krieg keys 1 64 1 < examples/rook.sheet   # that h1h8 alone mates at once
+//! ./krieg share 1 64 1 < examples/rook.sheet  # a strategy of one node, which plays h1h8
 //! ./krieg find 0 64 1                         # `krieg: usage` on standard error, and status 1
 //! ```
 #![tactic(auto)]
