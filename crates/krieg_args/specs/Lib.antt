@@ -1,2 +1,4 @@
+pub mod Kinds
+pub mod Rows
 pub mod Command
 pub mod Files

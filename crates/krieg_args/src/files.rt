@@ -1,7 +1,8 @@
 ghost use Rattle.std.specs.Prelude.{◌≡◌, map, string_bytes, option_map};
 ghost use Rattle.krieg_args.specs.Files as spec;
 
-use crate::command::{Command, command_of};
+use crate::words::{led_words, played_words};
+use krieg_text::is_name;
 
 /// The files of a live game.
 #[derive(Clone, Copy, Debug, PartialEq, Eq)]
@@ -24,31 +25,25 @@ pub fn seat_files(words: &[String]) -> Option<SeatFiles<'_>>
         ≡ spec.seat_files (map string_bytes words.now) }
 {
     match words {
-        [_, _, win, wout, bin, bout] => match command_of(words) {
-            Some(Command::Play { .. }) => Some(SeatFiles {
-                win: win.as_str(),
-                wout: wout.as_str(),
-                bin: bin.as_str(),
-                bout: bout.as_str(),
-            }),
-            _ => None,
-        },
+        [name, words @ ..] if is_name(b"play", name.as_bytes()) => {
+            let (_, files) = played_words(words)?;
+            Some(files)
+        }
         _ => None,
     }
 }
 
 /// The files that the words name, exactly where they are those of a well-formed `lead`: where the opponent's tries come
 /// from, and where he is told.
-#[tactic(auto, using(crate::proofs::OtherWords::other_files))]
 pub fn lead_files(words: &[String]) -> Option<(&str, &str)>
     ensures { option_map (λ files. (files.0.now, files.1.now)) result
         ≡ spec.lead_files (map string_bytes words.now) }
 {
     match words {
-        [_, _, _, tries, told] => match command_of(words) {
-            Some(Command::Lead { .. }) => Some((tries.as_str(), told.as_str())),
-            _ => None,
-        },
+        [name, words @ ..] if is_name(b"lead", name.as_bytes()) => {
+            let (_, _, files) = led_words(words)?;
+            Some(files)
+        }
         _ => None,
     }
 }

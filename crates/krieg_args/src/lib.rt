@@ -1,13 +1,14 @@
 //! The commands of the program, read from the words after its name.
 //!
-//! `specs/Command` says which words are a command of `krieg`, which are one of `krieg_find`, and which commands read an input. The
-//! readers take no memory.
+//! A command is a row of `specs/Rows`, where each program has its list: a name, what the words behind it are (`Kinds`), and the command
+//! that is made of them. `Command` says which words are one, and which commands read an input, and `Files` which files words name.
+//! `words` reads what stands behind a name, and `rows` has a function for each row. The readers take no memory.
 //!
 //! ```
 //! let mut words = Vec::new(alloc);
-//! words.push(String::from_str(alloc, "believe")?)?;
+//! words.push(String::from_str(alloc, "check")?)?;
 //! words.push(String::from_str(alloc, "200000")?)?;
-//! let command = command_of(&words); // Some(Command::Believe { limit: 200_000 })
+//! let command = command_of(&words); // Some(Command::Check { budget: 200_000 })
 //! words.push(String::from_str(alloc, "1")?)?;
 //! let none = command_of(&words); // None: one word too many
 //! ```
@@ -15,8 +16,9 @@
 
 mod command;
 mod files;
+mod rows;
+mod words;
 
-pub use command::{
-    Command, MOST_ASKS, MOST_FIND_MOVES, MOST_FIND_UNITS, MOST_SEED, Made, command_of, find_of,
-};
+pub use command::{Command, MOST_ASKS, MOST_FIND_MOVES, MOST_FIND_UNITS, MOST_SEED, MadeInput};
 pub use files::{SeatFiles, lead_files, seat_files};
+pub use rows::{command_of, find_of};

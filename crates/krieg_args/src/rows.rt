@@ -1,0 +1,252 @@
+ghost use Rattle.std.specs.Prelude.{◌≡◌, [], ◌∷◌, map, string_bytes};
+ghost use Rattle.krieg_args.specs.Kinds.{made_of, Whose, Made, listed, budget, find_budget, seed, search, find_search, played, led};
+ghost use Rattle.krieg_args.specs.Rows.{command_in, find_rows};
+ghost use Rattle.krieg_args.specs.declared.command.Command.TheVariants.{Solve, Check, Refute, Deny, Believe, Why, Umpire, Play, Lead, Find, Keys, Share, Judge, Make, Job};
+ghost use Rattle.krieg_args.specs.Command as spec;
+
+use crate::command::Command;
+use crate::words::{
+    budget_of, find_budget_of, find_numbers, led_words, limit_of, made_input, played_words,
+    search_numbers, seed_of, whose,
+};
+use krieg_text::is_name;
+
+/// The command of a name behind which there are no words.
+fn alone(command: Command, words: &[String]) -> Option<Command>
+    ensures { result ≡ made_of [] command (map string_bytes words.now) }
+{
+    if words.is_empty() {
+        Some(command)
+    } else {
+        None
+    }
+}
+
+fn umpire(words: &[String]) -> Option<Command>
+    ensures { result ≡ made_of (Whose ∷ []) Umpire (map string_bytes words.now) }
+{
+    match words {
+        [who] => Some(Command::Umpire { who: whose(who)? }),
+        _ => None,
+    }
+}
+
+fn believe(words: &[String]) -> Option<Command>
+    ensures { result ≡ made_of (listed ∷ []) Believe (map string_bytes words.now) }
+{
+    match words {
+        [limit] => Some(Command::Believe {
+            limit: limit_of(limit)?,
+        }),
+        _ => None,
+    }
+}
+
+fn why(words: &[String]) -> Option<Command>
+    ensures { result ≡ made_of (listed ∷ []) Why (map string_bytes words.now) }
+{
+    match words {
+        [limit] => Some(Command::Why {
+            limit: limit_of(limit)?,
+        }),
+        _ => None,
+    }
+}
+
+fn solve(words: &[String]) -> Option<Command>
+    ensures { result ≡ made_of search Solve (map string_bytes words.now) }
+{
+    let (moves, budget, limit) = search_numbers(words)?;
+    Some(Command::Solve {
+        moves,
+        budget,
+        limit,
+    })
+}
+
+fn check(words: &[String]) -> Option<Command>
+    ensures { result ≡ made_of (budget ∷ []) Check (map string_bytes words.now) }
+{
+    match words {
+        [budget] => Some(Command::Check {
+            budget: budget_of(budget)?,
+        }),
+        _ => None,
+    }
+}
+
+fn refute(words: &[String]) -> Option<Command>
+    ensures { result ≡ made_of search Refute (map string_bytes words.now) }
+{
+    let (moves, budget, limit) = search_numbers(words)?;
+    Some(Command::Refute {
+        moves,
+        budget,
+        limit,
+    })
+}
+
+fn deny(words: &[String]) -> Option<Command>
+    ensures { result ≡ made_of (budget ∷ []) Deny (map string_bytes words.now) }
+{
+    match words {
+        [budget] => Some(Command::Deny {
+            budget: budget_of(budget)?,
+        }),
+        _ => None,
+    }
+}
+
+fn play(words: &[String]) -> Option<Command>
+    ensures { result ≡ made_of played (λ asks win wout bin bout. Play asks)
+        (map string_bytes words.now) }
+{
+    let (asks, _) = played_words(words)?;
+    Some(Command::Play { asks })
+}
+
+fn lead(words: &[String]) -> Option<Command>
+    ensures { result ≡ made_of led (λ asks number tries told. Lead asks number)
+        (map string_bytes words.now) }
+{
+    let (asks, number, _) = led_words(words)?;
+    Some(Command::Lead { asks, number })
+}
+
+fn make(words: &[String]) -> Option<Command>
+    ensures { result ≡ made_of (Made ∷ seed ∷ []) Make (map string_bytes words.now) }
+{
+    match words {
+        [what, seed] => Some(Command::Make {
+            what: made_input(what)?,
+            number: seed_of(seed)?,
+        }),
+        _ => None,
+    }
+}
+
+fn job(words: &[String]) -> Option<Command>
+    ensures { result ≡ made_of (seed ∷ []) Job (map string_bytes words.now) }
+{
+    match words {
+        [seed] => Some(Command::Job {
+            number: seed_of(seed)?,
+        }),
+        _ => None,
+    }
+}
+
+/// The command of these words of the program `krieg`, where they are the form of one and their numbers are in their ranges.
+#[tactic(auto, unfolding(crate::specs::Command::command_of))]
+pub fn command_of(words: &[String]) -> Option<Command>
+    ensures { result ≡ spec.command_of (map string_bytes words.now) }
+{
+    let [name, words @ ..] = words else {
+        return None;
+    };
+    let name = name.as_bytes();
+    if is_name(b"umpire", name) {
+        umpire(words)
+    } else if is_name(b"san", name) {
+        alone(Command::San, words)
+    } else if is_name(b"unsan", name) {
+        alone(Command::Unsan, words)
+    } else if is_name(b"believe", name) {
+        believe(words)
+    } else if is_name(b"why", name) {
+        why(words)
+    } else if is_name(b"solve", name) {
+        solve(words)
+    } else if is_name(b"check", name) {
+        check(words)
+    } else if is_name(b"refute", name) {
+        refute(words)
+    } else if is_name(b"deny", name) {
+        deny(words)
+    } else if is_name(b"play", name) {
+        play(words)
+    } else if is_name(b"next", name) {
+        alone(Command::Next, words)
+    } else if is_name(b"lead", name) {
+        lead(words)
+    } else if is_name(b"make", name) {
+        make(words)
+    } else if is_name(b"job", name) {
+        job(words)
+    } else {
+        None
+    }
+}
+
+fn find(words: &[String]) -> Option<Command>
+    ensures { result ≡ made_of find_search Find (map string_bytes words.now) }
+{
+    let (moves, budget, limit) = find_numbers(words)?;
+    Some(Command::Find {
+        moves,
+        budget,
+        limit,
+    })
+}
+
+fn keys(words: &[String]) -> Option<Command>
+    ensures { result ≡ made_of find_search Keys (map string_bytes words.now) }
+{
+    let (moves, budget, limit) = find_numbers(words)?;
+    Some(Command::Keys {
+        moves,
+        budget,
+        limit,
+    })
+}
+
+fn share(words: &[String]) -> Option<Command>
+    ensures { result ≡ made_of find_search Share (map string_bytes words.now) }
+{
+    let (moves, budget, limit) = find_numbers(words)?;
+    Some(Command::Share {
+        moves,
+        budget,
+        limit,
+    })
+}
+
+fn judge(words: &[String]) -> Option<Command>
+    ensures { result ≡ made_of (find_budget ∷ []) Judge (map string_bytes words.now) }
+{
+    match words {
+        [budget] => Some(Command::Judge {
+            budget: find_budget_of(budget)?,
+        }),
+        _ => None,
+    }
+}
+
+/// The command of the name of a row of `krieg_find`.
+fn find_named(words: &[String]) -> Option<Command>
+    ensures { result ≡ command_in find_rows (map string_bytes words.now) }
+{
+    let [name, words @ ..] = words else {
+        return None;
+    };
+    let name = name.as_bytes();
+    if is_name(b"find", name) {
+        find(words)
+    } else if is_name(b"keys", name) {
+        keys(words)
+    } else if is_name(b"share", name) {
+        share(words)
+    } else if is_name(b"judge", name) {
+        judge(words)
+    } else {
+        None
+    }
+}
+
+/// The command of these words of the program `krieg_find`, where they are the form of one and their numbers are in their ranges.
+#[tactic(auto, unfolding(crate::specs::Command::find_of))]
+pub fn find_of(words: &[String]) -> Option<Command>
+    ensures { result ≡ spec.find_of (map string_bytes words.now) }
+{
+    find_named(words).or(find(words))
+}
