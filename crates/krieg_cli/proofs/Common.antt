@@ -12,13 +12,11 @@ pub use Rattle.krieg_board.specs.declared.men.Side.TheVariants.{Black, White}
 unfoldable pub use Rattle.krieg_moves.specs.After.{after}
 unfoldable pub use Rattle.krieg_moves.specs.Legal.{is_legal}
 unfoldable pub use Rattle.krieg_moves.specs.Moves.{all_moves, moves}
-pub use Rattle.krieg_text.specs.Decimals.{number_between}
 pub use Rattle.krieg_text.specs.Lines.{lines}
 pub use Rattle.krieg_text.specs.Reading.{whole}
 pub use Rattle.krieg_text.specs.Writing.{HasLines, put_lines}
 pub use Rattle.krieg_text.specs.declared.fault.TextFault.{TextFault}
 pub use Rattle.krieg_text.specs.declared.fault.TextKind.{TextKind}
-pub use Rattle.krieg_text.specs.declared.number.NumberFault.{NumberFault}
 pub use Rattle.krieg_fen.specs.ListText.{position_line}
 pub use Rattle.krieg_fen.specs.MoveText.{IsOnBoard}
 pub use Rattle.krieg_fen.specs.declared.forms.TheConstants.{MOST_LISTED}
@@ -120,11 +118,11 @@ pub use Rattle.krieg_robot.specs.declared.led.LeadFault.{LeadFault}
 pub use Rattle.krieg_robot.specs.declared.led.Led.{Led}
 pub use Rattle.krieg_make.specs.MadeSessions.{made_session}
 pub use Rattle.krieg_make.specs.MadeSheets.{made_list, made_sheet}
-pub use Rattle.krieg_args.specs.Command.{asks_of, budget_of, command_of, command_of_name, command_of_one, command_of_three, find, find_budget_of, find_moves_of, find_numbers, find_of, find_of_one, find_of_three, lead, lead_from, limit_of, made_input, make, moves_of, number, numbers, place_of, play, refute, search_numbers, seed_of, solve, takes_input, ◌>>=◌}
+pub use Rattle.krieg_args.specs.Command.{command_of, find_of, takes_input}
 pub use Rattle.krieg_args.specs.declared.command.Command.{Command}
 pub use Rattle.krieg_args.specs.declared.command.Command.TheVariants.{Believe, Check, Deny, Find, Job, Judge, Keys, Lead, Make, Next, Play, Refute, San, Share, Solve, Umpire, Unsan, Why}
-pub use Rattle.krieg_args.specs.declared.command.Made.{Made}
-pub use Rattle.krieg_args.specs.declared.command.TheConstants.{MOST_FIND_MOVES, MOST_SEED}
+pub use Rattle.krieg_args.specs.declared.command.MadeInput.{MadeInput}
+pub use Rattle.krieg_args.specs.declared.command.TheConstants.{MOST_FIND_MOVES}
 pub use Rattle.krieg_cli.specs.Asked.{IsGiven, Leaves, OfPossible, has_no_turn}
 pub use Rattle.krieg_cli.specs.Believe.{Believed}
 unfoldable pub use Rattle.krieg_cli.specs.Check.{worst_text}
@@ -151,7 +149,7 @@ pub use Rattle.krieg_cli.specs.Keys.{AreKeysAt, AreSetKeys, Begins, IsKeysText, 
 pub use Rattle.krieg_cli.specs.Live.{LivesBy, is_live}
 pub use Rattle.krieg_cli.specs.Make.{Makes}
 pub use Rattle.krieg_cli.specs.Next.{Says}
-pub use Rattle.krieg_cli.specs.Outcome.{HasOutcome, IsInRange, LiveOutcome}
+pub use Rattle.krieg_cli.specs.Outcome.{HasOutcome, LiveOutcome}
 pub use Rattle.krieg_cli.specs.Parts.{Decides, LeavesSeats, SearchedBy, SolvedBy, ending_of, of_lead, of_part, of_play, of_search}
 pub use Rattle.krieg_cli.specs.Play.{HasBegun, PlaysFrom, PlaysWhole}
 pub use Rattle.krieg_cli.specs.Refusal.{OfText, refusal_status, text_status}

@@ -3,7 +3,7 @@ use Rattle.std.proofs.Common.{◌≡◌, Bool, ◌⊎◌, inl, inr, ℕ, ◌<◌
 use Rattle.std.specs.Prelude.{MatchBool}
 use Rattle.std.proofs.lemmas.Bool.{both_ways}
 use Rattle.std.proofs.lemmas.List.{append-nil}
-use Rattle.krieg_cli.proofs.Common.{JudgedSo, Pos, White, Black, SheetState, san_of, unsan_of, IsPossible, is_nil, PlanState, made_sheet, Line, Account, Team, Turns, Service, BrokenCourse, HasFailed, entry_of, now_of, Sides, takes_input, Command, Solve, Check, Refute, Deny, Believe, Why, Umpire, San, Unsan, Play, Lead, Next, Find, Keys, Share, Judge, Make, Job, Made, World, FaultsRose, WasRead, OfText, status, Leaves, has_no_turn, OfPossible, SearchedBy, SolvedBy, Claimed, Refuted, Keyed, KeyedFor, SharedBy, SharedFor, Judged, told_text, Believed, Shows, HeardState, PlaysFrom, PlaysWhole, LeadsFrom, LeadsWhole, Says, LivesBy, Makes, Plans, Summarizes, LiveOutcome, HasOutcome, ComesTo, Ends, Runs, CanBeSolved, CanBeJudged, CanBeKeyed, CanBeShared, CanBeRefuted, CanBeDenied, CanBeChecked, CanBeShown, CanBeSummed, HoldsText, MustAnswer, NoneFailed, seats_since, CanPlay, BenchHolds, Completes, Refusal, Ending, MOST_INPUT}
+use Rattle.krieg_cli.proofs.Common.{JudgedSo, Pos, White, Black, SheetState, san_of, unsan_of, IsPossible, is_nil, PlanState, made_sheet, Line, Account, Team, Turns, Service, BrokenCourse, HasFailed, entry_of, now_of, Sides, takes_input, Command, Solve, Check, Refute, Deny, Believe, Why, Umpire, San, Unsan, Play, Lead, Next, Find, Keys, Share, Judge, Make, Job, MadeInput, World, FaultsRose, WasRead, OfText, status, Leaves, has_no_turn, OfPossible, SearchedBy, SolvedBy, Claimed, Refuted, Keyed, KeyedFor, SharedBy, SharedFor, Judged, told_text, Believed, Shows, HeardState, PlaysFrom, PlaysWhole, LeadsFrom, LeadsWhole, Says, LivesBy, Makes, Plans, Summarizes, LiveOutcome, HasOutcome, ComesTo, Ends, Runs, CanBeSolved, CanBeJudged, CanBeKeyed, CanBeShared, CanBeRefuted, CanBeDenied, CanBeChecked, CanBeShown, CanBeSummed, HoldsText, MustAnswer, NoneFailed, seats_since, CanPlay, BenchHolds, Completes, Refusal, Ending, MOST_INPUT}
 use Rattle.krieg_pack.proofs.PositionSets.{same_members}
 use Rattle.krieg_sheet.specs.Turns.{is_over}
 use Rattle.krieg_belief.proofs.Prefixes.{excess_not_within}
@@ -94,7 +94,7 @@ showing limit text can _ h = h
 
 -- ---- make
 
-making : (what : Made) (number : ℕ) (r : Refusal) → Makes what number (Err r) → ⊥
+making : (what : MadeInput) (number : ℕ) (r : Refusal) → Makes what number (Err r) → ⊥
 making what number r e = cc
 
 -- ---- job

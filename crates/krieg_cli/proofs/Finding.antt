@@ -3,7 +3,7 @@ use Rattle.std.proofs.Common.{◌≡◌, ℕ, false, true, List, Option, Some, N
 use Rattle.std.proofs.lemmas.Bool.{both_ways}
 use Rattle.krieg_cli.proofs.Common.{find_of, Command, Play, Lead, Sides, Account, Stream, World, status, is_live, LiveOutcome, LivesBy, HasOutcome, ComesTo, Ends, Runs, Reports, RunsAlone, LeavesBench, nobody, Refusal, Ending, Answered, WriteFault, Refused}
 use Rattle.krieg_cli.specs.declared.ending.Ending.TheVariants.{NoMemory}
-use Rattle.krieg_cli.proofs.Ranges.{asked_alone}
+use Rattle.krieg_args.proofs.Ranges.{of_find}
 
 module _ (t u : LiveOutcome) (c : Command) (calm : is_live c ≡ false) where
   -- what seats would make of a text is all the same
@@ -30,6 +30,10 @@ bench_alone account (Some (Play asks)) NoMemory input input' entry = inl refl
 bench_alone account (Some (Lead asks number)) NoMemory input input' entry = inl refl
 bench_alone account _ _ input input' entry = λ none. refl
 
+-- no command of krieg_find calls seats
+calm : (ws : List (List ℕ)) (c : Command) → find_of ws ≡ Some c → is_live c ≡ false
+calm = of_find (λ c. is_live c ≡ false) ((λ v within. refl), ((λ v within. refl), ((λ v within. refl), ((λ v within. refl), tt))))
+
 module _ (t : LiveOutcome) (e : Ending) (code : ℕ) (before after : World) (err err' : Stream) (is : code ≡ status e) (reports : Reports e err err') where
   of_asked : (o : Option Command) → ((c : Command) → o ≡ Some c → is_live c ≡ false) → Runs t e o before after → RunsAlone o code before after err err'
   of_asked o calm runs = record { ending = e; status_is = is; runs = go o calm runs; reports = reports; bench = bench_alone (λ a. a) o e before.input after.input nobody }
@@ -39,4 +43,4 @@ module _ (t : LiveOutcome) (e : Ending) (code : ℕ) (before after : World) (err
       go (Some c) calm runs = ends_alone t (LivesBy (λ a. a) nobody nobody) c (calm c refl) e before after runs
 
   pub runs_alone : (ws : List (List ℕ)) → Runs t e (find_of ws) before after → RunsAlone (find_of ws) code before after err err'
-  runs_alone ws runs = of_asked (find_of ws) (λ c same. (asked_alone ws c same).calm) runs
+  runs_alone ws runs = of_asked (find_of ws) (calm ws) runs

@@ -15,7 +15,6 @@ mod Leading
 mod LedGames
 mod Pieces
 mod Playing
-mod Ranges
 mod Limits
 mod Refuting
 mod Reports

@@ -1,9 +1,7 @@
 -- What a command makes of its input: an answer, or a refusal.
-use Rattle.std.specs.Prelude.{ℕ, ◌≤◌, List, Result}
-use Rattle.krieg_fen.specs.declared.forms.TheConstants.{MOST_LISTED}
+use Rattle.std.specs.Prelude.{ℕ, List, Result}
 use Rattle.krieg_args.specs.declared.command.Command.{Command}
 use Rattle.krieg_args.specs.declared.command.Command.TheVariants.{Solve, Check, Refute, Deny, Believe, Why, Umpire, San, Unsan, Play, Lead, Next, Find, Keys, Share, Judge, Make, Job}
-use Rattle.krieg_args.specs.declared.command.TheConstants.{MOST_SEED, MOST_FIND_MOVES}
 use Rattle.krieg_cli.specs.Solve.{Solves}
 use Rattle.krieg_cli.specs.Find.{Finds}
 use Rattle.krieg_cli.specs.Keys.{FindsKeys}
@@ -21,24 +19,10 @@ use Rattle.krieg_cli.specs.Unsan.{WritesSession}
 use Rattle.krieg_cli.specs.Make.{Makes}
 use Rattle.krieg_cli.specs.Job.{Summarizes}
 use Rattle.krieg_cli.specs.declared.refusal.Refusal.{Refusal}
-use Rattle.krieg_board.specs.declared.limits.TheConstants.{MOST_MOVES}
 
 -- what a command that calls seats makes of a text, at the bench that it has
 abbrev pub LiveOutcome : Type 1
 LiveOutcome = Command → List ℕ → Result (List ℕ) Refusal → Type 0
-
--- The numbers of a search are within the most own moves and the most positions that may be asked for, a refutation is for one own
--- move at least, listed positions are numbered from 1, and the number of a made input is within the greatest.
-abbrev pub IsInRange : Command → Type 0
-IsInRange (Solve moves budget limit) = (moves ≤ MOST_MOVES) × (limit ≤ MOST_LISTED)
-IsInRange (Find moves budget limit) = (moves ≤ MOST_FIND_MOVES) × (limit ≤ MOST_LISTED)
-IsInRange (Keys moves budget limit) = (moves ≤ MOST_FIND_MOVES) × (limit ≤ MOST_LISTED)
-IsInRange (Share moves budget limit) = (moves ≤ MOST_FIND_MOVES) × (limit ≤ MOST_LISTED)
-IsInRange (Refute moves budget limit) = (1 ≤ moves) × (moves ≤ MOST_MOVES) × (limit ≤ MOST_LISTED)
-IsInRange (Lead asks number) = 1 ≤ number
-IsInRange (Make what number) = number ≤ MOST_SEED
-IsInRange (Job number) = number ≤ MOST_SEED
-IsInRange _ = Unit {0}
 
 -- what a command makes of the text that it takes
 abbrev pub HasOutcome : LiveOutcome → Command → List ℕ → Result (List ℕ) Refusal → Type 0

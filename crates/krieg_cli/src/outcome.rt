@@ -1,4 +1,5 @@
 ghost use Rattle.std.specs.Prelude.{◌≡◌, false};
+ghost use Rattle.krieg_args.specs.Command.{IsInRange};
 ghost use Rattle.krieg_play.specs.Benches.{bench_sides};
 ghost use Rattle.krieg_cli.specs.Parts.{Decides, LeavesSeats, ending_of, bytes_of, is_in_pieces};
 ghost use Rattle.krieg_cli.specs.Live.{LivesBy};
@@ -23,7 +24,7 @@ fn whole_outcome(
     text: Vec<u8>,
     bench: &mut Bench,
 ) -> Result<Vec<u8>, Ending>
-    requires range { spec.IsInRange command.now }
+    requires range { IsInRange command.now }
     requires one_text { is_in_pieces command.now ≡ false }
     ensures outcome { let live = LivesBy (λ b. (⟦<dyn Seat as Seat>⟧ b.vtable).account b.value)
         (bench_sides bench.old) (bench_sides bench.new) in
@@ -108,7 +109,7 @@ pub(crate) fn outcome(
     text: Vec<u8>,
     bench: &mut Bench,
 ) -> Result<CommandAnswer, Ending>
-    requires { spec.IsInRange command.now }
+    requires { IsInRange command.now }
     ensures outcome { let live = LivesBy (λ b. (⟦<dyn Seat as Seat>⟧ b.vtable).account b.value)
         (bench_sides bench.old) (bench_sides bench.new) in
         Decides bytes_of result (spec.HasOutcome live command.now text.items) }

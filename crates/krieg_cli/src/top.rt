@@ -1,8 +1,7 @@
 ghost use Rattle.std.specs.Prelude.{◌≡◌, false, Some};
 ghost use Rattle.krieg_args.specs.declared.command.Command.{Command as Asked};
-ghost use Rattle.krieg_args.specs.Command.{takes_input};
+ghost use Rattle.krieg_args.specs.Command.{takes_input, IsInRange};
 ghost use Rattle.krieg_cli.specs.World.{stream, world};
-ghost use Rattle.krieg_cli.specs.Outcome.{IsInRange};
 ghost use Rattle.krieg_play.specs.Benches.{bench_sides};
 ghost use Rattle.krieg_cli.specs.Parts.{ending_of};
 ghost use Rattle.krieg_cli.specs.Live.{LivesBy};
@@ -133,7 +132,7 @@ fn obey<S: Source, O: Sink>(
 /// 1 to 4, 9 and 20, and at 12 for want of a seat. At 11 it is as it was, or the input was read whole and its seats
 /// played from the start that it spells, or against the plan, until memory ran out or the game stopped. `lead` leaves
 /// every seat but White's first as it was.
-#[tactic(auto, using(crate::proofs::Ranges::in_range))]
+#[tactic(auto, using(krieg_args::proofs::Ranges::in_range))]
 pub fn run<S: Source, O: Sink, E: Sink>(
     alloc: Global,
     words: &[String],
@@ -236,7 +235,7 @@ pub fn run<S: Source, O: Sink, E: Sink>(
 /// | 11 | for want of memory |
 ///
 /// At each status but 0 `err` gets one line, and at each but 0 and 10 `out` gets nothing.
-#[tactic(auto, using(crate::proofs::Ranges::find_in_range))]
+#[tactic(auto, using(krieg_args::proofs::Ranges::find_in_range))]
 pub fn run_find<S: Source, O: Sink, E: Sink>(
     alloc: Global,
     words: &[String],
