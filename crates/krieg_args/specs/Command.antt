@@ -7,7 +7,7 @@ use Rattle.krieg_args.specs.Kinds.{made_of, find_search}
 use Rattle.krieg_args.specs.Rows.{command_in, krieg_rows, find_rows}
 use Rattle.krieg_args.specs.declared.command.TheConstants.{MOST_SEED, MOST_FIND_MOVES}
 use Rattle.krieg_args.specs.declared.command.Command.{Command}
-use Rattle.krieg_args.specs.declared.command.Command.TheVariants.{Solve, Refute, Lead, Find, Keys, Share, Make, Job}
+use Rattle.krieg_args.specs.declared.command.Command.TheVariants.{Solve, Refute, Lead, Find, Keys, Share, Conduct, Make, Job}
 
 -- the command of these words of krieg, where they are one
 unfoldable pub command_of : List (List ℕ) → Option Command
@@ -33,6 +33,7 @@ IsInRange (Keys moves budget limit) = (moves ≤ MOST_FIND_MOVES) × (limit ≤ 
 IsInRange (Share moves budget limit) = (moves ≤ MOST_FIND_MOVES) × (limit ≤ MOST_LISTED)
 IsInRange (Refute moves budget limit) = (1 ≤ moves) × (moves ≤ MOST_MOVES) × (limit ≤ MOST_LISTED)
 IsInRange (Lead asks number) = 1 ≤ number
+IsInRange (Conduct asks number) = 1 ≤ number
 IsInRange (Make what number) = number ≤ MOST_SEED
 IsInRange (Job number) = number ≤ MOST_SEED
 IsInRange _ = Unit {0}

@@ -1,4 +1,4 @@
--- The files that the words of `play` and of `lead` name.
+-- The files that the words of `play`, of `lead` and of `conduct` name.
 use Rattle.std.specs.Prelude.{ℕ, List, [], ◌∷◌, Option, None, codes, if◌then◌else◌}
 use Rattle.std.specs.Str.{bytes_eq}
 use Rattle.krieg_args.specs.Kinds.{made_of, played, led}
@@ -18,7 +18,15 @@ seat_files (name ∷ words) =
     else None
 seat_files [] = None
 
--- those of a well-formed `lead`: where the opponent's tries come from, and where he is told
+-- those of a game that is led, by the command of that name: where the opponent's tries come from, and where he is told
+abbrev pub led_files : List ℕ → List (List ℕ) → Option (List ℕ × List ℕ)
+led_files command (name ∷ words) = if bytes_eq name command then made_of led (λ asks number tries told. (tries, told)) words else None
+led_files command [] = None
+
+-- the files of a well-formed `lead`
 abbrev pub lead_files : List (List ℕ) → Option (List ℕ × List ℕ)
-lead_files (name ∷ words) = if bytes_eq name (codes "lead") then made_of led (λ asks number tries told. (tries, told)) words else None
-lead_files [] = None
+lead_files words = led_files (codes "lead") words
+
+-- the files of a well-formed `conduct`
+abbrev pub conduct_files : List (List ℕ) → Option (List ℕ × List ℕ)
+conduct_files words = led_files (codes "conduct") words

@@ -3,7 +3,7 @@ use Rattle.std.specs.Prelude.{ℕ, List, [], ◌∷◌, Option, None, codes, if�
 use Rattle.std.specs.Str.{bytes_eq}
 use Rattle.krieg_args.specs.Kinds.{Kind, Whose, Made, Makes, made_of, listed, budget, find_budget, seed, search, find_search, played, led}
 use Rattle.krieg_args.specs.declared.command.Command.{Command}
-use Rattle.krieg_args.specs.declared.command.Command.TheVariants.{Solve, Check, Refute, Deny, Believe, Why, Umpire, San, Unsan, Play, Lead, Next, Find, Keys, Share, Judge, Make, Job}
+use Rattle.krieg_args.specs.declared.command.Command.TheVariants.{Solve, Check, Refute, Deny, Believe, Why, Umpire, San, Unsan, Play, Lead, Next, Find, Keys, Share, Judge, Advise, Conduct, Make, Job}
 
 -- a command's name, the kinds of the words behind it, and the command that is made of what these stand for
 pub record Row : Type 0 where
@@ -46,4 +46,6 @@ find_rows =
     ∷ row (codes "keys") find_search Keys
     ∷ row (codes "share") find_search Share
     ∷ row (codes "judge") (find_budget ∷ []) Judge
+    ∷ row (codes "advise") [] Advise
+    ∷ row (codes "conduct") led (λ asks number tries told. Conduct asks number)
     ∷ []

@@ -129,6 +129,16 @@ pub enum Command {
         /// From 1 to [`MOST_FIND_UNITS`].
         budget: u64,
     },
+    /// `advise`, a word of the program `krieg_find`: what a player does next who follows a strategy and heard these lines.
+    Advise,
+    /// `conduct ASKS NUMBER IN OUT`, words of the program `krieg_find`: a game that a strategy leads from the listed position with that
+    /// number, against the player of two files, with so many tries at most.
+    Conduct {
+        /// From 1 to [`MOST_ASKS`].
+        asks: u64,
+        /// From 1 to [`MOST_LISTED`].
+        number: u64,
+    },
     /// `make session NUMBER`, `make sheet NUMBER`: a made input with that number.
     Make {
         /// Its kind.

@@ -47,3 +47,17 @@ pub fn lead_files(words: &[String]) -> Option<(&str, &str)>
         _ => None,
     }
 }
+
+/// The same of a well-formed `conduct`.
+pub fn conduct_files(words: &[String]) -> Option<(&str, &str)>
+    ensures { option_map (λ files. (files.0.now, files.1.now)) result
+        ≡ spec.conduct_files (map string_bytes words.now) }
+{
+    match words {
+        [name, words @ ..] if is_name(b"conduct", name.as_bytes()) => {
+            let (_, _, files) = led_words(words)?;
+            Some(files)
+        }
+        _ => None,
+    }
+}

@@ -20,5 +20,5 @@ mod rows;
 mod words;
 
 pub use command::{Command, MOST_ASKS, MOST_FIND_MOVES, MOST_FIND_UNITS, MOST_SEED, MadeInput};
-pub use files::{SeatFiles, lead_files, seat_files};
+pub use files::{SeatFiles, conduct_files, lead_files, seat_files};
 pub use rows::{command_of, find_of};

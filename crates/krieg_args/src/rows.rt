@@ -1,7 +1,7 @@
 ghost use Rattle.std.specs.Prelude.{◌≡◌, [], ◌∷◌, map, string_bytes};
 ghost use Rattle.krieg_args.specs.Kinds.{made_of, Whose, Made, listed, budget, find_budget, seed, search, find_search, played, led};
 ghost use Rattle.krieg_args.specs.Rows.{command_in, find_rows};
-ghost use Rattle.krieg_args.specs.declared.command.Command.TheVariants.{Solve, Check, Refute, Deny, Believe, Why, Umpire, Play, Lead, Find, Keys, Share, Judge, Make, Job};
+ghost use Rattle.krieg_args.specs.declared.command.Command.TheVariants.{Solve, Check, Refute, Deny, Believe, Why, Umpire, Play, Lead, Find, Keys, Share, Judge, Conduct, Make, Job};
 ghost use Rattle.krieg_args.specs.Command as spec;
 
 use crate::command::Command;
@@ -222,6 +222,14 @@ fn judge(words: &[String]) -> Option<Command>
     }
 }
 
+fn conduct(words: &[String]) -> Option<Command>
+    ensures { result ≡ made_of led (λ asks number tries told. Conduct asks number)
+        (map string_bytes words.now) }
+{
+    let (asks, number, _) = led_words(words)?;
+    Some(Command::Conduct { asks, number })
+}
+
 /// The command of the name of a row of `krieg_find`.
 fn find_named(words: &[String]) -> Option<Command>
     ensures { result ≡ command_in find_rows (map string_bytes words.now) }
@@ -238,6 +246,10 @@ fn find_named(words: &[String]) -> Option<Command>
         share(words)
     } else if is_name(b"judge", name) {
         judge(words)
+    } else if is_name(b"advise", name) {
+        alone(Command::Advise, words)
+    } else if is_name(b"conduct", name) {
+        conduct(words)
     } else {
         None
     }

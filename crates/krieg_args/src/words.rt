@@ -165,7 +165,7 @@ fn two_files(words: &[String]) -> Option<(&str, &str)>
     }
 }
 
-/// What stands behind `lead`: how often the players are asked, the number of a listed position, and the opponent's files.
+/// What stands behind `lead` and `conduct`: how often the players are asked, the number of a listed position, and the opponent's files.
 pub(crate) fn led_words(words: &[String]) -> Option<(u64, u64, (&str, &str))>
     ensures { option_map (λ it. (it.0, (it.1, (it.2.0.now, (it.2.1.now, tt))))) result
         ≡ spec.read_all led (map string_bytes words.now) }
