@@ -79,7 +79,7 @@ pub use Rattle.krieg_plan.specs.declared.node.Edge.TheViews.{out-Node}
 pub use Rattle.krieg_plan.specs.declared.node.Node.{Node}
 pub use Rattle.krieg_plan.specs.declared.plan.Root.{Root}
 unfoldable pub use Rattle.krieg_planfile.specs.HeardReading.{heard_plan}
-pub use Rattle.krieg_planfile.specs.HeardReading.{HeardState, all_by, heard_form}
+pub use Rattle.krieg_planfile.specs.HeardReading.{HeardState, all_by, heard_by, heard_form}
 pub use Rattle.krieg_planfile.specs.HeardSpelling.{FirstBadHeard, IsHeardReading, SpellsHeard, SpellsLines}
 pub use Rattle.krieg_planfile.specs.HeardStates.{heard_state_of}
 unfoldable pub use Rattle.krieg_planfile.specs.NodeForms.{any_on_form, any_play_form}

@@ -1,15 +1,17 @@
--- A plan file with what its player heard behind it: what is read is spelled so, what is spelled so is read, and a fault is the first bad line.
+-- A file with what its player heard behind it: what is read is spelled so, what is spelled so is read, and a fault is the first bad line.
 use Rattle.std.proofs.Common.{◌≡◌, ◌≢◌, inl, inr, ℕ, ◌+◌, true, List, [], ◌∷◌, ◌++◌, map, length, Option, Some, None, Result, Ok, Err, refl, sym, ap, subst, ◌∙◌, arith}
 use Rattle.std.specs.Prelude.{IfOk, IfErr, is_some}
 use Rattle.std.specs.List.{All}
 use Rattle.std.proofs.lemmas.List.{append-nil}
 use Rattle.std.proofs.lemmas.List.Elements.{All-nil, All-cons, All-head, All-tail}
-use Rattle.krieg_planfile.proofs.Common.{TextFault, At, NoMemory, TextKind, Syntax, Always, ◌>>=◌, Place, place, on, Gives, line_in, Dialect, Line, HeardState, heard_form, all_by, heard_plan, SpellsHeard, SpellsLines, FirstBadHeard, IsHeardReading, or_syntax, PlanState, IsPlanFile, plan_at, SpellsPlan, PlanGrammar}
+use Rattle.krieg_planfile.proofs.Common.{TextFault, At, NoMemory, TextKind, Syntax, Always, ◌>>=◌, Place, place, LineReader, on, whole, Language, Gives, line_in, Dialect, Line, HeardState, heard_form, all_by, heard_by, heard_plan, SpellsHeard, SpellsLines, FirstBadHeard, IsHeardReading, or_syntax, PlanState, IsPlanFile, plan_at, SpellsPlan, PlanGrammar}
 use Rattle.krieg_text.proofs.FirstBadLine.{first_bad}
 use Rattle.krieg_text.proofs.Locality.{ok_is}
-use Rattle.krieg_text.proofs.Takings.{Read, read_whole}
+use Rattle.krieg_text.proofs.Goings.{GoesBy}
+use Rattle.krieg_text.proofs.Grammars.{untold}
+use Rattle.krieg_text.proofs.Takings.{Read, read_whole, whole_read}
 use Rattle.krieg_planfile.proofs.PlanGrammars.{plan_goes}
-use Rattle.krieg_planfile.proofs.PlanSpellings.{whole_plan, all_again}
+use Rattle.krieg_planfile.proofs.PlanSpellings.{spelled_again, whole_plan}
 
 -- ---- the lines behind the plan file
 
@@ -97,111 +99,130 @@ lines_refused d n (l ∷ ls) bad other told stops =
     by None some h = absurd cc
     by (Some x) some h = ap (λ t. with_first n (Some x) t) h
 
--- ---- the plan file before them
+-- ---- the file before them
 
--- a plan file that is read from the first lines, whatever follows them
-record FileRead (ls : List (List ℕ)) (s : PlanState) (q : Place) : Type 0 where
-  front : List (List ℕ)
-  is : ls ≡ front ++ q.left
-  number : q.number ≡ 1 + length front
-  spelled : SpellsPlan s front
-  file : IsPlanFile s
-  again : (other : List (List ℕ)) → plan_at (place 1 (front ++ other)) ≡ Ok (s, place q.number other)
+-- what is known of the reader of a file: it goes by the grammar, and reads what lines spell
+pub record IsFile {A : Type 0} (read : LineReader A) (K : A → Type 0) (S : A → Language) (Grammar : Language) : Type 0 where
+  pub goes : GoesBy read Always untold (λ u. Grammar)
+  pub found : (ls : List (List ℕ)) (s : A) → whole read ls ≡ Ok s → S s ls × K s
+  pub again : (ls : List (List ℕ)) (s : A) → K s → S s ls → whole read ls ≡ Ok s
 
-file_read : (ls : List (List ℕ)) (s : PlanState) (q : Place) → plan_at (place 1 ls) ≡ Ok (s, q) → FileRead ls s q
-file_read ls s q e =
-    let a = plan_goes.judges.local.goes 1 ls s q e in
-    let alone : Read (plan_at (place 1 a.used)) s [] = record { number = q.number; is = ap (λ (t : List (List ℕ)). plan_at (place 1 t)) (sym (append-nil a.used)) ∙ a.again [] } in
-    let (spelled, file) = whole_plan a.used s (read_whole plan_at a.used s alone) in
-    record { front = a.used; is = a.is; number = a.number; spelled = spelled; file = file; again = a.again }
+module _ {A : Type 0} (read : LineReader A) (dialect : A → Dialect) (K : A → Type 0) (S : A → Language) (Grammar : Language) (is_file : IsFile read K S Grammar) where
+  -- a file that is read from the first lines, whatever follows them
+  record FileRead (ls : List (List ℕ)) (s : A) (q : Place) : Type 0 where
+    front : List (List ℕ)
+    is : ls ≡ front ++ q.left
+    number : q.number ≡ 1 + length front
+    spelled : S s front
+    holds : K s
+    again : (other : List (List ℕ)) → read (place 1 (front ++ other)) ≡ Ok (s, place q.number other)
 
--- ---- both
+  file_read : (ls : List (List ℕ)) (s : A) (q : Place) → read (place 1 ls) ≡ Ok (s, q) → FileRead ls s q
+  file_read ls s q e =
+      let a = is_file.goes.judges.local.goes 1 ls s q e in
+      let alone : Read (read (place 1 a.used)) s [] = record { number = q.number; is = ap (λ (t : List (List ℕ)). read (place 1 t)) (sym (append-nil a.used)) ∙ a.again [] } in
+      let (spelled, holds) = is_file.found a.used s (read_whole read a.used s alone) in
+      record { front = a.used; is = a.is; number = a.number; spelled = spelled; holds = holds; again = a.again }
 
-abbrev with_file : Result (PlanState × Place) TextFault → Result HeardState TextFault
-with_file r = r >>= λ plan. lines_at plan.0.dialect plan.1.number plan.1.left >>= λ heard. Ok (record { file = plan.0; heard = heard })
+  -- ---- both
 
-abbrev with_lines : PlanState → Result (List Line) TextFault → Result HeardState TextFault
-with_lines s r = r >>= λ heard. Ok (record { file = s; heard = heard })
+  abbrev with_file : Result (A × Place) TextFault → Result (HeardState A) TextFault
+  with_file r = r >>= λ file. lines_at (dialect file.0) file.1.number file.1.left >>= λ heard. Ok (record { file = file.0; heard = heard })
 
-all_found : (ls : List (List ℕ)) (s : HeardState) → heard_plan ls ≡ Ok s → SpellsHeard s ls × IsPlanFile s.file
+  abbrev with_lines : A → Result (List Line) TextFault → Result (HeardState A) TextFault
+  with_lines s r = r >>= λ heard. Ok (record { file = s; heard = heard })
+
+  abbrev heard_of : List (List ℕ) → Result (HeardState A) TextFault
+  heard_of ls = heard_by read dialect ls
+
+  abbrev Spells : HeardState A → Language
+  Spells s = SpellsHeard dialect S s
+
+  abbrev Bad : List (List ℕ) → TextFault → Type 0
+  Bad ls e = FirstBadHeard read dialect K S Grammar ls e
+
+  all_found : (ls : List (List ℕ)) (s : HeardState A) → heard_of ls ≡ Ok s → Spells s ls × K s.file
+  all_found ls s e = by (read (place 1 ls)) refl e
+    where
+      behind : (f : A) (q : Place) → FileRead ls f q → (more : Result (List Line) TextFault) → lines_at (dialect f) q.number q.left ≡ more → with_lines f more ≡ Ok s → Spells s ls × K s.file
+      behind f q r (Err e) k h = absurd cc
+      behind f q r (Ok heard) k h =
+          subst (λ (t : HeardState A). Spells t ls × K t.file) (ok_is {A = HeardState A} (record { file = f; heard = heard }) s h)
+          (record { front = r.front; back = q.left; is = r.is; first = r.spelled; second = lines_found (dialect f) q.number q.left heard k }, r.holds)
+
+      by : (r : Result (A × Place) TextFault) → read (place 1 ls) ≡ r → with_file r ≡ Ok s → Spells s ls × K s.file
+      by (Err e) is h = absurd cc
+      by (Ok x) is h = behind x.0 x.1 (file_read ls x.0 x.1 is) (lines_at (dialect x.0) x.1.number x.1.left) refl h
+
+  all_only : (ls : List (List ℕ)) (s : HeardState A) → K s.file → Spells s ls → heard_of ls ≡ Ok s
+  all_only ls s holds spelled =
+      let a = whole_read read spelled.front s.file (is_file.again spelled.front s.file holds spelled.first) in
+      let r = file_read spelled.front s.file (place a.number []) a.is in
+      let same : spelled.front ++ spelled.back ≡ r.front ++ spelled.back = ap (λ (t : List (List ℕ)). t ++ spelled.back) (r.is ∙ append-nil r.front) in
+      ap (λ (t : List (List ℕ)). with_file (read (place 1 t))) (spelled.is ∙ same)
+      ∙ ap with_file (r.again spelled.back)
+      ∙ ap (with_lines s.file) (lines_only (dialect s.file) a.number spelled.back s.heard spelled.second)
+
+  all_bad : (ls : List (List ℕ)) (e : TextFault) → heard_of ls ≡ Err e → Bad ls e
+  all_bad ls e h = by (read (place 1 ls)) refl e h
+    where
+      in_file : (e : TextFault) → read (place 1 ls) ≡ Err e → Bad ls e
+      in_file NoMemory is = first_bad read Always Grammar is_file.goes 1 ls NoMemory is
+      in_file (At line kind) is = inl (first_bad read Always Grammar is_file.goes 1 ls (At line kind) is)
+
+      at_line : (f : A) (q : Place) → FileRead ls f q → (e : TextFault) → BadAt (dialect f) q.number q.left e → Bad ls e
+      at_line f q r NoMemory b = b
+      at_line f q r (At line kind) b =
+          let number : q.number + length b.heard ≡ line = sym b.number in
+          inr (record {
+            file = f;
+            front = r.front;
+            heard = b.heard;
+            bad = b.bad;
+            rest = b.rest;
+            is = r.is ∙ ap (λ (t : List (List ℕ)). r.front ++ t) b.is;
+            spelled = r.spelled;
+            holds = r.holds;
+            told = b.told;
+            stops = b.stops;
+            number = omega (arith, b.number, r.number);
+            is_syntax = b.is_syntax;
+            refused = λ other.
+                ap with_file (r.again (b.heard ++ b.bad ∷ other))
+                ∙ ap (with_lines f) (lines_refused (dialect f) q.number b.heard b.bad other b.told b.stops)
+                ∙ (λ i. Err (At (number i) (sym b.is_syntax i)));
+          })
+
+      behind : (f : A) (q : Place) → FileRead ls f q → (more : Result (List Line) TextFault) → lines_at (dialect f) q.number q.left ≡ more → (e : TextFault) → with_lines f more ≡ Err e → Bad ls e
+      behind f q r (Ok heard) k e h = absurd cc
+      behind f q r (Err d) k e h = let same : d ≡ e = cc in subst (Bad ls) same (at_line f q r d (lines_bad (dialect f) q.number q.left d k))
+
+      by : (r : Result (A × Place) TextFault) → read (place 1 ls) ≡ r → (e : TextFault) → with_file r ≡ Err e → Bad ls e
+      by (Err d) is e h = let same : d ≡ e = cc in subst (Bad ls) same (in_file d is)
+      by (Ok x) is e h = behind x.0 x.1 (file_read ls x.0 x.1 is) (lines_at (dialect x.0) x.1.number x.1.left) refl e h
+
+  -- ---- what the code answered
+
+  pub heard_reading : {X : Type 0} (view : X → HeardState A) (answer : Result X TextFault) (ls : List (List ℕ)) → Gives view answer (heard_of ls) → IsHeardReading read dialect K S Grammar view ls answer
+  heard_reading {X = X} view answer ls given =
+      record { first_bad = bad answer given; found = found answer given; only = λ s holds spelled. only answer given s (all_only ls s holds spelled) }
+    where
+      bad : (answer : Result X TextFault) → Gives view answer (heard_of ls) → IfErr answer (λ e. e ≢ NoMemory → Bad ls e)
+      bad (Ok x) g = tt
+      bad (Err NoMemory) g = λ no_memory. absurd (no_memory refl)
+      bad (Err (At line kind)) g = λ no_memory. all_bad ls (At line kind) g
+
+      found : (answer : Result X TextFault) → Gives view answer (heard_of ls) → IfOk answer (λ x. Spells (view x) ls × K (view x).file)
+      found (Ok x) g = all_found ls (view x) g
+      found (Err e) g = tt
+
+      only : (answer : Result X TextFault) → Gives view answer (heard_of ls) → (s : HeardState A) → heard_of ls ≡ Ok s → Gives view answer (Ok s)
+      only (Ok x) g s is = sym is ∙ g
+      only (Err NoMemory) g s is = tt
+      only (Err (At line kind)) g s is = sym is ∙ g
+
+-- the same of a plan file
+pub heard_plan_reading : {X : Type 0} (view : X → HeardState PlanState) (answer : Result X TextFault) (ls : List (List ℕ)) → Gives view answer (heard_plan ls) →
+    IsHeardReading plan_at (λ s. s.dialect) IsPlanFile SpellsPlan PlanGrammar view ls answer
 unfolding heard_plan
-all_found ls s e = by (plan_at (place 1 ls)) refl e
-  where
-    behind : (f : PlanState) (q : Place) → FileRead ls f q → (more : Result (List Line) TextFault) → lines_at f.dialect q.number q.left ≡ more → with_lines f more ≡ Ok s → SpellsHeard s ls × IsPlanFile s.file
-    behind f q r (Err e) k h = absurd cc
-    behind f q r (Ok heard) k h =
-        subst (λ (t : HeardState). SpellsHeard t ls × IsPlanFile t.file) (ok_is {A = HeardState} (record { file = f; heard = heard }) s h)
-        (record { front = r.front; back = q.left; is = r.is; first = r.spelled; second = lines_found f.dialect q.number q.left heard k }, r.file)
-
-    by : (r : Result (PlanState × Place) TextFault) → plan_at (place 1 ls) ≡ r → with_file r ≡ Ok s → SpellsHeard s ls × IsPlanFile s.file
-    by (Err e) is h = absurd cc
-    by (Ok x) is h = behind x.0 x.1 (file_read ls x.0 x.1 is) (lines_at x.0.dialect x.1.number x.1.left) refl h
-
-all_only : (ls : List (List ℕ)) (s : HeardState) → IsPlanFile s.file → SpellsHeard s ls → heard_plan ls ≡ Ok s
-unfolding heard_plan
-all_only ls s file spelled =
-    let a = all_again spelled.front s.file file spelled.first in
-    let r = file_read spelled.front s.file (place a.number []) a.is in
-    let same : spelled.front ++ spelled.back ≡ r.front ++ spelled.back = ap (λ (t : List (List ℕ)). t ++ spelled.back) (r.is ∙ append-nil r.front) in
-    ap (λ (t : List (List ℕ)). with_file (plan_at (place 1 t))) (spelled.is ∙ same)
-    ∙ ap with_file (r.again spelled.back)
-    ∙ ap (with_lines s.file) (lines_only s.file.dialect a.number spelled.back s.heard spelled.second)
-
-all_bad : (ls : List (List ℕ)) (e : TextFault) → heard_plan ls ≡ Err e → FirstBadHeard ls e
-unfolding heard_plan
-all_bad ls e h = by (plan_at (place 1 ls)) refl e h
-  where
-    in_file : (e : TextFault) → plan_at (place 1 ls) ≡ Err e → FirstBadHeard ls e
-    in_file NoMemory is = first_bad plan_at Always PlanGrammar plan_goes 1 ls NoMemory is
-    in_file (At line kind) is = inl (first_bad plan_at Always PlanGrammar plan_goes 1 ls (At line kind) is)
-
-    at_line : (f : PlanState) (q : Place) → FileRead ls f q → (e : TextFault) → BadAt f.dialect q.number q.left e → FirstBadHeard ls e
-    at_line f q r NoMemory b = b
-    at_line f q r (At line kind) b =
-        let number : q.number + length b.heard ≡ line = sym b.number in
-        inr (record {
-          file = f;
-          front = r.front;
-          heard = b.heard;
-          bad = b.bad;
-          rest = b.rest;
-          is = r.is ∙ ap (λ (t : List (List ℕ)). r.front ++ t) b.is;
-          spelled = r.spelled;
-          plan = r.file;
-          told = b.told;
-          stops = b.stops;
-          number = omega (arith, b.number, r.number);
-          is_syntax = b.is_syntax;
-          refused = λ other.
-              ap with_file (r.again (b.heard ++ b.bad ∷ other))
-              ∙ ap (with_lines f) (lines_refused f.dialect q.number b.heard b.bad other b.told b.stops)
-              ∙ (λ i. Err (At (number i) (sym b.is_syntax i)));
-        })
-
-    behind : (f : PlanState) (q : Place) → FileRead ls f q → (more : Result (List Line) TextFault) → lines_at f.dialect q.number q.left ≡ more → (e : TextFault) → with_lines f more ≡ Err e → FirstBadHeard ls e
-    behind f q r (Ok heard) k e h = absurd cc
-    behind f q r (Err d) k e h = let same : d ≡ e = cc in subst (FirstBadHeard ls) same (at_line f q r d (lines_bad f.dialect q.number q.left d k))
-
-    by : (r : Result (PlanState × Place) TextFault) → plan_at (place 1 ls) ≡ r → (e : TextFault) → with_file r ≡ Err e → FirstBadHeard ls e
-    by (Err d) is e h = let same : d ≡ e = cc in subst (FirstBadHeard ls) same (in_file d is)
-    by (Ok x) is e h = behind x.0 x.1 (file_read ls x.0 x.1 is) (lines_at x.0.dialect x.1.number x.1.left) refl e h
-
--- ---- what the code answered
-
-pub heard_reading : {X : Type 0} (view : X → HeardState) (answer : Result X TextFault) (ls : List (List ℕ)) → Gives view answer (heard_plan ls) → IsHeardReading view ls answer
-heard_reading {X = X} view answer ls given =
-    record { first_bad = bad answer given; found = found answer given; only = λ s file spelled. only answer given s (all_only ls s file spelled) }
-  where
-    bad : (answer : Result X TextFault) → Gives view answer (heard_plan ls) → IfErr answer (λ e. e ≢ NoMemory → FirstBadHeard ls e)
-    bad (Ok x) g = tt
-    bad (Err NoMemory) g = λ no_memory. absurd (no_memory refl)
-    bad (Err (At line kind)) g = λ no_memory. all_bad ls (At line kind) g
-
-    found : (answer : Result X TextFault) → Gives view answer (heard_plan ls) → IfOk answer (λ x. SpellsHeard (view x) ls × IsPlanFile (view x).file)
-    found (Ok x) g = all_found ls (view x) g
-    found (Err e) g = tt
-
-    only : (answer : Result X TextFault) → Gives view answer (heard_plan ls) → (s : HeardState) → heard_plan ls ≡ Ok s → Gives view answer (Ok s)
-    only (Ok x) g s is = sym is ∙ g
-    only (Err NoMemory) g s is = tt
-    only (Err (At line kind)) g s is = sym is ∙ g
+heard_plan_reading view answer ls given = heard_reading plan_at (λ s. s.dialect) IsPlanFile SpellsPlan PlanGrammar (record { goes = plan_goes; found = whole_plan; again = spelled_again }) view answer ls given

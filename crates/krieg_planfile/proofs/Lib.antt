@@ -14,7 +14,7 @@ mod PlanSpellings
 mod NodeWriting
 mod PlansAgain
 mod HeardLines
-mod HeardSpellings
+pub mod HeardSpellings
 pub mod TextSizes
 mod PlanSizes
 pub mod ReadSizes

@@ -224,7 +224,7 @@ claim_again version s n own file =
           ∙ ap (λ (r : Result (Unit {0} × Place) TextFault). r >>= λ end. Ok (record { dialect = d; side = s.side; list = s.list; worst = s.worst; plan = rs }, end.1)) (taken_again end_form b.number (codes "end") [] tt end_again);
     }
 
-pub all_again : (ls : List (List ℕ)) (s : PlanState) → IsPlanFile s → SpellsPlan s ls → Read (plan_at (place 1 ls)) s []
+all_again : (ls : List (List ℕ)) (s : PlanState) → IsPlanFile s → SpellsPlan s ls → Read (plan_at (place 1 ls)) s []
 unfolding plan_at
 all_again ls s file spelled =
     let v = spelled.0 in

@@ -4,6 +4,9 @@ ghost use Rattle.krieg_text.specs.Reading.{taken, Gives, GivesOn};
 ghost use Rattle.krieg_planfile.specs.HeardReading as spec;
 ghost use Rattle.krieg_planfile.specs.HeardStates.{heard_state_of};
 ghost use Rattle.krieg_planfile.specs.HeardSpelling.{IsHeardReading};
+ghost use Rattle.krieg_planfile.specs.PlanFiles.{IsPlanFile};
+ghost use Rattle.krieg_planfile.specs.PlanReading.{plan_at};
+ghost use Rattle.krieg_planfile.specs.PlanSpelling.{SpellsPlan, PlanGrammar};
 
 use crate::reading::read_plan_lines;
 use krieg_plan::PlanFile;
@@ -38,9 +41,10 @@ fn read_heard_line(from: &mut Cursor<'_>, d: Dialect) -> Result<Line, TextFault>
     from.next(|line| heard_line(d, line))
 }
 
-/// All lines that are left, in that dialect.
+/// All lines that are left, as what a player heard in that dialect. The fault is the first one that is none of it, with
+/// `Syntax`.
 #[tactic(auto, using(crate::proofs::HeardLines::heard_lines))]
-fn read_heard(alloc: Global, from: &mut Cursor<'_>, d: Dialect) -> Result<Vec<Line>, TextFault>
+pub fn read_heard(alloc: Global, from: &mut Cursor<'_>, d: Dialect) -> Result<Vec<Line>, TextFault>
     ensures { Gives (λ heard. heard.items) result
         (spec.all_by (spec.heard_form d) from.old.number from.old.left) }
 {
@@ -73,7 +77,8 @@ fn read_lines(alloc: Global, text: &[u8]) -> Result<HeardPlan, TextFault>
 /// not complete it is the number of lines plus 1 with `Syntax`.
 pub fn read_heard_plan(alloc: Global, text: &[u8]) -> Result<HeardPlan, TextFault>
     ensures exact { Gives (λ h. heard_state_of h) result (spec.heard_plan (lines text.now)) }
-    ensures reading { IsHeardReading (λ h. heard_state_of h) (lines text.now) result }
+    ensures reading { IsHeardReading plan_at (λ s. s.dialect) IsPlanFile SpellsPlan PlanGrammar
+        (λ h. heard_state_of h) (lines text.now) result }
 {
     read_lines(alloc, text)
 }

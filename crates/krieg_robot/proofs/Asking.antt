@@ -4,7 +4,7 @@ use Rattle.std.specs.List.{cons_option}
 use Rattle.std.proofs.lemmas.Bool.{both_ways}
 use Rattle.std.proofs.lemmas.List.{append-nil}
 use Rattle.std.proofs.lemmas.List.Elements.{filter_map-append}
-use Rattle.krieg_robot.proofs.Common.{Rose, one_more, other, is_same_side, Pos, Side, White, Black, Move, GameState, Event, Line, Account, once_asked, events_of, tries_of, try_of, played_counts, once, Serves, HasLeft, PlanFile, next_try, Follower, follow_file, stand_of, said_so, stand_after, IsTried, AreTried, lines_of, LastAsk, IsBroken, TurnAsked, fault_counts, lead_fault, IsUnderway, HasTried, IsLeft, LeadFault, Seat, NoMemory}
+use Rattle.krieg_robot.proofs.Common.{Rose, one_more, other, is_same_side, Pos, Side, White, Black, Move, GameState, Event, Line, Account, once_asked, events_of, tries_of, try_of, played_counts, once, Serves, HasLeft, Guidance, next_try, Follower, follow_guide, stand_of, said_so, stand_after, IsTried, AreTried, lines_of, LastAsk, IsBroken, TurnAsked, fault_counts, lead_fault, IsUnderway, HasTried, IsLeft, LeadFault, Seat, NoMemory}
 use Rattle.krieg_board.proofs.MenLemmas.{same_side_eq, same_side_self, same_side_other}
 use Rattle.krieg_seats.specs.declared.seat.SeatFault.{SeatFault}
 use Rattle.krieg_seats.specs.declared.seat.SeatFault.TheVariants.{Failed}
@@ -19,7 +19,7 @@ use Rattle.krieg_robot.proofs.Breaking.{IsShort, breaks_by}
 
 -- ---- tries
 
-tried_more : (f : PlanFile) (start : Pos) (before es : List Event) (e : Event) → AreTried f start before es → IsTried f start (before ++ es) e → AreTried f start before (es ++ e ∷ [])
+tried_more : (f : Guidance) (start : Pos) (before es : List Event) (e : Event) → AreTried f start before es → IsTried f start (before ++ es) e → AreTried f start before (es ++ e ∷ [])
 tried_more f start before [] e h t = (subst (λ (xs : List Event). IsTried f start xs e) (append-nil before) t, tt)
 tried_more f start before (x ∷ es) e h t =
     (h.0, tried_more f start (before ++ x ∷ []) es e h.1 (subst (λ (xs : List Event). IsTried f start xs e) (sym (append_assoc before (x ∷ []) es)) t))
@@ -62,13 +62,13 @@ asked_none who side h = ap (λ (b : Bool). cond b 1 0) (sym h)
 asked_once : (who side : Side) → is_same_side who side ≡ true → 1 ≡ once who side
 asked_once who side h = ap (λ (b : Bool). cond b 1 0) (sym h)
 
-module _ {f : PlanFile} {start : Pos} {asks : ℕ} {entry a : Account} {s : Follower} {game : GameState} (u : IsUnderway f start asks entry a s game) (more : 0 < game.spare) where
+module _ {f : Guidance} {start : Pos} {asks : ℕ} {entry a : Account} {s : Follower} {game : GameState} (u : IsUnderway f start asks entry a s game) (more : 0 < game.spare) where
   -- the seat stands where its side's lines of the game lead
   stands : stand_of s ≡ stand_after f start (events_of game.log)
-  stands = ap (λ (x : PlanFile). follow_file x s.account.heard) u.file_is ∙ ap (follow_file f) u.follows
+  stands = ap (λ (x : Guidance). follow_guide x s.account.heard) u.guide_is ∙ ap (follow_guide f) u.follows
 
-  mine_is : (who : Side) (b : Bool) → b ≡ is_same_side who s.file.side → is_same_side who f.side ≡ b
-  mine_is who b e = ap (λ (x : PlanFile). is_same_side who x.side) (sym u.file_is) ∙ sym e
+  mine_is : (who : Side) (b : Bool) → b ≡ is_same_side who s.guide.side → is_same_side who f.side ≡ b
+  mine_is who b e = ap (λ (x : Guidance). is_same_side who x.side) (sym u.guide_is) ∙ sym e
 
   abbrev theirs : List Event → List Move
   theirs es = tries_of (other f.side) es
@@ -90,7 +90,7 @@ module _ {f : PlanFile} {start : Pos} {asks : ℕ} {entry a : Account} {s : Foll
       record {
         is_game = u.whole.is_game;
         on_turn = turn;
-        file_is = ap (λ (x : Follower). x.file) h.0.1 ∙ u.file_is;
+        guide_is = ap (λ (x : Follower). x.guide) h.0.1 ∙ u.guide_is;
         follows = ap (λ (x : Follower). x.account.heard) h.0.1 ∙ (heard_kept (next_try (stand_of s)) (once_asked s.account) ∙ u.follows);
         tried = tried_more f start [] es (event who m) u.whole.tried (λ e. tries);
         vain = u.whole.vain;
@@ -112,7 +112,7 @@ module _ {f : PlanFile} {start : Pos} {asks : ℕ} {entry a : Account} {s : Foll
       record {
         is_game = u.whole.is_game;
         on_turn = turn;
-        file_is = ap (λ (x : Follower). x.file) h.0 ∙ u.file_is;
+        guide_is = ap (λ (x : Follower). x.guide) h.0 ∙ u.guide_is;
         follows = ap (λ (x : Follower). x.account.heard) h.0 ∙ u.follows;
         tried = tried_more f start [] es (event who m) u.whole.tried (λ e. absurd (both_ways _ not_own (ap (λ (x : Side). is_same_side x f.side) e ∙ same_side_self f.side)));
         vain = u.whole.vain + 0;
@@ -127,7 +127,7 @@ module _ {f : PlanFile} {start : Pos} {asks : ℕ} {entry a : Account} {s : Foll
         stays_since = (ap (λ (x : Account). x.faults) h.1, ap (λ (x : Account). x.leaves) h.1, refl);
       }
 
-  pub asked : (own : Bool) (who : Side) (m : Move) (s' : Follower) (a' : Account) → own ≡ is_same_side who s.file.side → who ≡ game.position.side → TurnAsked own (Ok (Tried m)) s s' a a' →
+  pub asked : (own : Bool) (who : Side) (m : Move) (s' : Follower) (a' : Account) → own ≡ is_same_side who s.guide.side → who ≡ game.position.side → TurnAsked own (Ok (Tried m)) s s' a a' →
       HasTried f start asks entry a' s' game (event who m)
   asked true who m s' a' e turn h = asked_own who m s' a' (mine_is who true e) turn h
   asked false who m s' a' e turn h = asked_other who m s' a' (mine_is who false e) turn h
@@ -139,7 +139,7 @@ module _ {f : PlanFile} {start : Pos} {asks : ℕ} {entry a : Account} {s : Foll
       (subst (λ (ls : List Line). Serves (theirs (events_of game.log) ++ []) ls (u.whole.vain + 1) entry a') (append-nil (lines_of f start game))
       (serves_more (theirs (events_of game.log)) [] (lines_of f start game) [] u.whole.vain 1 entry a a' u.whole.serves (asked_in_vain a a' asked said heard_is)))
 
-  pub left : (own : Bool) (who : Side) (s' : Follower) (a' : Account) → own ≡ is_same_side who s.file.side → who ≡ game.position.side → TurnAsked own (Ok turned.Left) s s' a a' →
+  pub left : (own : Bool) (who : Side) (s' : Follower) (a' : Account) → own ≡ is_same_side who s.guide.side → who ≡ game.position.side → TurnAsked own (Ok turned.Left) s s' a a' →
       IsLeft f start asks entry a' game who
   left true who s' a' e turn h =
       let is : who ≡ f.side = same_side_eq who f.side (mine_is who true e) in
@@ -187,14 +187,14 @@ module _ {f : PlanFile} {start : Pos} {asks : ℕ} {entry a : Account} {s : Foll
   }
 
   -- the opponent was asked, and met a fault
-  theirs_fails : (fault : LeadFault) (who : Side) (a' : Account) → false ≡ is_same_side who s.file.side → who ≡ game.position.side → fault_counts fault (once_asked a) a' →
+  theirs_fails : (fault : LeadFault) (who : Side) (a' : Account) → false ≡ is_same_side who s.guide.side → who ≡ game.position.side → fault_counts fault (once_asked a) a' →
       a' ≡ record (once_asked a) { faults = a'.faults } → IsBroken f start asks entry a' fault
   theirs_fails fault who a' e turn counts is =
       given_up fault a' 1
       (record { serves = asked_in_vain a a' (ap (λ (x : Account). x.asks) is) (ap (λ (x : Account). x.said) is) (ap (λ (x : Account). x.heard) is); counts = counts_asked fault a a' counts; leaves = ap (λ (x : Account). x.leaves) is; few = omega arith })
       (subst (λ (x : Side). 1 ≡ once x (other f.side)) turn (asked_once who (other f.side) (is_theirs who (mine_is who false e))))
 
-  pub fails : (own : Bool) (who : Side) (met : SeatFault) (s' : Follower) (a' : Account) → own ≡ is_same_side who s.file.side → who ≡ game.position.side → TurnAsked own (Err met) s s' a a' →
+  pub fails : (own : Bool) (who : Side) (met : SeatFault) (s' : Follower) (a' : Account) → own ≡ is_same_side who s.guide.side → who ≡ game.position.side → TurnAsked own (Err met) s s' a a' →
       IsBroken f start asks entry a' (lead_fault (fault_of met who))
   fails true who Failed s' a' e turn h = absurd h.0
   fails true who fault.NoMemory s' a' e turn h =

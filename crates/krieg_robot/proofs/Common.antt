@@ -28,7 +28,7 @@ pub use Rattle.krieg_referee.specs.declared.verdict.Stop.TheVariants.{AsksUsed, 
 pub use Rattle.krieg_referee.specs.declared.verdict.Verdict.{Verdict}
 pub use Rattle.krieg_referee.specs.declared.verdict.Verdict.TheVariants.{Done, Early, Illegal, Over}
 pub use Rattle.krieg_theory.specs.Sets.{In}
-pub use Rattle.krieg_theory.specs.Tree.{Edges, Just, Maybe, Nothing}
+pub use Rattle.krieg_theory.specs.Tree.{Edges, Just, Maybe, Nothing, Try}
 pub use Rattle.krieg_theory.specs.Wins.{wins, wins_other}
 pub use Rattle.krieg_seats.specs.Accounts.{Account, new_account, once_asked}
 pub use Rattle.krieg_seats.specs.declared.seat.Say.{Say}
@@ -45,11 +45,11 @@ pub use Rattle.krieg_plan.specs.OneTurn.{IsOneTurn}
 pub use Rattle.krieg_plan.specs.Nodes.{as_other, tree_of}
 pub use Rattle.krieg_plan.specs.Plans.{plan_of}
 pub use Rattle.krieg_plan.specs.Trees.{NodeTree, PlanTrees, first_edge_in, first_root_in}
-pub use Rattle.krieg_plan.specs.declared.plan.PlanFile.{PlanFile}
-pub use Rattle.krieg_robot.specs.Followers.{Follower, follow_file, is_first, said_so, say_of, stand_of}
+pub use Rattle.krieg_robot.specs.Guides.{Guidance}
+pub use Rattle.krieg_robot.specs.Followers.{Follower, follow_guide, is_first, said_so, say_of, stand_of}
 pub use Rattle.krieg_robot.specs.Laws.{MatingPlanWins}
 pub use Rattle.krieg_robot.specs.Leading.{AreTried, Breaks, IsBroken, IsLed, IsTried, LastAsk, LeadStops, broken_counts, is_own_move, lines_of, own_moves, stand_after}
-pub use Rattle.krieg_robot.specs.Places.{behind, changed, node_on, stand_at}
+pub use Rattle.krieg_robot.specs.Places.{behind, changed, node_at, node_on, node_with, stand_at, try_of}
 pub use Rattle.krieg_robot.specs.Stands.{At, Lost, Opened, Sent, Stand, Unopened, Won, after_try, at, follow, follow_on, is_mated, is_try, next_try, node_try, opened, step}
 pub use Rattle.krieg_robot.specs.Turns.{AfterPass, BothTold, HasTried, HearsPart, IsLeft, IsUnderway, LeadsOn, Passes, TurnAsked, fault_counts, hearing, lead, lead_fault, next_pass}
 pub use Rattle.krieg_robot.specs.declared.led.LeadFault.{LeadFault}
@@ -57,4 +57,4 @@ pub use Rattle.krieg_robot.specs.declared.led.LeadFault.TheVariants.{NoMemory, S
 pub use Rattle.krieg_robot.specs.declared.place.Change.{Change}
 pub use Rattle.krieg_robot.specs.declared.place.Change.TheVariants.{Steps}
 pub use Rattle.krieg_robot.specs.declared.place.Place.{Place}
-pub use Rattle.krieg_robot.specs.declared.place.Step.{Step}
+pub use Rattle.krieg_robot.specs.declared.guide.Step.{Step}

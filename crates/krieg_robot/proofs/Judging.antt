@@ -2,7 +2,7 @@
 use Rattle.std.proofs.Common.{◌≡◌, ℕ, ◌+◌, List, [], ◌∷◌, ◌++◌, length, map, refl, sym, ap, subst, ◌∙◌, inr, arith, Result, Ok, Err, Option, Some, None, option_to_list}
 use Rattle.std.specs.Prelude.{option_map}
 use Rattle.std.proofs.lemmas.List.{append-nil}
-use Rattle.krieg_robot.proofs.Common.{other, Pos, Move, Side, White, Black, told_line, Dialect, Line, GameState, judged, heard, line_for, Event, Judged, Account, Serves, events_of, tries_of, IsGameFrom, once, IsStepped, due_in, PlanFile, Follower, AreTried, lines_of, LastAsk, IsBroken, hearing, HearsPart, BothTold, IsUnderway, HasTried, AfterPass, next_pass, LeadFault}
+use Rattle.krieg_robot.proofs.Common.{other, Pos, Move, Side, White, Black, told_line, Dialect, Line, GameState, judged, heard, line_for, Event, Judged, Account, Serves, events_of, tries_of, IsGameFrom, once, IsStepped, due_in, Guidance, Follower, AreTried, lines_of, LastAsk, IsBroken, hearing, HearsPart, BothTold, IsUnderway, HasTried, AfterPass, next_pass, LeadFault}
 use Rattle.krieg_play.proofs.Judging.{events_end, game_stepped}
 use Rattle.krieg_play.proofs.Serving.{only_hears, serves_more}
 use Rattle.krieg_robot.proofs.HeardMore.{heard_end}
@@ -35,14 +35,14 @@ due_is d j Black = list_in d (line_for Black j)
 
 -- what is told of a try to a side, in the dialect of the file
 abbrev pub due : Follower → GameState → Event → Side → List Line
-due s game e = due_in s.file.dialect (judged game.position e)
+due s game e = due_in s.guide.dialect (judged game.position e)
 
 -- a try was judged, and both were told what they hear of it, or not
 pub record IsJudged (r : Result (Unit {0}) LeadFault) (e : Event) (a a' : Account) (s s' : Follower) (game game' : GameState) : Type 0 where
   pub stepped : IsStepped e game game'
-  pub tells : BothTold r s.file.side s s' (due s game e s.file.side) a a' (due s game e (other s.file.side))
+  pub tells : BothTold r s.guide.side s s' (due s game e s.guide.side) a a' (due s game e (other s.guide.side))
 
-module _ {r : Result (Unit {0}) LeadFault} {e : Event} {a a' : Account} {s s' : Follower} {game game' : GameState} (j : IsJudged r e a a' s s' game game') {f : PlanFile} {start : Pos} {asks : ℕ} {entry : Account} (h : HasTried f start asks entry a s game e) where
+module _ {r : Result (Unit {0}) LeadFault} {e : Event} {a a' : Account} {s s' : Follower} {game game' : GameState} (j : IsJudged r e a a' s s' game game') {f : Guidance} {start : Pos} {asks : ℕ} {entry : Account} (h : HasTried f start asks entry a s game e) where
   events_is : events_of game'.log ≡ events_of game.log ++ e ∷ []
   events_is = ap events_of j.stepped.log ∙ events_end game.log (judged game.position e)
 
@@ -50,21 +50,21 @@ module _ {r : Result (Unit {0}) LeadFault} {e : Event} {a a' : Account} {s s' : 
   heard_next : (who : Side) → heard f.dialect start (events_of game.log) who ++ due s game e who ≡ heard f.dialect start (events_of game'.log) who
   heard_next who =
       let es = events_of game.log in
-      ap (λ (ls : List Line). heard f.dialect start es who ++ ls) (ap (λ (x : PlanFile). due_in x.dialect (judged game.position e) who) h.file_is ∙ due_is f.dialect (judged game.position e) who)
+      ap (λ (ls : List Line). heard f.dialect start es who ++ ls) (ap (λ (x : Guidance). due_in x.dialect (judged game.position e) who) h.guide_is ∙ due_is f.dialect (judged game.position e) who)
       ∙ (ap (λ (p : Pos). heard f.dialect start es who ++ map (told_line f.dialect) (option_to_list (line_for who (judged p e)))) h.is_game.position
       ∙ (sym (heard_end f.dialect start es who e) ∙ ap (λ (xs : List Event). heard f.dialect start xs who) (sym events_is)))
 
   abbrev own_due : List Line
-  own_due = due s game e s.file.side
+  own_due = due s game e s.guide.side
 
   abbrev their_due : List Line
-  their_due = due s game e (other s.file.side)
+  their_due = due s game e (other s.guide.side)
 
   own_next : heard f.dialect start (events_of game.log) f.side ++ own_due ≡ heard f.dialect start (events_of game'.log) f.side
-  own_next = ap (λ (x : PlanFile). heard f.dialect start (events_of game.log) f.side ++ due s game e x.side) h.file_is ∙ heard_next f.side
+  own_next = ap (λ (x : Guidance). heard f.dialect start (events_of game.log) f.side ++ due s game e x.side) h.guide_is ∙ heard_next f.side
 
   theirs_next : lines_of f start game ++ their_due ≡ lines_of f start game'
-  theirs_next = ap (λ (x : PlanFile). lines_of f start game ++ due s game e (other x.side)) h.file_is ∙ heard_next (other f.side)
+  theirs_next = ap (λ (x : Guidance). lines_of f start game ++ due s game e (other x.side)) h.guide_is ∙ heard_next (other f.side)
 
   stepped : IsGameFrom start asks game'
   stepped = game_stepped start asks game game' e h.is_game h.on_turn j.stepped.log j.stepped.position j.stepped.spare
@@ -76,7 +76,7 @@ module _ {r : Result (Unit {0}) LeadFault} {e : Event} {a a' : Account} {s s' : 
   so_far : Serves (tries_of (other f.side) (events_of game'.log)) (lines_of f start game) h.vain entry a
   so_far = subst (λ (es : List Event). Serves (tries_of (other f.side) es) (lines_of f start game) h.vain entry a) (sym events_is) h.serves
 
-  told_ok : BothTold (Ok tt) s.file.side s s' own_due a a' their_due → IsUnderway f start asks entry a' s' game'
+  told_ok : BothTold (Ok tt) s.guide.side s s' own_due a a' their_due → IsUnderway f start asks entry a' s' game'
   told_ok t = record {
     whole = record {
       is_game = stepped;
@@ -85,7 +85,7 @@ module _ {r : Result (Unit {0}) LeadFault} {e : Event} {a a' : Account} {s s' : 
       serves = hears_more their_due so_far theirs_next t.1;
       counts = (ap (λ (x : Account). x.faults) t.1 ∙ h.stays.0, ap (λ (x : Account). x.leaves) t.1 ∙ h.stays.1, h.stays.2);
     };
-    file_is = t.0.0 ∙ h.file_is;
+    guide_is = t.0.0 ∙ h.guide_is;
     follows = t.0.1 ∙ (ap (λ (ls : List Line). ls ++ own_due) h.follows ∙ own_next);
   }
 
@@ -115,6 +115,6 @@ module _ {r : Result (Unit {0}) LeadFault} {e : Event} {a a' : Account} {s s' : 
 
 -- what it comes to
 pub after_try : (r : Result (Unit {0}) LeadFault) (e : Event) (a a' : Account) (s s' : Follower) (game game' : GameState) → IsJudged r e a a' s s' game game' →
-    (f : PlanFile) (start : Pos) (asks : ℕ) (entry : Account) → HasTried f start asks entry a s game e → AfterPass (next_pass r) f start asks entry a' s' game'
+    (f : Guidance) (start : Pos) (asks : ℕ) (entry : Account) → HasTried f start asks entry a s game e → AfterPass (next_pass r) f start asks entry a' s' game'
 after_try (Ok _) e a a' s s' game game' j f start asks entry h = told_ok j h j.tells
 after_try (Err fault) e a a' s s' game game' j f start asks entry h = told_err j h fault j.tells.0

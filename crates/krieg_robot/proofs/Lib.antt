@@ -1,5 +1,6 @@
 mod Common
 mod Following
+mod Numbered
 mod HeardMore
 mod Moving
 mod Holding

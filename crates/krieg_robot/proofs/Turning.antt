@@ -98,13 +98,13 @@ not_relieved true s s' a a' h = h.0
 not_relieved false s s' a a' h = h.1
 
 -- the seat of the plan keeps its file
-file_kept : (own : Bool) (m : Move) (s s' : Follower) (a a' : Account) → TurnAsked own (Ok (Tried m)) s s' a a' → s'.file ≡ s.file
-file_kept true m s s' a a' h = ap (λ (x : Follower). x.file) h.0.1
-file_kept false m s s' a a' h = ap (λ (x : Follower). x.file) h.0
+guide_kept : (own : Bool) (m : Move) (s s' : Follower) (a a' : Account) → TurnAsked own (Ok (Tried m)) s s' a a' → s'.guide ≡ s.guide
+guide_kept true m s s' a a' h = ap (λ (x : Follower). x.guide) h.0.1
+guide_kept false m s s' a a' h = ap (λ (x : Follower). x.guide) h.0
 
 -- who is asked, by the side of the file
 abbrev own_turn : Follower → GameState → Bool
-own_turn s game = is_same_side game.position.side s.file.side
+own_turn s game = is_same_side game.position.side s.guide.side
 
 pub passes_by : (said : Result AskOutcome SeatFault) (result : Result (Option Side) PlayFault) (s t u : Follower) (a b c : Account) (game game' : GameState) → 0 < game.spare → TurnAsked (own_turn s game) said s t a b →
     Ends said result t u b c game game' → Passes (lead result) a c s u game game'
@@ -125,19 +125,19 @@ passes_by (Err met) result s t u a b c game game' more asks (is, same, game_same
 -- ---- from either side
 
 -- a try that was judged, and told in this dialect
-judged_by : (side : Side) (d : Dialect) (r : Result (Unit {0}) LeadFault) (e : Event) (a a' : Account) (s s' : Follower) (game game' : GameState) → s.file.side ≡ side → s.file.dialect ≡ d → IsStepped e game game' →
+judged_by : (side : Side) (d : Dialect) (r : Result (Unit {0}) LeadFault) (e : Event) (a a' : Account) (s s' : Follower) (game game' : GameState) → s.guide.side ≡ side → s.guide.dialect ≡ d → IsStepped e game game' →
     BothTold r side s s' (due_in d (judged game.position e) side) a a' (due_in d (judged game.position e) (other side)) → IsJudged r e a a' s s' game game'
 judged_by side d r e a a' s s' game game' side_is d_is stepped tells =
     let lines : Dialect → Side → List Line = λ x who. due_in x (judged game.position e) who in
     record {
       stepped = stepped;
-      tells = subst (λ (x : Side). BothTold r x s s' (lines s.file.dialect x) a a' (lines s.file.dialect (other x))) (sym side_is)
+      tells = subst (λ (x : Side). BothTold r x s s' (lines s.guide.dialect x) a a' (lines s.guide.dialect (other x))) (sym side_is)
           (subst (λ (x : Dialect). BothTold r side s s' (lines x side) a a' (lines x (other side))) (sym d_is) tells);
     }
 
-module _ {X : Type 0} (account : X → Account) {d : Dialect} {start : Pos} {result : Result (Option Side) PlayFault} {s s' : Follower} {b b' : X} {game game' : GameState} (d_is : d ≡ s.file.dialect) where
+module _ {X : Type 0} (account : X → Account) {d : Dialect} {start : Pos} {result : Result (Option Side) PlayFault} {s s' : Follower} {b b' : X} {game game' : GameState} (d_is : d ≡ s.guide.dialect) where
   -- the seat of the plan has White
-  module _ (side : s.file.side ≡ White) (t : TakesTurns (OwnAsks account) (TheirAsks account) (OwnHearing account) (TheirHears account) result d start s s' b b' game game') where
+  module _ (side : s.guide.side ≡ White) (t : TakesTurns (OwnAsks account) (TheirAsks account) (OwnHearing account) (TheirHears account) result d start s s' b b' game game') where
     pub white_asked : TurnAsked (own_turn s game) t.said s t.white (account b) (account t.black)
     white_asked = subst (λ (x : Side). TurnAsked (is_same_side game.position.side x) t.said s t.white (account b) (account t.black)) (sym side)
         (asks_white account game.position.side t.said (λ who. lines_to start who game.log) s t.white b t.black t.asked)
@@ -146,7 +146,7 @@ module _ {X : Type 0} (account : X → Account) {d : Dialect} {start : Pos} {res
         Follows (OwnAsks account) (TheirAsks account) (OwnHearing account) (TheirHears account) said result d start game.position.side t.white s' t.black b' game game' →
         Ends said result t.white s' (account t.black) (account b') game game'
     white_ends_by (Ok (Tried m)) asks (told, is, stepped, both) =
-        let file = file_kept (own_turn s game) m s t.white (account b) (account t.black) asks in (
+        let file = guide_kept (own_turn s game) m s t.white (account b) (account t.black) asks in (
           told,
           is,
           judged_by White d (lead told) (event game.position.side m) (account t.black) (account b') t.white s' game game'
@@ -160,7 +160,7 @@ module _ {X : Type 0} (account : X → Account) {d : Dialect} {start : Pos} {res
     white_ends = white_ends_by t.said white_asked t.follows
 
   -- it has Black
-  module _ (side : s.file.side ≡ Black) (t : TakesTurns (TheirAsks account) (OwnAsks account) (TheirHears account) (OwnHearing account) result d start b b' s s' game game') where
+  module _ (side : s.guide.side ≡ Black) (t : TakesTurns (TheirAsks account) (OwnAsks account) (TheirHears account) (OwnHearing account) result d start b b' s s' game game') where
     pub black_asked : TurnAsked (own_turn s game) t.said s t.black (account b) (account t.white)
     black_asked = subst (λ (x : Side). TurnAsked (is_same_side game.position.side x) t.said s t.black (account b) (account t.white)) (sym side)
         (asks_black account game.position.side t.said (λ who. lines_to start who game.log) s t.black b t.white t.asked)
@@ -169,7 +169,7 @@ module _ {X : Type 0} (account : X → Account) {d : Dialect} {start : Pos} {res
         Follows (TheirAsks account) (OwnAsks account) (TheirHears account) (OwnHearing account) said result d start game.position.side t.white b' t.black s' game game' →
         Ends said result t.black s' (account t.white) (account b') game game'
     black_ends_by (Ok (Tried m)) asks (told, is, stepped, both) =
-        let file = file_kept (own_turn s game) m s t.black (account b) (account t.white) asks in (
+        let file = guide_kept (own_turn s game) m s t.black (account b) (account t.white) asks in (
           told,
           is,
           judged_by Black d (lead told) (event game.position.side m) (account t.white) (account b') t.black s' game game'

@@ -2,7 +2,7 @@
 use Rattle.std.proofs.Common.{◌≡◌, ℕ, suc, ◌+◌, Bool, true, false, not, cond, List, [], ◌∷◌, ◌++◌, length, filter, map, option_to_list, refl, sym, ap, subst, ◌∙◌, append_assoc, Some, None, arith, inl}
 use Rattle.std.proofs.lemmas.Bool.{and_parts, both_ways, not-true, cond-true, cond-false}
 use Rattle.std.proofs.lemmas.List.{append-nil}
-use Rattle.krieg_robot.proofs.Common.{other, is_same_side, Pos, Side, after, moves, is_ended, is_mate, words, opening, told, told_line, Dialect, Line, next, judge, judged, last, heard, line_for, Event, Judged, Ended, Left, events_of, AreOnTurn, In, mates_from, PlanTrees, first_root_in, IsOneTurn, plan_of, PlanFile, Stand, Unopened, Opened, At, Sent, Won, Lost, opened, follow_on, follow, next_try, is_first, stand_after, IsTried, AreTried, own_moves, is_own_move, LeadStops, MatingPlanWins}
+use Rattle.krieg_robot.proofs.Common.{other, is_same_side, Pos, Side, after, moves, is_ended, is_mate, words, opening, told, told_line, Dialect, Line, next, judge, judged, last, heard, line_for, Event, Judged, Ended, Left, events_of, AreOnTurn, In, mates_from, PlanTrees, first_root_in, IsOneTurn, plan_of, Guidance, Stand, Unopened, Opened, At, Sent, Won, Lost, opened, follow_on, follow, next_try, is_first, stand_after, IsTried, AreTried, own_moves, is_own_move, LeadStops, MatingPlanWins}
 use Rattle.krieg_board.proofs.MenLemmas.{same_side_self}
 use Rattle.krieg_play.proofs.Judging.{last_end}
 use Rattle.krieg_theory.proofs.Lists.{all_at}
@@ -45,28 +45,28 @@ counted : (b : Bool) (k left now n : ℕ) → k ≡ cond b (suc left) left → l
 counted true k left now n e f = omega arith
 counted false k left now n e f = omega arith
 
-module _ (f : PlanFile) (start : Pos) where
+module _ (f : Guidance) (start : Pos) where
   abbrev own : Bool
-  own = is_first f.side f.list.items
+  own = is_first f.side f.list
 
   -- what holds once these tries were judged, of which so many more than before were own moves
   record Kept (events : List Event) (k n : ℕ) : Type 0 where
     left : ℕ
-    holds : Holds f.dialect f.side own (plan_of f.plan) (stand_after f start events) (last start events) left
+    holds : Holds f.dialect f.side own f.plan (stand_after f start events) (last start events) left
     counts : k ≡ left + n
 
-  one_more : (before : List Event) (e : Event) (k : ℕ) → Holds f.dialect f.side own (plan_of f.plan) (stand_after f start before) (last start before) k → e.who ≡ (last start before).side → IsTried f start before e →
-      Keeps f.dialect f.side own (plan_of f.plan) (stand_after f start (before ++ e ∷ [])) (last start (before ++ e ∷ [])) k (is_own_move f.side (judged (last start before) e))
+  one_more : (before : List Event) (e : Event) (k : ℕ) → Holds f.dialect f.side own f.plan (stand_after f start before) (last start before) k → e.who ≡ (last start before).side → IsTried f start before e →
+      Keeps f.dialect f.side own f.plan (stand_after f start (before ++ e ∷ [])) (last start (before ++ e ∷ [])) k (is_own_move f.side (judged (last start before) e))
   one_more before e k h turn tried =
       let p : Pos = last start before in
       let more : List Line = map (told_line f.dialect) (option_to_list (line_for f.side (judged p e))) in
-      let stands : stand_after f start (before ++ e ∷ []) ≡ follow_on own (plan_of f.plan) (stand_after f start before) more =
-      ap (λ (ls : List Line). follow own (plan_of f.plan) ls) (heard_end f.dialect start before f.side e) ∙ follow_more own (plan_of f.plan) Unopened (heard f.dialect start before f.side) more in
-      subst (λ (s : Stand). Keeps f.dialect f.side own (plan_of f.plan) s (last start (before ++ e ∷ [])) k (is_own_move f.side (judged p e))) (sym stands)
-      (subst (λ (q : Pos). Keeps f.dialect f.side own (plan_of f.plan) (follow_on own (plan_of f.plan) (stand_after f start before) more) q k (is_own_move f.side (judged p e))) (sym (last_end start before e))
-      (kept f.dialect f.side own (plan_of f.plan) (stand_after f start before) p e k h turn tried))
+      let stands : stand_after f start (before ++ e ∷ []) ≡ follow_on own f.plan (stand_after f start before) more =
+      ap (λ (ls : List Line). follow own f.plan ls) (heard_end f.dialect start before f.side e) ∙ follow_more own f.plan Unopened (heard f.dialect start before f.side) more in
+      subst (λ (s : Stand). Keeps f.dialect f.side own f.plan s (last start (before ++ e ∷ [])) k (is_own_move f.side (judged p e))) (sym stands)
+      (subst (λ (q : Pos). Keeps f.dialect f.side own f.plan (follow_on own f.plan (stand_after f start before) more) q k (is_own_move f.side (judged p e))) (sym (last_end start before e))
+      (kept f.dialect f.side own f.plan (stand_after f start before) p e k h turn tried))
 
-  all_kept : (es before : List Event) (k : ℕ) → Holds f.dialect f.side own (plan_of f.plan) (stand_after f start before) (last start before) k → AreOnTurn (last start before) es → AreTried f start before es →
+  all_kept : (es before : List Event) (k : ℕ) → Holds f.dialect f.side own f.plan (stand_after f start before) (last start before) k → AreOnTurn (last start before) es → AreTried f start before es →
       Kept (before ++ es) k (own_moves f.side (judge (last start before) es))
   all_kept [] before k h turns tried =
       subst (λ (xs : List Event). Kept xs k 0) (sym (append-nil before)) (record { left = k; holds = h; counts = omega arith })
@@ -104,8 +104,8 @@ module _ (d : Dialect) (who : Side) (own : Bool) (plan : PlanTrees) where
   has_mated Won p k h e = (h.mate, h.turn)
   has_mated Lost p k h e = absurd h
 
-first_is : (f : PlanFile) (start : Pos) → IsOneTurn f.list.items → In start f.list.items → is_first f.side f.list.items ≡ is_same_side start.side f.side
-first_is f start one i = go f.list.items i one.same_side
+first_is : (f : Guidance) (start : Pos) → IsOneTurn f.list → In start f.list → is_first f.side f.list ≡ is_same_side start.side f.side
+first_is f start one i = go f.list i one.same_side
   where
     go : (ps : List Pos) → In start ps → ((p q : Pos) → In p ps → In q ps → p.side ≡ q.side) → is_first f.side ps ≡ is_same_side start.side f.side
     go [] i same = absurd i
@@ -124,18 +124,18 @@ mating_plan_wins f start asks entry now game stop one i mates led = record {
     all : Kept f start es f.worst (own_moves f.side (judge start es))
     all =
         all_kept f start es [] f.worst
-        (first_holds f.dialect f.side (is_first f.side f.list.items) (plan_of f.plan) start f.worst (first_is f start one i)
-        (all_at (mates_from f.dialect f.side (plan_of f.plan) f.worst) f.list.items (sym (mates_from_each f.dialect f.side (plan_of f.plan) f.list.items f.worst) ∙ mates) start i))
+        (first_holds f.dialect f.side (is_first f.side f.list) f.plan start f.worst (first_is f start one i)
+        (all_at (mates_from f.dialect f.side f.plan f.worst) f.list (sym (mates_from_each f.dialect f.side f.plan f.list f.worst) ∙ mates) start i))
         led.whole.is_game.on_turn led.whole.tried
 
-    holds : Holds f.dialect f.side (is_first f.side f.list.items) (plan_of f.plan) (stand_after f start es) game.position all.left
-    holds = subst (λ (p : Pos). Holds f.dialect f.side (is_first f.side f.list.items) (plan_of f.plan) (stand_after f start es) p all.left) (sym led.whole.is_game.position) all.holds
+    holds : Holds f.dialect f.side (is_first f.side f.list) f.plan (stand_after f start es) game.position all.left
+    holds = subst (λ (p : Pos). Holds f.dialect f.side (is_first f.side f.list) f.plan (stand_after f start es) p all.left) (sym led.whole.is_game.position) all.holds
 
     leaves : LeadStops f start asks game (Left f.side) → ⊥
-    leaves h = has_try f.dialect f.side (is_first f.side f.list.items) (plan_of f.plan) (stand_after f start es) game.position all.left holds
+    leaves h = has_try f.dialect f.side (is_first f.side f.list) f.plan (stand_after f start es) game.position all.left holds
         (ap (λ (s : Side). is_same_side s f.side) (sym h.2) ∙ same_side_self f.side) (h.3 refl)
 
     mated : LeadStops f start asks game Ended → (is_mate game.position ≡ true) × (game.position.side ≡ other f.side)
     mated h =
-        let m = has_mated f.dialect f.side (is_first f.side f.list.items) (plan_of f.plan) (stand_after f start es) game.position all.left holds h in
+        let m = has_mated f.dialect f.side (is_first f.side f.list) f.plan (stand_after f start es) game.position all.left holds h in
         (m.0, is_other game.position.side f.side m.1)

@@ -1,4 +1,4 @@
--- A seat that follows a plan file, as contracts see it, and what one call makes of it.
+-- A seat that follows a guide, as contracts see it, and what one call makes of it.
 use Rattle.std.specs.Prelude.{Bool, true, List, [], ◌∷◌, ◌++◌, Option, Some, None}
 use Rattle.krieg_ports.specs.Faults.{one_more}
 use Rattle.krieg_board.specs.Men.{is_same_side}
@@ -9,8 +9,7 @@ use Rattle.krieg_words.specs.declared.line.Line.{Line}
 use Rattle.krieg_seats.specs.Accounts.{Account, once_asked}
 use Rattle.krieg_seats.specs.declared.seat.Say.{Say}
 use Rattle.krieg_seats.specs.declared.seat.Say.TheVariants.{Try, Leave}
-use Rattle.krieg_plan.specs.Plans.{plan_of}
-use Rattle.krieg_plan.specs.declared.plan.PlanFile.{PlanFile}
+use Rattle.krieg_robot.specs.Guides.{Guidance}
 use Rattle.krieg_robot.specs.Stands as stand
 use Rattle.krieg_robot.specs.Stands.{Stand, follow, next_try, node_try}
 use Rattle.krieg_robot.specs.declared.next.Next.{Next}
@@ -21,18 +20,18 @@ abbrev pub is_first : Side → List Pos → Bool
 is_first who [] = true
 is_first who (p ∷ ps) = is_same_side p.side who
 
--- where he stands who follows the file and heard these lines
-abbrev pub follow_file : PlanFile → List Line → Stand
-follow_file f lines = follow (is_first f.side f.list.items) (plan_of f.plan) lines
+-- where he stands who follows the guide and heard these lines
+abbrev pub follow_guide : Guidance → List Line → Stand
+follow_guide g lines = follow (is_first g.side g.list) g.plan lines
 
--- a seat that follows a file: the file, and what the seat said and heard, with its counts
+-- a seat that follows a guide: the guide, and what the seat said and heard, with its counts
 pub record Follower : Type 0 where
-  pub file : PlanFile
+  pub guide : Guidance
   pub account : Account
 
 -- where the seat stands, by the lines that it heard
 abbrev pub stand_of : Follower → Stand
-stand_of f = follow_file f.file f.account.heard
+stand_of s = follow_guide s.guide s.account.heard
 
 -- what it says when it is asked: its try, or that it leaves where it has none
 abbrev pub say_of : Option Move → Say
@@ -46,15 +45,15 @@ said_so None a = record a { leaves = one_more a.leaves }
 
 -- the seat once it is asked, before it answers
 abbrev pub when_asked : Follower → Follower
-when_asked f = record f { account = once_asked f.account }
+when_asked s = record s { account = once_asked s.account }
 
 -- the seat after a call that asked it
 abbrev pub after_asked : Follower → Follower
-after_asked f = record f { account = said_so (next_try (stand_of f)) (once_asked f.account) }
+after_asked s = record s { account = said_so (next_try (stand_of s)) (once_asked s.account) }
 
 -- the seat after a call that told it the line
 abbrev pub after_told : Follower → Line → Follower
-after_told f line = record f { account = record f.account { heard = f.account.heard ++ line ∷ [] } }
+after_told s line = record s { account = record s.account { heard = s.account.heard ++ line ∷ [] } }
 
 -- what a player does next who stands there
 abbrev pub next_of : Stand → Next

@@ -1,14 +1,16 @@
 -- What no public clause cites: how a seat keeps where it stands, by the way that leads from a root of the plan to a node.
-use Rattle.std.specs.Prelude.{List, [], ◌∷◌}
+use Rattle.std.specs.Prelude.{ℕ, List, [], ◌∷◌, Option, Some, None}
 use Rattle.krieg_board.specs.declared.men.Move.{Move}
 use Rattle.krieg_words.specs.Words.{Said}
-use Rattle.krieg_theory.specs.Tree.{Maybe, Nothing, Just}
+use Rattle.krieg_theory.specs.Tree.{Try, Maybe, Nothing, Just, Edges}
 use Rattle.krieg_game.specs.Keys.{Key}
 use Rattle.krieg_plan.specs.Trees.{NodeTree, PlanTrees, first_edge_in, first_root_in}
 use Rattle.krieg_robot.specs.Stands as stand
-use Rattle.krieg_robot.specs.Stands.{Stand, at, node_other}
-use Rattle.krieg_robot.specs.declared.place.Step.{Step}
-use Rattle.krieg_robot.specs.declared.place.Step.TheVariants.{From, No, On}
+use Rattle.krieg_strategy.specs.Unfolded.{led_to, trees_of}
+use Rattle.krieg_strategy.specs.declared.strategy.Strategy.{Strategy}
+use Rattle.krieg_robot.specs.Stands.{Stand, at, node_other, node_try}
+use Rattle.krieg_robot.specs.declared.guide.Step.{Step}
+use Rattle.krieg_robot.specs.declared.guide.Step.TheVariants.{From, No, On}
 use Rattle.krieg_robot.specs.declared.place.Place.{Place}
 use Rattle.krieg_robot.specs.declared.place.Place.TheVariants.{Unopened, Opened, At, Sent, Won, Lost}
 use Rattle.krieg_robot.specs.declared.place.Change.{Change}
@@ -32,6 +34,20 @@ behind plan (Just n) (On own reply) = below n (On own reply)
 abbrev pub node_on : PlanTrees → Maybe Move Key → List Step → Maybe Move Key
 node_on plan n [] = n
 node_on plan n (s ∷ ss) = node_on plan (behind plan n s) ss
+
+-- the try of a node, if there is one
+abbrev pub try_of : Maybe Move Key → Option Move
+try_of Nothing = None
+try_of (Just n) = Some (node_try n)
+
+-- the node of a strategy with that number, if there is one
+abbrev pub node_at : Strategy → Option ℕ → Maybe Move Key
+node_at s number = led_to (trees_of s.nodes) number
+
+-- the node with this try that leads to these, or none where there is no try
+abbrev pub node_with : Option Move → Maybe Move Key → Edges Move Key → Maybe Move Key
+node_with None other es = Nothing
+node_with (Some t) other es = Just (Try t other es)
 
 -- the try of a node was done, or lost where the plan has no node
 abbrev pub sent : Maybe Move Key → Said → Stand

@@ -1,4 +1,4 @@
--- What no public clause cites: what each call of a game makes of the seat that follows a file, of its opponent and of their game.
+-- What no public clause cites: what each call of a game makes of the seat that follows a guide, of its opponent and of their game.
 use Rattle.std.specs.Prelude.{◌≡◌, ℕ, ◌<◌, ◌≤◌, ◌⊎◌, Bool, true, false, List, [], ◌∷◌, ◌++◌, length, Option, Some, None, Result, Ok, Err, ⊤}
 use Rattle.krieg_ports.specs.Faults.{Rose}
 use Rattle.krieg_board.specs.Men.{other}
@@ -20,7 +20,7 @@ use Rattle.krieg_play.specs.declared.outcome.PlayFault.{PlayFault}
 use Rattle.krieg_play.specs.declared.outcome.PlayFault.TheVariants as play
 use Rattle.krieg_play.specs.declared.ask_outcome.AskOutcome.{AskOutcome}
 use Rattle.krieg_play.specs.declared.ask_outcome.AskOutcome.TheVariants.{Tried, Relieved, Left}
-use Rattle.krieg_plan.specs.declared.plan.PlanFile.{PlanFile}
+use Rattle.krieg_robot.specs.Guides.{Guidance}
 use Rattle.krieg_robot.specs.Stands.{next_try}
 use Rattle.krieg_robot.specs.Followers.{Follower, stand_of, after_asked}
 use Rattle.krieg_robot.specs.Leading.{stand_after, AreTried, lines_of, IsWhole, IsLed, IsBroken}
@@ -40,7 +40,7 @@ lead (Err fault) = Err (lead_fault fault)
 
 -- ---- one call
 
--- what asking the seat of the file makes of it: nobody relieves it, and it never fails
+-- what asking the seat of the guide makes of it: nobody relieves it, and it never fails
 abbrev pub AsksOwn : Result AskOutcome SeatFault → Follower → Follower → Type 0
 AsksOwn (Ok (Tried m)) s s' = (next_try (stand_of s) ≡ Some m) × (s' ≡ after_asked s)
 AsksOwn (Ok Relieved) s s' = ⊥
@@ -48,9 +48,9 @@ AsksOwn (Ok Left) s s' = (next_try (stand_of s) ≡ None) × (s' ≡ after_asked
 AsksOwn (Err fault.Failed) s s' = ⊥
 AsksOwn (Err fault.NoMemory) s s' = ⊤
 
--- the seat of the file heard these lines
+-- the seat of the guide heard these lines
 abbrev pub OwnHears : Follower → Follower → List Line → Type 0
-OwnHears s s' own = (s'.file ≡ s.file) × (s'.account.heard ≡ s.account.heard ++ own)
+OwnHears s s' own = (s'.guide ≡ s.guide) × (s'.account.heard ≡ s.account.heard ++ own)
 
 -- what telling it these lines makes of it
 abbrev pub HearsOwn : List Line → Result (Unit {0}) SeatFault → Follower → Follower → Type 0
@@ -58,7 +58,7 @@ HearsOwn lines (Ok _) s s' = OwnHears s s' lines
 HearsOwn lines (Err fault.Failed) s s' = ⊥
 HearsOwn lines (Err fault.NoMemory) s s' = s' ≡ s
 
--- what asking the side to move makes of both, where it is the side of the file or not
+-- what asking the side to move makes of both, where it is the side of the guide or not
 abbrev pub TurnAsked : Bool → Result AskOutcome SeatFault → Follower → Follower → Account → Account → Type 0
 TurnAsked true r s s' a a' = AsksOwn r s s' × (a' ≡ a)
 TurnAsked false r s s' a a' = (s' ≡ s) × AsksLone r a a'
@@ -85,40 +85,40 @@ abbrev pub IsToldFirst : Side → Follower → Follower → List Line → Accoun
 IsToldFirst White s s' own a a' theirs = (a' ≡ a) ⊎ OwnHears s s' own
 IsToldFirst Black s s' own a a' theirs = (s' ≡ s) ⊎ (a' ≡ hearing a theirs)
 
--- what telling both makes of them, where the file is for that side
+-- what telling both makes of them, where the guide is for that side
 abbrev pub BothTold : Result (Unit {0}) LeadFault → Side → Follower → Follower → List Line → Account → Account → List Line → Type 0
 BothTold (Ok _) side s s' own a a' theirs = OwnHears s s' own × (a' ≡ hearing a theirs)
 BothTold (Err fault) side s s' own a a' theirs = HearsPart fault theirs a a' × IsToldFirst side s s' own a a' theirs
 
 -- ---- a game
 
--- a game under way between a file and an opponent, whose own seat has heard all of its lines
-pub record IsUnderway (f : PlanFile) (start : Pos) (asks : ℕ) (entry now : Account) (seat : Follower) (game : GameState) : Type 0 where
-  pub whole : IsWhole f None start asks entry now game
-  pub file_is : seat.file ≡ f
-  pub follows : seat.account.heard ≡ heard f.dialect start (events_of game.log) f.side
+-- a game under way between a guide and an opponent, whose own seat has heard all of its lines
+pub record IsUnderway (g : Guidance) (start : Pos) (asks : ℕ) (entry now : Account) (seat : Follower) (game : GameState) : Type 0 where
+  pub whole : IsWhole g None start asks entry now game
+  pub guide_is : seat.guide ≡ g
+  pub follows : seat.account.heard ≡ heard g.dialect start (events_of game.log) g.side
 
 -- the same where the side to move has said one more try, which is not judged yet: so it was asked last in the state before
-pub record HasTried (f : PlanFile) (start : Pos) (asks : ℕ) (entry now : Account) (seat : Follower) (game : GameState) (e : Event) : Type 0 where
+pub record HasTried (g : Guidance) (start : Pos) (asks : ℕ) (entry now : Account) (seat : Follower) (game : GameState) (e : Event) : Type 0 where
   pub is_game : IsGameFrom start asks game
   pub on_turn : e.who ≡ game.position.side
-  pub file_is : seat.file ≡ f
-  pub follows : seat.account.heard ≡ heard f.dialect start (events_of game.log) f.side
-  pub tried : AreTried f start [] (events_of game.log ++ e ∷ [])
+  pub guide_is : seat.guide ≡ g
+  pub follows : seat.account.heard ≡ heard g.dialect start (events_of game.log) g.side
+  pub tried : AreTried g start [] (events_of game.log ++ e ∷ [])
   pub vain : ℕ
-  pub serves : Serves (tries_of (other f.side) (events_of game.log ++ e ∷ [])) (lines_of f start game) vain entry now
+  pub serves : Serves (tries_of (other g.side) (events_of game.log ++ e ∷ [])) (lines_of g start game) vain entry now
   pub stays : Stays vain entry now
   pub account_then : Account
-  pub whole : IsWhole f None start asks entry account_then game
+  pub whole : IsWhole g None start asks entry account_then game
   pub fewer : length game.log < asks
-  pub since : Serves (tries_of (other f.side) (e ∷ [])) [] 0 account_then now
+  pub since : Serves (tries_of (other g.side) (e ∷ [])) [] 0 account_then now
   pub stays_since : Stays 0 account_then now
 
 -- a game in which the side to move left
-pub record IsLeft (f : PlanFile) (start : Pos) (asks : ℕ) (entry now : Account) (game : GameState) (who : Side) : Type 0 where
-  pub whole : IsWhole f (Some who) start asks entry now game
+pub record IsLeft (g : Guidance) (start : Pos) (asks : ℕ) (entry now : Account) (game : GameState) (who : Side) : Type 0 where
+  pub whole : IsWhole g (Some who) start asks entry now game
   pub on_turn : who ≡ game.position.side
-  pub no_try : who ≡ f.side → next_try (stand_after f start (events_of game.log)) ≡ None
+  pub no_try : who ≡ g.side → next_try (stand_after g start (events_of game.log)) ≡ None
 
 -- the pass in which both were told, or not: nobody left
 abbrev pub next_pass : Result (Unit {0}) LeadFault → Result (Option Side) LeadFault
@@ -126,22 +126,22 @@ next_pass (Ok _) = Ok None
 next_pass (Err fault) = Err fault
 
 -- what one pass makes of a game under way
-abbrev pub AfterPass : Result (Option Side) LeadFault → PlanFile → Pos → ℕ → Account → Account → Follower → GameState → Type 0
-AfterPass (Ok None) f start asks entry now seat game = IsUnderway f start asks entry now seat game
-AfterPass (Ok (Some who)) f start asks entry now seat game = IsLeft f start asks entry now game who
-AfterPass (Err fault) f start asks entry now seat game = IsBroken f start asks entry now fault
+abbrev pub AfterPass : Result (Option Side) LeadFault → Guidance → Pos → ℕ → Account → Account → Follower → GameState → Type 0
+AfterPass (Ok None) g start asks entry now seat game = IsUnderway g start asks entry now seat game
+AfterPass (Ok (Some who)) g start asks entry now seat game = IsLeft g start asks entry now game who
+AfterPass (Err fault) g start asks entry now seat game = IsBroken g start asks entry now fault
 
 -- a pass, from any game under way
 abbrev pub Passes : Result (Option Side) LeadFault → Account → Account → Follower → Follower → GameState → GameState → Type 0
 Passes r before now seat seat' game game' =
-    (f : PlanFile) (start : Pos) (asks : ℕ) (entry : Account) → IsUnderway f start asks entry before seat game → AfterPass r f start asks entry now seat' game'
+    (g : Guidance) (start : Pos) (asks : ℕ) (entry : Account) → IsUnderway g start asks entry before seat game → AfterPass r g start asks entry now seat' game'
 
 -- what a game came to
-abbrev pub ComesTo : Result Stop LeadFault → PlanFile → Pos → ℕ → Account → Account → GameState → Type 0
-ComesTo (Ok stop) f start asks entry now game = IsLed f start asks entry now game stop
-ComesTo (Err fault) f start asks entry now game = IsBroken f start asks entry now fault
+abbrev pub ComesTo : Result Stop LeadFault → Guidance → Pos → ℕ → Account → Account → GameState → Type 0
+ComesTo (Ok stop) g start asks entry now game = IsLed g start asks entry now game stop
+ComesTo (Err fault) g start asks entry now game = IsBroken g start asks entry now fault
 
 -- playing on, from any game under way
 abbrev pub LeadsOn : Result Stop LeadFault → Account → Account → Follower → GameState → GameState → Type 0
 LeadsOn r before now seat game game' =
-    (f : PlanFile) (start : Pos) (asks : ℕ) (entry : Account) → IsUnderway f start asks entry before seat game → ComesTo r f start asks entry now game'
+    (g : Guidance) (start : Pos) (asks : ℕ) (entry : Account) → IsUnderway g start asks entry before seat game → ComesTo r g start asks entry now game'

@@ -2,7 +2,7 @@
 use krieg_play::PlayFault;
 use krieg_referee::{Game, Stop};
 
-/// A game that a plan led, and why it stopped.
+/// A game that a guide led, and why it stopped.
 #[derive(Drop)]
 pub struct Led {
     /// The game, with the tries that were judged.

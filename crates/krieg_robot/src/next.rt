@@ -1,7 +1,7 @@
 // What a player does next.
 use krieg_board::Move;
 
-/// What a player does next who follows a plan.
+/// What a player does next who follows a guide.
 #[derive(Clone, Copy, Debug, PartialEq, Eq)]
 pub enum Next {
     /// He tries a move.

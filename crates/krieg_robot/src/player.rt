@@ -1,12 +1,13 @@
-// The seat of a plan as a side of a game: nobody relieves it, and it never fails.
-use crate::seat::{PlanSeat, ask_own, tell_own};
+// The seat of a guide as a side of a game: nobody relieves it, and it never fails.
+use crate::guide::Guide;
+use crate::seat::{GuidedSeat, ask_own, tell_own};
 use krieg_board::{Position, Side};
 use krieg_play::{AskOutcome, Player};
 use krieg_referee::Judged;
 use krieg_seats::SeatFault;
 use krieg_words::Line;
 
-impl Player for PlanSeat {
+impl<G: Guide> Player for GuidedSeat<G> {
     ghost use Rattle.krieg_robot.specs.Turns.{AsksOwn, HearsOwn};
 
     ghost is_ready = { λ _. Unit {0} };

@@ -1,4 +1,4 @@
-// A seat that follows a plan file.
+// A seat that follows a guide.
 ghost use Rattle.std.specs.Prelude.{◌≡◌, ◌≢◌, Err, IfOk, OnOk, OnErr, None, option_to_list};
 ghost use Rattle.krieg_seats.specs.Accounts.{new_account, Asked, Told};
 ghost use Rattle.krieg_robot.specs.Stands as stand;
@@ -6,21 +6,21 @@ ghost use Rattle.krieg_robot.specs.Followers as spec;
 ghost use Rattle.krieg_robot.specs.Followers.{stand_of, say_of, when_asked, after_asked, after_told};
 ghost use Rattle.krieg_robot.specs.Turns.{AsksOwn, HearsOwn};
 
+use crate::guide::{Guide, Step};
 use crate::next::Next;
-use crate::place::{Change, Place, Step, change_by, next_of, next_try, node_on};
-use krieg_board::Move;
-use krieg_plan::PlanFile;
+use crate::place::{Change, Place, change_by, next_of, next_try};
+use krieg_board::{Move, Position, Side};
 use krieg_play::AskOutcome;
 use krieg_seats::{Say, Seat, SeatFault};
 use krieg_words::Line;
 use std::alloc::Global;
 use std::marker::Model;
 
-/// A seat that follows a plan file: at its turn it tries what its plan says, by the lines that it was told. In
-/// contracts it is a `Follower`.
+/// A seat that follows a guide: at its turn it tries what its plan says, by the lines that it was told. In contracts it
+/// is a `Follower`.
 #[derive(Drop)]
-pub struct PlanSeat {
-    file: PlanFile,
+pub struct GuidedSeat<G: Guide> {
+    guide: G,
     place: Place,
     /// The way from a root to the node of the place.
     way: Vec<Step>,
@@ -30,21 +30,20 @@ pub struct PlanSeat {
     leaves: u64,
 }
 
-impl Model for PlanSeat {
+impl<G: Guide> Model for GuidedSeat<G> {
     ghost use Rattle.std.specs.Prelude.{◌≡◌};
     ghost use Rattle.std.specs.Coded.{codes};
-    ghost use Rattle.krieg_plan.specs.contracts.node.Node as node;
     ghost use Rattle.krieg_theory.specs.Tree.{Nothing};
-    ghost use Rattle.krieg_plan.specs.Plans.{plan_of};
-    ghost use Rattle.krieg_robot.specs.Followers.{Follower, follow_file};
+    ghost use Rattle.krieg_robot.specs.Followers.{Follower, follow_guide};
     ghost use Rattle.krieg_robot.specs.Places.{stand_at, node_on};
+    ghost use Rattle.krieg_robot.specs.TreeCodes.{coded_tree};
 
     ghost Value = { Follower };
 
-    ghost coded = { Prim.hlevel (codes, node.the_row.coded) };
+    ghost coded = { Prim.hlevel (codes, coded_tree) };
 
     ghost view = { λ s. record {
-      file = s.file;
+      guide = G.guidance s.guide;
       account = record {
         said = s.said.items;
         heard = s.heard.items;
@@ -54,26 +53,26 @@ impl Model for PlanSeat {
       };
     } };
 
-    ghost invariant = { λ s. stand_at s.place (node_on (plan_of s.file.plan) Nothing s.way.items) ≡ follow_file s.file s.heard.items };
+    ghost invariant = { λ s. stand_at s.place (node_on (G.guidance s.guide).plan Nothing s.way.items) ≡ follow_guide (G.guidance s.guide) s.heard.items };
 }
 
-/// Whether the side of the file is to move in the first listed position.
-fn is_first(file: &PlanFile) -> bool
-    ensures { result ≡ spec.is_first file.now.side file.now.list.items }
+/// Whether the side is to move in the first of these positions.
+fn is_first(side: Side, list: &[Position]) -> bool
+    ensures { result ≡ spec.is_first side list.now }
 {
-    match file.list.first() {
+    match list.first() {
         None => true,
-        Some(p) => p.side() == file.side,
+        Some(p) => p.side() == side,
     }
 }
 
-impl PlanSeat {
+impl<G: Guide> GuidedSeat<G> {
     /// A seat that has heard nothing. It takes no memory.
-    pub fn new(alloc: Global, file: PlanFile) -> PlanSeat
-        ensures { result ≡ record { file = file; account = new_account } }
+    pub fn new(alloc: Global, guide: G) -> GuidedSeat<G>
+        ensures { result ≡ record { guide = G.guidance guide; account = new_account } }
     {
-        PlanSeat {
-            file,
+        GuidedSeat {
+            guide,
             place: Place::Unopened,
             way: Vec::new(alloc),
             said: Vec::new(alloc),
@@ -83,11 +82,11 @@ impl PlanSeat {
         }
     }
 
-    /// The file that it follows.
-    pub fn file(&self) -> &PlanFile
-        ensures { result.now ≡ self.now.file }
+    /// The guide that it follows.
+    pub fn guide(&self) -> &G
+        ensures { G.guidance result.now ≡ self.now.guide }
     {
-        &self.file
+        &self.guide
     }
 
     /// What it does next, by the lines that it was told: it tries a move at its turn; it waits before its first turn
@@ -96,11 +95,11 @@ impl PlanSeat {
     pub fn next(&self) -> Next
         ensures { result ≡ spec.next_of (stand_of self.now) }
     {
-        next_of(&self.place, node_on(&self.file.plan, &self.way))
+        next_of(&self.place, &self.guide.try_on(&self.way))
     }
 }
 
-impl Seat for PlanSeat {
+impl<G: Guide> Seat for GuidedSeat<G> {
     ghost account = { λ s. s.account };
 
     /// Tries what its plan says, and leaves where it says nothing.
@@ -118,7 +117,7 @@ impl Seat for PlanSeat {
             stand.next_try (stand_of self.old) ≢ None }
     {
         self.asks = self.asks.saturating_add(1);
-        match &next_try(&self.place, node_on(&self.file.plan, &self.way)) {
+        match &next_try(&self.place, &self.guide.try_on(&self.way)) {
             Some(mv) => match self.said.push(*mv) {
                 Ok(()) => Ok(Say::Try(*mv)),
                 Err(_) => Err(SeatFault::NoMemory),
@@ -144,12 +143,9 @@ impl Seat for PlanSeat {
             Ok(()) => {}
             Err(_) => return Err(SeatFault::NoMemory),
         }
-        let change = change_by(
-            is_first(&self.file),
-            &self.place,
-            node_on(&self.file.plan, &self.way),
-            line,
-        );
+        let own = is_first(self.guide.side(), self.guide.list());
+        let tried = self.guide.try_on(&self.way);
+        let change = change_by(own, &self.place, &tried, line);
         match self.heard.push(*line) {
             Ok(()) => {}
             Err(_) => return Err(SeatFault::NoMemory),
@@ -179,7 +175,7 @@ impl Seat for PlanSeat {
 }
 
 /// Asks the seat, as the side of a game that it is.
-pub(crate) fn ask_own(seat: &mut PlanSeat) -> Result<AskOutcome, SeatFault>
+pub(crate) fn ask_own<G: Guide>(seat: &mut GuidedSeat<G>) -> Result<AskOutcome, SeatFault>
     ensures { AsksOwn result seat.old seat.new }
 {
     match seat.ask() {
@@ -190,7 +186,10 @@ pub(crate) fn ask_own(seat: &mut PlanSeat) -> Result<AskOutcome, SeatFault>
 }
 
 /// Tells the seat a line, where there is one.
-pub(crate) fn tell_own(seat: &mut PlanSeat, line: Option<Line>) -> Result<(), SeatFault>
+pub(crate) fn tell_own<G: Guide>(
+    seat: &mut GuidedSeat<G>,
+    line: Option<Line>,
+) -> Result<(), SeatFault>
     ensures { HearsOwn (option_to_list line) result seat.old seat.new }
 {
     match line {

@@ -4,6 +4,7 @@ mod PlayLines
 mod StrategyLaws
 mod Chains
 mod Writables
+mod HeardTexts
 mod StrategyTexts
 mod WrittenLines
 mod Sizes

@@ -6,3 +6,4 @@ pub mod StrategyFormat
 pub mod StrategyText
 pub mod Parts
 pub mod ReadParts
+pub mod HeardStrategies

@@ -8,11 +8,11 @@
 //! The rules are the definitions of `specs/`: what a strategy is to contracts (`Strategies`) and which have a text (`Writable`),
 //! the forms of the lines and how they are written (`LineForms`), and the format, described once in the terms of krieg_format:
 //! its lines (`StrategyLines`), their order, of which the reader, the lines that spell a strategy and the grammar are read off
-//! (`StrategyFormat`), and the one written form, which is read off as well (`StrategyText`). `Parts` has the lines of its parts, and
-//! `ReadParts` their readers.
+//! (`StrategyFormat`), and the one written form, which is read off as well (`StrategyText`). `HeardStrategies` says what a text is
+//! that has a strategy and behind it what its player heard. `Parts` has the lines of its parts, and `ReadParts` their readers.
 //!
 //! A text is read once, and a fault is its first bad line: `reading` has the parts in their order, `nodes` and `roots` what
-//! repeats. The edges of each node are read into the same memory, and go from there into the arena of all. What is written
+//! repeats, and `heard` what its player heard. The edges of each node are read into the same memory, and go from there into the arena of all. What is written
 //! has fewer than 66,000,000 bytes, so it is never too long for an input.
 //!
 //! ```
@@ -25,10 +25,12 @@
 #![tactic(auto)]
 
 mod forms;
+mod heard;
 mod nodes;
 mod reading;
 mod roots;
 mod writing;
 
+pub use heard::{HeardStrategy, read_heard_strategy};
 pub use reading::read_strategy;
 pub use writing::write_strategy;

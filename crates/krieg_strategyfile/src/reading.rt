@@ -101,7 +101,7 @@ fn read_roots_to(
 
 /// The lines of a strategy.
 #[tactic(auto, unfolding(crate::specs::StrategyFormat::strategy_at))]
-fn read_parts(alloc: Global, from: &mut Cursor<'_>) -> Result<Strategy, TextFault>
+pub(crate) fn read_parts(alloc: Global, from: &mut Cursor<'_>) -> Result<Strategy, TextFault>
     ensures { GivesOn (λ s. state_of s) result from.new (strategy_at from.old) }
 {
     let dialect = read_heading(from)?;
