@@ -49,7 +49,7 @@ pub use Rattle.krieg_robot.specs.Guides.{Guidance}
 pub use Rattle.krieg_robot.specs.Followers.{Follower, follow_guide, is_first, said_so, say_of, stand_of}
 pub use Rattle.krieg_robot.specs.Laws.{MatingPlanWins}
 pub use Rattle.krieg_robot.specs.Leading.{AreTried, Breaks, IsBroken, IsLed, IsTried, LastAsk, LeadStops, broken_counts, is_own_move, lines_of, own_moves, stand_after}
-pub use Rattle.krieg_robot.specs.Places.{behind, changed, node_at, node_on, node_with, stand_at, try_of}
+pub use Rattle.krieg_robot.specs.Places.{behind, changed, node_at, node_on, node_with, stand_at, try_there}
 pub use Rattle.krieg_robot.specs.Stands.{At, Lost, Opened, Sent, Stand, Unopened, Won, after_try, at, follow, follow_on, is_mated, is_try, next_try, node_try, opened, step}
 pub use Rattle.krieg_robot.specs.Turns.{AfterPass, BothTold, HasTried, HearsPart, IsLeft, IsUnderway, LeadsOn, Passes, TurnAsked, fault_counts, hearing, lead, lead_fault, next_pass}
 pub use Rattle.krieg_robot.specs.declared.led.LeadFault.{LeadFault}

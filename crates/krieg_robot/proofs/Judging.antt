@@ -33,7 +33,7 @@ due_is : (d : Dialect) (j : Judged) (who : Side) → due_in d j who ≡ map (tol
 due_is d j White = list_in d (line_for White j)
 due_is d j Black = list_in d (line_for Black j)
 
--- what is told of a try to a side, in the dialect of the file
+-- what is told of a try to a side, in the dialect of the guide
 abbrev pub due : Follower → GameState → Event → Side → List Line
 due s game e = due_in s.guide.dialect (judged game.position e)
 

@@ -1,7 +1,7 @@
 -- Following the numbers of a strategy is following the trees that they unfold to.
 use Rattle.std.proofs.Common.{◌≡◌, ℕ, ◌<◌, Bool, List, length, map, sym, ap, subst, ◌∙◌, arith, Option, Some, None}
 use Rattle.std.specs.Prelude.{IfSome, slice_get}
-use Rattle.krieg_robot.proofs.Common.{In, Maybe, Just, Move, Key, NodeTree, behind, node_at, Step}
+use Rattle.krieg_robot.proofs.Common.{In, Maybe, Just, Move, Key, NodeTree, behind, node_at}
 use Rattle.krieg_words.specs.Words.{Said}
 use Rattle.krieg_game.specs.Keys.{key_lt, root_lt}
 use Rattle.krieg_strategy.specs.Nodes.{Node, first_to}
@@ -41,23 +41,19 @@ module _ (s : Strategy) where
     pub node_is : node_at s (Some i) ≡ Just (tree_on trees n)
     node_is = node_tree s.nodes s.well_formed.below i n at
 
-    module _ (there : i < length s.nodes) (below : IsBelow i n) where
-      -- the step to the node for the illegal case
-      pub no_there : (r : Option ℕ) → r ≡ n.no → IfSome r (λ i. i < length s.nodes)
-      no_there None e = tt
-      no_there (Some j) e = omega (arith, there, below.no_part j (sym e))
+    -- the step to the node for the illegal case
+    pub no_leads : node_at s n.no ≡ behind (plan_in s) (node_at s (Some i)) No
+    no_leads = ap (λ m. behind (plan_in s) m No) (sym node_is)
 
-      pub no_leads : (r : Option ℕ) → r ≡ n.no → node_at s r ≡ behind (plan_in s) (node_at s (Some i)) No
-      no_leads r e = ap (node_at s) e ∙ ap (λ m. behind (plan_in s) m No) (sym node_is)
+  -- the step along an edge
+  module _ (i : ℕ) (n : Node Move Key) (there : i < length s.nodes) (below : IsBelow i n) (own reply : Said) (r : Option ℕ) (found : r ≡ first_to key_lt n.edges (own, reply)) where
+    lower : (e : Key × ℕ) → In e n.edges → e.1 < length s.nodes
+    lower e h = omega (arith, there, below.edges_part e h)
 
-      lower : (e : Key × ℕ) → In e n.edges → e.1 < length s.nodes
-      lower e h = omega (arith, there, below.edges_part e h)
+    pub edge_there : IfSome r (λ i. i < length s.nodes)
+    edge_there = found_there key_lt (length s.nodes) n.edges lower (own, reply) r found
 
-      -- the step along an edge
-      pub edge_there : (own reply : Said) (r : Option ℕ) → r ≡ first_to key_lt n.edges (own, reply) → IfSome r (λ i. i < length s.nodes)
-      edge_there own reply r e = found_there key_lt (length s.nodes) n.edges lower (own, reply) r e
-
-      pub edge_leads : (own reply : Said) (r : Option ℕ) → r ≡ first_to key_lt n.edges (own, reply) → node_at s r ≡ behind (plan_in s) (node_at s (Some i)) (On own reply)
-      edge_leads own reply r e =
-          ap (node_at s) e
-          ∙ (sym (edge_tree key_lt trees n.edges (λ e h. within e.1 (lower e h)) (own, reply)) ∙ ap (λ m. behind (plan_in s) m (On own reply)) (sym node_is))
+    pub edge_leads : slice_get s.nodes i ≡ Some n → node_at s r ≡ behind (plan_in s) (node_at s (Some i)) (On own reply)
+    edge_leads at =
+        ap (node_at s) found
+        ∙ (sym (edge_tree key_lt trees n.edges (λ e h. within e.1 (lower e h)) (own, reply)) ∙ ap (λ m. behind (plan_in s) m (On own reply)) (sym (node_is i n at)))

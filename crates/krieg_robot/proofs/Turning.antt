@@ -97,12 +97,12 @@ not_relieved : (own : Bool) (s s' : Follower) (a a' : Account) → TurnAsked own
 not_relieved true s s' a a' h = h.0
 not_relieved false s s' a a' h = h.1
 
--- the seat of the plan keeps its file
+-- the seat of the plan keeps its guide
 guide_kept : (own : Bool) (m : Move) (s s' : Follower) (a a' : Account) → TurnAsked own (Ok (Tried m)) s s' a a' → s'.guide ≡ s.guide
 guide_kept true m s s' a a' h = ap (λ (x : Follower). x.guide) h.0.1
 guide_kept false m s s' a a' h = ap (λ (x : Follower). x.guide) h.0
 
--- who is asked, by the side of the file
+-- who is asked, by the side of the guide
 abbrev own_turn : Follower → GameState → Bool
 own_turn s game = is_same_side game.position.side s.guide.side
 
@@ -146,11 +146,11 @@ module _ {X : Type 0} (account : X → Account) {d : Dialect} {start : Pos} {res
         Follows (OwnAsks account) (TheirAsks account) (OwnHearing account) (TheirHears account) said result d start game.position.side t.white s' t.black b' game game' →
         Ends said result t.white s' (account t.black) (account b') game game'
     white_ends_by (Ok (Tried m)) asks (told, is, stepped, both) =
-        let file = guide_kept (own_turn s game) m s t.white (account b) (account t.black) asks in (
+        let kept = guide_kept (own_turn s game) m s t.white (account b) (account t.black) asks in (
           told,
           is,
           judged_by White d (lead told) (event game.position.side m) (account t.black) (account b') t.white s' game game'
-              (ap (λ x. x.side) file ∙ side) (ap (λ x. x.dialect) file ∙ sym d_is) stepped (told_white account told (λ who. lines_to start who game'.log) (due_in d (judged game.position (event game.position.side m))) t.white s' t.black b' both),
+              (ap (λ x. x.side) kept ∙ side) (ap (λ x. x.dialect) kept ∙ sym d_is) stepped (told_white account told (λ who. lines_to start who game'.log) (due_in d (judged game.position (event game.position.side m))) t.white s' t.black b' both),
         )
     white_ends_by (Ok Relieved) asks h = tt
     white_ends_by (Ok Left) asks h = (h.0, ap account h.2, h.3)
@@ -169,11 +169,11 @@ module _ {X : Type 0} (account : X → Account) {d : Dialect} {start : Pos} {res
         Follows (TheirAsks account) (OwnAsks account) (TheirHears account) (OwnHearing account) said result d start game.position.side t.white b' t.black s' game game' →
         Ends said result t.black s' (account t.white) (account b') game game'
     black_ends_by (Ok (Tried m)) asks (told, is, stepped, both) =
-        let file = guide_kept (own_turn s game) m s t.black (account b) (account t.white) asks in (
+        let kept = guide_kept (own_turn s game) m s t.black (account b) (account t.white) asks in (
           told,
           is,
           judged_by Black d (lead told) (event game.position.side m) (account t.white) (account b') t.black s' game game'
-              (ap (λ x. x.side) file ∙ side) (ap (λ x. x.dialect) file ∙ sym d_is) stepped (told_black account told (λ who. lines_to start who game'.log) (due_in d (judged game.position (event game.position.side m))) t.black s' t.white b' both),
+              (ap (λ x. x.side) kept ∙ side) (ap (λ x. x.dialect) kept ∙ sym d_is) stepped (told_black account told (λ who. lines_to start who game'.log) (due_in d (judged game.position (event game.position.side m))) t.black s' t.white b' both),
         )
     black_ends_by (Ok Relieved) asks h = tt
     black_ends_by (Ok Left) asks h = (h.0, ap account h.1, h.3)

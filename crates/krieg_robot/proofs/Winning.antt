@@ -2,7 +2,7 @@
 use Rattle.std.proofs.Common.{◌≡◌, ℕ, suc, ◌+◌, Bool, true, false, not, cond, List, [], ◌∷◌, ◌++◌, length, filter, map, option_to_list, refl, sym, ap, subst, ◌∙◌, append_assoc, Some, None, arith, inl}
 use Rattle.std.proofs.lemmas.Bool.{and_parts, both_ways, not-true, cond-true, cond-false}
 use Rattle.std.proofs.lemmas.List.{append-nil}
-use Rattle.krieg_robot.proofs.Common.{other, is_same_side, Pos, Side, after, moves, is_ended, is_mate, words, opening, told, told_line, Dialect, Line, next, judge, judged, last, heard, line_for, Event, Judged, Ended, Left, events_of, AreOnTurn, In, mates_from, PlanTrees, first_root_in, IsOneTurn, plan_of, Guidance, Stand, Unopened, Opened, At, Sent, Won, Lost, opened, follow_on, follow, next_try, is_first, stand_after, IsTried, AreTried, own_moves, is_own_move, LeadStops, MatingPlanWins}
+use Rattle.krieg_robot.proofs.Common.{other, is_same_side, Pos, Side, after, moves, is_ended, is_mate, words, opening, told, told_line, Dialect, Line, next, judge, judged, last, heard, line_for, Event, Judged, Ended, Left, events_of, AreOnTurn, In, mates_from, PlanTrees, first_root_in, IsOneTurn, Guidance, Stand, Unopened, Opened, At, Sent, Won, Lost, opened, follow_on, follow, next_try, is_first, stand_after, IsTried, AreTried, own_moves, is_own_move, LeadStops, MatingPlanWins}
 use Rattle.krieg_board.proofs.MenLemmas.{same_side_self}
 use Rattle.krieg_play.proofs.Judging.{last_end}
 use Rattle.krieg_theory.proofs.Lists.{all_at}

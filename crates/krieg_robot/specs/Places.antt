@@ -36,9 +36,9 @@ node_on plan n [] = n
 node_on plan n (s ∷ ss) = node_on plan (behind plan n s) ss
 
 -- the try of a node, if there is one
-abbrev pub try_of : Maybe Move Key → Option Move
-try_of Nothing = None
-try_of (Just n) = Some (node_try n)
+abbrev pub try_there : Maybe Move Key → Option Move
+try_there Nothing = None
+try_there (Just n) = Some (node_try n)
 
 -- the node of a strategy with that number, if there is one
 abbrev pub node_at : Strategy → Option ℕ → Maybe Move Key

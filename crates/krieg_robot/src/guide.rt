@@ -19,7 +19,7 @@ pub trait Guide: Drop {
     ghost use Rattle.std.specs.Prelude.{◌≡◌};
     ghost use Rattle.krieg_theory.specs.Tree.{Nothing};
     ghost use Rattle.krieg_robot.specs.Guides.{Guidance};
-    ghost use Rattle.krieg_robot.specs.Places.{node_on, try_of};
+    ghost use Rattle.krieg_robot.specs.Places.{node_on, try_there};
 
     // The plan that is followed, and what it is for.
     ghost guidance: { Self → Guidance };
@@ -38,5 +38,5 @@ pub trait Guide: Drop {
 
     /// The try of the node at the end of the way, where it leads to a node. It takes no memory.
     fn try_on(&self, way: &[Step]) -> Option<Move>
-        ensures { result ≡ try_of (node_on (guidance self.now).plan Nothing way.now) };
+        ensures { result ≡ try_there (node_on (guidance self.now).plan Nothing way.now) };
 }

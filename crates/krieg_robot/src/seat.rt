@@ -97,6 +97,13 @@ impl<G: Guide> GuidedSeat<G> {
     {
         next_of(&self.place, &self.guide.try_on(&self.way))
     }
+
+    /// What it tries where it stands.
+    fn try_here(&self) -> Option<Move>
+        ensures { result ≡ stand.next_try (stand_of self.now) }
+    {
+        next_try(&self.place, &self.guide.try_on(&self.way))
+    }
 }
 
 impl<G: Guide> Seat for GuidedSeat<G> {
@@ -116,8 +123,9 @@ impl<G: Guide> Seat for GuidedSeat<G> {
         ensures short { result ≡ Err SeatFault.NoMemory →
             stand.next_try (stand_of self.old) ≢ None }
     {
+        let tried = self.try_here();
         self.asks = self.asks.saturating_add(1);
-        match &next_try(&self.place, &self.guide.try_on(&self.way)) {
+        match &tried {
             Some(mv) => match self.said.push(*mv) {
                 Ok(()) => Ok(Say::Try(*mv)),
                 Err(_) => Err(SeatFault::NoMemory),

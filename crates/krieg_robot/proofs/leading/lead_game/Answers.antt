@@ -11,7 +11,7 @@ returns-in-Err g c =
       fresh_is = c.requires.account;
       position = c.requires.position;
       log = c.requires.log;
-      line_is = c.told_line-line.ensures.value ∙ (ap (λ w. told_line c.guide.result.now.dialect (Opens w)) c.opening.ensures.value ∙ ap (λ x. told_line x.dialect (Opens (opening c.args.start.now))) c.guide.ensures);
+      line_is = c.told_line-line.ensures.value ∙ (ap (λ w. told_line c.dialect.result (Opens w)) c.opening.ensures.value ∙ ap (λ d. told_line d (Opens (opening c.args.start.now))) (c.dialect.ensures ∙ ap (λ x. x.dialect) c.guide.ensures));
       tells = c.tell_both.ensures;
     })
     c.in-Err.fault c.in-Err.is

@@ -4,8 +4,8 @@ use Rattle.krieg_robot.proofs.turns.take_turn.Goals as goal
 
 pub returns-in-White-clause-passes : goal.returns-in-White-clause-passes
 returns-in-White-clause-passes g c =
-    let d_is = ap (λ x. x.dialect) c.guide.ensures in
-    let side = sym (ap (λ x. x.side) c.guide-2.ensures) ∙ c.in-White.is in
+    let d_is = c.dialect-d.ensures ∙ ap (λ x. x.dialect) c.guide.ensures in
+    let side = sym (c.side.ensures ∙ ap (λ x. x.side) c.guide-2.ensures) ∙ c.in-White.is in
     let t = c.take_turn.ensures.turn in
     rw c.led_answer.ensures
     (passes_by t.said c.take_turn.result _ _ _ _ _ _ _ _ c.requires
@@ -13,8 +13,8 @@ returns-in-White-clause-passes g c =
 
 pub returns-in-Black-clause-passes : goal.returns-in-Black-clause-passes
 returns-in-Black-clause-passes g c =
-    let d_is = ap (λ x. x.dialect) c.guide.ensures in
-    let side = sym (ap (λ x. x.side) c.guide-2.ensures) ∙ c.in-Black.is in
+    let d_is = c.dialect-d.ensures ∙ ap (λ x. x.dialect) c.guide.ensures in
+    let side = sym (c.side.ensures ∙ ap (λ x. x.side) c.guide-2.ensures) ∙ c.in-Black.is in
     let t = c.take_turn-in-Black.ensures.turn in
     rw c.led_answer-in-Black.ensures
     (passes_by t.said c.take_turn-in-Black.result _ _ _ _ _ _ _ _ c.requires
