@@ -32,5 +32,3 @@ heard_strategy_reading view answer ls given =
 pub heard_can : {X : Type 0} (view : X → HeardState StrategyState) (answer : Result X TextFault) (ls : List (List ℕ)) → Gives view answer (heard_strategy ls) → IfOk answer (λ x. CanBeWritten (view x).file)
 heard_can view (Ok x) ls given = let spelled = (heard_strategy_reading view (Ok x) ls given).found.0 in spelled_can (view x).file spelled.front spelled.first
 heard_can view (Err e) ls given = tt
-
-pub ruleset heard_texts = (heard_strategy_reading, heard_can)

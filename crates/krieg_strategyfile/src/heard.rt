@@ -39,7 +39,7 @@ fn read_lines(alloc: Global, text: &[u8]) -> Result<HeardStrategy, TextFault>
 /// The fault is the first line that is not accepted: of the strategy as [`read_strategy`](crate::read_strategy) tells it,
 /// and behind it each line that is none of the strategy's dialect, with `Syntax`. Where no line is refused and the strategy
 /// is not complete it is the number of lines plus 1 with `Syntax`.
-#[tactic(auto, using(crate::proofs::HeardTexts::heard_texts))]
+#[tactic(auto, using(crate::proofs::HeardTexts::heard_can))]
 pub fn read_heard_strategy(alloc: Global, text: &[u8]) -> Result<HeardStrategy, TextFault>
     ensures exact { Gives (λ h. heard_state_of h) result (heard_strategy (lines text.now)) }
     ensures reading { IsHeardReading strategy_at (λ s. s.dialect) Always SpellsStrategy
