@@ -194,7 +194,7 @@ def reached(files, todo):
 # What was added once, and the words by which a file of a crate names it: a file that names one of its kind is one that the next one touches.
 ADDITIONS = {
     "dialect": r"\b[Aa]nytry\b",
-    "command": r"\bBelieve\b|\bbelieve_of\b|\bmod believe\b|\bbelieve\b(?=\.|::answer)",
+    "command": r"\bBelieve\b|\bmod believe\b|\bbelieve\b(?=\.|::answer)",
     "reason": r"\bByStalemate\b|\bWhy::Stale\b",
 }
 

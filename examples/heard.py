@@ -85,7 +85,7 @@ def advised(text, lines):
     followed = "\n".join([text.rstrip("\n"), *lines, ""])
     if text.startswith("krieg plan "):
         return texts.answer(["next"], followed).strip()
-    if "advise" in texts.FINDER:
+    if "advise" in texts.PROGRAMS:
         return texts.answer(["advise"], followed).strip()
     # The script that judges strategies without krieg says it too.
     try:

@@ -9,6 +9,7 @@ import sys
 
 TOP = pathlib.Path(__file__).resolve().parent.parent
 sys.path.insert(0, str(TOP / "docs"))
+import commands
 from usage import show_help
 KRIEG = TOP / "krieg"
 CRATES = TOP / "crates"
@@ -17,8 +18,8 @@ EXAMPLES = TOP / "examples"
 UNDRAWN = {"endings", "mastered"}
 # What is said of a word that stands where a try does and is none.
 NO_TRY = "a try is two squares, as g1f3 for Nf3 and e7e8q for e8=Q; castling is the king's move, as e1g1"
-# The commands of krieg_find, as the wrapper parts them from those of krieg.
-FINDER = set(re.search(r"^ *(.*)\) program=krieg_find ;;$", KRIEG.read_text(), re.MULTILINE)[1].split(" | "))
+# The program of each command.
+PROGRAMS = {name: it.program for name, it in commands.commands().items()}
 # Whether the programs themselves are called, which saves time: behind a first call of ./krieg, which builds them where they are stale.
 is_built = False
 
@@ -27,7 +28,7 @@ def command(words):
     """The program for these words, with them."""
     if not is_built:
         return [KRIEG, *words]
-    program = "krieg_find" if words[0] in FINDER else "krieg"
+    program = PROGRAMS.get(words[0], "krieg")
     return [CRATES / program / "out" / program, *words]
 
 

@@ -12,7 +12,7 @@ import sys
 
 TOP = pathlib.Path(__file__).resolve().parent.parent
 sys.path.insert(1, str(TOP / "examples"))
-from texts import FINDER
+from texts import PROGRAMS
 
 # No run of a script takes longer.
 SECONDS = 5
@@ -90,6 +90,21 @@ ANSWERS = {
     "job": rb"listed [1-9][0-9]*\n",
 }
 
+# What is tried on a text of each kind: the commands that read such, each by its first words everywhere, and by the others where chance goes.
+TRIED = {
+    "sheet": [
+        [["solve", "2", "200000", "100"], ["solve", "1", "20000", "100"], ["solve", "2", "20000", "100"], ["solve", "3", "5000", "8"]],
+        [["believe", "100"], ["believe", "1"]],
+        [["refute", "2", "200000", "100"], ["refute", "1", "20000", "100"], ["refute", "2", "20000", "8"]],
+    ],
+    "session": [[["umpire", "all"]], [["umpire", "w"]], [["umpire", "b"]], [["san"]]],
+    "record": [[["unsan"]]],
+    "plan": [[["check", "20000"], ["check", "5"]], [["next"]]],
+    "followed": [[["next"]]],
+    "refutation": [[["deny", "20000"], ["deny", "60"]]],
+    "strategy": [[["judge", "20000"], ["judge", "4"]]],
+}
+
 # The status is None where the run took too long, and negative where a signal ended it.
 Answer = collections.namedtuple("Answer", "status out err")
 
@@ -113,7 +128,7 @@ def finder(krieg, argument=None):
 
 def program_of(krieg, words):
     """The program that has a command: krieg, or its krieg_find."""
-    return finder(krieg) if words[0] in FINDER else krieg
+    return finder(krieg) if PROGRAMS.get(words[0]) == "krieg_find" else krieg
 
 
 def checkout(folder, krieg):
