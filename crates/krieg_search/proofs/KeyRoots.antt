@@ -5,7 +5,7 @@ use Rattle.std.specs.List.{list_any}
 use Rattle.std.specs.Result.{IsErrAnd}
 use Rattle.std.proofs.lemmas.Bool.{both_ways, eqb-true, eq-eqb}
 use Rattle.std.proofs.lemmas.List.{append_assoc, map-append}
-use Rattle.krieg_search.proofs.Common.{Pos, Move, Side, Dialect, In, least, greatest, known, total, pairs, once, IsOnce, reach_of, first_made, CoversSets, opening_sets, RootKey, chess, outset, SetRows, set_at, sets, entries, IsSearched, Stretches, WonBy, Opening, opening_in, sets_in, Outlook, IsAsked, IsAsking, SearchStop, Large, SetKeys, KeyTry, KeysAt, Keys, KeyAnswer, AreKeys, AreKeysAt, AreSetKeys, IsKeyAnswer, IsTaken, IsWithinFresh, keys_of, told_of, told_set, set_keys, numbers_of, later_price, least_pair}
+use Rattle.krieg_search.proofs.Common.{Pos, Move, Side, Dialect, In, least, greatest, known, total, pairs, once, IsOnce, reach_of, first_made, CoversSets, opening_sets, RootKey, chess, outset, SetRows, set_at, sets, entries, IsSearched, Stretches, WonBy, Opening, opening_in, sets_in, Outlook, IsAsked, SearchStop, Large, SetKeys, KeyTry, KeysAt, Keys, KeyAnswer, AreKeys, AreKeysAt, AreSetKeys, IsKeyAnswer, IsTaken, IsWithinFresh, keys_of, told_of, told_set, set_keys, numbers_of, later_price, least_pair}
 use Rattle.krieg_theory.proofs.Lists.{any_at, any_none, append_in, in_map, map_in}
 use Rattle.krieg_costs.proofs.Onces.{once_append}
 use Rattle.krieg_accounts.proofs.Searches.{reach_covers, fresh_is_enough}
@@ -109,16 +109,6 @@ module _ (d : Dialect) (cut : Bool) (who : Side) (S : List Pos) (n : ℕ) where
   -- some listed position is over
   pub over_taken : (had has : ℕ) → has + first_made (chess d) (outset d who) S ≡ had → IsTaken d who S n (Ok answer.None) had has
   over_taken had has e = (omega arith, omega arith)
-
-  -- asking was stopped
-  pub asking_says : (P : SearchStop → Type 0) (r : Result KeyAnswer SearchStop) (e : SearchStop) (T : SetRows) (had has : ℕ) → ((x : SearchStop) → P x → e ≡ x) → IsErrAnd r P → IsAsking d who S n cut T (Err e) had has → IsKeyAnswer d who S n r × IsTaken d who S n r had has
-  asking_says P (Ok x) e T had has same fails k = absurd fails
-  asking_says P (Err x) e T had has same fails k = go x (subst (λ (y : SearchStop). IsAsking d who S n cut T (Err y) had has) (same x fails) k)
-    where
-      go : (y : SearchStop) → IsAsking d who S n cut T (Err y) had has → IsKeyAnswer d who S n (Err y) × IsTaken d who S n (Err y) had has
-      go Spent v = (tt, v.0)
-      go Large v = absurd v
-      go NoMemory v = (tt, tt)
 
   module _ (T1 : SetRows) (asked : Outlook) (had u1 : ℕ) (a : IsAsked d who S n cut T1 asked had u1) where
     -- some opening set cannot be won

@@ -6,6 +6,7 @@ mod PackedHeards
 pub mod Noted
 mod Telling
 mod Trying
+mod StillBlocked
 mod Tries
 mod Numbers
 mod Noting

@@ -3,12 +3,11 @@ use Rattle.std.proofs.Common.{◌≡◌, ℕ, suc, ◌+◌, ◌-◌, ◌<◌, �
 use Rattle.std.specs.Prelude.{IfSome, IsTrue, ◌↔◌}
 use Rattle.std.specs.List.{list_all}
 use Rattle.std.proofs.lemmas.Bool.{both_ways, or_left}
-use Rattle.krieg_search.proofs.Common.{Pos, Move, Dialect, In, is_nil, refused, legal_in_some, can, begins, made, known, StoredLost, StoredWon, CoversSet, CoversTry, CoversSets, classes, chess, SetRows, set_at, entries, Remainder, AtOnce, Refused, IsNumbered, IsReady, IsSearched, TellsSet, TellsTry, TellsSets, sets_of, TellsFirst, TellsBlock, FailsAtOnce, Leaves, IsRemainder}
+use Rattle.krieg_search.proofs.Common.{Pos, Move, Dialect, In, is_nil, refused, legal_in_some, can, begins, made, known, StoredLost, StoredWon, CoversSet, CoversTry, CoversSets, classes, Key, chess, SetRows, set_at, entries, Remainder, AtOnce, Refused, IsNumbered, IsReady, IsSearched, TellsSet, TellsTry, TellsSets, sets_of, TellsFirst, TellsBlock, FailsAtOnce, Leaves, IsRemainder}
 use Rattle.krieg_theory.proofs.Steps.{refused_lt}
 use Rattle.krieg_accounts.proofs.Covering as covering
 use Rattle.krieg_accounts.proofs.TryEnds.{begins_class, begins_rest, answered_class, answered_all, answered_rest}
 use Rattle.krieg_game.proofs.ChessLaws.{chess_is_game}
-use Rattle.krieg_search.specs.declared.search.LostClass.{LostClass}
 use Rattle.krieg_search.specs.declared.notes.Block.TheVariants.{Class}
 use Rattle.krieg_search.proofs.Leaving.{sets_are}
 use Rattle.krieg_search.proofs.Blocked.{class_blocks, refused_blocks}
@@ -92,11 +91,11 @@ module _ (d : Dialect) (cut : Bool) where
     in_game T won w = subst (λ (Cs : List (List Pos)). TellsSets d T Cs (j - 1) won) at_sets w
 
     -- some class cannot be won
-    pub class_lost : {T1 : SetRows} {u2 : ℕ} (lost : LostClass) → TellsFirst d T1 l.classes.items (j - 1) (Some lost) → TellsBlock d cut T1 B j t u0 u2 (Some (Class lost.heard lost.set))
-    class_lost {T1 = T1} {u2 = u2} lost w =
+    pub class_lost : {T1 : SetRows} {u2 : ℕ} (heard : Key) (set : ℕ) → TellsFirst d T1 l.classes.items (j - 1) (Some (heard, set)) → TellsBlock d cut T1 B j t u0 u2 (Some (Class heard set))
+    class_lost {T1 = T1} {u2 = u2} heard set w =
         let v = in_game T1 false w.tells in
-        let b = class_blocks d B t (j - 1) l leaves_less lost.heard (set_at T1 lost.set) w.first in
-        subst (λ (n : ℕ). TellsBlock d cut T1 B n t u0 u2 (Some (Class lost.heard lost.set))) one_less (record {
+        let b = class_blocks d B t (j - 1) l leaves_less heard (set_at T1 set) w.first in
+        subst (λ (n : ℕ). TellsBlock d cut T1 B n t u0 u2 (Some (Class heard set))) one_less (record {
           tells = record {
             right = sym (begins_class (chess d) (chess_is_game d) (j - 1) B t (sym v.right));
             stored = answered_class (chess d) (chess_is_game d) cut (entries T1) B (j - 1) t a.leaves.none_stale (sym v.right) v.stored;

@@ -9,6 +9,7 @@ pub mod Building
 pub mod LostParts
 pub mod Notes
 pub mod Blocks
+pub mod Blockers
 pub mod PackedKey
 pub mod BuiltRoots
 pub mod Stops

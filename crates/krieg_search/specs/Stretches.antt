@@ -18,6 +18,7 @@ use Rattle.krieg_search.specs.declared.stop.SearchStop.{SearchStop}
 use Rattle.krieg_search.specs.declared.stop.SearchStop.TheVariants.{Spent, Large, NoMemory}
 use Rattle.krieg_search.specs.declared.way.Way.{Way}
 use Rattle.krieg_search.specs.Notes.{AreNotes}
+use Rattle.krieg_search.specs.Blockers.{AreBlockers}
 
 -- the members of each set can be counted in 64 bits
 abbrev pub AreCounted : SetRows → Type 0
@@ -60,9 +61,9 @@ module _ (d : Dialect) (cut : Bool) where
     pub stored : AnswersTry (chess d) cut (entries T) B j t yes
 
 module _ (way : Way) where
-  -- what holds between any two steps of a search: its table is ready, and its notes are right there
+  -- what holds between any two steps of a search: its table is ready, and its notes and what it keeps of blocked tries are right there
   abbrev pub IsAtWork : Search → Type 0
-  IsAtWork s = IsReady way.d way.cut s.table × AreNotes way.d way.cut s.table s.notes
+  IsAtWork s = IsReady way.d way.cut s.table × AreNotes way.d way.cut s.table s.notes × AreBlockers way.d way.cut s.table s.blockers
 
   -- such an answer, from one state of a search to another
   abbrev pub Searches : {A : Type 0} → Result A SearchStop → (A → Type 0) → (List (List Pos × ℕ) → Type 0) → ℕ → Search → Search → Type 0

@@ -6,13 +6,14 @@ ghost use Rattle.krieg_search.specs.Stretches.{IsAtWork, Searches, TellsSets};
 ghost use Rattle.krieg_search.specs.Openings.{AreNumbered};
 ghost use Rattle.krieg_search.specs.Decision.{IsAsking, IsDecision, AreFewNotes, sets_in};
 ghost use Rattle.krieg_search.specs.Notes.{AreNotes};
+ghost use Rattle.krieg_search.specs.Blockers.{AreBlockers};
 
+use crate::blockers::Blockers;
 use crate::lost_sets::LostSets;
 use crate::notes::Notes;
 use crate::openings::{Opening, find_openings};
 use crate::search::{MOST_LEVELS, Search};
 use crate::stop::SearchStop;
-use crate::uncut::Uncut;
 use crate::way::Way;
 use krieg_board::{Side, Units};
 use krieg_pack::Belief;
@@ -75,6 +76,7 @@ pub(crate) fn new_search(way: Way, noted: usize, units: u64) -> Search
     ensures empty { result.table ≡ [] }
     ensures noted { AreNotes way.d way.cut result.table result.notes }
     ensures most { result.notes.most ≡ noted }
+    ensures blockers { result.blockers ≡ [] }
     ensures units { result.units ≡ units }
 {
     Search {
@@ -83,7 +85,7 @@ pub(crate) fn new_search(way: Way, noted: usize, units: u64) -> Search
         lost_sets: LostSets::new(way.alloc),
         table: Table::new(way.alloc),
         units: Units::new(units),
-        uncut: Uncut::new(way.alloc),
+        blockers: Blockers::new(way.alloc),
     }
 }
 
@@ -99,10 +101,13 @@ pub(crate) fn ask_openings(
     requires turn { IsOwnTurn who b.now ⊎ IsOthersTurn who b.now }
     requires empty { search.old.table ≡ [] }
     requires noted { AreNotes way.d way.cut search.old.table search.old.notes }
+    requires blockers { search.old.blockers ≡ [] }
     ensures asked { IsAsking way.d who b.now moves way.cut search.new.table result
         search.old.units search.new.units }
     ensures noted { IfOk result (λ o. IfSome o
         (λ _. AreNotes way.d way.cut search.new.table search.new.notes)) }
+    ensures blockers { IfOk result (λ o. IfSome o
+        (λ _. AreBlockers way.d way.cut search.new.table search.new.blockers)) }
     ensures most { search.new.notes.most ≡ search.old.notes.most }
 {
     let Some(openings) = find_openings(

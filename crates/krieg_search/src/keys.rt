@@ -132,6 +132,7 @@ fn keys_by(
     requires turn { IsOwnTurn who b.now ⊎ IsOthersTurn who b.now }
     requires empty { search.old.table ≡ [] }
     requires noted { AreNotes way.d way.cut search.old.table search.old.notes }
+    requires blockers { search.old.blockers ≡ [] }
     ensures answer { IsKeyAnswer way.d who b.now moves result }
     ensures taken { IsTaken way.d who b.now moves result search.old.units search.new.units }
 {

@@ -56,6 +56,7 @@
 #![tactic(auto)]
 
 mod best_plan;
+mod blockers;
 mod build;
 pub mod decide;
 mod keys;
@@ -72,7 +73,6 @@ mod set_keys;
 mod stop;
 mod try_list;
 mod turn;
-mod uncut;
 mod way;
 mod within;
 

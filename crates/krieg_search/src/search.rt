@@ -1,5 +1,5 @@
 ghost use Rattle.std.specs.Prelude.{◌≡◌, ◌<◌, ◌≤◌, true, false, Ok, OnOk, is_some, length, map, not};
-ghost use Rattle.krieg_theory.specs.Can.{can};
+ghost use Rattle.krieg_theory.specs.Can.{begins, can};
 ghost use Rattle.krieg_theory.specs.Split.{legal_in_some};
 ghost use Rattle.krieg_costs.specs.Cost.{made};
 ghost use Rattle.krieg_accounts.specs.Answers.{LostBelow};
@@ -12,7 +12,9 @@ ghost use Rattle.krieg_table.specs.Table.{IsNext};
 ghost use Rattle.krieg_search.specs.Tries.{IsTold, move_of};
 ghost use Rattle.krieg_search.specs.Stretches.{IsAtWork, Searches, TellsSet, sets_of};
 ghost use Rattle.krieg_search.specs.Blocks.{TellsBlock, TellsFirst};
+ghost use Rattle.krieg_search.specs.Blockers.{IsBlocker};
 
+use crate::blockers::{Blocker, Blockers};
 use crate::lost_sets::LostSets;
 use crate::notes::{Block, Notes, add};
 use crate::number::number_of;
@@ -20,7 +22,6 @@ use crate::packed_key::PackedKey;
 use crate::remainder::{Remainder, is_cut, left_of};
 use crate::stop::SearchStop;
 use crate::try_list::{Try, move_of_try, tries_for};
-use crate::uncut::Uncut;
 use crate::way::Way;
 use krieg_board::Units;
 use krieg_game::Class;
@@ -38,7 +39,7 @@ pub(crate) struct Search {
     pub lost_sets: LostSets,
     pub table: Table,
     pub units: Units,
-    pub uncut: Uncut,
+    pub blockers: Blockers,
 }
 
 /// What is asked of a set: whether it can be won within a number of moves. It is open meanwhile.
@@ -47,13 +48,6 @@ pub(crate) struct Asked {
     pub set: u32,
     pub moves: u8,
     pub opened: OpenSet,
-}
-
-/// A class that cannot be won: its words, and the number of its set.
-#[derive(Clone, Copy)]
-pub(crate) struct LostClass {
-    pub heard: PackedKey,
-    pub set: u32,
 }
 
 impl Search {
@@ -66,6 +60,7 @@ impl Search {
         ensures lost { result ≡ true → can (chess way.d) moves (set_at self.old.table set) ≡ false }
         ensures table { self.new.table ≡ self.old.table }
         ensures notes { self.new.notes ≡ self.old.notes }
+        ensures blockers { self.new.blockers ≡ self.old.blockers }
         ensures units { self.new.units ≡ self.old.units }
     {
         let Ok(opened) = self.table.open(way.alloc, set) else {
@@ -175,13 +170,9 @@ impl Search {
         let tries = tries_for(way.alloc, b, moves, self.units.left())?;
         let mut row = self.notes.row(way.alloc, moves, tries.len())?;
         let asked = Asked { set, moves, opened };
-        let mut marks = self.uncut.marks(set);
         for tried in &tries {
-            match self.block_of(way, &asked, tried, marks.is_marked(), deep)? {
-                Some(block) => {
-                    marks.pass(&block);
-                    add(&mut row, move_of_try(tried), block)?
-                }
+            match self.block_of(way, &asked, tried, deep)? {
+                Some(block) => add(&mut row, move_of_try(tried), block)?,
                 None => {
                     let mv = move_of_try(tried);
                     self.table.note(set, moves, SetResult::Wins(mv));
@@ -189,12 +180,78 @@ impl Search {
                 }
             }
         }
-        self.uncut.keep(way, set, &marks);
         self.lost_sets
             .add(way, set, asked.opened.of(&self.table, set));
         self.table.note(set, moves, SetResult::Loses);
         self.notes.keep(set, moves, row)?;
         Ok(false)
+    }
+
+    /// What blocks the try in the set that is asked, or nothing where it begins to win all of it. Where it was split with fewer moves, the
+    /// part that blocked it then is asked first: while that cannot be won it takes what a split takes, and no more is told than that it fails.
+    #[cycle(search)]
+    pub(crate) fn block_of(
+        &mut self,
+        way: Way,
+        asked: &Asked,
+        tried: &Try,
+        deep: u16,
+    ) -> Result<Option<Block>, SearchStop>
+        requires some { 0 < asked.now.moves }
+        requires within { asked.now.set < length self.old.table }
+        requires opened { IsOpened asked.now.opened (set_at self.old.table asked.now.set) }
+        requires ready { IsAtWork way self.old }
+        requires told { IsTold (set_at self.old.table asked.now.set) asked.now.moves tried.now }
+        requires legal { legal_in_some (chess way.d) (set_at self.old.table asked.now.set)
+            (move_of tried.now) ≡ true }
+        ensures searched { Searches way result (TellsBlock way.d way.cut
+            self.new.table (set_at self.old.table asked.now.set) asked.now.moves (move_of tried.now)
+            self.old.units self.new.units)
+            (CoversTry (chess way.d) (set_at self.old.table asked.now.set) asked.now.moves
+            (move_of tried.now))
+            (made (chess way.d) (set_at self.old.table asked.now.set) (move_of tried.now))
+            self.old self.new }
+        ensures ready { OnOk result (IsAtWork way self.new) }
+        ensures most { self.new.notes.most ≡ self.old.notes.most }
+    {
+        let Some(blocker) = self.blockers.of(asked.set, &move_of_try(tried)) else {
+            return self.block_anew(way, asked, tried, false, deep);
+        };
+        if !self.still_blocks(way, asked, &blocker, deep)? {
+            return self.block_anew(way, asked, tried, true, deep);
+        }
+        if self.units.take(blocker.made).is_err() {
+            return Err(SearchStop::Spent);
+        }
+        Ok(Some(Block::AtOnce))
+    }
+
+    /// Whether a part of the set that is asked still blocks its try: with the moves that are left to it then, it cannot be won.
+    #[cycle(search)]
+    fn still_blocks(
+        &mut self,
+        way: Way,
+        asked: &Asked,
+        blocker: &Blocker,
+        deep: u16,
+    ) -> Result<bool, SearchStop>
+        requires some { 0 < asked.now.moves }
+        requires within { asked.now.set < length self.old.table }
+        requires ready { IsAtWork way self.old }
+        requires blocker { IsBlocker way.d way.cut self.old.table blocker.now }
+        requires set { blocker.now.set ≡ asked.now.set }
+        requires legal { legal_in_some (chess way.d) (set_at self.old.table asked.now.set)
+            blocker.now.mv ≡ true }
+        ensures searched { Searches way result (λ yes. yes ≡ true → begins (chess way.d)
+            asked.now.moves (set_at self.old.table asked.now.set) blocker.now.mv ≡ false)
+            (CoversTry (chess way.d) (set_at self.old.table asked.now.set) asked.now.moves
+            blocker.now.mv) 0 self.old self.new }
+        ensures ready { OnOk result (IsAtWork way self.new) }
+        ensures most { self.new.notes.most ≡ self.old.notes.most }
+    {
+        let moves = blocker.moves_for(asked.moves);
+        let won = self.can_win(way, blocker.part, moves, deep)?;
+        Ok(!won)
     }
 
     /// What blocks the try in the set that is asked, or nothing where it begins to win all of it: it does not fail at once,
@@ -203,7 +260,8 @@ impl Search {
     ///
     /// The classes are let go before these are searched.
     #[cycle(search)]
-    pub(crate) fn block_of(
+    #[inline(always)]
+    fn block_anew(
         &mut self,
         way: Way,
         asked: &Asked,
@@ -232,6 +290,7 @@ impl Search {
         if !uncut && is_cut(way, &mut self.sight, b, tried, asked.moves) {
             return Ok(Some(Block::AtOnce));
         }
+        let before = self.units.left();
         let Some(Remainder { classes, refused }) = left_of(
             way,
             b,
@@ -242,9 +301,20 @@ impl Search {
         else {
             return Ok(Some(Block::AtOnce));
         };
+        let made = before - self.units.left();
         let lost = self.first_lost(way, classes, asked.moves - 1, deep)?;
         if let Some(class) = lost {
-            return Ok(Some(Block::Class(class.heard, class.set)));
+            self.blockers.keep(
+                way,
+                Blocker {
+                    set: asked.set,
+                    mv: move_of_try(tried),
+                    part: class.1,
+                    refuses: false,
+                    made,
+                },
+            );
+            return Ok(Some(Block::Class(class.0, class.1)));
         }
         if refused.is_empty() {
             return Ok(None);
@@ -253,6 +323,16 @@ impl Search {
         if self.can_win(way, rest, asked.moves, deep)? {
             return Ok(None);
         }
+        self.blockers.keep(
+            way,
+            Blocker {
+                set: asked.set,
+                mv: move_of_try(tried),
+                part: rest,
+                refuses: true,
+                made,
+            },
+        );
         Ok(Some(Block::Refused(rest)))
     }
 
@@ -265,7 +345,7 @@ impl Search {
         classes: Vec<Class>,
         moves: u8,
         deep: u16,
-    ) -> Result<Option<LostClass>, SearchStop>
+    ) -> Result<Option<(PackedKey, u32)>, SearchStop>
         requires ready { IsAtWork way self.old }
         ensures searched { Searches way result
             (TellsFirst way.d self.new.table classes.items moves)
@@ -276,10 +356,7 @@ impl Search {
         for class in classes {
             let set = number_of(&mut self.table, class.belief)?;
             if !self.can_win(way, set, moves, deep)? {
-                return Ok(Some(LostClass {
-                    heard: PackedKey::new(&class.own, &class.reply),
-                    set,
-                }));
+                return Ok(Some((PackedKey::new(&class.own, &class.reply), set)));
             }
         }
         Ok(None)

@@ -1,4 +1,4 @@
-ghost use Rattle.std.specs.Prelude.{◌≡◌, ℕ, ◌<◌, ◌++◌, ◌∷◌, [], ◌↔◌, IsTrue, IfOk, OnOk, Some, not, length, map};
+ghost use Rattle.std.specs.Prelude.{◌≡◌, ℕ, ◌<◌, ◌++◌, ◌∷◌, [], IfOk, OnOk, Some, not, length, map};
 ghost use Rattle.krieg_words.specs.declared.dialects.Dialect.{Dialect};
 ghost use Rattle.krieg_pack.specs.Order.{position_lt};
 ghost use Rattle.krieg_theory.specs.Sets.{In, is_nil};
@@ -19,7 +19,7 @@ use crate::build::win_of;
 use crate::keys::KeyTry;
 use crate::search::{Asked, MOST_LEVELS, Search};
 use crate::stop::SearchStop;
-use crate::try_list::{move_of_try, tries_for};
+use crate::try_list::{is_same, move_of_try, tries_for};
 use crate::way::Way;
 use krieg_board::{Move, NoMemory};
 use krieg_moves::is_legal;
@@ -44,13 +44,6 @@ fn some_refuses(members: &[Packed], mv: &Move) -> bool
         }
     }
     false
-}
-
-/// Whether two moves are the same.
-fn is_same(a: &Move, b: &Move) -> bool
-    ensures { IsTrue result ↔ (a.now ≡ b.now) }
-{
-    *a == *b
 }
 
 /// Adds a key of the set that is asked.
@@ -97,10 +90,7 @@ fn keys_of_set(search: &mut Search, way: Way, set: u32, win: Win) -> Result<Vec<
             if is_same(&mv, &win.mv) {
                 add_key(&search.table, &asked, &mv, &mut keys)?;
             }
-        } else if search
-            .block_of(way, &asked, tried, false, MOST_LEVELS)?
-            .is_none()
-        {
+        } else if search.block_of(way, &asked, tried, MOST_LEVELS)?.is_none() {
             add_key(&search.table, &asked, &mv, &mut keys)?;
         }
     }

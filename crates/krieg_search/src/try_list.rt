@@ -1,4 +1,4 @@
-ghost use Rattle.std.specs.Prelude.{◌≡◌, All, map, IfOk};
+ghost use Rattle.std.specs.Prelude.{◌≡◌, ◌↔◌, All, map, IfOk, IsTrue};
 ghost use Rattle.krieg_words.specs.declared.dialects.Dialect.{Dialect};
 ghost use Rattle.krieg_theory.specs.Split as theory;
 ghost use Rattle.krieg_game.specs.Chess.{chess};
@@ -24,6 +24,13 @@ pub(crate) fn move_of_try(tried: &Try) -> Move
         Try::Plain(mv) => *mv,
         Try::Counted(tally) => tally.mv,
     }
+}
+
+/// Whether two moves are the same.
+pub(crate) fn is_same(a: &Move, b: &Move) -> bool
+    ensures { IsTrue result ↔ (a.now ≡ b.now) }
+{
+    *a == *b
 }
 
 /// The tries of a set, of which nothing is counted.

@@ -25,6 +25,11 @@ returns-then-not-all_win-clause-taken c =
     let a = rw c.in-Some.is at c.in_ok-asked.ensures.asked in
     lost_taken c.args.way.d c.args.way.cut c.args.who c.args.b.now c.args.moves c.ask_openings.new.search.table c.in-Some.field-0 c.args.search.now.units c.ask_openings.new.search.units a
 
+pub keys_of_sets-requires-clause-ready : goal.keys_of_sets-requires-clause-ready
+keys_of_sets-requires-clause-ready c =
+    let a = rw c.in-Some.is at c.in_ok-asked.ensures.asked in
+    (record { counted = a.counted; sound = a.stretch.sound }, rw c.in-Some.is at c.in_ok-asked.ensures.noted, rw c.in-Some.is at c.in_ok-asked.ensures.blockers)
+
 pub keys_of_sets-requires-clause-within : goal.keys_of_sets-requires-clause-within
 keys_of_sets-requires-clause-within c =
     let a = rw c.in-Some.is at c.in_ok-asked.ensures.asked in

@@ -1,4 +1,4 @@
-use Rattle.std.proofs.Common.{◌≡◌, ◌≤◌, length, map, find, List, Some, None, refl, sym, subst, ap, ◌∙◌, arith}
+use Rattle.std.proofs.Common.{◌≡◌, ◌-◌, ◌≤◌, true, false, length, map, find, List, Some, None, refl, sym, subst, ap, ◌∙◌, arith}
 use Rattle.std.proofs.lemmas.List.{length-map}
 use Rattle.std.specs.Vec.Iter.{into_iter_items}
 use Rattle.krieg_search.proofs.Common.{Pos, can, chess, class_pair, set_at, Wins, Loses, move_of, sets_of, items_of}
@@ -12,6 +12,7 @@ use Rattle.krieg_search.proofs.Telling.{move_at, told_at}
 use Rattle.krieg_search.proofs.NextNotes.{still_next}
 use Rattle.krieg_search.proofs.Noting.{found_tells, pair_stopped, noted_more, noted}
 use Rattle.krieg_search.proofs.Trying.{empty_is, some_is, tried_at, covers_classes, after_split, after_classes, class_lost, none_refuses, rest_smaller, before_rest, covers_rest, after_rest, rest_won, rest_lost}
+use Rattle.krieg_search.proofs.StillBlocked.{more_blockers, part_less, asked_part, after_keep, split_again, class_kept, refused_kept}
 use Rattle.krieg_search.proofs.Checking as sets
 use Rattle.krieg_search.proofs.Checking.{IsChecking, none_checked, all_checked, no_items, set_lost, set_won}
 use Rattle.krieg_search.proofs.Numbers.{first_number, next_covers, number_wins, number_fails, all_fail}
@@ -118,7 +119,7 @@ win_by_a_try-returns-in-None-clause-searched t c =
     (win_first d c.args.way.cut are l e a v.1 w) (win_backed d c.args.way.cut are l e a v.1 w some c.requires.next.below)
 
 pub win_by_a_try-returns-in-None-clause-ready : goal.win_by_a_try-returns-in-None-clause-ready
-win_by_a_try-returns-in-None-clause-ready t c = (ready_from c.args.way.d c.args.way.cut (win_by_a_try-returns-in-None-clause-searched t c).1, more_notes c.args.way.d c.args.way.cut c.block_of.new.self.notes (noted_more c.note.ensures.noted) c.in_ok-block.ensures.ready.1)
+win_by_a_try-returns-in-None-clause-ready t c = (ready_from c.args.way.d c.args.way.cut (win_by_a_try-returns-in-None-clause-searched t c).1, more_notes c.args.way.d c.args.way.cut c.block_of.new.self.notes (noted_more c.note.ensures.noted) c.in_ok-block.ensures.ready.1, more_blockers c.args.way.d c.args.way.cut c.block_of.new.self.blockers (noted_more c.note.ensures.noted) c.in_ok-block.ensures.ready.2)
 
 pub win_by_a_try-loop-tried-preserved : goal.win_by_a_try-loop-tried-preserved
 win_by_a_try-loop-tried-preserved t c =
@@ -180,41 +181,42 @@ win_by_a_try-returns-clause-ready t c =
       c.in_ok-keep.ensures.noted d c.args.way.cut c.note-2.new.self (more_notes d c.args.way.cut c.loop-tried.self.notes more c.loop-tried.invariant.ready.1)
           (all_noted d c.args.way.cut c.loop-tried.self.table (set_at c.args.self.now.table c.args.set) c.args.moves (map move_of c.deref-tried-items.result.now) c.loop-tried.tried-index c.args.set (items_of c.loop-tried.row)
           more (omega arith) (more.same c.args.set (omega arith) ∙ a.same c.args.set w) are (sym searched.0.right) l c.loop-tried.invariant.row),
+      more_blockers d c.args.way.cut c.loop-tried.self.blockers more c.loop-tried.invariant.ready.2,
     )
 
-pub block_of-returns-in_err-lost-clause-searched : goal.block_of-returns-in_err-lost-clause-searched
-block_of-returns-in_err-lost-clause-searched t c =
+pub block_anew-returns-in_err-lost-clause-searched : goal.block_anew-returns-in_err-lost-clause-searched
+block_anew-returns-in_err-lost-clause-searched t c =
     let d = c.args.way.d in
     let a = tried_at d c.args.way.cut (move_of c.args.tried.now) c.args.asked.now.moves c.args.self.now.units c.left_of.new.units c.of-b.ensures c.in-Some.is c.requires.some c.requires.ready.0 c.requires.legal c.in_ok-classes.ensures.left c.in_ok-classes.ensures.units in
     stopped d c.args.way.cut c.from_residual-in_err-lost.result c.in_err-lost.field-0.0 _ _ _ _ _ _ (λ x h. cc) c.from_residual-in_err-lost.ensures.1 (covers_classes d c.args.way.cut a) (after_split d c.args.way.cut a) (omega arith) c.in_err-lost.ensures.searched
 
-pub block_of-returns-in-Some-lost-clause-searched : goal.block_of-returns-in-Some-lost-clause-searched
-block_of-returns-in-Some-lost-clause-searched t c =
+pub block_anew-returns-in-Some-lost-clause-searched : goal.block_anew-returns-in-Some-lost-clause-searched
+block_anew-returns-in-Some-lost-clause-searched t c =
     let d = c.args.way.d in
     let a = tried_at d c.args.way.cut (move_of c.args.tried.now) c.args.asked.now.moves c.args.self.now.units c.left_of.new.units c.of-b.ensures c.in-Some.is c.requires.some c.requires.ready.0 c.requires.legal c.in_ok-classes.ensures.left c.in_ok-classes.ensures.units in
     let w = rw c.in-Some-lost.is at c.in_ok-lost.ensures.searched in
-    (class_lost d c.args.way.cut a c.in-Some-lost.class w.0, after_classes d c.args.way.cut a w.1)
+    (class_lost d c.args.way.cut a c.in-Some-lost.class.0 c.in-Some-lost.class.1 w.0, after_classes d c.args.way.cut a w.1)
 
-pub block_of-returns-then-is_empty-clause-searched : goal.block_of-returns-then-is_empty-clause-searched
-block_of-returns-then-is_empty-clause-searched t c =
+pub block_anew-returns-then-is_empty-clause-searched : goal.block_anew-returns-then-is_empty-clause-searched
+block_anew-returns-then-is_empty-clause-searched t c =
     let d = c.args.way.d in
     let a = tried_at d c.args.way.cut (move_of c.args.tried.now) c.args.asked.now.moves c.args.self.now.units c.left_of.new.units c.of-b.ensures c.in-Some.is c.requires.some c.requires.ready.0 c.requires.legal c.in_ok-classes.ensures.left c.in_ok-classes.ensures.units in
     let w = rw c.in_default-lost.is at c.in_ok-lost.ensures.searched in
     let none = empty_is c.in-Some.field-0.refused c.is_empty.result c.is_empty.ensures c.if-is_empty.true in
     (none_refuses d c.args.way.cut a w.0 w.1 none, after_classes d c.args.way.cut a w.1)
 
-pub block_of-can_win-requires : goal.block_of-can_win-requires
-block_of-can_win-requires t c =
+pub block_anew-can_win-requires : goal.block_anew-can_win-requires
+block_anew-can_win-requires t c =
     let d = c.args.way.d in
     let a = tried_at d c.args.way.cut (move_of c.args.tried.now) c.args.asked.now.moves c.args.self.now.units c.left_of.new.units c.of-b.ensures c.in-Some.is c.requires.some c.requires.ready.0 c.requires.legal c.in_ok-classes.ensures.left c.in_ok-classes.ensures.units in
     let w = rw c.in_default-lost.is at c.in_ok-lost.ensures.searched in
     let n = some_is c.in-Some.field-0.refused c.is_empty.result c.is_empty.ensures c.if-is_empty.false in
     let i = c.in_ok-rest.ensures in
     let smaller = rest_smaller d c.args.way.cut a w.0 w.1 n i in
-    (omega (arith, smaller), (i.interned.within, (ready_from d c.args.way.cut (before_rest d c.args.way.cut a w.0 w.1 n i), more_notes d c.args.way.cut c.first_lost.new.self.notes i.interned.more c.in_ok-lost.ensures.ready.1)))
+    (omega (arith, smaller), (i.interned.within, (ready_from d c.args.way.cut (before_rest d c.args.way.cut a w.0 w.1 n i), more_notes d c.args.way.cut c.first_lost.new.self.notes i.interned.more c.in_ok-lost.ensures.ready.1, more_blockers d c.args.way.cut c.first_lost.new.self.blockers i.interned.more c.in_ok-lost.ensures.ready.2)))
 
-pub block_of-returns-in_err-can_win-clause-searched : goal.block_of-returns-in_err-can_win-clause-searched
-block_of-returns-in_err-can_win-clause-searched t c =
+pub block_anew-returns-in_err-can_win-clause-searched : goal.block_anew-returns-in_err-can_win-clause-searched
+block_anew-returns-in_err-can_win-clause-searched t c =
     let d = c.args.way.d in
     let a = tried_at d c.args.way.cut (move_of c.args.tried.now) c.args.asked.now.moves c.args.self.now.units c.left_of.new.units c.of-b.ensures c.in-Some.is c.requires.some c.requires.ready.0 c.requires.legal c.in_ok-classes.ensures.left c.in_ok-classes.ensures.units in
     let w = rw c.in_default-lost.is at c.in_ok-lost.ensures.searched in
@@ -222,8 +224,8 @@ block_of-returns-in_err-can_win-clause-searched t c =
     let i = c.in_ok-rest.ensures in
     stopped d c.args.way.cut c.from_residual-in_err-can_win.result c.in_err-can_win.field-0.0 _ _ _ _ _ _ (λ x h. cc) c.from_residual-in_err-can_win.ensures.1 (covers_rest d c.args.way.cut a w.0 w.1 n i) (before_rest d c.args.way.cut a w.0 w.1 n i) (omega arith) c.in_err-can_win.ensures.searched
 
-pub block_of-returns-then-branch-clause-searched : goal.block_of-returns-then-branch-clause-searched
-block_of-returns-then-branch-clause-searched t c =
+pub block_anew-returns-then-branch-clause-searched : goal.block_anew-returns-then-branch-clause-searched
+block_anew-returns-then-branch-clause-searched t c =
     let d = c.args.way.d in
     let a = tried_at d c.args.way.cut (move_of c.args.tried.now) c.args.asked.now.moves c.args.self.now.units c.left_of.new.units c.of-b.ensures c.in-Some.is c.requires.some c.requires.ready.0 c.requires.legal c.in_ok-classes.ensures.left c.in_ok-classes.ensures.units in
     let w = rw c.in_default-lost.is at c.in_ok-lost.ensures.searched in
@@ -232,8 +234,8 @@ block_of-returns-then-branch-clause-searched t c =
     let v = rw c.if-branch.true at c.in_ok-can_win.ensures.searched in
     (rest_won d c.args.way.cut a w.0 w.1 n i v.1 v.0, after_rest d c.args.way.cut a w.0 w.1 n i v.1)
 
-pub block_of-returns-clause-searched : goal.block_of-returns-clause-searched
-block_of-returns-clause-searched t c =
+pub block_anew-returns-clause-searched : goal.block_anew-returns-clause-searched
+block_anew-returns-clause-searched t c =
     let d = c.args.way.d in
     let a = tried_at d c.args.way.cut (move_of c.args.tried.now) c.args.asked.now.moves c.args.self.now.units c.left_of.new.units c.of-b.ensures c.in-Some.is c.requires.some c.requires.ready.0 c.requires.legal c.in_ok-classes.ensures.left c.in_ok-classes.ensures.units in
     let w = rw c.in_default-lost.is at c.in_ok-lost.ensures.searched in
@@ -261,7 +263,7 @@ first_lost-can_win-requires t c =
     let d = c.args.way.d in
     let i = c.in_ok-set.ensures in
     let few = i.counted c.in_ok-set.set in
-    (omega arith, (i.interned.within, (ready_from d c.args.way.cut (searched_number d c.args.way.cut c.loop-class.invariant.checking.searched i), more_notes d c.args.way.cut c.loop-class.self.notes i.interned.more c.loop-class.invariant.ready.1)))
+    (omega arith, (i.interned.within, (ready_from d c.args.way.cut (searched_number d c.args.way.cut c.loop-class.invariant.checking.searched i), more_notes d c.args.way.cut c.loop-class.self.notes i.interned.more c.loop-class.invariant.ready.1, more_blockers d c.args.way.cut c.loop-class.self.blockers i.interned.more c.loop-class.invariant.ready.2)))
 
 pub first_lost-returns-in_err-can_win-clause-searched : goal.first_lost-returns-in_err-can_win-clause-searched
 first_lost-returns-in_err-can_win-clause-searched t c =
@@ -306,3 +308,62 @@ first_lost-returns-clause-searched t c =
     let none = no_items (into_iter_items c.loop-class.class-iterator) (let n = c.in-None.ensures.steps in let k = c.loop-class.invariant.counted in omega arith) in
     let s = all_checked c.args.way.d c.args.way.cut (rw none at c.loop-class.invariant.checking) in
     (record { tells = s.0; first = c.loop-class.invariant.first ∙ ap (λ cs. find (is_lost c.args.way.d c.args.moves) (map class_pair cs)) none; within = tt }, s.1)
+
+pub block_of-returns-then-not-branch-clause-searched : goal.block_of-returns-then-not-branch-clause-searched
+block_of-returns-then-not-branch-clause-searched t c =
+    let again = c.block_anew-then-not-branch in
+    let v = rw (c.in-Some.ensures.mv ∙ c.move_of_try.ensures) at c.in_ok-still_blocks.ensures.searched in
+    split_again c.args.way.d c.args.way.cut v.1 again.new.self.table again.new.self.units again.result (rw (v.1.more.same c.args.asked.now.set c.requires.within) at again.ensures.searched)
+
+pub still_blocks-can_win-requires : goal.still_blocks-can_win-requires
+still_blocks-can_win-requires t c =
+    let T = c.args.self.now.table in
+    let b = c.args.blocker.now in
+    let p = rw c.requires.set at c.requires.blocker.part in
+    let l = part_less c.args.way.d c.args.way.cut (set_at T c.args.asked.now.set) b.mv c.args.asked.now.moves c.requires.some b.refuses (set_at T b.part) c.requires.legal (c.requires.ready.0.counted b.part) p in
+    (omega (arith, l, c.moves_for-moves.ensures), (c.requires.blocker.part_within, c.requires.ready))
+
+pub still_blocks-returns-clause-searched : goal.still_blocks-returns-clause-searched
+still_blocks-returns-clause-searched t c =
+    let T = c.args.self.now.table in
+    let b = c.args.blocker.now in
+    let p = rw c.requires.set at c.requires.blocker.part in
+    asked_part c.args.way.d c.args.way.cut (set_at T c.args.asked.now.set) b.mv c.args.asked.now.moves c.requires.some b.refuses (set_at T b.part) p c.requires.ready.0 (rw c.moves_for-moves.ensures at c.in_ok-won.ensures.searched)
+
+pub block_anew-returns-in-Some-lost-clause-ready : goal.block_anew-returns-in-Some-lost-clause-ready
+block_anew-returns-in-Some-lost-clause-ready t c =
+    let d = c.args.way.d in
+    let cut = c.args.way.cut in
+    let u0 = c.args.self.now.units in
+    let u1 = c.left_of.new.units in
+    let mv = move_of c.args.tried.now in
+    let class = c.in-Some-lost.class in
+    let a = tried_at d cut mv c.args.asked.now.moves u0 u1 c.of-b.ensures c.in-Some.is c.requires.some c.requires.ready.0 c.requires.legal c.in_ok-classes.ensures.left c.in_ok-classes.ensures.units in
+    let w = rw c.in-Some-lost.is at c.in_ok-lost.ensures.searched in
+    let r = c.in_ok-lost.ensures.ready in (
+      r.0,
+      r.1,
+      after_keep d cut c.first_lost.new.self.table c.first_lost.new.self.blockers c.keep.new.self (record { set = c.args.asked.now.set; mv = mv; part = class.1; refuses = false; made = u0 - u1 })
+          (rw (c.move_of_try.ensures, c.left-before.ensures, c.left.ensures) at c.keep.ensures) r.2
+          (λ may. class_kept d cut u0 u1 may c.requires.within w.1.more c.requires.some class.1 a.taken class.0 (class_lost d cut a {u2 = c.first_lost.new.self.units} class.0 class.1 w.0).blocked),
+    )
+
+pub block_anew-returns-clause-ready : goal.block_anew-returns-clause-ready
+block_anew-returns-clause-ready t c =
+    let d = c.args.way.d in
+    let cut = c.args.way.cut in
+    let u0 = c.args.self.now.units in
+    let u1 = c.left_of.new.units in
+    let mv = move_of c.args.tried.now in
+    let a = tried_at d cut mv c.args.asked.now.moves u0 u1 c.of-b.ensures c.in-Some.is c.requires.some c.requires.ready.0 c.requires.legal c.in_ok-classes.ensures.left c.in_ok-classes.ensures.units in
+    let w = rw c.in_default-lost.is at c.in_ok-lost.ensures.searched in
+    let n = some_is c.in-Some.field-0.refused c.is_empty.result c.is_empty.ensures c.if-is_empty.false in
+    let i = c.in_ok-rest.ensures in
+    let v = rw c.if-branch.false at c.in_ok-can_win.ensures.searched in
+    let r = c.in_ok-can_win.ensures.ready in (
+      r.0,
+      r.1,
+      after_keep d cut c.can_win.new.self.table c.can_win.new.self.blockers c.keep-2.new.self (record { set = c.args.asked.now.set; mv = mv; part = c.in_ok-rest.rest; refuses = true; made = u0 - u1 })
+          (rw (c.move_of_try-2.ensures, c.left-before.ensures, c.left.ensures) at c.keep-2.ensures) r.2
+          (λ may. refused_kept d cut u0 u1 may c.requires.within (after_rest d cut a w.0 w.1 n i v.1).more c.requires.some c.in_ok-rest.rest a.taken (rest_lost d cut a w.0 w.1 n i v.1 v.0).blocked),
+    )
