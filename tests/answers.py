@@ -102,7 +102,7 @@ TRIED = {
     "plan": [[["check", "20000"], ["check", "5"]], [["next"]]],
     "followed": [[["next"]]],
     "refutation": [[["deny", "20000"], ["deny", "60"]]],
-    "strategy": [[["judge", "20000"], ["judge", "4"]]],
+    "strategy": [[["judge", "20000"], ["judge", "4"]], [["advise"]]],
 }
 
 # The status is None where the run took too long, and negative where a signal ended it.

@@ -5,6 +5,8 @@
 //! - `keys` writes every first try that is as fast as any.
 //! - `share` writes the plan of `find` as a strategy, in which what repeats itself is written once.
 //! - `judge` says of a strategy that it mates, and in how many moves.
+//! - `advise` says what a strategy tries next, by the lines that its player heard.
+//! - `conduct` lets a strategy play a game against a player at two files.
 //!
 //! ```
 //! ./krieg find 1 64 1 < examples/rook.sheet   # a plan that plays h1h8, and status 0
