@@ -1,8 +1,8 @@
 -- What blocked a try of a set before is asked again.
-use Rattle.std.proofs.Common.{◌≡◌, ℕ, suc, ◌+◌, ◌*◌, ◌^◌, ◌-◌, ◌<◌, ◌⊎◌, inl, inr, Bool, true, false, not, ◌||◌, List, [], ◌∷◌, ◌++◌, length, Option, Some, None, Result, Ok, Err, sym, ap, subst, ◌∙◌, arith}
+use Rattle.std.proofs.Common.{◌≡◌, ℕ, suc, ◌+◌, ◌*◌, ◌^◌, ◌-◌, ◌<◌, ◌⊎◌, inl, inr, Bool, true, false, not, ◌||◌, List, [], ◌∷◌, ◌++◌, length, Option, Result, Ok, Err, sym, ap, subst, ◌∙◌, arith}
 use Rattle.std.specs.List.{list_all}
 use Rattle.std.proofs.lemmas.Bool.{both_ways, and_parts, or_cases, not-true, false_from_ne_true}
-use Rattle.krieg_search.proofs.Common.{Pos, Move, Dialect, In, is_nil, refused, legal_in_some, stale_in_some, keys, class, can, begins, made, LostRefused, block, CoversSet, CoversTry, classes, Key, chess, SetRows, set_at, IsMore, Block, AtOnce, Refused, IsReady, IsSearched, IsBlock, Stretches, SearchStop, Large, TellsSet, TellsBlock}
+use Rattle.krieg_search.proofs.Common.{Pos, Move, Dialect, In, is_nil, refused, legal_in_some, stale_in_some, keys, class, can, begins, made, LostRefused, block, CoversSet, CoversTry, classes, Key, chess, SetRows, set_at, IsMore, Block, Refused, IsReady, IsSearched, IsBlock, Stretches, SearchStop, Large, TellsSet, TellsBlock}
 use Rattle.krieg_costs.specs.Block as theory
 use Rattle.krieg_costs.proofs.Blocks.{BlockSays, block_says}
 use Rattle.krieg_theory.proofs.Lists.{all_at, append_in, in_map}
@@ -13,8 +13,7 @@ use Rattle.krieg_search.specs.Blockers.{moves_for, IsPart, IsBlocker, AreBlocker
 use Rattle.krieg_search.specs.declared.blockers.Blocker.{Blocker}
 use Rattle.krieg_search.specs.declared.notes.Block.TheVariants.{Class}
 use Rattle.krieg_search.specs.declared.stop.SearchStop.TheVariants.{Spent, NoMemory}
-use Rattle.krieg_search.proofs.Searching.{ready_from, searched_nothing, searched_then, short_behind}
-use Rattle.krieg_search.proofs.Trying.{failed}
+use Rattle.krieg_search.proofs.Searching.{searched_nothing, searched_then, short_behind}
 
 -- there are none yet
 pub no_blockers : (d : Dialect) (cut : Bool) (T : SetRows) (bs : List Blocker) → bs ≡ [] → AreBlockers d cut T bs
@@ -105,21 +104,6 @@ module _ (d : Dialect) (cut : Bool) (B : List Pos) (t : Move) where
     part_less false X l few p = omega (arith, some, few)
 
 module _ (d : Dialect) (cut : Bool) {B : List Pos} {t : Move} {j : ℕ} {T0 T1 : SetRows} {u0 u1 : ℕ} (s : IsSearched d cut (CoversTry (chess d) B j t) 0 T0 T1 u0 u1) where
-  -- the part is still lost, and the try takes what its split takes
-  pub still_blocked : (u2 m : ℕ) → cut ≡ true → begins (chess d) j B t ≡ false → m ≡ made (chess d) B t → u2 + m ≡ u1 → TellsBlock d cut T1 B j t u0 u2 (Some AtOnce) × IsSearched d cut (CoversTry (chess d) B j t) (made (chess d) B t) T0 T1 u0 u2
-  still_blocked u2 m may fails is paid =
-      let x = failed d cut T1 B t j u1 u2 {found = None} (ready_from d cut s) (record { fails = fails; no_pair = λ c. absurd (both_ways cut c may) }) (inl (omega (arith, is, paid))) in (
-        record { tells = x.0.tells; blocked = x.0.blocked; paid = λ n. absurd (cc) },
-        searched_then d cut (CoversTry (chess d) B j t) (CoversTry (chess d) B j t) 0 (made (chess d) B t) (made (chess d) B t) T0 T1 T1 u0 u1 u2 (λ R h. h) s (omega arith) x.1,
-      )
-
-  -- it takes more units than there are
-  pub still_short : (m : ℕ) → m ≡ made (chess d) B t → u1 < m → Stretches d cut {A = Option Block} (Err Spent) (λ o. TellsBlock d cut T1 B j t u0 u1 o) (CoversTry (chess d) B j t) (made (chess d) B t) T0 T1 u0 u1
-  still_short m is few = (
-    short_behind d cut (CoversTry (chess d) B j t) (CoversTry (chess d) B j t) 0 (made (chess d) B t) (made (chess d) B t) T0 T1 u0 u1 (λ R h. h) s (omega arith) (λ R h. omega (arith, is, few)),
-    s.stretch.fewer,
-  )
-
   -- the try is split again
   pub split_again : (T2 : SetRows) (u2 : ℕ) (r : Result (Option Block) SearchStop) → Stretches d cut r (TellsBlock d cut T2 B j t u1 u2) (CoversTry (chess d) B j t) (made (chess d) B t) T1 T2 u1 u2 → Stretches d cut r (TellsBlock d cut T2 B j t u0 u2) (CoversTry (chess d) B j t) (made (chess d) B t) T0 T2 u0 u2
   split_again T2 u2 (Ok o) x = (

@@ -20,8 +20,10 @@
 //! `find` may cut tries (`cut`): there a try also fails at once where some reply to it leaves a position that is no mate
 //! in time even for a player who sees it. krieg_sight finds that out, and krieg_theory has the law. Such a try takes
 //! nothing, and nothing is stored of what lies below it, so the floor of what a search takes does not hold for `find`. It
-//! holds for `solve`, which cuts none. What was not cut with fewer moves is not cut with more: `uncut` has marks of such tries,
-//! so that they are not looked at again. The table that `decide` gives has a block of each try of a lost set only where none was cut.
+//! holds for `solve`, which cuts none. The table that `decide` gives has a block of each try of a lost set only where none was cut.
+//!
+//! Of a try that was not cut `find` keeps which part could not be won, with what the split took (`blockers`). With more moves it is not cut
+//! either, and that part is asked first: only where it is won meanwhile is the try split again. It takes what a split takes all the same.
 //!
 //! `roots` and `build` make the plan of the stored results, by a `Builder`. Each node is taken from the number that is
 //! allowed before anything below it is built. They split the sets once more, each by the one try that wins it, by units
