@@ -113,6 +113,7 @@ unfoldable pub use Rattle.krieg_refutefile.specs.RefutationText.{refutation_text
 pub use Rattle.krieg_refutefile.specs.RefutationText.{text_bound}
 pub use Rattle.krieg_refutefile.specs.Refutations.{RefutationState, claim_from, is_refutation, reason_from, state_from, why_from}
 pub use Rattle.krieg_refutefile.specs.Writable.{AreToldClaims, CitesBelow, IsToldClaim, IsToldReason, IsToldWhy, IsTurnOf}
+pub use Rattle.krieg_robot.specs.Guides.{Guidance}
 pub use Rattle.krieg_robot.specs.Leading.{BrokenFrom, IsWon, LedFrom}
 pub use Rattle.krieg_robot.specs.declared.led.LeadFault.{LeadFault}
 pub use Rattle.krieg_robot.specs.declared.led.Led.{Led}
@@ -120,7 +121,7 @@ pub use Rattle.krieg_make.specs.MadeSessions.{made_session}
 pub use Rattle.krieg_make.specs.MadeSheets.{made_list, made_sheet}
 pub use Rattle.krieg_args.specs.Command.{command_of, find_of, takes_input}
 pub use Rattle.krieg_args.specs.declared.command.Command.{Command}
-pub use Rattle.krieg_args.specs.declared.command.Command.TheVariants.{Believe, Check, Deny, Find, Job, Judge, Keys, Lead, Make, Next, Play, Refute, San, Share, Solve, Umpire, Unsan, Why}
+pub use Rattle.krieg_args.specs.declared.command.Command.TheVariants.{Advise, Believe, Check, Conduct, Deny, Find, Job, Judge, Keys, Lead, Make, Next, Play, Refute, San, Share, Solve, Umpire, Unsan, Why}
 pub use Rattle.krieg_args.specs.declared.command.MadeInput.{MadeInput}
 pub use Rattle.krieg_args.specs.declared.command.TheConstants.{MOST_FIND_MOVES}
 pub use Rattle.krieg_cli.specs.Asked.{IsGiven, Leaves, OfPossible, has_no_turn}
@@ -141,14 +142,15 @@ pub use Rattle.krieg_cli.specs.Headline.{AnswersKeys, AnswersShared, AnswersShee
 pub use Rattle.krieg_cli.specs.Input.{WasRead, WasTaken}
 unfoldable pub use Rattle.krieg_cli.specs.Job.{summary_text}
 pub use Rattle.krieg_cli.specs.Job.{IsFound, Plans, Summarizes, checked_line, found_lines, mates_line, summary_lines}
-pub use Rattle.krieg_cli.specs.Lead.{HasLed, HasLedText, IsGivenUp, IsLedTo, Leads, LeadsFrom, LeadsWhole, OpponentChanges}
-pub use Rattle.krieg_cli.specs.LedGames.{IsWonGame, LeadsToMate}
+pub use Rattle.krieg_cli.specs.Guides.{guided, plan_guide, plan_guide_in, strategy_guide, strategy_guide_in}
+pub use Rattle.krieg_cli.specs.Lead.{ConductsText, HasLed, HasLedBy, IsGivenUp, IsLedTo, Leads, LeadsFrom, LeadsWhole, OpponentChanges}
+pub use Rattle.krieg_cli.specs.LedGames.{ConductsToMate, IsWonGame, LeadsToMate}
 pub use Rattle.krieg_cli.specs.Limits.{AreLimits, FitInputs}
 unfoldable pub use Rattle.krieg_cli.specs.Keys.{keys_text}
 pub use Rattle.krieg_cli.specs.Keys.{AreKeysAt, AreSetKeys, Begins, IsKeysText, Keyed, KeyedFor, TellsKeys, heard_lines, try_line}
 pub use Rattle.krieg_cli.specs.Live.{LivesBy, is_live}
 pub use Rattle.krieg_cli.specs.Make.{Makes}
-pub use Rattle.krieg_cli.specs.Next.{Says}
+pub use Rattle.krieg_cli.specs.Next.{Advised, Says}
 pub use Rattle.krieg_cli.specs.Outcome.{HasOutcome, LiveOutcome}
 pub use Rattle.krieg_cli.specs.Parts.{Decides, LeavesSeats, SearchedBy, SolvedBy, ending_of, of_lead, of_part, of_play, of_search}
 pub use Rattle.krieg_cli.specs.Play.{HasBegun, PlaysFrom, PlaysWhole}
@@ -157,7 +159,7 @@ pub use Rattle.krieg_cli.specs.Refute.{CanBeListed, Claimed, IsDenialText, Refut
 pub use Rattle.krieg_cli.specs.Share.{IsShared, IsSharedText, SharedBy, SharedFor, TellsShared, strategy_of}
 pub use Rattle.krieg_cli.specs.Solve.{IsBestFile, IsTooLarge, Searched, Tells, file_of, least_units, mates_all}
 pub use Rattle.krieg_cli.specs.VerdictCounts.{verdict_counts}
-pub use Rattle.krieg_cli.specs.Top.{Answers, ComesTo, Ends, Gets, IsRun, LeavesBench, Reports, Runs, RunsAlone, nobody}
+pub use Rattle.krieg_cli.specs.Top.{Answers, ComesTo, Ends, Gets, IsRun, LeavesBench, Reports, Runs}
 pub use Rattle.krieg_cli.specs.Umpire.{told_text}
 pub use Rattle.krieg_cli.specs.WholeGames.{BelievesGames, EndsOnHeard, IsHeard, IsUmpired, TellsGame, UmpiresGames, heard_sheet, standing, stripped}
 pub use Rattle.krieg_cli.specs.WholePlans.{ChecksSolutions, EndsOnSolution, IsSolution}

@@ -3,7 +3,7 @@ use Rattle.std.proofs.Common.{◌≡◌, Bool, ◌⊎◌, inl, inr, ℕ, ◌<◌
 use Rattle.std.specs.Prelude.{MatchBool}
 use Rattle.std.proofs.lemmas.Bool.{both_ways}
 use Rattle.std.proofs.lemmas.List.{append-nil}
-use Rattle.krieg_cli.proofs.Common.{JudgedSo, Pos, White, Black, SheetState, san_of, unsan_of, IsPossible, is_nil, PlanState, made_sheet, Line, Account, Team, Turns, Service, BrokenCourse, HasFailed, entry_of, now_of, Sides, takes_input, Command, Solve, Check, Refute, Deny, Believe, Why, Umpire, San, Unsan, Play, Lead, Next, Find, Keys, Share, Judge, Make, Job, MadeInput, World, FaultsRose, WasRead, OfText, status, Leaves, has_no_turn, OfPossible, SearchedBy, SolvedBy, Claimed, Refuted, Keyed, KeyedFor, SharedBy, SharedFor, Judged, told_text, Believed, Shows, HeardState, PlaysFrom, PlaysWhole, LeadsFrom, LeadsWhole, Says, LivesBy, Makes, Plans, Summarizes, LiveOutcome, HasOutcome, ComesTo, Ends, Runs, CanBeSolved, CanBeJudged, CanBeKeyed, CanBeShared, CanBeRefuted, CanBeDenied, CanBeChecked, CanBeShown, CanBeSummed, HoldsText, MustAnswer, NoneFailed, seats_since, CanPlay, BenchHolds, Completes, Refusal, Ending, MOST_INPUT}
+use Rattle.krieg_cli.proofs.Common.{JudgedSo, Pos, White, Black, SheetState, san_of, unsan_of, IsPossible, is_nil, PlanState, made_sheet, Line, Account, Team, Turns, Service, BrokenCourse, HasFailed, entry_of, now_of, Sides, takes_input, Command, Solve, Check, Refute, Deny, Believe, Why, Umpire, San, Unsan, Play, Lead, Next, Find, Keys, Share, Judge, Advise, Conduct, Make, Job, MadeInput, World, FaultsRose, WasRead, OfText, status, Leaves, has_no_turn, OfPossible, SearchedBy, SolvedBy, Claimed, Refuted, Keyed, KeyedFor, SharedBy, SharedFor, Judged, told_text, Believed, Shows, HeardState, StrategyState, Guidance, guided, plan_guide, strategy_guide, Advised, PlaysFrom, PlaysWhole, LeadsFrom, LeadsWhole, Says, LivesBy, Makes, Plans, Summarizes, LiveOutcome, HasOutcome, ComesTo, Ends, Runs, CanBeSolved, CanBeJudged, CanBeKeyed, CanBeShared, CanBeRefuted, CanBeDenied, CanBeChecked, CanBeShown, CanBeSummed, HoldsText, MustAnswer, NoneFailed, seats_since, CanPlay, BenchHolds, Completes, Refusal, Ending, MOST_INPUT}
 use Rattle.krieg_pack.proofs.PositionSets.{same_members}
 use Rattle.krieg_sheet.specs.Turns.{is_over}
 use Rattle.krieg_belief.proofs.Prefixes.{excess_not_within}
@@ -145,12 +145,12 @@ playing account asks entry now start _ w b h = h
 
 -- ---- lead and next
 
-leading : {X : Type 0} (account : X → Account) (asks number : ℕ) (entry now : Sides X) (s : PlanState) (r : Refusal) → number ≤ length s.list → CanPlay account entry.white now.white →
-    LeadsFrom account asks number entry now s (Err r) → ⊥
-leading account asks number entry now s refusal.NoSuchPosition listed w h = let less = h.0 in omega (arith, less, listed)
-leading account asks number entry now s (refusal.NoSeat who) listed w h = some_seat entry.white.seats w.some h.1
-leading {X = X} account asks number entry now s (refusal.SeatFault who) listed w h =
-    let c = h.2.opponent in
+leading : {X : Type 0} (account : X → Account) (asks number : ℕ) (entry now : Sides X) (g : Guidance) (r : Refusal) → number ≤ length g.list → CanPlay account entry.white now.white →
+    LeadsFrom account asks number entry now g (Err r) → ⊥
+leading account asks number entry now g refusal.NoSuchPosition listed w h = let less = h.0 in omega (arith, less, listed)
+leading account asks number entry now g (refusal.NoSeat who) listed w h = some_seat entry.white.seats w.some h.1
+leading {X = X} account asks number entry now g (refusal.SeatFault who) listed w h =
+    let c = h.2 in
     let none_out : drop (length entry.white.out) entry.white.out ≡ [] = ap (drop (length entry.white.out)) (sym (append-nil entry.white.out)) ∙ drop_front entry.white.out [] in
     let since : seats_since entry.white now.white ≡ c.seats.first' ∷ c.seats.behind =
     ap (λ out. drop (length entry.white.out) out ++ now.white.seats) c.out
@@ -160,10 +160,13 @@ leading {X = X} account asks number entry now s (refusal.SeatFault who) listed w
     subst (λ (xs : List X). NoneFailed (map account (c.seats.first ∷ c.seats.behind)) (map account xs)) since
     (subst (λ (xs : List X). NoneFailed (map account xs) (map account (seats_since entry.white now.white))) c.seats.then_is w.none_failed) in
     none.0 c.seats.changes.is_broken.breaks.counts.0
-leading account asks number entry now s _ listed w h = h
+leading account asks number entry now g _ listed w h = h
 
-saying : (h : HeardState) (r : Refusal) → Says h (Err r) → ⊥
+saying : (h : HeardState PlanState) (r : Refusal) → Says h (Err r) → ⊥
 saying h r e = cc
+
+advising : (h : HeardState StrategyState) (r : Refusal) → Advised h (Err r) → ⊥
+advising h r e = cc
 
 -- ---- any command
 
@@ -189,8 +192,11 @@ refused account entry now Unsan text r h (g, spelled) bench = answering (unsan_o
 refused account entry now (Play asks) text r h (start, spelled) bench =
     playing account asks entry now start r bench.0 bench.1 (subst (λ x. PlaysWhole account asks entry now x (Err r)) spelled h)
 refused account entry now (Lead asks number) text r h (s, spelled, listed) bench =
-    leading account asks number entry now s r listed bench (subst (λ x. LeadsWhole account asks number entry now x (Err r)) spelled h)
+    leading account asks number entry now (plan_guide s) r listed bench (subst (λ x. LeadsWhole account asks number entry now (guided plan_guide x) (Err r)) spelled h)
 refused account entry now Next text r h (heard, spelled) bench = saying heard r (subst (λ x. OfText x Says (Err r)) spelled h)
+refused account entry now Advise text r h (heard, spelled) bench = advising heard r (subst (λ x. OfText x Advised (Err r)) spelled h)
+refused account entry now (Conduct asks number) text r h (s, spelled, listed) bench =
+    leading account asks number entry now (strategy_guide s) r listed bench (subst (λ x. LeadsWhole account asks number entry now (guided strategy_guide x) (Err r)) spelled h)
 refused account entry now (Make what number) text r h can bench = making what number r h
 refused account entry now (Job number) text r h can bench = summing number can r h
 

@@ -7,7 +7,6 @@ mod Judging
 mod ClaimedSets
 mod Complete
 mod Denying
-mod Finding
 mod Headline
 mod Jobs
 mod KeyTexts

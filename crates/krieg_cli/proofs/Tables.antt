@@ -1,6 +1,6 @@
 -- What a run shows, where more is known of what seats make of a text.
 use Rattle.std.proofs.Common.{◌≡◌, ℕ, List, map, Option, Some, None, Result, Ok, Err, ap, subst, inl, inr}
-use Rattle.krieg_cli.proofs.Common.{Pos, lines, whole, TextFault, start_at, Account, Sides, seen, seen_team, Vacant, Command, Play, Lead, Stream, World, LiveOutcome, HasOutcome, PlanState, plan_at, Led, LeadFault, PlaysFrom, PlaysWhole, HasBegun, OpponentChanges, IsLedTo, IsGivenUp, LeadsFrom, LeadsWhole, HasLedText, LivesBy, ComesTo, Ends, Runs, LeavesBench, IsRun, Refusal, NoSuchPosition, NoSeat, SeatFault, Ending, Answered, WriteFault, Refused}
+use Rattle.krieg_cli.proofs.Common.{Pos, lines, whole, TextFault, start_at, Account, Sides, seen, seen_team, Vacant, Command, Play, Lead, Conduct, Stream, World, LiveOutcome, HasOutcome, Guidance, plan_guide_in, strategy_guide_in, Led, LeadFault, PlaysFrom, PlaysWhole, HasBegun, OpponentChanges, IsLedTo, IsGivenUp, LeadsFrom, LeadsWhole, HasLedBy, LivesBy, ComesTo, Ends, Runs, LeavesBench, IsRun, Refusal, NoSuchPosition, NoSeat, SeatFault, Ending, Answered, WriteFault, Refused}
 use Rattle.krieg_text.specs.declared.fault.TextFault.TheVariants as fault
 use Rattle.krieg_play.specs.declared.outcome.PlayFault.TheVariants.{Seat, NoMemory}
 use Rattle.krieg_play.proofs.Seen.{played_seen, refuses_seen}
@@ -13,6 +13,7 @@ Follows t u = (c : Command) (text : List ℕ) (outcome : Result (List ℕ) Refus
 outcome_as : (t u : LiveOutcome) → Follows t u → (c : Command) (text : List ℕ) (outcome : Result (List ℕ) Refusal) → HasOutcome t c text outcome → HasOutcome u c text outcome
 outcome_as t u f (Play asks) text outcome h = f (Play asks) text outcome h
 outcome_as t u f (Lead asks number) text outcome h = f (Lead asks number) text outcome h
+outcome_as t u f (Conduct asks number) text outcome h = f (Conduct asks number) text outcome h
 outcome_as t u f _ text outcome h = h
 
 comes_as : (t u : LiveOutcome) → Follows t u → (c : Command) (before after : World) (outcome : Result (List ℕ) Refusal) → ComesTo t c before after outcome → ComesTo u c before after outcome
@@ -71,33 +72,34 @@ opponent_seen account R before after c = record {
   black = ap (seen_team account) c.black;
 }
 
-abbrev led_seen : {X : Type 0} (account : X → Account) (asks number : ℕ) (before after : Sides X) (s : PlanState) (led : Led) → IsLedTo account asks number before after s led → IsLedTo itself asks number (seen account before) (seen account after) s led
-led_seen account asks number before after s led h = record { file = h.file; file_is = h.file_is; opponent = opponent_seen account _ before after h.opponent; won = h.won }
+abbrev led_seen : {X : Type 0} (account : X → Account) (asks number : ℕ) (before after : Sides X) (g : Guidance) (led : Led) → IsLedTo account asks number before after g led → IsLedTo itself asks number (seen account before) (seen account after) g led
+led_seen account asks number before after g led h = record { opponent = opponent_seen account _ before after h.opponent; won = h.won }
 
-given_up_seen : {X : Type 0} (account : X → Account) (asks number : ℕ) (before after : Sides X) (s : PlanState) (f : LeadFault) → IsGivenUp account asks number before after s f → IsGivenUp itself asks number (seen account before) (seen account after) s f
-given_up_seen account asks number before after s f h = record { file = h.file; file_is = h.file_is; opponent = opponent_seen account _ before after h.opponent }
+given_up_seen : {X : Type 0} (account : X → Account) (asks number : ℕ) (before after : Sides X) (g : Guidance) (f : LeadFault) → IsGivenUp account asks number before after g f → IsGivenUp itself asks number (seen account before) (seen account after) g f
+given_up_seen account asks number before after g f h = opponent_seen account _ before after h
 
-leads_seen : {X : Type 0} (account : X → Account) (asks number : ℕ) (before after : Sides X) (s : PlanState) (outcome : Result (List ℕ) Refusal) →
-    LeadsFrom account asks number before after s outcome → LeadsFrom itself asks number (seen account before) (seen account after) s outcome
-leads_seen account asks number before after s (Ok answer) h = record {
+leads_seen : {X : Type 0} (account : X → Account) (asks number : ℕ) (before after : Sides X) (g : Guidance) (outcome : Result (List ℕ) Refusal) →
+    LeadsFrom account asks number before after g outcome → LeadsFrom itself asks number (seen account before) (seen account after) g outcome
+leads_seen account asks number before after g (Ok answer) h = record {
   led = h.led;
-  is_led = led_seen account asks number before after s h.led h.is_led;
+  is_led = led_seen account asks number before after g h.led h.is_led;
   is_session = h.is_session;
 }
-leads_seen account asks number before after s (Err NoSuchPosition) h = (h.0, ap (seen account) h.1)
-leads_seen account asks number before after s (Err (NoSeat who)) h = (h.0, ap (map account) h.1, h.2, ap (seen account) h.3)
-leads_seen account asks number before after s (Err (SeatFault who)) h = (h.0, h.1, given_up_seen account asks number before after s lead.Seat h.2)
-leads_seen account asks number before after s (Err _) h = h
+leads_seen account asks number before after g (Err NoSuchPosition) h = (h.0, ap (seen account) h.1)
+leads_seen account asks number before after g (Err (NoSeat who)) h = (h.0, ap (map account) h.1, h.2, ap (seen account) h.3)
+leads_seen account asks number before after g (Err (SeatFault who)) h = (h.0, h.1, given_up_seen account asks number before after g lead.Seat h.2)
+leads_seen account asks number before after g (Err _) h = h
 
-whole_led_seen : {X : Type 0} (account : X → Account) (asks number : ℕ) (before after : Sides X) (r : Result PlanState TextFault) (outcome : Result (List ℕ) Refusal) →
+whole_led_seen : {X : Type 0} (account : X → Account) (asks number : ℕ) (before after : Sides X) (r : Result Guidance TextFault) (outcome : Result (List ℕ) Refusal) →
     LeadsWhole account asks number before after r outcome → LeadsWhole itself asks number (seen account before) (seen account after) r outcome
-whole_led_seen account asks number before after (Ok s) outcome h = leads_seen account asks number before after s outcome h
+whole_led_seen account asks number before after (Ok g) outcome h = leads_seen account asks number before after g outcome h
 whole_led_seen account asks number before after (Err (fault.At line kind)) outcome h = (h.0, ap (seen account) h.1)
 whole_led_seen account asks number before after (Err fault.NoMemory) outcome h = h
 
 lives_seen : {X : Type 0} (account : X → Account) (before after : Sides X) → Follows (LivesBy account before after) (LivesBy itself (seen account before) (seen account after))
 lives_seen account before after (Play asks) text outcome h = whole_seen account asks before after (whole start_at (lines text)) outcome h
-lives_seen account before after (Lead asks number) text outcome h = whole_led_seen account asks number before after (whole plan_at (lines text)) outcome h
+lives_seen account before after (Lead asks number) text outcome h = whole_led_seen account asks number before after (plan_guide_in text) outcome h
+lives_seen account before after (Conduct asks number) text outcome h = whole_led_seen account asks number before after (strategy_guide_in text) outcome h
 lives_seen account before after _ text outcome h = h
 
 -- the same of a whole run, with what becomes of the bench
@@ -105,16 +107,18 @@ begun_seen : {X : Type 0} (account : X → Account) (asks : ℕ) (entry now : Si
 begun_seen account asks entry now text (start, is, inl broken) = (start, is, inl (refuses_seen account start asks entry now NoMemory broken))
 begun_seen account asks entry now text (start, is, inr (game, stop, played)) = (start, is, inr (game, stop, played_seen account start asks entry now game stop played))
 
-has_led_seen : {X : Type 0} (account : X → Account) (asks number : ℕ) (entry now : Sides X) (text : List ℕ) → HasLedText account asks number entry now text → HasLedText itself asks number (seen account entry) (seen account now) text
-has_led_seen account asks number entry now text (s, is, inl up) = (s, is, inl (given_up_seen account asks number entry now s lead.NoMemory up))
-has_led_seen account asks number entry now text (s, is, inr (led, h)) = (s, is, inr (led, led_seen account asks number entry now s led h))
+has_led_seen : {X : Type 0} (account : X → Account) (asks number : ℕ) (entry now : Sides X) (read : Result Guidance TextFault) → HasLedBy account asks number entry now read → HasLedBy itself asks number (seen account entry) (seen account now) read
+has_led_seen account asks number entry now read (g, is, inl up) = (g, is, inl (given_up_seen account asks number entry now g lead.NoMemory up))
+has_led_seen account asks number entry now read (g, is, inr (led, h)) = (g, is, inr (led, led_seen account asks number entry now g led h))
 
 bench_seen : {X : Type 0} (account : X → Account) (asked : Option Command) (e : Ending) (input input' : Stream) (entry now : Sides X) →
     LeavesBench account asked e input input' entry now → LeavesBench itself asked e input input' (seen account entry) (seen account now)
 bench_seen account (Some (Play asks)) ending.NoMemory input input' entry now (inl same) = inl (ap (seen account) same)
 bench_seen account (Some (Play asks)) ending.NoMemory input input' entry now (inr (text, was, begun)) = inr (text, was, begun_seen account asks entry now text begun)
 bench_seen account (Some (Lead asks number)) ending.NoMemory input input' entry now (inl same) = inl (ap (seen account) same)
-bench_seen account (Some (Lead asks number)) ending.NoMemory input input' entry now (inr (text, was, led)) = inr (text, was, has_led_seen account asks number entry now text led)
+bench_seen account (Some (Lead asks number)) ending.NoMemory input input' entry now (inr (text, was, led)) = inr (text, was, has_led_seen account asks number entry now (plan_guide_in text) led)
+bench_seen account (Some (Conduct asks number)) ending.NoMemory input input' entry now (inl same) = inl (ap (seen account) same)
+bench_seen account (Some (Conduct asks number)) ending.NoMemory input input' entry now (inr (text, was, led)) = inr (text, was, has_led_seen account asks number entry now (strategy_guide_in text) led)
 bench_seen account _ _ input input' entry now h = λ none. ap (seen account) (h none)
 
 pub run_seen : {X : Type 0} {account : X → Account} {entry now : Sides X} {asked : Option Command} {code : ℕ} {before after : World} {err err' : Stream} →

@@ -29,7 +29,7 @@ use Rattle.krieg_play.specs.Teams.{Team}
 use Rattle.krieg_play.specs.Played.{Sides}
 use Rattle.krieg_args.specs.Command.{takes_input}
 use Rattle.krieg_args.specs.declared.command.Command.{Command}
-use Rattle.krieg_args.specs.declared.command.Command.TheVariants.{Solve, Check, Refute, Deny, Believe, Why, Umpire, San, Unsan, Play, Lead, Next, Find, Keys, Share, Judge, Make, Job}
+use Rattle.krieg_args.specs.declared.command.Command.TheVariants.{Solve, Check, Refute, Deny, Believe, Why, Umpire, San, Unsan, Play, Lead, Next, Find, Keys, Share, Judge, Advise, Conduct, Make, Job}
 use Rattle.krieg_cli.specs.World.{Stream, World, FaultsRose}
 use Rattle.krieg_cli.specs.Asked.{Leaves, has_no_turn}
 use Rattle.krieg_cli.specs.Solve.{mates_all, fresh_units, NoneMates, IsBestFile, IsTooLarge}
@@ -37,6 +37,7 @@ use Rattle.krieg_cli.specs.Refute.{AreTooMany}
 use Rattle.krieg_strategyfile.specs.Strategies.{StrategyState}
 use Rattle.krieg_share.specs.Answers.{IsLargeStrategy}
 use Rattle.krieg_strategyfile.specs.StrategyFormat.{strategy_at}
+use Rattle.krieg_strategyfile.specs.HeardStrategies.{heard_strategy}
 use Rattle.krieg_cli.specs.Check.{check_cost}
 use Rattle.krieg_cli.specs.Judge.{judge_cost, unfolded}
 use Rattle.krieg_cli.specs.Job.{IsBest}
@@ -152,7 +153,9 @@ MustAnswer San text = (s : SessionState) × (whole session_at (lines text) ≡ O
 MustAnswer Unsan text = (r : RecordState) × (whole record_at (lines text) ≡ Ok r)
 MustAnswer (Play asks) text = (start : Pos) × (whole start_at (lines text) ≡ Ok start)
 MustAnswer (Lead asks number) text = (s : PlanState) × (whole plan_at (lines text) ≡ Ok s) × (number ≤ length s.list)
-MustAnswer Next text = (h : HeardState) × (heard_plan (lines text) ≡ Ok h)
+MustAnswer Next text = (h : HeardState PlanState) × (heard_plan (lines text) ≡ Ok h)
+MustAnswer Advise text = (h : HeardState StrategyState) × (heard_strategy (lines text) ≡ Ok h)
+MustAnswer (Conduct asks number) text = (s : StrategyState) × (whole strategy_at (lines text) ≡ Ok s) × (number ≤ length s.list)
 MustAnswer (Make what number) text = Unit {0}
 MustAnswer (Job number) text = CanBeSummed number
 
@@ -176,6 +179,7 @@ pub record CanPlay {X : Type 0} (account : X → Account) (entry now : Team X) :
 abbrev pub BenchHolds : {X : Type 0} → (X → Account) → Command → Sides X → Sides X → Type 0
 BenchHolds account (Play asks) entry now = CanPlay account entry.white now.white × CanPlay account entry.black now.black
 BenchHolds account (Lead asks number) entry now = CanPlay account entry.white now.white
+BenchHolds account (Conduct asks number) entry now = CanPlay account entry.white now.white
 BenchHolds account _ entry now = Unit {0}
 
 -- ---- the run

@@ -1,4 +1,4 @@
--- `lead` on a plan that mates: the game that it writes is won.
+-- `lead` on a plan that mates, and `conduct` on a strategy whose plan does: the game that is written is won.
 use Rattle.std.specs.Prelude.{◌≡◌, ◌-◌, ◌≤◌, ℕ, true, List, slice_get, Option, Some, Ok}
 use Rattle.std.specs.Io.KnownBytes.{Appends}
 use Rattle.krieg_board.specs.Men.{other}
@@ -13,28 +13,39 @@ use Rattle.krieg_session.specs.SessionText.{session_text}
 use Rattle.krieg_play.specs.Games.{IsGameFrom}
 use Rattle.krieg_planfile.specs.PlanFiles.{PlanState}
 use Rattle.krieg_planfile.specs.PlanReading.{plan_at}
+use Rattle.krieg_strategyfile.specs.Strategies.{StrategyState}
+use Rattle.krieg_strategyfile.specs.StrategyFormat.{strategy_at}
+use Rattle.krieg_robot.specs.Guides.{Guidance}
 use Rattle.krieg_robot.specs.Leading.{own_moves}
 use Rattle.krieg_args.specs.declared.command.Command.{Command}
-use Rattle.krieg_args.specs.declared.command.Command.TheVariants.{Lead}
+use Rattle.krieg_args.specs.declared.command.Command.TheVariants.{Lead, Conduct}
+use Rattle.krieg_cli.specs.Guides.{plan_guide, strategy_guide}
+use Rattle.krieg_cli.specs.Judge.{unfolded}
 use Rattle.krieg_cli.specs.Recorded.{session_of}
 use Rattle.krieg_cli.specs.Solve.{mates_all}
 use Rattle.krieg_cli.specs.World.{World}
 
--- The text is the session of a game from the listed position with that number, of no more tries than were allowed. The side of the file
--- did not leave it, and made no more moves than the file states; and where it has ended, the opponent is mated.
-pub record IsWonGame (s : PlanState) (asks number : ℕ) (text : List ℕ) : Type 0 where
+-- The text is the session of a game from the listed position with that number, of no more tries than were allowed. The side of the guide
+-- did not leave it, and made no more moves than the guide states; and where it has ended, the opponent is mated.
+pub record IsWonGame (g : Guidance) (asks number : ℕ) (text : List ℕ) : Type 0 where
   pub start : Pos
-  pub listed : slice_get s.list (number - 1) ≡ Some start
+  pub listed : slice_get g.list (number - 1) ≡ Some start
   pub game : GameState
   pub stop : Stop
   pub is_game : IsGameFrom start asks game
-  pub is_session : text ≡ session_text (session_of s.dialect start game stop)
-  pub stays : stop ≡ Left s.side → ⊥
-  pub few : own_moves s.side game.log ≤ s.worst
-  pub mates : stop ≡ Ended → (is_mate game.position ≡ true) × (game.position.side ≡ other s.side)
+  pub is_session : text ≡ session_text (session_of g.dialect start game stop)
+  pub stays : stop ≡ Left g.side → ⊥
+  pub few : own_moves g.side game.log ≤ g.worst
+  pub mates : stop ≡ Ended → (is_mate game.position ≡ true) × (game.position.side ≡ other g.side)
 
 -- Given a plan that mates each position that it lists within the number that it states, `lead` at status 0 has written such a game.
 abbrev pub LeadsToMate : Option Command → ℕ → World → World → Type 0
 LeadsToMate asked code before after =
     (asks number : ℕ) (s : PlanState) (text : List ℕ) → asked ≡ Some (Lead asks number) → code ≡ 0 → before.input.bytes ≡ Some text → whole plan_at (lines text) ≡ Ok s →
-    mates_all s.dialect s.side s.list s.plan s.worst ≡ true → (answer : List ℕ) × IsWonGame s asks number answer × Appends before.out.bytes after.out.bytes answer
+    mates_all s.dialect s.side s.list s.plan s.worst ≡ true → (answer : List ℕ) × IsWonGame (plan_guide s) asks number answer × Appends before.out.bytes after.out.bytes answer
+
+-- The same of `conduct`, given a strategy that unfolds to such a plan.
+abbrev pub ConductsToMate : Option Command → ℕ → World → World → Type 0
+ConductsToMate asked code before after =
+    (asks number : ℕ) (s : StrategyState) (text : List ℕ) → asked ≡ Some (Conduct asks number) → code ≡ 0 → before.input.bytes ≡ Some text → whole strategy_at (lines text) ≡ Ok s →
+    mates_all s.dialect s.side s.list (unfolded s) s.worst ≡ true → (answer : List ℕ) × IsWonGame (strategy_guide s) asks number answer × Appends before.out.bytes after.out.bytes answer

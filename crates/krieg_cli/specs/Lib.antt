@@ -18,6 +18,7 @@ pub mod San
 pub mod Unsan
 pub mod Recorded
 pub mod Play
+pub mod Guides
 pub mod Lead
 pub mod Next
 pub mod Live

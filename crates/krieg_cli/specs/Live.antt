@@ -3,24 +3,26 @@ use Rattle.std.specs.Prelude.{ℕ, Bool, true, false, List, Option, Some, Result
 use Rattle.krieg_seats.specs.Accounts.{Account}
 use Rattle.krieg_play.specs.Played.{Sides}
 use Rattle.krieg_args.specs.declared.command.Command.{Command}
-use Rattle.krieg_args.specs.declared.command.Command.TheVariants.{Play, Lead}
+use Rattle.krieg_args.specs.declared.command.Command.TheVariants.{Play, Lead, Conduct}
 use Rattle.krieg_cli.specs.Play.{Plays}
-use Rattle.krieg_cli.specs.Lead.{LeadsText}
+use Rattle.krieg_cli.specs.Lead.{LeadsText, ConductsText}
 use Rattle.krieg_cli.specs.declared.refusal.Refusal.{Refusal}
 use Rattle.krieg_cli.specs.declared.refusal.Refusal.TheVariants.{SeatFault}
 use Rattle.krieg_cli.specs.declared.ending.Ending.{Ending}
 use Rattle.krieg_cli.specs.declared.ending.Ending.TheVariants.{Answered, WriteFault, NoMemory, Refused}
 
--- what `play` or `lead` makes of a text, at the bench that it has
+-- what `play`, `lead` or `conduct` makes of a text, at the bench that it has
 abbrev pub LivesBy : {X : Type 0} → (X → Account) → Sides X → Sides X → Command → List ℕ → Result (List ℕ) Refusal → Type 0
 LivesBy account before after (Play asks) text outcome = Plays account before after asks text outcome
 LivesBy account before after (Lead asks number) text outcome = LeadsText account before after asks number text outcome
+LivesBy account before after (Conduct asks number) text outcome = ConductsText account before after asks number text outcome
 LivesBy account before after _ text outcome = ⊥
 
 -- a command that may call seats, once it has its text and there are seats to call
 abbrev pub is_live : Command → Bool
 is_live (Play asks) = true
 is_live (Lead asks number) = true
+is_live (Conduct asks number) = true
 is_live _ = false
 
 -- whether seats may have been called in a run that ends so

@@ -1,13 +1,18 @@
--- What `next` answers to a plan file and what its player heard: what he does next.
+-- What `next` answers to a plan file, and `advise` to a strategy, and what its player heard: what he does next.
 use Rattle.std.specs.Prelude.{◌≡◌, ℕ, List, [], ◌∷◌, ◌++◌, Result, Ok, codes}
 use Rattle.krieg_fen.specs.MoveText.{move_text}
 use Rattle.krieg_text.specs.Lines.{lines}
 use Rattle.krieg_text.specs.Writing.{put_lines}
+use Rattle.krieg_words.specs.declared.line.Line.{Line}
 use Rattle.krieg_planfile.specs.HeardReading.{HeardState, heard_plan}
-use Rattle.krieg_robot.specs.Followers.{is_first, next_of}
-use Rattle.krieg_robot.specs.Stands.{Stand, follow}
+use Rattle.krieg_planfile.specs.PlanFiles.{PlanState}
+use Rattle.krieg_strategyfile.specs.HeardStrategies.{heard_strategy}
+use Rattle.krieg_strategyfile.specs.Strategies.{StrategyState}
+use Rattle.krieg_robot.specs.Followers.{follow_guide, next_of}
+use Rattle.krieg_robot.specs.Guides.{Guidance}
 use Rattle.krieg_robot.specs.declared.next.Next.{Next}
 use Rattle.krieg_robot.specs.declared.next.Next.TheVariants.{Try, Wait, Mated, Lost}
+use Rattle.krieg_cli.specs.Guides.{plan_guide, strategy_guide}
 use Rattle.krieg_cli.specs.Refusal.{OfText}
 use Rattle.krieg_cli.specs.declared.refusal.Refusal.{Refusal}
 
@@ -22,14 +27,22 @@ next_line Lost = codes "lost"
 unfoldable pub next_text : Next → List ℕ
 next_text next = put_lines [] ((next_line next ∷ []) ∷ [])
 
--- where he stands who follows the plan and heard these lines
-abbrev pub stand_of_heard : HeardState → Stand
-stand_of_heard h = follow (is_first h.file.side h.file.list) h.file.plan h.heard
+-- the text that says what he does next who follows the guide and heard these lines
+abbrev pub said_next : Guidance → List Line → List ℕ
+said_next g heard = next_text (next_of (follow_guide g heard))
 
--- the answer says what he does next there
-abbrev pub Says : HeardState → Result (List ℕ) Refusal → Type 0
-Says h outcome = outcome ≡ Ok (next_text (next_of (stand_of_heard h)))
+-- the answer to a plan file and these lines
+abbrev pub Says : HeardState PlanState → Result (List ℕ) Refusal → Type 0
+Says h outcome = outcome ≡ Ok (said_next (plan_guide h.file) h.heard)
 
--- the same of a text that may spell a plan file and lines
+-- the same of a text that may spell them
 abbrev pub SaysNext : List ℕ → Result (List ℕ) Refusal → Type 0
 SaysNext text outcome = OfText (heard_plan (lines text)) Says outcome
+
+-- the answer to a strategy and these lines: by the plan that it unfolds to
+abbrev pub Advised : HeardState StrategyState → Result (List ℕ) Refusal → Type 0
+Advised h outcome = outcome ≡ Ok (said_next (strategy_guide h.file) h.heard)
+
+-- the same of a text that may spell them
+abbrev pub Advises : List ℕ → Result (List ℕ) Refusal → Type 0
+Advises text outcome = OfText (heard_strategy (lines text)) Advised outcome

@@ -1,7 +1,7 @@
 -- What a command makes of its input: an answer, or a refusal.
 use Rattle.std.specs.Prelude.{ℕ, List, Result}
 use Rattle.krieg_args.specs.declared.command.Command.{Command}
-use Rattle.krieg_args.specs.declared.command.Command.TheVariants.{Solve, Check, Refute, Deny, Believe, Why, Umpire, San, Unsan, Play, Lead, Next, Find, Keys, Share, Judge, Make, Job}
+use Rattle.krieg_args.specs.declared.command.Command.TheVariants.{Solve, Check, Refute, Deny, Believe, Why, Umpire, San, Unsan, Play, Lead, Next, Find, Keys, Share, Judge, Advise, Conduct, Make, Job}
 use Rattle.krieg_cli.specs.Solve.{Solves}
 use Rattle.krieg_cli.specs.Find.{Finds}
 use Rattle.krieg_cli.specs.Keys.{FindsKeys}
@@ -13,7 +13,7 @@ use Rattle.krieg_cli.specs.Deny.{Denies}
 use Rattle.krieg_cli.specs.Believe.{Believes}
 use Rattle.krieg_cli.specs.Why.{ShowsWhy}
 use Rattle.krieg_cli.specs.Umpire.{Umpires}
-use Rattle.krieg_cli.specs.Next.{SaysNext}
+use Rattle.krieg_cli.specs.Next.{SaysNext, Advises}
 use Rattle.krieg_cli.specs.San.{WritesRecord}
 use Rattle.krieg_cli.specs.Unsan.{WritesSession}
 use Rattle.krieg_cli.specs.Make.{Makes}
@@ -42,5 +42,7 @@ HasOutcome live Unsan text outcome = WritesSession text outcome
 HasOutcome live (Play asks) text outcome = live (Play asks) text outcome
 HasOutcome live (Lead asks number) text outcome = live (Lead asks number) text outcome
 HasOutcome live Next text outcome = SaysNext text outcome
+HasOutcome live Advise text outcome = Advises text outcome
+HasOutcome live (Conduct asks number) text outcome = live (Conduct asks number) text outcome
 HasOutcome live (Make what number) text outcome = Makes what number outcome
 HasOutcome live (Job number) text outcome = Summarizes number outcome

@@ -15,12 +15,13 @@ use Rattle.krieg_search.specs.declared.stop.SearchStop.TheVariants as search
 use Rattle.krieg_seats.specs.Accounts.{Account}
 use Rattle.krieg_play.specs.Played.{Sides}
 use Rattle.krieg_args.specs.declared.command.Command.{Command}
-use Rattle.krieg_args.specs.declared.command.Command.TheVariants.{Play, Lead, Refute}
+use Rattle.krieg_args.specs.declared.command.Command.TheVariants.{Play, Lead, Conduct, Refute}
 use Rattle.krieg_fen.specs.declared.forms.TheConstants.{MOST_LISTED}
 use Rattle.krieg_args.specs.declared.command.TheConstants.{MOST_FIND_MOVES}
 use Rattle.krieg_cli.specs.declared.commands.solve.Terms.{Terms}
 use Rattle.krieg_cli.specs.Play.{HasBegun}
-use Rattle.krieg_cli.specs.Lead.{HasLedText}
+use Rattle.krieg_cli.specs.Lead.{HasLedBy}
+use Rattle.krieg_cli.specs.Guides.{plan_guide_in, strategy_guide_in}
 use Rattle.krieg_cli.specs.Live.{calls_seats}
 use Rattle.krieg_board.specs.declared.men.Side.{Side}
 use Rattle.krieg_text.specs.Lines.{lines}
@@ -77,7 +78,7 @@ of_play (played.Vacant who) = Refused (NoSeat who)
 of_play (played.Seat who) = Refused (SeatFault who)
 of_play played.NoMemory = NoMemory
 
--- a game that a plan led and that was given up, against the player of that side
+-- a game that was led and given up, against the player of that side
 abbrev pub of_lead : Side → LeadFault → Ending
 of_lead who led.Seat = Refused (SeatFault who)
 of_lead who led.NoMemory = NoMemory
@@ -135,5 +136,6 @@ SolvesBy cut n budget limit text outcome = OfText (whole sheet_at (lines text)) 
 -- what becomes of the bench where a command made this of its text
 abbrev pub LeavesSeats : {X : Type 0} → (X → Account) → Command → Ending → List ℕ → Sides X → Sides X → Type 0
 LeavesSeats account (Play asks) NoMemory text entry now = (now ≡ entry) ⊎ HasBegun account asks entry now text
-LeavesSeats account (Lead asks number) NoMemory text entry now = (now ≡ entry) ⊎ HasLedText account asks number entry now text
+LeavesSeats account (Lead asks number) NoMemory text entry now = (now ≡ entry) ⊎ HasLedBy account asks number entry now (plan_guide_in text)
+LeavesSeats account (Conduct asks number) NoMemory text entry now = (now ≡ entry) ⊎ HasLedBy account asks number entry now (strategy_guide_in text)
 LeavesSeats account c ending text entry now = calls_seats ending (Some c) ≡ false → now ≡ entry

@@ -1,18 +1,18 @@
 -- What a run has read and written when it ends, and by what cause it ends so.
-use Rattle.std.specs.Prelude.{false, ℕ, Bool, ◌≡◌, ◌⊎◌, List, [], map, String, string_bytes, Option, Some, None, Result, Ok, Err}
+use Rattle.std.specs.Prelude.{false, ℕ, Bool, ◌≡◌, ◌⊎◌, List, map, String, string_bytes, Option, Some, None, Result, Ok, Err}
 use Rattle.std.specs.Io.KnownBytes.{Appends}
 use Rattle.krieg_ports.specs.Bytes.{AppendsPrefix}
 use Rattle.krieg_args.specs.Command.{command_of, find_of, takes_input}
 use Rattle.krieg_args.specs.declared.command.Command.{Command}
-use Rattle.krieg_args.specs.declared.command.Command.TheVariants.{Play, Lead}
+use Rattle.krieg_args.specs.declared.command.Command.TheVariants.{Play, Lead, Conduct}
 use Rattle.krieg_cli.specs.World.{Stream, World, FaultsRose, NoFault}
 use Rattle.krieg_cli.specs.Input.{WasRead, WasTaken, FailsToTake}
 use Rattle.krieg_cli.specs.Outcome.{LiveOutcome, HasOutcome}
 use Rattle.krieg_seats.specs.Accounts.{Account}
-use Rattle.krieg_play.specs.Teams.{team}
-use Rattle.krieg_play.specs.Played.{Sides, sides}
+use Rattle.krieg_play.specs.Played.{Sides}
 use Rattle.krieg_cli.specs.Play.{HasBegun}
-use Rattle.krieg_cli.specs.Lead.{HasLedText}
+use Rattle.krieg_cli.specs.Lead.{HasLedBy}
+use Rattle.krieg_cli.specs.Guides.{plan_guide_in, strategy_guide_in}
 use Rattle.krieg_cli.specs.Live.{LivesBy, calls_seats}
 use Rattle.krieg_cli.specs.Ending.{status, line_of}
 use Rattle.krieg_cli.specs.declared.refusal.Refusal.{Refusal}
@@ -70,13 +70,15 @@ abbrev pub Reports : Ending → Stream → Stream → Type 0
 Reports Answered before after = after ≡ before
 Reports ending before after = Gets (line_of ending) before after
 
--- What becomes of the bench: it is as it was, but where seats may have been called. Where memory ran out under `play` or
--- `lead` it is as it was, or the input was read whole, and a game was begun from the start, or by the plan file, that it spells.
+-- What becomes of the bench: it is as it was, but where seats may have been called. Where memory ran out under `play`,
+-- `lead` or `conduct` it is as it was, or the input was read whole, and a game was begun from the start, or by the guide, that it spells.
 abbrev pub LeavesBench : {X : Type 0} → (X → Account) → Option Command → Ending → Stream → Stream → Sides X → Sides X → Type 0
 LeavesBench account (Some (Play asks)) NoMemory input input' entry now =
     (now ≡ entry) ⊎ ((text : List ℕ) × WasRead input input' text × HasBegun account asks entry now text)
 LeavesBench account (Some (Lead asks number)) NoMemory input input' entry now =
-    (now ≡ entry) ⊎ ((text : List ℕ) × WasRead input input' text × HasLedText account asks number entry now text)
+    (now ≡ entry) ⊎ ((text : List ℕ) × WasRead input input' text × HasLedBy account asks number entry now (plan_guide_in text))
+LeavesBench account (Some (Conduct asks number)) NoMemory input input' entry now =
+    (now ≡ entry) ⊎ ((text : List ℕ) × WasRead input input' text × HasLedBy account asks number entry now (strategy_guide_in text))
 LeavesBench account asked ending input input' entry now = calls_seats ending asked ≡ false → now ≡ entry
 
 -- A run ended with this status: by an ending whose causes hold, which err tells, with the bench as it was or as the game left it.
@@ -86,11 +88,3 @@ pub record IsRun {X : Type 0} (account : X → Account) (entry now : Sides X) (a
   pub runs : Runs (LivesBy account entry now) ending asked before after
   pub reports : Reports ending err err'
   pub bench : LeavesBench account asked ending before.input after.input entry now
-
--- nobody sits on either side
-abbrev pub nobody : Sides Account
-nobody = sides (team [] []) (team [] [])
-
--- the same of a run for which nobody sits
-abbrev pub RunsAlone : Option Command → ℕ → World → World → Stream → Stream → Type 0
-RunsAlone asked code before after err err' = IsRun (λ account. account) nobody nobody asked code before after err err'

@@ -1,8 +1,10 @@
 //! What each command makes of its text, one file each, and one for `solve` and `find`. `asked`, `counted` and `recorded` have what several of them share.
 
+pub(crate) mod advise;
 pub(crate) mod asked;
 pub(crate) mod believe;
 pub(crate) mod check;
+pub(crate) mod conduct;
 pub(crate) mod counted;
 pub(crate) mod deny;
 pub(crate) mod job;

@@ -8,8 +8,8 @@ ghost use Rattle.krieg_cli.specs.Outcome as spec;
 use crate::answers::{CommandAnswer, in_pieces, whole};
 use crate::commands::solve::Terms;
 use crate::commands::{
-    believe, check, deny, job, judge, keys, lead, make, next, play, refute, san, share, solve,
-    umpire, unsan, why,
+    advise, believe, check, conduct, deny, job, judge, keys, lead, make, next, play, refute, san,
+    share, solve, umpire, unsan, why,
 };
 use crate::ending::Ending;
 use krieg_args::Command;
@@ -97,6 +97,8 @@ fn whole_outcome(
         Command::Play { asks } => play::answer(alloc, *asks, text, bench),
         Command::Lead { asks, number } => lead::answer(alloc, *asks, *number, text, bench),
         Command::Next => next::answer(alloc, text),
+        Command::Advise => advise::answer(alloc, text),
+        Command::Conduct { asks, number } => conduct::answer(alloc, *asks, *number, text, bench),
         Command::Make { what, number } => make::answer(alloc, *what, *number),
         Command::Job { number } => job::answer(alloc, *number),
     }

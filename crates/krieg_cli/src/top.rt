@@ -5,12 +5,12 @@ ghost use Rattle.krieg_cli.specs.World.{stream, world};
 ghost use Rattle.krieg_play.specs.Benches.{bench_sides};
 ghost use Rattle.krieg_cli.specs.Parts.{ending_of};
 ghost use Rattle.krieg_cli.specs.Live.{LivesBy};
-ghost use Rattle.krieg_cli.specs.Top.{Ends, Runs, IsRun, RunsAlone, LeavesBench, nobody, asked_by, asked_to_find, reads};
+ghost use Rattle.krieg_cli.specs.Top.{Ends, Runs, IsRun, LeavesBench, asked_by, asked_to_find, reads};
 ghost use Rattle.krieg_cli.specs.WholeGames.{UmpiresGames, BelievesGames};
 ghost use Rattle.krieg_cli.specs.WholePlans.{ChecksSolutions};
 ghost use Rattle.krieg_cli.specs.WholeStrategies.{JudgesStrategies};
 ghost use Rattle.krieg_cli.specs.WholeRefutations.{RefutesSheets, DeniesRefutations};
-ghost use Rattle.krieg_cli.specs.LedGames.{LeadsToMate};
+ghost use Rattle.krieg_cli.specs.LedGames.{LeadsToMate, ConductsToMate};
 ghost use Rattle.krieg_cli.specs.WholeRecords.{ReturnsGames};
 ghost use Rattle.krieg_cli.specs.Headline.{SolvesSheets, FindsSheets, ListsKeys, SharesPlans};
 ghost use Rattle.krieg_cli.specs.Complete.{Completes};
@@ -204,7 +204,7 @@ pub fn run<S: Source, O: Sink, E: Sink>(
 
 /// Does all that the program `krieg_find` does, over streams, and gives the status with which it ends.
 ///
-/// The commands, `find`, `keys` and `share` on any sheet and `judge` on any strategy, with numbers that go further than those of `solve`:
+/// The commands, `find`, `keys` and `share` on any sheet and the others on any strategy, with numbers that go further than those of `solve`:
 /// [`MOST_FIND_MOVES`](krieg_args::MOST_FIND_MOVES) and [`MOST_FIND_UNITS`](krieg_args::MOST_FIND_UNITS):
 ///
 /// - `find MOVES BUDGET LIMIT`, or these numbers alone, for which `out` gets what `solve` writes: the plan file of the canonical
@@ -214,7 +214,10 @@ pub fn run<S: Source, O: Sink, E: Sink>(
 /// - `keys MOVES BUDGET LIMIT`, for which it gets, for each thing that may be heard before the first own turn, the least number of own
 ///   moves and every try with which that many are enough; or the line `none MOVES` by the same rule;
 /// - `share MOVES BUDGET LIMIT`, for which it gets the plan of `find` as a strategy, or the line `none MOVES` by the same rule;
-/// - `judge BUDGET`, for which it gets the worst case of the plan that the strategy unfolds to.
+/// - `judge BUDGET`, for which it gets the worst case of the plan that the strategy unfolds to;
+/// - `advise`, on a strategy and the lines that its player heard, for which it gets what he does next who follows that plan;
+/// - `conduct ASKS NUMBER ..`, for which that plan leads a game from the listed position with that number against the first of
+///   White's seats, whatever his colour, and it gets their session in the strategy's dialect.
 ///
 /// The status tells how it ended, and is that of [`run`] by the same causes:
 ///
@@ -230,11 +233,14 @@ pub fn run<S: Source, O: Sink, E: Sink>(
 /// | 8 | of `find`, `keys` and `share` only where the budget is less than a search may take; of `judge` exactly where it is less than the judgement takes |
 /// | 13 | of `judge`, exactly where the plan does not mate all that is listed within the number that the strategy claims |
 /// | 14 | of `find` and `share`, exactly where the best plan is too large for a text or for a strategy; the budget is not spent then |
+/// | 20 | of `conduct`, exactly where the strategy lists fewer positions than its number |
+/// | 12 | of `conduct`, exactly where the opponent has no seat, and only where a call of his seat failed |
 /// | 9 | where a read failed, with no more bytes read than an input may have |
 /// | 10 | where a write to `out` failed, which has got a front part of the answer then |
 /// | 11 | for want of memory |
 ///
-/// At each status but 0 `err` gets one line, and at each but 0 and 10 `out` gets nothing.
+/// At each status but 0 `err` gets one line, and at each but 0 and 10 `out` gets nothing. The bench is as it was for every command
+/// but `conduct`, and for that one as [`run`] leaves it for `lead`.
 #[tactic(auto, using(krieg_args::proofs::Ranges::find_in_range))]
 pub fn run_find<S: Source, O: Sink, E: Sink>(
     alloc: Global,
@@ -242,11 +248,14 @@ pub fn run_find<S: Source, O: Sink, E: Sink>(
     input: &mut S,
     out: &mut O,
     err: &mut E,
+    bench: &mut Bench,
 ) -> u8
     ensures ends { let seen = world S.left S.faults O.got O.faults in
         let heard = stream E.got E.faults in
-        RunsAlone (asked_to_find words.now) result (seen input.old out.old) (seen input.new out.new)
-        (heard err.old) (heard err.new) }
+        IsRun (λ b. (⟦<dyn Seat as Seat>⟧ b.vtable).account b.value)
+        (bench_sides bench.old) (bench_sides bench.new) (asked_to_find words.now)
+        result
+        (seen input.old out.old) (seen input.new out.new) (heard err.old) (heard err.new) }
 
     // Where the words are no command, the input stays as it is.
     ensures unread { reads (asked_to_find words.now) ≡ false → input.new ≡ input.old }
@@ -275,12 +284,19 @@ pub fn run_find<S: Source, O: Sink, E: Sink>(
         JudgesStrategies (asked_to_find words.now) result
         (seen input.old out.old) (seen input.new out.new) (heard err.old) (heard err.new) }
 
+    // Given a strategy whose plan mates what is listed, `conduct` writes a game that is won.
+    ensures wins { let seen = world S.left S.faults O.got O.faults in
+        ConductsToMate (asked_to_find words.now) result
+        (seen input.old out.old) (seen input.new out.new) }
+
     // Where the input asks for an answer and the budget is as much as a search may take, there is one, or memory ran out.
     ensures completes { let seen = world S.left S.faults O.got O.faults in
-        Completes (λ account. account) nobody nobody (asked_to_find words.now) result
+        Completes (λ b. (⟦<dyn Seat as Seat>⟧ b.vtable).account b.value)
+        (bench_sides bench.old) (bench_sides bench.new)
+        (asked_to_find words.now) result
         (seen input.old out.old) (seen input.new out.new) }
 {
-    let ending = obey(alloc, find_of(words), input, out, &mut Bench::new(alloc));
+    let ending = obey(alloc, find_of(words), input, out, bench);
     report(&ending, err);
     ending.status()
 }

@@ -1,7 +1,5 @@
 -- How a game that a plan leads begins.
-use Rattle.std.proofs.Common.{◌≡◌, ℕ, ◌-◌, ◌≤◌, List, [], ◌∷◌, ◌++◌, length, refl, sym, ap, subst, ◌∙◌, inl, arith, get_or, Result, Ok, Err, Some}
-use Rattle.std.specs.Prelude.{slice_get}
-use Rattle.std.proofs.lemmas.Option.{slice_get_read}
+use Rattle.std.proofs.Common.{◌≡◌, ℕ, List, [], ◌∷◌, ◌++◌, refl, sym, ap, subst, ◌∙◌, inl, arith, Result, Ok, Err}
 use Rattle.krieg_robot.proofs.Common.{other, Pos, Side, opening, told_line, Line, Opens, GameState, heard, Stop, Account, new_account, Guidance, Follower, IsLed, IsBroken, hearing, BothTold, IsUnderway, LeadFault, NoMemory}
 use Rattle.krieg_play.proofs.Serving.{serves_none, only_hears}
 use Rattle.krieg_robot.proofs.Breaking.{IsShort, breaks_by}
@@ -73,10 +71,6 @@ module _ {r : Result (Unit {0}) LeadFault} {start : Pos} {a a' : Account} {s s' 
 pub never_begun : (f : Guidance) (start : Pos) (n : ℕ) (a : Account) → IsBroken f start n a a NoMemory
 never_begun f start n a =
     unasked f start n a a NoMemory [] (heard f.dialect start [] (other f.side)) (record { serves = serves_none a; counts = omega arith; leaves = refl; few = omega arith }) refl
-
--- the listed position with a number, counted from 1
-pub listed : (ps qs : List Pos) (n : ℕ) (p : Pos) → ps ≡ qs → 1 ≤ n → n ≤ length qs → p ≡ get_or ps (n - 1) p → slice_get qs (n - 1) ≡ Some p
-listed ps qs n p same some within read = subst (λ xs. slice_get xs (n - 1) ≡ Some p) same (slice_get_read ps (length ps) (n - 1) p refl (omega (arith, ap length same)) read)
 
 -- the same game by the names of a caller
 pub led_from : (f g : Guidance) (start : Pos) (n k : ℕ) (a b : Account) (game : GameState) (stop : Stop) → g ≡ f → n ≡ k → IsLed g start n a b game stop → IsLed f start k a b game stop

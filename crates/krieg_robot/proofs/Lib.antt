@@ -1,4 +1,5 @@
 mod Common
+pub mod ListedAt
 mod Following
 mod Numbered
 mod HeardMore

@@ -1,19 +1,29 @@
-ghost use Rattle.std.specs.Prelude.{◌≡◌, ℕ, List, [], map, string_bytes, codes};
-ghost use Rattle.krieg_cli.specs.Top.{Gets};
+ghost use Rattle.std.specs.Prelude.{◌≡◌, ℕ, List, [], map, option_map, string_bytes, codes};
+ghost use Rattle.krieg_cli.specs.Top.{Gets, IsRun};
 ghost use Rattle.krieg_cli.specs.World.{stream, world};
 ghost use Rattle.krieg_seats.specs.Accounts.{Account, new_account};
 ghost use Rattle.krieg_seats.specs.Streams.{stream_account};
+ghost use Rattle.krieg_play.specs.Benches.{bench_sides};
 ghost use Rattle.krieg_play.specs.Teams.{team};
 ghost use Rattle.krieg_play.specs.Played.{sides};
-ghost use Rattle.krieg_shell.specs.Start.{both_at, one_at, StartsAt, StartsWith, Starts, StartsFind};
+ghost use Rattle.krieg_shell.specs.Start.{asked_of, both_at, one_at, opponent_of, players_of, StartsAt, StartsWith, Starts};
 
-use krieg_cli::{Bench, SeatFiles, lead_files, run, run_find, seat_files};
+use krieg_cli::{Bench, SeatFiles, conduct_files, lead_files, run, run_find, seat_files};
 use krieg_ports::{Sink, Source, write_all};
 use krieg_seats::{Seat, StreamSeat};
 use std::alloc::Global;
 use std::env::Env;
 use std::fs::{File, Files};
 use std::{env, fs, io};
+
+/// The programs.
+#[derive(Clone, Copy)]
+enum Program {
+    /// `krieg`.
+    Krieg,
+    /// `krieg_find`.
+    Find,
+}
 
 /// The words after the program's name. Where one of them is not UTF-8 they are the words of no command, as
 /// no words are.
@@ -76,12 +86,58 @@ fn tell_memory<E: Sink>(err: &mut E) -> u8
     11
 }
 
-/// What a run is made of: where players come from, memory, and the words after the program's name.
+/// What a run is made of: the program, where players come from, memory, and the words after the program's name.
 #[derive(Drop)]
 struct Call<'a, P> {
+    program: Program,
     players: &'a P,
     alloc: Global,
     words: &'a [String],
+}
+
+/// The files of two players, where the words ask for them.
+fn players_of(program: Program, words: &[String]) -> Option<SeatFiles<'_>>
+    ensures { option_map (λ files. record
+        { win = files.win.now; wout = files.wout.now; bin = files.bin.now; bout = files.bout.now })
+        result
+        ≡ players_of program (map string_bytes words.now) }
+{
+    match program {
+        Program::Krieg => seat_files(words),
+        Program::Find => None,
+    }
+}
+
+/// The files of an opponent, where the words ask for one.
+fn opponent_of(program: Program, words: &[String]) -> Option<(&str, &str)>
+    ensures { option_map (λ files. (files.0.now, files.1.now)) result
+        ≡ opponent_of program (map string_bytes words.now) }
+{
+    match program {
+        Program::Krieg => lead_files(words),
+        Program::Find => conduct_files(words),
+    }
+}
+
+/// A run of the program with these players.
+fn run_at<P: Players, S: Source, O: Sink, E: Sink>(
+    call: &Call<'_, P>,
+    input: &mut S,
+    out: &mut O,
+    err: &mut E,
+    bench: &mut Bench,
+) -> u8
+    ensures { let seen = world S.left S.faults O.got O.faults in
+        let heard = stream E.got E.faults in
+        IsRun (λ b. (⟦<dyn Seat as Seat>⟧ b.vtable).account b.value)
+        (bench_sides bench.old) (bench_sides bench.new)
+        (asked_of call.now.program (map string_bytes call.now.words.now)) result
+        (seen input.old out.old) (seen input.new out.new) (heard err.old) (heard err.new) }
+{
+    match call.program {
+        Program::Krieg => run(call.alloc, call.words, input, out, err, bench),
+        Program::Find => run_find(call.alloc, call.words, input, out, err, bench),
+    }
 }
 
 /// A run of these words with one player on each side: White's is made of the first two files, and Black's of the last
@@ -101,8 +157,8 @@ fn start_playing<P: Players, S: Source, O: Sink, E: Sink>(
           wout = files.now.wout.now;
           bin = files.now.bin.now;
           bout = files.now.bout.now;
-        })) (map string_bytes call.now.words.now) result (seen input.old out.old)
-        (seen input.new out.new)
+        })) (asked_of call.now.program (map string_bytes call.now.words.now)) result
+        (seen input.old out.old) (seen input.new out.new)
         (heard err.old) (heard err.new) }
 {
     let alloc = call.alloc;
@@ -120,7 +176,7 @@ fn start_playing<P: Players, S: Source, O: Sink, E: Sink>(
     if bench.white.push(white).is_err() || bench.black.push(black).is_err() {
         return tell_memory(err);
     }
-    let status = run(alloc, call.words, input, out, err, &mut bench);
+    let status = run_at(call, input, out, err, &mut bench);
     bench.dismiss();
     status
 }
@@ -136,7 +192,8 @@ fn start_leading<P: Players, S: Source, O: Sink, E: Sink>(
 ) -> u8
     ensures { let seen = world S.left S.faults O.got O.faults in
         let heard = stream E.got E.faults in
-        StartsAt (one_at P.made (tries.now, told.now)) (map string_bytes call.now.words.now) result
+        StartsAt (one_at P.made (tries.now, told.now))
+        (asked_of call.now.program (map string_bytes call.now.words.now)) result
         (seen input.old out.old) (seen input.new out.new)
         (heard err.old) (heard err.new) }
 {
@@ -149,24 +206,24 @@ fn start_leading<P: Players, S: Source, O: Sink, E: Sink>(
     if bench.white.push(opponent).is_err() {
         return tell_memory(err);
     }
-    run(call.alloc, call.words, input, out, err, &mut bench)
+    run_at(call, input, out, err, &mut bench)
 }
 
 /// A run of these words with nobody on the bench.
-fn start_alone<S: Source, O: Sink, E: Sink>(
-    alloc: Global,
-    words: &[String],
+fn start_alone<P: Players, S: Source, O: Sink, E: Sink>(
+    call: &Call<'_, P>,
     input: &mut S,
     out: &mut O,
     err: &mut E,
 ) -> u8
     ensures { let seen = world S.left S.faults O.got O.faults in
         let heard = stream E.got E.faults in
-        StartsAt (sides (team [] []) (team [] [])) (map string_bytes words.now) result
+        StartsAt (sides (team [] []) (team [] []))
+        (asked_of call.now.program (map string_bytes call.now.words.now)) result
         (seen input.old out.old) (seen input.new out.new)
         (heard err.old) (heard err.new) }
 {
-    run(alloc, words, input, out, err, &mut Bench::new(alloc))
+    run_at(call, input, out, err, &mut Bench::new(call.alloc))
 }
 
 /// Does all that the program does with these words, over these streams, with the players that they ask for.
@@ -178,17 +235,42 @@ fn start_with<P: Players, S: Source, O: Sink, E: Sink>(
 ) -> u8
     ensures { let seen = world S.left S.faults O.got O.faults in
         let heard = stream E.got E.faults in
-        StartsWith P.made (map string_bytes call.now.words.now) result (seen input.old out.old)
-        (seen input.new out.new)
+        StartsWith P.made call.now.program (map string_bytes call.now.words.now) result
+        (seen input.old out.old) (seen input.new out.new)
         (heard err.old) (heard err.new) }
 {
-    if let Some(files) = seat_files(call.words) {
+    if let Some(files) = players_of(call.program, call.words) {
         return start_playing(call, &files, input, out, err);
     }
-    match lead_files(call.words) {
+    match opponent_of(call.program, call.words) {
         Some((tries, told)) => start_leading(call, tries, told, input, out, err),
-        None => start_alone(call.alloc, call.words, input, out, err),
+        None => start_alone(call, input, out, err),
     }
+}
+
+/// A start of the program.
+fn start_program<R: Env + AllocGlobal + Files<File = File>, S: Source, O: Sink, E: Sink>(
+    rt: &R,
+    program: Program,
+    input: &mut S,
+    out: &mut O,
+    err: &mut E,
+) -> u8
+    ensures { let seen = world S.left S.faults O.got O.faults in
+        let heard = stream E.got E.faults in
+        Starts program result (seen input.old out.old) (seen input.new out.new)
+        (heard err.old) (heard err.new) }
+{
+    let Ok(words) = words(rt) else {
+        return tell_memory(err);
+    };
+    let call = Call {
+        program,
+        players: &FilePlayers { rt },
+        alloc: rt.alloc(),
+        words: &words,
+    };
+    start_with(&call, input, out, err)
 }
 
 /// Does all that the program does with the words that the system gives, over these streams, and gives the
@@ -205,26 +287,19 @@ pub fn start<R: Env + AllocGlobal + Files<File = File>, S: Source, O: Sink, E: S
 ) -> u8
     ensures { let seen = world S.left S.faults O.got O.faults in
         let heard = stream E.got E.faults in
-        Starts result (seen input.old out.old) (seen input.new out.new)
+        Starts Program.Krieg result (seen input.old out.old) (seen input.new out.new)
         (heard err.old) (heard err.new) }
 {
-    let Ok(words) = words(rt) else {
-        return tell_memory(err);
-    };
-    let call = Call {
-        players: &FilePlayers { rt },
-        alloc: rt.alloc(),
-        words: &words,
-    };
-    start_with(&call, input, out, err)
+    start_program(rt, Program::Krieg, input, out, err)
 }
 
 /// Does all that the program `krieg_find` does with the words that the system gives, over these streams, and gives the status
 /// with which it ends.
 ///
-/// It is the status of `krieg_cli::run_find`; where memory is not found for the words, it is 11, with the same line on `err`, and
-/// nothing was read or written to `out`.
-pub fn start_find<R: Env + AllocGlobal, S: Source, O: Sink, E: Sink>(
+/// It is the status of `krieg_cli::run_find`, with the opponent at the two files where the words are those of `conduct`, and nobody
+/// for other words; where memory is not found for the words or the opponent, it is 11, with the same line on `err`, and nothing was
+/// read or written to `out`.
+pub fn start_find<R: Env + AllocGlobal + Files<File = File>, S: Source, O: Sink, E: Sink>(
     rt: &R,
     input: &mut S,
     out: &mut O,
@@ -232,11 +307,8 @@ pub fn start_find<R: Env + AllocGlobal, S: Source, O: Sink, E: Sink>(
 ) -> u8
     ensures { let seen = world S.left S.faults O.got O.faults in
         let heard = stream E.got E.faults in
-        StartsFind result (seen input.old out.old) (seen input.new out.new)
+        Starts Program.Find result (seen input.old out.old) (seen input.new out.new)
         (heard err.old) (heard err.new) }
 {
-    let Ok(words) = words(rt) else {
-        return tell_memory(err);
-    };
-    run_find(rt.alloc(), &words, input, out, err)
+    start_program(rt, Program::Find, input, out, err)
 }

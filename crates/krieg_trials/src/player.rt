@@ -2,8 +2,9 @@
 
 use krieg_board::{Move, NoMemory, Side};
 use krieg_fen::read_move;
+use krieg_plan::PlanFile;
 use krieg_planfile::read_plan;
-use krieg_robot::PlanSeat;
+use krieg_robot::GuidedSeat;
 use krieg_seats::{Say, ScriptSeat, Seat, SeatFault, StreamSeat};
 use krieg_text::TextFault;
 use krieg_words::Line;
@@ -106,9 +107,12 @@ pub fn sending(
 }
 
 /// A seat that follows the plan file of this text, or none where it spells none.
-pub fn following(alloc: Global, text: &Vec<u8>) -> Result<Option<Box<PlanSeat>>, NoMemory> {
+pub fn following(
+    alloc: Global,
+    text: &Vec<u8>,
+) -> Result<Option<Box<GuidedSeat<PlanFile>>>, NoMemory> {
     match read_plan(alloc, text) {
-        Ok(file) => Ok(Some(Box::new(alloc, PlanSeat::new(alloc, file))?)),
+        Ok(file) => Ok(Some(Box::new(alloc, GuidedSeat::new(alloc, file))?)),
         Err(TextFault::At { .. }) => Ok(None),
         Err(TextFault::NoMemory) => Err(NoMemory),
     }

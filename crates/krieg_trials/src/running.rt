@@ -54,7 +54,7 @@ fn seats_of(alloc: Global, bench: &Bench) -> Result<Vec<u8>, NoMemory> {
 
 /// Whether words that begin with this one are those of the program `krieg_find`.
 fn is_for_find(first: &str) -> bool {
-    first == "find" || first == "keys" || first == "share" || first == "judge"
+    matches!(first, "find" | "keys" | "share" | "judge" | "advise" | "conduct")
 }
 
 /// Runs the words with what is given, by the program whose words they are.
@@ -90,7 +90,7 @@ pub fn come(alloc: Global, words: &[String], given: RunInput) -> Result<RunResul
     }
     let status = match words.first() {
         Some(first) if is_for_find(first.as_str()) => {
-            run_find(alloc, words, &mut input, &mut out, &mut err)
+            run_find(alloc, words, &mut input, &mut out, &mut err, &mut bench)
         }
         _ => run(alloc, words, &mut input, &mut out, &mut err, &mut bench),
     };

@@ -1,6 +1,5 @@
-ghost use Rattle.std.specs.Prelude.{◌≡◌, ◌<◌, ◌≤◌, Err, IfOk, IfErr, vec_len};
+ghost use Rattle.std.specs.Prelude.{◌≡◌, ◌<◌, ◌≤◌, Err, IfOk, IfErr, length, vec_len};
 ghost use Rattle.krieg_plan.specs.OneTurn.{IsOneTurn};
-ghost use Rattle.krieg_planfile.specs.PlanFiles.{state_of};
 ghost use Rattle.krieg_play.specs.Calls.{FirstChanges};
 ghost use Rattle.krieg_robot.specs.Laws.{Mates};
 ghost use Rattle.krieg_robot.specs.Leading.{LedFrom, BrokenFrom, IsWon};
@@ -14,10 +13,9 @@ use crate::commands::recorded::recorded;
 use crate::ending::Ending;
 use crate::refusal::Refusal;
 use krieg_board::{NoMemory, Side};
-use krieg_plan::PlanFile;
 use krieg_planfile::read_plan;
 use krieg_play::Bench;
-use krieg_robot::{LeadFault, Led, lead};
+use krieg_robot::{Guide, LeadFault, Led, lead};
 use krieg_seats::Seat;
 use std::alloc::Global;
 
@@ -31,58 +29,59 @@ fn ending_by(who: Side, fault: LeadFault) -> Ending
     }
 }
 
-/// Lets the plan lead a game against the first of these seats.
-fn lead_first(
+/// Lets the guide lead a game against the first of these seats.
+fn lead_first<G: Guide>(
     alloc: Global,
-    file: PlanFile,
+    guide: G,
     number: usize,
     asks: usize,
     seats: &mut Vec<Box<dyn Seat>>,
 ) -> Result<Led, LeadFault>
-    requires turn { IsOneTurn file.list.items }
+    requires turn { IsOneTurn (G.guidance guide).list }
     requires some { 1 ≤ number }
-    requires listed { number ≤ vec_len file.list }
+    requires listed { number ≤ length (G.guidance guide).list }
     requires seated { 0 < vec_len seats.old }
     ensures led { IfOk result (λ led. FirstChanges
-        (λ x y. LedFrom file number asks (account x) (account y) led) seats.old.items
-        seats.new.items) }
-    ensures won { IfOk result (λ led. Mates file → IsWon file led.game led.stop) }
+        (λ x y. LedFrom (G.guidance guide) number asks (account x) (account y) led)
+        seats.old.items seats.new.items) }
+    ensures won { IfOk result (λ led. Mates (G.guidance guide)
+        → IsWon (G.guidance guide) led.game led.stop) }
     ensures broken { IfErr result (λ fault. FirstChanges
-        (λ x y. BrokenFrom file number asks (account x) (account y) fault) seats.old.items
-        seats.new.items) }
+        (λ x y. BrokenFrom (G.guidance guide) number asks (account x) (account y) fault)
+        seats.old.items seats.new.items) }
 {
-    lead(alloc, file, number, &mut seats[0], asks)
+    lead(alloc, guide, number, &mut seats[0], asks)
 }
 
-/// What `lead` answers to a plan file: the session of the game that it leads.
-fn answer_to(
+/// What is answered to a guide: the session of the game that it leads.
+pub(crate) fn answer_to<G: Guide>(
     alloc: Global,
     asks: u64,
     number: u64,
-    file: PlanFile,
+    guide: G,
     bench: &mut Bench,
 ) -> Result<Vec<u8>, Ending>
-    requires turn { IsOneTurn file.list.items }
+    requires turn { IsOneTurn (G.guidance guide).list }
     requires some { 1 ≤ number }
     ensures outcome { Decides (λ answer. answer.items) result
         (spec.LeadsFrom (λ b. (⟦<dyn Seat as Seat>⟧ b.vtable).account b.value) asks number
-        (bench_sides bench.old) (bench_sides bench.new) (state_of file)) }
+        (bench_sides bench.old) (bench_sides bench.new) (G.guidance guide)) }
     ensures memory { result ≡ Err Ending.NoMemory
         → spec.HasLed (λ b. (⟦<dyn Seat as Seat>⟧ b.vtable).account b.value)
         asks number
-        (bench_sides bench.old) (bench_sides bench.new) (state_of file) }
+        (bench_sides bench.old) (bench_sides bench.new) (G.guidance guide) }
 {
     let number = number as usize;
-    if file.list.len() < number {
+    if guide.list().len() < number {
         return Err(Ending::Refused(Refusal::NoSuchPosition));
     }
-    let opponent = file.side.other();
+    let opponent = guide.side().other();
     if bench.white.is_empty() {
         return Err(Ending::Refused(Refusal::NoSeat(opponent)));
     }
-    let dialect = file.dialect;
-    let start = file.list[number - 1];
-    let led = match lead_first(alloc, file, number, asks as usize, &mut bench.white) {
+    let dialect = guide.dialect();
+    let start = guide.list()[number - 1];
+    let led = match lead_first(alloc, guide, number, asks as usize, &mut bench.white) {
         Ok(led) => led,
         Err(fault) => return Err(ending_by(opponent, fault)),
     };

@@ -7,9 +7,8 @@ ghost use Rattle.krieg_cli.specs.Next as spec;
 use crate::ending::Ending;
 use krieg_board::NoMemory;
 use krieg_fen::put_move;
-use krieg_plan::PlanFile;
 use krieg_planfile::{HeardPlan, read_heard_plan};
-use krieg_robot::{Next, PlanSeat};
+use krieg_robot::{Guide, GuidedSeat, Next};
 use krieg_seats::Seat;
 use krieg_text::Text;
 use krieg_words::Line;
@@ -43,12 +42,12 @@ fn next_text(alloc: Global, next: Next) -> Result<Vec<u8>, NoMemory>
     Ok(answer)
 }
 
-/// The seat of the plan, once it was told these lines.
-fn told_seat(alloc: Global, file: PlanFile, heard: &[Line]) -> Result<PlanSeat, NoMemory>
-    ensures file { IfOk result (λ seat. seat.file ≡ file) }
+/// The seat of the guide, once it was told these lines.
+fn told_seat<G: Guide>(alloc: Global, guide: G, heard: &[Line]) -> Result<GuidedSeat<G>, NoMemory>
+    ensures guide { IfOk result (λ seat. seat.guide ≡ G.guidance guide) }
     ensures heard { IfOk result (λ seat. seat.account.heard ≡ heard.now) }
 {
-    let mut seat = PlanSeat::new(alloc, file);
+    let mut seat = GuidedSeat::new(alloc, guide);
     for line in heard {
         match seat.tell(*line) {
             Ok(()) => {}
@@ -58,12 +57,23 @@ fn told_seat(alloc: Global, file: PlanFile, heard: &[Line]) -> Result<PlanSeat, 
     Ok(seat)
 }
 
+/// The text that says what he does next who follows the guide and heard these lines.
+pub(crate) fn said_next<G: Guide>(
+    alloc: Global,
+    guide: G,
+    heard: &[Line],
+) -> Result<Vec<u8>, NoMemory>
+    ensures { IfOk result (λ text. text.items ≡ spec.said_next (G.guidance guide) heard.now) }
+{
+    let seat = told_seat(alloc, guide, heard)?;
+    next_text(alloc, seat.next())
+}
+
 /// What `next` answers to the text of a plan file and of what its player heard.
 pub(crate) fn answer(alloc: Global, text: Vec<u8>) -> Result<Vec<u8>, Ending>
     ensures { Decides (λ answer. answer.items) result (spec.SaysNext text.items) }
 {
     let HeardPlan { file, heard } = read_heard_plan(alloc, &text)?;
     drop(text);
-    let seat = told_seat(alloc, file, &heard)?;
-    Ok(next_text(alloc, seat.next())?)
+    Ok(said_next(alloc, file, &heard)?)
 }

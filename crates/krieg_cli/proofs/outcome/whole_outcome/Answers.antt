@@ -17,3 +17,9 @@ returns-in-Lead-clause-outcome g c = rw c.in-Lead.is c.answer-in-Lead.ensures.ou
 
 pub returns-in-Lead-clause-bench : goal.returns-in-Lead-clause-bench
 returns-in-Lead-clause-bench g c = rw c.in-Lead.is c.answer-in-Lead.ensures.bench
+
+pub returns-in-Conduct-clause-outcome : goal.returns-in-Conduct-clause-outcome
+returns-in-Conduct-clause-outcome g c = rw c.in-Conduct.is c.answer-in-Conduct.ensures.outcome
+
+pub returns-in-Conduct-clause-bench : goal.returns-in-Conduct-clause-bench
+returns-in-Conduct-clause-bench g c = rw c.in-Conduct.is c.answer-in-Conduct.ensures.bench

@@ -1,7 +1,8 @@
 use Rattle.std.proofs.Common.{◌≡◌, ap, arith}
 use Rattle.std.specs.Prelude.{max}
 use Rattle.krieg_plan.proofs.Listed.{get_in}
-use Rattle.krieg_robot.proofs.Beginning.{never_begun, listed, led_from, broken_from}
+use Rattle.krieg_robot.proofs.Beginning.{never_begun, led_from, broken_from}
+use Rattle.krieg_robot.proofs.ListedAt.{listed}
 use Rattle.krieg_robot.proofs.Winning.{mating_plan_wins}
 use Rattle.krieg_robot.proofs.leading.lead.Goals as goal
 

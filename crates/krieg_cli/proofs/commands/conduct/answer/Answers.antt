@@ -1,0 +1,13 @@
+use Rattle.std.proofs.Common.{ℕ, Vec, Global}
+use Rattle.krieg_strategyfile.specs.Strategies.{state_of}
+use Rattle.krieg_cli.proofs.Benches.{seats_conducted}
+use Rattle.krieg_cli.proofs.Checking.{one_turn}
+use Rattle.krieg_cli.proofs.commands.conduct.answer.Goals as goal
+
+pub answer_to-requires-clause-turn : goal.answer_to-requires-clause-turn
+answer_to-requires-clause-turn g c = one_turn c.in-Ok.strategy.side c.in-Ok.strategy.list.items c.in-Ok.ensures.written.alike
+
+pub returns-clause-bench : goal.returns-clause-bench
+returns-clause-bench g c =
+    seats_conducted _ _ _ (λ (answer : Vec ℕ Global). answer.items) c.args.asks c.args.number c.args.text.items (state_of c.in-Ok.strategy) c.answer_to.result
+    (rw c.deref.ensures.value at c.in-Ok.ensures.reading.exact) c.answer_to.ensures.outcome c.answer_to.ensures.memory
