@@ -119,7 +119,7 @@ pub use Rattle.krieg_robot.specs.declared.led.LeadFault.{LeadFault}
 pub use Rattle.krieg_robot.specs.declared.led.Led.{Led}
 pub use Rattle.krieg_make.specs.MadeSessions.{made_session}
 pub use Rattle.krieg_make.specs.MadeSheets.{made_list, made_sheet}
-pub use Rattle.krieg_args.specs.Command.{command_of, find_of, takes_input}
+pub use Rattle.krieg_args.specs.Command.{takes_input}
 pub use Rattle.krieg_args.specs.declared.command.Command.{Command}
 pub use Rattle.krieg_args.specs.declared.command.Command.TheVariants.{Advise, Believe, Check, Conduct, Deny, Find, Job, Judge, Keys, Lead, Make, Next, Play, Refute, San, Share, Solve, Umpire, Unsan, Why}
 pub use Rattle.krieg_args.specs.declared.command.MadeInput.{MadeInput}
@@ -143,12 +143,12 @@ pub use Rattle.krieg_cli.specs.Input.{WasRead, WasTaken}
 unfoldable pub use Rattle.krieg_cli.specs.Job.{summary_text}
 pub use Rattle.krieg_cli.specs.Job.{IsFound, Plans, Summarizes, checked_line, found_lines, mates_line, summary_lines}
 pub use Rattle.krieg_cli.specs.Guides.{guided, plan_guide, plan_guide_in, strategy_guide, strategy_guide_in}
-pub use Rattle.krieg_cli.specs.Lead.{ConductsText, HasLed, HasLedBy, IsGivenUp, IsLedTo, Leads, LeadsFrom, LeadsWhole, OpponentChanges}
+pub use Rattle.krieg_cli.specs.Lead.{HasLed, HasLedBy, IsGivenUp, IsLedTo, Leads, LeadsFrom, LeadsWhole, OpponentChanges}
 pub use Rattle.krieg_cli.specs.LedGames.{ConductsToMate, IsWonGame, LeadsToMate}
 pub use Rattle.krieg_cli.specs.Limits.{AreLimits, FitInputs}
 unfoldable pub use Rattle.krieg_cli.specs.Keys.{keys_text}
 pub use Rattle.krieg_cli.specs.Keys.{AreKeysAt, AreSetKeys, Begins, IsKeysText, Keyed, KeyedFor, TellsKeys, heard_lines, try_line}
-pub use Rattle.krieg_cli.specs.Live.{LivesBy, is_live}
+pub use Rattle.krieg_cli.specs.Live.{LivesBy}
 pub use Rattle.krieg_cli.specs.Make.{Makes}
 pub use Rattle.krieg_cli.specs.Next.{Advised, Says}
 pub use Rattle.krieg_cli.specs.Outcome.{HasOutcome, LiveOutcome}
