@@ -1,12 +1,12 @@
-ghost use Rattle.std.specs.Prelude.{◌≡◌, ℕ, List, [], map, option_map, string_bytes, codes};
-ghost use Rattle.krieg_cli.specs.Top.{Gets, IsRun};
+ghost use Rattle.std.specs.Prelude.{◌≡◌, ℕ, List, [], map, option_map, string_bytes, None, codes};
+ghost use Rattle.krieg_args.specs.Command.{command_of};
+ghost use Rattle.krieg_cli.specs.Top.{Gets};
 ghost use Rattle.krieg_cli.specs.World.{stream, world};
 ghost use Rattle.krieg_seats.specs.Accounts.{Account, new_account};
 ghost use Rattle.krieg_seats.specs.Streams.{stream_account};
-ghost use Rattle.krieg_play.specs.Benches.{bench_sides};
 ghost use Rattle.krieg_play.specs.Teams.{team};
 ghost use Rattle.krieg_play.specs.Played.{sides};
-ghost use Rattle.krieg_shell.specs.Start.{asked_of, both_at, one_at, opponent_of, players_of, StartsAt, StartsWith, Starts};
+ghost use Rattle.krieg_shell.specs.Start.{asked_of, both_at, one_at, seated, StartsAt, StartsWith, Starts};
 
 use krieg_cli::{Bench, SeatFiles, conduct_files, lead_files, run, run_find, seat_files};
 use krieg_ports::{Sink, Source, write_all};
@@ -95,51 +95,6 @@ struct Call<'a, P> {
     words: &'a [String],
 }
 
-/// The files of two players, where the words ask for them.
-fn players_of(program: Program, words: &[String]) -> Option<SeatFiles<'_>>
-    ensures { option_map (λ files. record
-        { win = files.win.now; wout = files.wout.now; bin = files.bin.now; bout = files.bout.now })
-        result
-        ≡ players_of program (map string_bytes words.now) }
-{
-    match program {
-        Program::Krieg => seat_files(words),
-        Program::Find => None,
-    }
-}
-
-/// The files of an opponent, where the words ask for one.
-fn opponent_of(program: Program, words: &[String]) -> Option<(&str, &str)>
-    ensures { option_map (λ files. (files.0.now, files.1.now)) result
-        ≡ opponent_of program (map string_bytes words.now) }
-{
-    match program {
-        Program::Krieg => lead_files(words),
-        Program::Find => conduct_files(words),
-    }
-}
-
-/// A run of the program with these players.
-fn run_at<P: Players, S: Source, O: Sink, E: Sink>(
-    call: &Call<'_, P>,
-    input: &mut S,
-    out: &mut O,
-    err: &mut E,
-    bench: &mut Bench,
-) -> u8
-    ensures { let seen = world S.left S.faults O.got O.faults in
-        let heard = stream E.got E.faults in
-        IsRun (λ b. (⟦<dyn Seat as Seat>⟧ b.vtable).account b.value)
-        (bench_sides bench.old) (bench_sides bench.new)
-        (asked_of call.now.program (map string_bytes call.now.words.now)) result
-        (seen input.old out.old) (seen input.new out.new) (heard err.old) (heard err.new) }
-{
-    match call.program {
-        Program::Krieg => run(call.alloc, call.words, input, out, err, bench),
-        Program::Find => run_find(call.alloc, call.words, input, out, err, bench),
-    }
-}
-
 /// A run of these words with one player on each side: White's is made of the first two files, and Black's of the last
 /// two.
 fn start_playing<P: Players, S: Source, O: Sink, E: Sink>(
@@ -157,7 +112,7 @@ fn start_playing<P: Players, S: Source, O: Sink, E: Sink>(
           wout = files.now.wout.now;
           bin = files.now.bin.now;
           bout = files.now.bout.now;
-        })) (asked_of call.now.program (map string_bytes call.now.words.now)) result
+        })) (command_of (map string_bytes call.now.words.now)) result
         (seen input.old out.old) (seen input.new out.new)
         (heard err.old) (heard err.new) }
 {
@@ -176,7 +131,7 @@ fn start_playing<P: Players, S: Source, O: Sink, E: Sink>(
     if bench.white.push(white).is_err() || bench.black.push(black).is_err() {
         return tell_memory(err);
     }
-    let status = run_at(call, input, out, err, &mut bench);
+    let status = run(alloc, call.words, input, out, err, &mut bench);
     bench.dismiss();
     status
 }
@@ -206,7 +161,10 @@ fn start_leading<P: Players, S: Source, O: Sink, E: Sink>(
     if bench.white.push(opponent).is_err() {
         return tell_memory(err);
     }
-    run_at(call, input, out, err, &mut bench)
+    match call.program {
+        Program::Krieg => run(call.alloc, call.words, input, out, err, &mut bench),
+        Program::Find => run_find(call.alloc, call.words, input, out, err, &mut bench),
+    }
 }
 
 /// A run of these words with nobody on the bench.
@@ -223,7 +181,33 @@ fn start_alone<P: Players, S: Source, O: Sink, E: Sink>(
         (seen input.old out.old) (seen input.new out.new)
         (heard err.old) (heard err.new) }
 {
-    run_at(call, input, out, err, &mut Bench::new(call.alloc))
+    let mut bench = Bench::new(call.alloc);
+    match call.program {
+        Program::Krieg => run(call.alloc, call.words, input, out, err, &mut bench),
+        Program::Find => run_find(call.alloc, call.words, input, out, err, &mut bench),
+    }
+}
+
+/// A run of these words with an opponent at these files, or with nobody.
+fn start_opposed<P: Players, S: Source, O: Sink, E: Sink>(
+    call: &Call<'_, P>,
+    opponent: Option<(&str, &str)>,
+    input: &mut S,
+    out: &mut O,
+    err: &mut E,
+) -> u8
+    ensures { let seen = world S.left S.faults O.got O.faults in
+        let heard = stream E.got E.faults in
+        StartsAt (seated P.made None
+        (option_map (λ files. (files.0.now, files.1.now)) opponent.entry))
+        (asked_of call.now.program (map string_bytes call.now.words.now)) result
+        (seen input.old out.old) (seen input.new out.new)
+        (heard err.old) (heard err.new) }
+{
+    match opponent {
+        Some((tries, told)) => start_leading(call, tries, told, input, out, err),
+        None => start_alone(call, input, out, err),
+    }
 }
 
 /// Does all that the program does with these words, over these streams, with the players that they ask for.
@@ -239,12 +223,12 @@ fn start_with<P: Players, S: Source, O: Sink, E: Sink>(
         (seen input.old out.old) (seen input.new out.new)
         (heard err.old) (heard err.new) }
 {
-    if let Some(files) = players_of(call.program, call.words) {
-        return start_playing(call, &files, input, out, err);
-    }
-    match opponent_of(call.program, call.words) {
-        Some((tries, told)) => start_leading(call, tries, told, input, out, err),
-        None => start_alone(call, input, out, err),
+    match call.program {
+        Program::Krieg => match seat_files(call.words) {
+            Some(files) => start_playing(call, &files, input, out, err),
+            None => start_opposed(call, lead_files(call.words), input, out, err),
+        },
+        Program::Find => start_opposed(call, conduct_files(call.words), input, out, err),
     }
 }
 
