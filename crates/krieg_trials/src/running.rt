@@ -54,7 +54,10 @@ fn seats_of(alloc: Global, bench: &Bench) -> Result<Vec<u8>, NoMemory> {
 
 /// Whether words that begin with this one are those of the program `krieg_find`.
 fn is_for_find(first: &str) -> bool {
-    matches!(first, "find" | "keys" | "share" | "judge" | "advise" | "conduct")
+    matches!(
+        first,
+        "find" | "keys" | "share" | "judge" | "advise" | "conduct"
+    )
 }
 
 /// Runs the words with what is given, by the program whose words they are.
