@@ -10,6 +10,7 @@ pub mod KeyNumbers
 pub mod PackedKeys
 pub mod OutcomeSets
 pub mod Pools
+mod Stepping
 mod Between
 mod Buckets
 pub mod Classed

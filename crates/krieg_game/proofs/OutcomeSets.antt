@@ -1,5 +1,5 @@
 -- Sets of outcomes: repeats may be dropped at any time, and lists with the same members have the same classes.
-use Rattle.std.proofs.Common.{◌≡◌, List, [], ◌∷◌, inl, inr, map, ap, subst, ◌∙◌, refl}
+use Rattle.std.proofs.Common.{◌≡◌, List, [], ◌∷◌, inl, inr, map, ap, subst, sym, ◌∙◌, refl}
 use Rattle.std.specs.Cmp.{IsTotalOrder}
 use Rattle.std.specs.declared.cmp.Ordering.TheVariants.{Equal}
 use Rattle.std.proofs.lemmas.Cmp.{on_total, then_total}
@@ -31,6 +31,11 @@ same_outcomes os ps f g =
     same_set outcome_lt outcome_order (outcome_set os) (outcome_set ps) (as_set_ascending outcome_lt outcome_order os) (as_set_ascending outcome_lt outcome_order ps)
     (λ o i. in_as_set outcome_lt outcome_order o ps (f o (as_set_in outcome_lt outcome_order o os i)))
     (λ o i. in_as_set outcome_lt outcome_order o os (g o (as_set_in outcome_lt outcome_order o ps i)))
+
+-- a list has what another with the same set has
+pub same_in : (os ps : List KeyedPosition) (o : KeyedPosition) → outcome_set os ≡ outcome_set ps → In o ps → In o os
+unfolding outcome_set
+same_in os ps o e i = as_set_in outcome_lt outcome_order o os (subst (In o) (sym e) (in_as_set outcome_lt outcome_order o ps i))
 
 -- two functions that agree in a list
 pub map_agree : {X Y : Type 0} (f g : X → Y) (xs : List X) → ((x : X) → In x xs → f x ≡ g x) → map f xs ≡ map g xs

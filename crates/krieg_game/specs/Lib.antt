@@ -9,3 +9,4 @@ pub mod ClassLaws
 pub mod KeyNumbers
 pub mod PackedKey
 pub mod Buckets
+pub mod Steps

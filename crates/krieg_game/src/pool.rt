@@ -1,119 +1,76 @@
-ghost use Rattle.std.specs.Prelude.{◌≡◌, ◌∷◌, ◌++◌, [], List, max, map, IfOk, OnOk};
+ghost use Rattle.std.specs.Prelude.{◌≡◌, ◌∷◌, ◌++◌, [], List, map, IfOk, OnOk};
 ghost use Rattle.krieg_moves.specs.Moves as list;
 ghost use Rattle.krieg_words.specs.WordsReading.{silent};
+ghost use Rattle.krieg_words.specs.declared.dialects.Dialect.{Dialect as Saying};
+ghost use Rattle.krieg_words.specs.Words.{Said};
 ghost use Rattle.krieg_game.specs.Chess as spec;
 ghost use Rattle.krieg_game.specs.Outcomes.{KeyedPosition};
 ghost use Rattle.krieg_game.specs.Classes.{class_pair, classes_in};
 ghost use Rattle.krieg_game.specs.ClassLaws.{opened};
-ghost use Rattle.krieg_game.specs.Buckets.{AreBuckets, IsPlace, Holds, bucket_class, outcomes_in, wanted_room};
+ghost use Rattle.krieg_game.specs.Buckets.{Holds};
+ghost use Rattle.krieg_game.specs.Steps.{AreReached, AreFor, told_before};
 
-use crate::bucket::Bucket;
 use crate::classes::Class;
 use crate::heard::Heard;
+use crate::kept_outcomes::KeptOutcomes;
+use crate::steps::{Before, Steps};
 use krieg_board::{Move, NoMemory, Position};
-use krieg_pack::{Packed, pack};
+use krieg_pack::pack;
 use krieg_words::{Dialect, SILENT, Words, make_move, opening, told};
 use std::alloc::Global;
 use std::marker::Model;
 
-/// With more than four times as many outcomes, repeats are dropped for the first time.
-const FIRST_ROOM: usize = 16_384;
-
-/// What comes of a try, in a bucket for each thing that may be heard. Repeats are dropped whenever they have become many.
+/// What comes of a try. Repeats are dropped whenever they have become many, and steps of a king who is alone are made once.
 ///
-/// In contracts it is the list of the outcomes that it keeps, bucket by bucket.
+/// In contracts it is the list of the outcomes that it keeps, by what is heard.
 #[derive(Drop)]
 pub struct Pool {
-    /// They ascend by what is heard.
-    buckets: Vec<Bucket>,
-    /// The place of the bucket that was used last.
-    last: usize,
-    /// How many outcomes it keeps.
-    kept: usize,
-    /// With more than four times as many, repeats are dropped.
-    room: usize,
-    /// How many positions the first bucket gets room for at once.
-    first_room: usize,
+    kept: KeptOutcomes,
+    /// Of the member that came last.
+    steps: Steps,
 }
 
 impl Model for Pool {
     ghost use Rattle.std.specs.Prelude.{List};
     ghost use Rattle.krieg_game.specs.Outcomes.{KeyedPosition};
-    ghost use Rattle.krieg_game.specs.Buckets.{AreBuckets, outcomes_in};
+    ghost use Rattle.krieg_game.specs.Steps.{AreReached};
 
     ghost Value = { List KeyedPosition };
 
-    ghost view = { λ p. outcomes_in p.buckets.items };
+    ghost view = { λ p. p.kept };
 
-    ghost invariant = { λ p. AreBuckets p.buckets.items };
+    ghost invariant = { λ p. AreReached p.steps p.kept };
 }
 
-/// The place of the bucket for what is heard, or else where it would stand. The bucket that was used last is tried
-/// first.
-fn place_of(buckets: &[Bucket], last: usize, heard: &Heard) -> Result<usize, usize>
-    requires { AreBuckets buckets.now }
-    ensures { IsPlace buckets.now heard.now result }
-{
-    if last < buckets.len() && buckets[last].heard.is(heard) {
-        return Ok(last);
-    }
-    buckets.binary_search_by(|bucket| bucket.heard.compare(heard))
-}
-
-/// Adds a position to the bucket at the place, or begins one there with so much room. With an error nothing is added.
-fn put_at(
+/// Adds what comes of each of the replies, which are the legal moves of `p`: what the dialect tells of it, behind what it tells of the
+/// move that led there, and the position after it.
+#[tactic(auto, using(krieg_moves::proofs::MoveLists::moves_legal))]
+fn add_replies(
     alloc: Global,
-    buckets: &mut Vec<Bucket>,
-    place: Result<usize, usize>,
-    heard: Heard,
-    position: Packed,
-    room: usize,
+    before: &Before,
+    p: &Position,
+    replies: &[Move],
+    steps: &mut Steps,
+    kept: &mut KeptOutcomes,
 ) -> Result<(), NoMemory>
-    requires are { AreBuckets buckets.old.items }
-    requires place { IsPlace buckets.old.items heard place }
-    ensures are { AreBuckets buckets.new.items }
-    ensures added { OnOk result (Holds (outcomes_in buckets.new.items)
-        (outcomes_in buckets.old.items ++ (heard, position) ∷ [])) }
+    requires replies { replies.now ≡ list.moves p.now }
+    requires told { (d : Saying) × (own : Said) × (before.now ≡ told_before d own) }
+    requires steps { AreFor steps.old before.now p.now }
+    requires reached { AreReached steps.old kept.old }
+    ensures added { OnOk result ((d : Saying) (own : Said) → before.now ≡ told_before d own →
+        Holds kept.new (kept.old ++ map (spec.outcome d own p.now) (list.moves p.now))) }
+    ensures reached { OnOk result (AreReached steps.new kept.new) }
 {
-    match place {
-        Ok(at) => buckets[at].push(position)?,
-        Err(at) => buckets.insert(at, Bucket::of(alloc, heard, position, room)?)?,
+    for r in replies {
+        if steps.has(r) {
+            continue;
+        }
+        let made = make_move(p, *r);
+        let reply = told(before.dialect, made.words);
+        kept.put(alloc, Heard::new(&before.own, &reply), pack(&made.position))?;
+        steps.note(p, r);
     }
     Ok(())
-}
-
-/// The room for the next time, where so many are left of all after repeats were dropped: the same, but at least so much
-/// that before the next time at least as many outcomes come as were kept, and three times as many where fewer than one in
-/// eight was a repeat, since a sort does little there.
-fn next_room(all: usize, left: usize, room: usize) -> usize
-    ensures { result ≡ max room (wanted_room all left) }
-{
-    let few = all.saturating_sub(left) < all / 8;
-    room.max(if few { left } else { left / 2 })
-}
-
-/// Drops repeats in all buckets, and tells how many outcomes are left. It takes no memory.
-fn trim_all(buckets: &mut Vec<Bucket>) -> usize
-    requires { AreBuckets buckets.old.items }
-    ensures are { AreBuckets buckets.new.items }
-    ensures same { Holds (outcomes_in buckets.new.items) (outcomes_in buckets.old.items) }
-{
-    let mut left = 0usize;
-    for i in 0..buckets.len() {
-        left = left.saturating_add(buckets[i].trim());
-    }
-    left
-}
-
-/// A class for each bucket.
-fn classes_of(alloc: Global, buckets: Vec<Bucket>) -> Result<Vec<Class>, NoMemory>
-    ensures { IfOk result (λ v. map class_pair v.items ≡ map bucket_class buckets.items) }
-{
-    let mut classes = Vec::with_capacity(alloc, buckets.len())?;
-    for bucket in buckets {
-        classes.push(bucket.into_class())?;
-    }
-    Ok(classes)
 }
 
 impl Pool {
@@ -130,42 +87,13 @@ impl Pool {
         ensures { result ≡ [] }
     {
         Pool {
-            buckets: Vec::new(alloc),
-            last: 0,
-            kept: 0,
-            room: FIRST_ROOM,
-            first_room,
+            kept: KeptOutcomes::with_room(alloc, first_room),
+            steps: Steps::none(),
         }
-    }
-
-    /// Adds a position to the bucket for what is heard.
-    fn put(&mut self, alloc: Global, heard: Heard, position: Packed) -> Result<(), NoMemory>
-        ensures { OnOk result (Holds self.new (self.old ++ (heard, position) ∷ [])) }
-    {
-        let place = place_of(self.buckets.as_slice(), self.last, &heard);
-        self.last = match place {
-            Ok(at) | Err(at) => at,
-        };
-        self.kept = self.kept.saturating_add(1);
-        let room = std::mem::take(&mut self.first_room);
-        put_at(alloc, &mut self.buckets, place, heard, position, room)
-    }
-
-    /// Drops repeats where they may be many.
-    fn trim(&mut self)
-        ensures { Holds self.new self.old }
-    {
-        if self.kept / 4 <= self.room {
-            return;
-        }
-        let left = trim_all(&mut self.buckets);
-        self.room = next_room(self.kept, left, self.room);
-        self.kept = left;
     }
 
     /// Adds what comes of a move of those words that led to `p`, for each of the replies, which are the legal moves of
     /// `p`: what the dialect tells of both, and the position after the reply.
-    #[tactic(auto, using(krieg_moves::proofs::MoveLists::moves_legal))]
     pub fn add(
         &mut self,
         alloc: Global,
@@ -178,13 +106,15 @@ impl Pool {
         ensures { OnOk result (Holds self.new
             (self.old ++ map (spec.outcome d own.now p.now) (list.moves p.now))) }
     {
-        let own = told(d, *own);
-        for r in replies {
-            let made = make_move(p, *r);
-            let reply = told(d, made.words);
-            self.put(alloc, Heard::new(&own, &reply), pack(&made.position))?;
-        }
-        self.trim();
+        let before = Before {
+            dialect: d,
+            own: told(d, *own),
+        };
+        let mut steps = self.steps.at(&before, p);
+        self.steps = Steps::none();
+        add_replies(alloc, &before, p, replies, &mut steps, &mut self.kept)?;
+        self.kept.trim();
+        self.steps = steps;
         Ok(())
     }
 
@@ -194,7 +124,8 @@ impl Pool {
         ensures { OnOk result (Holds self.new (self.old ++ opened d silent p.now ∷ [])) }
     {
         let opens = told(d, opening(p));
-        self.put(alloc, Heard::new(&opens, &SILENT), pack(p))
+        self.steps = Steps::none();
+        self.kept.put(alloc, Heard::new(&opens, &SILENT), pack(p))
     }
 
     /// The classes of the outcomes, ascending.
@@ -202,6 +133,7 @@ impl Pool {
         ensures { IfOk result (λ v. (os : List KeyedPosition) → Holds self os →
             map class_pair v.items ≡ classes_in os) }
     {
-        classes_of(alloc, self.buckets)
+        let Pool { kept, steps: _ } = self;
+        kept.into_classes(alloc)
     }
 }

@@ -1,5 +1,5 @@
 ghost use Rattle.krieg_moves.specs.Guarding.{IsGuard};
-ghost use Rattle.std.specs.Prelude.{◌≡◌, not, length};
+ghost use Rattle.std.specs.Prelude.{◌≡◌, true, not, length};
 ghost use Rattle.std.specs.List.{list_any};
 ghost use Rattle.krieg_board.specs.Sets.{has};
 ghost use Rattle.krieg_board.specs.Squares.{some_square};
@@ -11,11 +11,26 @@ use crate::target::targets;
 use krieg_board::{Position, king_of, know_valid, lowest, without_lowest};
 use krieg_rays::is_attacked;
 
+/// With so few men one that is no king is asked first whether he has a legal move.
+const FEW_MEN: u32 = 3;
+
+/// Whether the first of these men has a legal move.
+fn first_has(p: &Position, guard: &Guard, men: u64) -> bool
+    requires { IsGuard p.now guard.now }
+    ensures { result ≡ true → list_any (spec.is_legal p.now) list.all_moves ≡ true }
+{
+    men != 0 && targets(p, guard, lowest(men)) != 0
+}
+
 fn has_any(p: &Position, guard: &Guard) -> bool
     requires { IsGuard p.now guard.now }
     ensures { result ≡ list_any (spec.is_legal p.now) list.all_moves }
 {
-    let mut rest = p.bits().men_of(p.side());
+    let own = p.bits().men_of(p.side());
+    if own.count_ones() <= FEW_MEN && first_has(p, guard, own & !p.bits().sets().kings) {
+        return true;
+    }
+    let mut rest = own;
     while rest != 0 {
         let from = lowest(rest);
         if targets(p, guard, from) != 0 {

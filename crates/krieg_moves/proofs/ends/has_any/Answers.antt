@@ -15,5 +15,5 @@ loop-rest-preserved c =
 
 pub returns : goal.returns
 returns c =
-    sym (no_move c.args.p.now c.loop-rest.rest c.men_of-rest.result (omega (arith, c.loop-rest-test.false)) c.loop-rest.invariant
-    (λ k h. c.men_of-rest.ensures k h ∙ (λ i. is_of (c.side.ensures.value i) (man_at (c.bits.ensures.value i) k))))
+    sym (no_move c.args.p.now c.loop-rest.rest c.men_of-own.result (omega (arith, c.loop-rest-test.false)) c.loop-rest.invariant
+    (λ k h. c.men_of-own.ensures k h ∙ (λ i. is_of (c.side.ensures.value i) (man_at (c.bits.ensures.value i) k))))

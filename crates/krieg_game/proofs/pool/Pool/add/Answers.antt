@@ -1,14 +1,15 @@
-use Rattle.std.proofs.Common.{◌∙◌, ap}
-use Rattle.krieg_game.proofs.Common.{told, KeyedPosition, outcome}
-use Rattle.krieg_game.proofs.Pools.{holds_one}
+use Rattle.krieg_game.proofs.OutcomeSets.{same_in}
+use Rattle.krieg_game.proofs.Stepping.{reached_still}
 use Rattle.krieg_game.proofs.pool.Pool.add.Goals as goal
 
-pub loop-r-preserved : goal.loop-r-preserved
-loop-r-preserved c =
-    let own = c.told-own.ensures.value in
-    let reply = c.told-reply.ensures.value ∙ ap (told c.args.d) c.make_move-made.ensures.words in
-    let to = c.pack.ensures.value ∙ c.make_move-made.ensures.position in
-    let heard = c.new.ensures ∙ (λ i. (own i, reply i)) in
-    let o : KeyedPosition = (c.new.result, c.pack.result) in
-    holds_one (outcome c.args.d c.args.own.now c.args.p.now) c.put.new.self c.loop-r.self c.args.self.now c.args.replies.now c.loop-r.r-index c.r-item.result o c.loop-r-test.true c.r-item.is (λ i. (heard i, to i)) c.in_ok-put.ensures
-    c.loop-r.invariant
+pub add_replies-requires-clause-told : goal.add_replies-requires-clause-told
+add_replies-requires-clause-told c = (c.args.d, c.args.own.now, λ i. record { dialect = c.args.d; own = c.told.ensures.value i })
+
+pub add_replies-requires-clause-reached : goal.add_replies-requires-clause-reached
+add_replies-requires-clause-reached c = c.at-steps.ensures.reached _ c.self.invariant
+
+pub invariant_of-self : goal.invariant_of-self
+invariant_of-self c = c.none-self-inside.ensures.reached _
+
+pub invariant_of-self-2 : goal.invariant_of-self-2
+invariant_of-self-2 c = reached_still _ _ _ (λ o i. same_in _ _ o c.trim.ensures i) c.in_ok-add_replies.ensures.reached

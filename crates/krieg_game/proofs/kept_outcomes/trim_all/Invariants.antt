@@ -1,5 +1,5 @@
 use Rattle.krieg_game.proofs.Common.{AreBuckets, Holds, outcomes_in}
-use Rattle.krieg_game.proofs.pool.trim_all.Given as goal
+use Rattle.krieg_game.proofs.kept_outcomes.trim_all.Given as goal
 
 abbrev pub invariant-loop-i : goal.invariant-loop-i
 invariant-loop-i l = record {

@@ -1,6 +1,6 @@
 use Rattle.std.proofs.Common.{◌<◌, length, ◌∙◌, rules}
 use Rattle.krieg_game.proofs.Buckets.{trim_one}
-use Rattle.krieg_game.proofs.pool.trim_all.Goals as goal
+use Rattle.krieg_game.proofs.kept_outcomes.trim_all.Goals as goal
 
 pub loop-i-preserved : goal.loop-i-preserved
 loop-i-preserved c =

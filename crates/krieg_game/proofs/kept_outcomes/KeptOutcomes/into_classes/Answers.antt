@@ -3,7 +3,7 @@ use Rattle.std.proofs.lemmas.Result.{IfOk-weaker}
 use Rattle.krieg_game.proofs.Common.{classes_in, outcomes_in}
 use Rattle.krieg_game.proofs.Pools.{held_classes}
 use Rattle.krieg_game.proofs.Buckets.{bucket_classes}
-use Rattle.krieg_game.proofs.pool.Pool.into_classes.Goals as goal
+use Rattle.krieg_game.proofs.kept_outcomes.KeptOutcomes.into_classes.Goals as goal
 
 pub returns : goal.returns
 returns c =

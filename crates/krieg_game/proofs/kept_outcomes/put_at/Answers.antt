@@ -1,7 +1,7 @@
 use Rattle.std.proofs.Common.{◌++◌, ◌∷◌, [], subst, sym}
 use Rattle.krieg_game.proofs.Common.{AreBuckets, IsPlace, Holds, outcomes_in}
 use Rattle.krieg_game.proofs.Buckets.{put_more, put_none, put_new}
-use Rattle.krieg_game.proofs.pool.put_at.Goals as goal
+use Rattle.krieg_game.proofs.kept_outcomes.put_at.Goals as goal
 
 pub returns-in_err-push-in-Ok-clause-are : goal.returns-in_err-push-in-Ok-clause-are
 returns-in_err-push-in-Ok-clause-are c =

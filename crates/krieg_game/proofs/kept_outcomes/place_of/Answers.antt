@@ -6,7 +6,7 @@ use Rattle.krieg_theory.proofs.Ascending.{same_eq}
 use Rattle.krieg_game.proofs.Common.{key_cmp, key_lt, Bucket}
 use Rattle.krieg_game.proofs.KeyLaws.{key_order}
 use Rattle.krieg_game.proofs.Buckets.{heard_in, place_found}
-use Rattle.krieg_game.proofs.pool.place_of.Goals as goal
+use Rattle.krieg_game.proofs.kept_outcomes.place_of.Goals as goal
 
 pub returns-then-is : goal.returns-then-is
 returns-then-is c =

@@ -1,7 +1,7 @@
 use Rattle.std.proofs.Common.{◌≡◌, ◌++◌, map, length}
 use Rattle.std.specs.Vec.Iter.{into_iter_items, into_iter_len}
 use Rattle.krieg_game.proofs.Common.{class_pair, bucket_class}
-use Rattle.krieg_game.proofs.pool.classes_of.Given as goal
+use Rattle.krieg_game.proofs.kept_outcomes.classes_of.Given as goal
 
 abbrev pub invariant-loop-bucket : goal.invariant-loop-bucket
 invariant-loop-bucket l = record {
