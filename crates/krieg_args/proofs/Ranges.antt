@@ -1,13 +1,14 @@
 -- What holds of the commands that each row makes of numbers in their ranges holds of each command of a program.
 use Rattle.std.proofs.Common.{◌≡◌, ℕ, ◌≤◌, Bool, true, false, ◌&&◌, leb, cond, List, [], ◌∷◌, Option, Some, None, Ok, Err, refl, subst, rules}
 use Rattle.std.proofs.lemmas.Bool.{leb-true, and_parts}
+use Rattle.std.proofs.lemmas.Option.{option_and_then_some}
 use Rattle.std.specs.Option.{option_or}
-use Rattle.std.specs.Prelude.{option_map, option_and_then}
+use Rattle.std.specs.Prelude.{option_map}
 use Rattle.std.specs.Result.{result_ok}
 use Rattle.std.specs.Str.{bytes_eq}
 use Rattle.krieg_text.specs.Decimals.{is_plain, plain_value}
 use Rattle.krieg_text.specs.declared.number.NumberFault.TheVariants.{NotPlain, OutOfRange}
-use Rattle.krieg_args.specs.Kinds.{Kind, Number, Whose, Made, File, Value, Values, read, read_all, Makes, made, made_of, find_search}
+use Rattle.krieg_args.specs.Kinds.{Kind, Number, Whose, Made, File, Value, Values, read, read_first, read_all, Makes, made, made_of, find_search}
 use Rattle.krieg_args.specs.Rows.{Row, command_in, krieg_rows, find_rows}
 use Rattle.krieg_args.specs.Command.{command_of, find_of, IsInRange}
 use Rattle.krieg_args.specs.declared.command.Command.{Command}
@@ -37,18 +38,19 @@ within Whose word v e = tt
 within Made word v e = tt
 within File word v e = tt
 
+first_within : (k : Kind) (words : List (List ℕ)) (x : Value k × List (List ℕ)) → read_first k words ≡ Some x → IsWithin k x.0
+unfolding read_first
+first_within k [] x e = absurd cc
+first_within k (word ∷ words) x e = option_and_then_some _ (read k word) x e (λ v is same.
+    let pair : (v, words) ≡ x = cc in
+    subst (λ (y : Value k × List (List ℕ)). IsWithin k y.0) pair (within k word v is))
+
 all_within : (ks : List Kind) (words : List (List ℕ)) (v : Values ks) → read_all ks words ≡ Some v → AreWithin ks v
 all_within [] words v e = tt
-all_within (k ∷ ks) [] v e = absurd cc
-all_within (k ∷ ks) (word ∷ words) v e = go (read k word) (within k word) (read_all ks words) (all_within ks words) e
-  where
-    go : (r : Option (Value k)) → ((x : Value k) → r ≡ Some x → IsWithin k x) → (rs : Option (Values ks)) → ((xs : Values ks) → rs ≡ Some xs → AreWithin ks xs) →
-        option_and_then (λ x. option_and_then (λ xs. Some (x, xs)) rs) r ≡ Some v → AreWithin (k ∷ ks) v
-    go None first rs others e = absurd cc
-    go (Some x) first None others e = absurd cc
-    go (Some x) first (Some xs) others e =
-        let same : (x, xs) ≡ v = cc in
-        subst (AreWithin (k ∷ ks)) same (first x refl, others xs refl)
+all_within (k ∷ ks) words v e = option_and_then_some _ (read_first k words) v e (λ x first rest.
+    option_and_then_some _ (read_all ks x.1) v rest (λ xs others same.
+    let pair : (x.0, xs) ≡ v = cc in
+    subst (AreWithin (k ∷ ks)) pair (first_within k words x first, all_within ks x.1 xs others)))
 
 module _ (P : Command → Type 0) where
   -- it holds of the commands that are made of numbers in their ranges

@@ -50,14 +50,21 @@ infixl 10 ◌>>=◌
 abbrev pub ◌>>=◌ : {A B : Type 0} → Option A → (A → Option B) → Option B
 x >>= f = option_and_then f x
 
+-- what the first word stands for, where it is of the kind, and the words behind it
+unfoldable pub read_first : (k : Kind) → List (List ℕ) → Option (Value k × List (List ℕ))
+read_first k [] = None
+read_first k (word ∷ words) = do
+  v ← read k word
+  Some (v, words)
+
 -- what the words stand for, where they are as many as the kinds, and each is of its kind
 abbrev pub read_all : (ks : List Kind) → List (List ℕ) → Option (Values ks)
 read_all [] [] = Some tt
-read_all (k ∷ ks) (word ∷ words) = do
-  v ← read k word
-  vs ← read_all ks words
-  Some (v, vs)
-read_all _ _ = None
+read_all [] (word ∷ words) = None
+read_all (k ∷ ks) words = do
+  first ← read_first k words
+  vs ← read_all ks first.1
+  Some (first.0, vs)
 
 -- what is made of a value for each of these kinds
 abbrev pub Makes : Type 0 → List Kind → Type 0

@@ -17,6 +17,16 @@ pub struct SeatFiles<'a> {
     pub bout: &'a str,
 }
 
+/// The words behind the name of that command.
+#[tactic(auto, unfolding(crate::specs::Files::behind))]
+fn behind<'a>(command: &[u8], words: &'a [String]) -> Option<&'a [String]>
+    ensures { option_map (λ rest. map string_bytes rest.now) result
+        ≡ spec.behind command.now (map string_bytes words.now) }
+{
+    let (name, words) = words.split_first()?;
+    is_name(command, name.as_bytes()).then_some(words)
+}
+
 /// The files that the words name, exactly where they are those of a well-formed `play`.
 pub fn seat_files(words: &[String]) -> Option<SeatFiles<'_>>
     ensures { option_map (λ files. record
@@ -24,13 +34,17 @@ pub fn seat_files(words: &[String]) -> Option<SeatFiles<'_>>
         result
         ≡ spec.seat_files (map string_bytes words.now) }
 {
-    match words {
-        [name, words @ ..] if is_name(b"play", name.as_bytes()) => {
-            let (_, files) = played_words(words)?;
-            Some(files)
-        }
-        _ => None,
-    }
+    let (_, files) = played_words(behind(b"play", words)?)?;
+    Some(files)
+}
+
+/// Those of a game that the command of that name leads: where the opponent's tries come from, and where he is told.
+fn led_files<'a>(command: &[u8], words: &'a [String]) -> Option<(&'a str, &'a str)>
+    ensures { option_map (λ files. (files.0.now, files.1.now)) result
+        ≡ spec.led_files command.now (map string_bytes words.now) }
+{
+    let (_, _, files) = led_words(behind(command, words)?)?;
+    Some(files)
 }
 
 /// The files that the words name, exactly where they are those of a well-formed `lead`: where the opponent's tries come
@@ -39,13 +53,7 @@ pub fn lead_files(words: &[String]) -> Option<(&str, &str)>
     ensures { option_map (λ files. (files.0.now, files.1.now)) result
         ≡ spec.lead_files (map string_bytes words.now) }
 {
-    match words {
-        [name, words @ ..] if is_name(b"lead", name.as_bytes()) => {
-            let (_, _, files) = led_words(words)?;
-            Some(files)
-        }
-        _ => None,
-    }
+    led_files(b"lead", words)
 }
 
 /// The same of a well-formed `conduct`.
@@ -53,11 +61,5 @@ pub fn conduct_files(words: &[String]) -> Option<(&str, &str)>
     ensures { option_map (λ files. (files.0.now, files.1.now)) result
         ≡ spec.conduct_files (map string_bytes words.now) }
 {
-    match words {
-        [name, words @ ..] if is_name(b"conduct", name.as_bytes()) => {
-            let (_, _, files) = led_words(words)?;
-            Some(files)
-        }
-        _ => None,
-    }
+    led_files(b"conduct", words)
 }

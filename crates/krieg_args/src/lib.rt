@@ -2,7 +2,8 @@
 //!
 //! A command is a row of `specs/Rows`, where each program has its list: a name, what the words behind it are (`Kinds`), and the command
 //! that is made of them. `Command` says which words are one, and which commands read an input, and `Files` which files words name.
-//! `words` reads what stands behind a name, and `rows` has a function for each row. The readers take no memory.
+//! `words` reads what stands behind a name, one word after the other: each reader hands on the words behind its own.
+//! `rows` has a function for each row. The readers take no memory.
 //!
 //! ```
 //! let mut words = Vec::new(alloc);

@@ -1,13 +1,13 @@
 ghost use Rattle.std.specs.Prelude.{◌≡◌, [], ◌∷◌, map, string_bytes};
 ghost use Rattle.krieg_args.specs.Kinds.{made_of, Whose, Made, listed, budget, find_budget, seed, search, find_search, played, led};
-ghost use Rattle.krieg_args.specs.Rows.{command_in, find_rows};
+ghost use Rattle.krieg_args.specs.Rows.{command_in, krieg_rows, find_rows};
 ghost use Rattle.krieg_args.specs.declared.command.Command.TheVariants.{Solve, Check, Refute, Deny, Believe, Why, Umpire, Play, Lead, Find, Keys, Share, Judge, Conduct, Make, Job};
 ghost use Rattle.krieg_args.specs.Command as spec;
 
 use crate::command::Command;
 use crate::words::{
-    budget_of, find_budget_of, find_numbers, led_words, limit_of, made_input, played_words,
-    search_numbers, seed_of, whose,
+    budget_of, find_budget_of, find_numbers, led_words, limit_of, made_input, no_more,
+    played_words, search_numbers, seed_of, whose,
 };
 use krieg_text::is_name;
 
@@ -15,42 +15,34 @@ use krieg_text::is_name;
 fn alone(command: Command, words: &[String]) -> Option<Command>
     ensures { result ≡ made_of [] command (map string_bytes words.now) }
 {
-    if words.is_empty() {
-        Some(command)
-    } else {
-        None
-    }
+    no_more(words)?;
+    Some(command)
 }
 
+#[tactic(auto, unfolding(crate::specs::Kinds::read_first))]
 fn umpire(words: &[String]) -> Option<Command>
     ensures { result ≡ made_of (Whose ∷ []) Umpire (map string_bytes words.now) }
 {
-    match words {
-        [who] => Some(Command::Umpire { who: whose(who)? }),
-        _ => None,
-    }
+    let (word, words) = words.split_first()?;
+    let who = whose(word)?;
+    no_more(words)?;
+    Some(Command::Umpire { who })
 }
 
 fn believe(words: &[String]) -> Option<Command>
     ensures { result ≡ made_of (listed ∷ []) Believe (map string_bytes words.now) }
 {
-    match words {
-        [limit] => Some(Command::Believe {
-            limit: limit_of(limit)?,
-        }),
-        _ => None,
-    }
+    let (limit, words) = limit_of(words)?;
+    no_more(words)?;
+    Some(Command::Believe { limit })
 }
 
 fn why(words: &[String]) -> Option<Command>
     ensures { result ≡ made_of (listed ∷ []) Why (map string_bytes words.now) }
 {
-    match words {
-        [limit] => Some(Command::Why {
-            limit: limit_of(limit)?,
-        }),
-        _ => None,
-    }
+    let (limit, words) = limit_of(words)?;
+    no_more(words)?;
+    Some(Command::Why { limit })
 }
 
 fn solve(words: &[String]) -> Option<Command>
@@ -67,12 +59,9 @@ fn solve(words: &[String]) -> Option<Command>
 fn check(words: &[String]) -> Option<Command>
     ensures { result ≡ made_of (budget ∷ []) Check (map string_bytes words.now) }
 {
-    match words {
-        [budget] => Some(Command::Check {
-            budget: budget_of(budget)?,
-        }),
-        _ => None,
-    }
+    let (budget, words) = budget_of(words)?;
+    no_more(words)?;
+    Some(Command::Check { budget })
 }
 
 fn refute(words: &[String]) -> Option<Command>
@@ -89,12 +78,9 @@ fn refute(words: &[String]) -> Option<Command>
 fn deny(words: &[String]) -> Option<Command>
     ensures { result ≡ made_of (budget ∷ []) Deny (map string_bytes words.now) }
 {
-    match words {
-        [budget] => Some(Command::Deny {
-            budget: budget_of(budget)?,
-        }),
-        _ => None,
-    }
+    let (budget, words) = budget_of(words)?;
+    no_more(words)?;
+    Some(Command::Deny { budget })
 }
 
 fn play(words: &[String]) -> Option<Command>
@@ -113,38 +99,29 @@ fn lead(words: &[String]) -> Option<Command>
     Some(Command::Lead { asks, number })
 }
 
+#[tactic(auto, unfolding(crate::specs::Kinds::read_first))]
 fn make(words: &[String]) -> Option<Command>
     ensures { result ≡ made_of (Made ∷ seed ∷ []) Make (map string_bytes words.now) }
 {
-    match words {
-        [what, seed] => Some(Command::Make {
-            what: made_input(what)?,
-            number: seed_of(seed)?,
-        }),
-        _ => None,
-    }
+    let (word, words) = words.split_first()?;
+    let what = made_input(word)?;
+    let (number, words) = seed_of(words)?;
+    no_more(words)?;
+    Some(Command::Make { what, number })
 }
 
 fn job(words: &[String]) -> Option<Command>
     ensures { result ≡ made_of (seed ∷ []) Job (map string_bytes words.now) }
 {
-    match words {
-        [seed] => Some(Command::Job {
-            number: seed_of(seed)?,
-        }),
-        _ => None,
-    }
+    let (number, words) = seed_of(words)?;
+    no_more(words)?;
+    Some(Command::Job { number })
 }
 
-/// The command of these words of the program `krieg`, where they are the form of one and their numbers are in their ranges.
-#[tactic(auto, unfolding(crate::specs::Command::command_of))]
-pub fn command_of(words: &[String]) -> Option<Command>
-    ensures { result ≡ spec.command_of (map string_bytes words.now) }
+/// The command of the row of `krieg` with that name, where these words stand behind it.
+fn named(name: &[u8], words: &[String]) -> Option<Command>
+    ensures { result ≡ command_in krieg_rows (name.now ∷ map string_bytes words.now) }
 {
-    let [name, words @ ..] = words else {
-        return None;
-    };
-    let name = name.as_bytes();
     if is_name(b"umpire", name) {
         umpire(words)
     } else if is_name(b"san", name) {
@@ -176,6 +153,15 @@ pub fn command_of(words: &[String]) -> Option<Command>
     } else {
         None
     }
+}
+
+/// The command of these words of the program `krieg`, where they are the form of one and their numbers are in their ranges.
+#[tactic(auto, unfolding(crate::specs::Command::command_of))]
+pub fn command_of(words: &[String]) -> Option<Command>
+    ensures { result ≡ spec.command_of (map string_bytes words.now) }
+{
+    let (name, words) = words.split_first()?;
+    named(name.as_bytes(), words)
 }
 
 fn find(words: &[String]) -> Option<Command>
@@ -214,12 +200,9 @@ fn share(words: &[String]) -> Option<Command>
 fn judge(words: &[String]) -> Option<Command>
     ensures { result ≡ made_of (find_budget ∷ []) Judge (map string_bytes words.now) }
 {
-    match words {
-        [budget] => Some(Command::Judge {
-            budget: find_budget_of(budget)?,
-        }),
-        _ => None,
-    }
+    let (budget, words) = find_budget_of(words)?;
+    no_more(words)?;
+    Some(Command::Judge { budget })
 }
 
 fn conduct(words: &[String]) -> Option<Command>
@@ -230,14 +213,10 @@ fn conduct(words: &[String]) -> Option<Command>
     Some(Command::Conduct { asks, number })
 }
 
-/// The command of the name of a row of `krieg_find`.
-fn find_named(words: &[String]) -> Option<Command>
-    ensures { result ≡ command_in find_rows (map string_bytes words.now) }
+/// The command of the row of `krieg_find` with that name, where these words stand behind it.
+fn find_named(name: &[u8], words: &[String]) -> Option<Command>
+    ensures { result ≡ command_in find_rows (name.now ∷ map string_bytes words.now) }
 {
-    let [name, words @ ..] = words else {
-        return None;
-    };
-    let name = name.as_bytes();
     if is_name(b"find", name) {
         find(words)
     } else if is_name(b"keys", name) {
@@ -256,9 +235,10 @@ fn find_named(words: &[String]) -> Option<Command>
 }
 
 /// The command of these words of the program `krieg_find`, where they are the form of one and their numbers are in their ranges.
-#[tactic(auto, unfolding(crate::specs::Command::find_of))]
+#[tactic(auto, unfolding(crate::specs::Command::find_of, crate::specs::Kinds::read_first))]
 pub fn find_of(words: &[String]) -> Option<Command>
     ensures { result ≡ spec.find_of (map string_bytes words.now) }
 {
-    find_named(words).or(find(words))
+    let (name, behind) = words.split_first()?;
+    find_named(name.as_bytes(), behind).or(find(words))
 }

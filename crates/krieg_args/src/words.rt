@@ -8,42 +8,51 @@ use krieg_board::{MOST_MOVES, MOST_UNITS, Side};
 use krieg_fen::MOST_LISTED;
 use krieg_text::{is_name, read_number_between};
 
-/// A number in a range.
-fn number(least: u64, most: u64, word: &str) -> Option<u64>
-    ensures { result ≡ spec.read (Number least most) word.now }
+/// The number that the first word is, in a range, and the words behind it.
+#[tactic(auto, unfolding(crate::specs::Kinds::read_first))]
+fn number(least: u64, most: u64, words: &[String]) -> Option<(u64, &[String])>
+    ensures { option_map (λ it. (it.0, map string_bytes it.1.now)) result
+        ≡ spec.read_first (Number least most) (map string_bytes words.now) }
 {
-    read_number_between(word.as_bytes(), least, most).ok()
+    let (word, words) = words.split_first()?;
+    let number = read_number_between(word.as_bytes(), least, most).ok()?;
+    Some((number, words))
 }
 
-pub(crate) fn budget_of(word: &str) -> Option<u64>
-    ensures { result ≡ spec.read budget word.now }
+pub(crate) fn budget_of(words: &[String]) -> Option<(u64, &[String])>
+    ensures { option_map (λ it. (it.0, map string_bytes it.1.now)) result
+        ≡ spec.read_first budget (map string_bytes words.now) }
 {
-    number(1, MOST_UNITS, word)
+    number(1, MOST_UNITS, words)
 }
 
-pub(crate) fn find_budget_of(word: &str) -> Option<u64>
-    ensures { result ≡ spec.read find_budget word.now }
+pub(crate) fn find_budget_of(words: &[String]) -> Option<(u64, &[String])>
+    ensures { option_map (λ it. (it.0, map string_bytes it.1.now)) result
+        ≡ spec.read_first find_budget (map string_bytes words.now) }
 {
-    number(1, MOST_FIND_UNITS, word)
+    number(1, MOST_FIND_UNITS, words)
 }
 
 /// The positions of a set, or the number of a listed position.
-pub(crate) fn limit_of(word: &str) -> Option<u64>
-    ensures { result ≡ spec.read listed word.now }
+pub(crate) fn limit_of(words: &[String]) -> Option<(u64, &[String])>
+    ensures { option_map (λ it. (it.0, map string_bytes it.1.now)) result
+        ≡ spec.read_first listed (map string_bytes words.now) }
 {
-    number(1, MOST_LISTED, word)
+    number(1, MOST_LISTED, words)
 }
 
-fn asks_of(word: &str) -> Option<u64>
-    ensures { result ≡ spec.read asks word.now }
+fn asks_of(words: &[String]) -> Option<(u64, &[String])>
+    ensures { option_map (λ it. (it.0, map string_bytes it.1.now)) result
+        ≡ spec.read_first asks (map string_bytes words.now) }
 {
-    number(1, MOST_ASKS, word)
+    number(1, MOST_ASKS, words)
 }
 
-pub(crate) fn seed_of(word: &str) -> Option<u64>
-    ensures { result ≡ spec.read seed word.now }
+pub(crate) fn seed_of(words: &[String]) -> Option<(u64, &[String])>
+    ensures { option_map (λ it. (it.0, map string_bytes it.1.now)) result
+        ≡ spec.read_first seed (map string_bytes words.now) }
 {
-    number(0, MOST_SEED, word)
+    number(0, MOST_SEED, words)
 }
 
 /// Whose sheet the umpire writes, or none for what both players hear.
@@ -76,93 +85,75 @@ pub(crate) fn made_input(word: &str) -> Option<MadeInput>
     }
 }
 
-/// The name of a file.
-fn file(word: &str) -> Option<&str>
-    ensures { option_map (λ name. name.now) result ≡ spec.read File word.now }
+/// The name of a file, which the first word is, and the words behind it.
+#[tactic(auto, unfolding(crate::specs::Kinds::read_first))]
+fn file(words: &[String]) -> Option<(&str, &[String])>
+    ensures { option_map (λ it. (it.0.now, map string_bytes it.1.now)) result
+        ≡ spec.read_first File (map string_bytes words.now) }
 {
-    if word.is_empty() { None } else { Some(word) }
+    let (word, words) = words.split_first()?;
+    if word.is_empty() {
+        return None;
+    }
+    Some((word.as_str(), words))
 }
 
-/// What stands behind `solve` and `refute`: moves, budget and limit.
+/// Ends a reader: there are no words left.
+pub(crate) fn no_more(words: &[String]) -> Option<()>
+    ensures { result ≡ spec.read_all [] (map string_bytes words.now) }
+{
+    words.is_empty().then_some(())
+}
+
+/// Moves, budget and limit of a search, with the most moves and the most units of work.
+fn numbers(moves: u64, units: u64, words: &[String]) -> Option<(u64, u64, u64)>
+    ensures { option_map (λ n. (n.0, (n.1, (n.2, tt)))) result
+        ≡ spec.read_all (Number 1 moves ∷ Number 1 units ∷ listed ∷ [])
+        (map string_bytes words.now) }
+{
+    let (moves, words) = number(1, moves, words)?;
+    let (budget, words) = number(1, units, words)?;
+    let (limit, words) = limit_of(words)?;
+    no_more(words)?;
+    Some((moves, budget, limit))
+}
+
+/// What stands behind `solve` and `refute`.
 pub(crate) fn search_numbers(words: &[String]) -> Option<(u64, u64, u64)>
     ensures { option_map (λ n. (n.0, (n.1, (n.2, tt)))) result
         ≡ spec.read_all search (map string_bytes words.now) }
 {
-    match words {
-        [moves, budget, limit] => Some((
-            number(1, u64::from(MOST_MOVES), moves)?,
-            budget_of(budget)?,
-            limit_of(limit)?,
-        )),
-        _ => None,
-    }
+    numbers(u64::from(MOST_MOVES), MOST_UNITS, words)
 }
 
-/// What stands behind `find`, `keys` and `share`: the same numbers, which go further.
+/// What stands behind `find`, `keys` and `share`, which go further.
 pub(crate) fn find_numbers(words: &[String]) -> Option<(u64, u64, u64)>
     ensures { option_map (λ n. (n.0, (n.1, (n.2, tt)))) result
         ≡ spec.read_all find_search (map string_bytes words.now) }
 {
-    match words {
-        [moves, budget, limit] => Some((
-            number(1, u64::from(MOST_FIND_MOVES), moves)?,
-            find_budget_of(budget)?,
-            limit_of(limit)?,
-        )),
-        _ => None,
-    }
+    numbers(u64::from(MOST_FIND_MOVES), MOST_FIND_UNITS, words)
 }
 
 /// What stands behind `play`: how often the players are asked, and their files.
 pub(crate) fn played_words(words: &[String]) -> Option<(u64, SeatFiles<'_>)>
-    ensures { option_map (λ it. (
-      it.0,
-      (
-        it.1.win.now,
-        (
-          it.1.wout.now,
-          (
-            it.1.bin.now,
-            (it.1.bout.now, tt),
-          ),
-        ),
-      ),
-    )) result ≡ spec.read_all played (map string_bytes words.now) }
+    ensures { option_map
+        (λ it. let f = it.1 in (it.0, (f.win.now, (f.wout.now, (f.bin.now, (f.bout.now, tt))))))
+        result
+        ≡ spec.read_all played (map string_bytes words.now) }
 {
-    match words {
-        [asks, win, wout, bin, bout] => {
-            let asks = asks_of(asks)?;
-            let win = file(win)?;
-            let wout = file(wout)?;
-            let bin = file(bin)?;
-            let bout = file(bout)?;
-            Some((
-                asks,
-                SeatFiles {
-                    win,
-                    wout,
-                    bin,
-                    bout,
-                },
-            ))
-        }
-        _ => None,
-    }
-}
-
-/// The two files of a player: where his tries come from, and where he is told.
-fn two_files(words: &[String]) -> Option<(&str, &str)>
-    ensures { option_map (λ files. (files.0.now, (files.1.now, tt))) result
-        ≡ spec.read_all (File ∷ File ∷ []) (map string_bytes words.now) }
-{
-    match words {
-        [tries, told] => {
-            let tries = file(tries)?;
-            let told = file(told)?;
-            Some((tries, told))
-        }
-        _ => None,
-    }
+    let (asks, words) = asks_of(words)?;
+    let (win, words) = file(words)?;
+    let (wout, words) = file(words)?;
+    let (bin, words) = file(words)?;
+    let (bout, words) = file(words)?;
+    no_more(words)?;
+    let files = SeatFiles {
+        win,
+        wout,
+        bin,
+        bout,
+    };
+    Some((asks, files))
 }
 
 /// What stands behind `lead` and `conduct`: how often the players are asked, the number of a listed position, and the opponent's files.
@@ -170,13 +161,10 @@ pub(crate) fn led_words(words: &[String]) -> Option<(u64, u64, (&str, &str))>
     ensures { option_map (λ it. (it.0, (it.1, (it.2.0.now, (it.2.1.now, tt))))) result
         ≡ spec.read_all led (map string_bytes words.now) }
 {
-    match words {
-        [asks, place, files @ ..] => {
-            let asks = asks_of(asks)?;
-            let place = limit_of(place)?;
-            let files = two_files(files)?;
-            Some((asks, place, files))
-        }
-        _ => None,
-    }
+    let (asks, words) = asks_of(words)?;
+    let (place, words) = limit_of(words)?;
+    let (tries, words) = file(words)?;
+    let (told, words) = file(words)?;
+    no_more(words)?;
+    Some((asks, place, (tries, told)))
 }
