@@ -2,7 +2,7 @@
 use Rattle.std.proofs.Common.{Bool, ◌≡◌, ℕ, suc, ◌+◌, ◌-◌, ◌≤◌, ◌<◌, ◌^◌, true, false, ◌⊎◌, inl, inr, List, [], ◌∷◌, map, Some, Result, Ok, Err, max, refl, sym, ap, subst, ◌∙◌, arith}
 use Rattle.std.specs.Result.{IsErrAnd}
 use Rattle.std.proofs.Math.Nat.{le-max_left, le-max_right}
-use Rattle.krieg_search.proofs.Common.{Pos, Move, Dialect, In, is_nil, Maybe, Just, Edges, size, size_other, size_edges, depth, depth_other, depth_edges, refused, keys, class, can, edge_with, edges_of, canon, made, known, IsSound, charged, refused_canon, Key, chess, class_pair, IsParted, Parted, NodeTree, SetRows, entries, SearchStop, Large, AreCounted, IsNumbered, IsReady, sets_of, AddsSets, WonBy, Builds, IsPaidFor, edges_for, stored, position_lt}
+use Rattle.krieg_search.proofs.Common.{Pos, Move, Dialect, In, is_nil, Just, size, size_other, size_edges, depth, depth_other, depth_edges, refused, keys, class, can, edge_with, edges_of, canon, made, known, IsSound, charged, refused_canon, Key, chess, class_pair, IsParted, Parted, NodeTree, SetRows, entries, SearchStop, Large, AreCounted, IsNumbered, IsReady, sets_of, AddsSets, WonBy, Builds, IsPaidFor, edges_for, stored, position_lt}
 use Rattle.krieg_theory.specs.Tree.{Try}
 use Rattle.krieg_theory.proofs.Lists.{map_in}
 use Rattle.krieg_theory.proofs.Built.{canon_wins}
@@ -97,12 +97,6 @@ module _ (d : Dialect) where
       refused_is_won n =
           subst (λ (X : List Pos). WonBy T X number) (sym q.refused_part)
           (subst (λ (i : ℕ). WonBy T (refused (chess d) B m) i) before (refused_won (chess d) (chess_is_game d) true (entries T) paid.ready.sound B (number - 1) m at_before (ap is_nil (sym q.refused_part) ∙ n)))
-
-      other : Maybe Move Key
-      other = refused_canon (chess d) number p.refused
-
-      edges : Edges Move Key
-      edges = edges_for d (number - 1) (map class_pair p.classes.items)
 
       -- the canonical node, by the parts
       pub node_is : canon (chess d) j B ≡ Just (Try m (refused_canon (chess d) number p.refused) (edges_for d (number - 1) (map class_pair p.classes.items)))

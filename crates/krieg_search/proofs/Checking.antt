@@ -19,22 +19,12 @@ drop_none [] k e = omega arith
 drop_none (x ∷ xs) zero e = absurd (cc)
 drop_none (x ∷ xs) (suc k) e = let r = drop_none xs k e in omega arith
 
-pub no_items : {X : Type 0} (xs : List X) → length xs ≡ 0 → xs ≡ []
-no_items [] e = refl
-no_items (x ∷ xs) e = absurd (omega arith)
-
 -- what stands at a place, of a list whose items are taken by their place
 pub at_item : {X : Type 0} (xs : List X) (k : ℕ) (x : X) → k < length xs → x ≡ get_or xs k x → drop k xs ≡ x ∷ drop (suc k) xs
 at_item xs k x l e = drop-cons xs k x l ∙ ap (λ y. y ∷ drop (suc k) xs) (sym e)
 
 pub item_in : {X : Type 0} (xs : List X) (k : ℕ) (x : X) → k < length xs → x ≡ get_or xs k x → In x xs
 item_in {X = X} xs k x l e = subst (λ (y : X). In y xs) (sym e) (get_in xs k x l)
-
-pub no_rest : {X : Type 0} (xs : List X) (k : ℕ) → length xs ≤ k → drop k xs ≡ []
-no_rest [] zero l = refl
-no_rest [] (suc k) l = refl
-no_rest (x ∷ xs) zero l = absurd (omega arith)
-no_rest (x ∷ xs) (suc k) l = no_rest xs k (omega arith)
 
 module _ (d : Dialect) (cut : Bool) where
   -- Of the sets in their order some are ahead, and the k before them are won.

@@ -18,13 +18,13 @@ pub use Rattle.krieg_theory.specs.Sets.{Ascending, In, is_nil, same}
 pub use Rattle.krieg_theory.specs.Split.{all_outcomes, class, keys, legal_in_some, refused, stale_in_some, tries}
 pub use Rattle.krieg_theory.specs.Tree.{Edges, Just, Maybe, NoEdges, Nothing, depth, depth_edges, depth_other, size, size_edges, size_other}
 pub use Rattle.krieg_costs.specs.Backing.{floor_price}
-pub use Rattle.krieg_costs.specs.Block.{Lives, LostRefused, NoBlock, Stale, block, block_pair, by_class, lives_in_some, pair_of}
+pub use Rattle.krieg_costs.specs.Block.{Lives, LostRefused, NoBlock, Stale, block, by_class, lives_in_some, pair_of}
 pub use Rattle.krieg_costs.specs.Cost.{cost_of, first_made, made, price}
 pub use Rattle.krieg_costs.specs.Laws.{BackingIsLeast, FloorIsAtMostFresh, FreshIsAtMostCost, ReachIsLeast, RefutationExcludes}
 pub use Rattle.krieg_costs.specs.Reach.{fresh, reach_of}
 pub use Rattle.krieg_costs.specs.Refutation.{is_within}
 pub use Rattle.krieg_costs.specs.Sums.{IsOnce, once, total}
-pub use Rattle.krieg_accounts.specs.Answers.{AnswersPlan, AnswersSets, LostBelow, classes, opening_sets}
+pub use Rattle.krieg_accounts.specs.Answers.{AnswersSets, LostBelow, classes, opening_sets}
 pub use Rattle.krieg_accounts.specs.Charges.{all_owed, charged, owed}
 pub use Rattle.krieg_accounts.specs.Laws.{refused_canon}
 pub use Rattle.krieg_accounts.specs.Sound.{IsBacked, IsSound, StoredLost, StoredWon, known}
@@ -59,7 +59,7 @@ pub use Rattle.krieg_table.specs.declared.set_result.SetResult.{SetResult}
 pub use Rattle.krieg_table.specs.declared.set_result.SetResult.TheVariants.{Loses, Wins}
 pub use Rattle.krieg_table.specs.declared.set_result.Win.{Win}
 pub use Rattle.krieg_split.specs.Firsts.{first_cost, first_set}
-pub use Rattle.krieg_split.specs.LastMove.{AllMate, SomeLives}
+pub use Rattle.krieg_split.specs.LastMove.{SomeLives}
 pub use Rattle.krieg_split.specs.Openings.{opened_set}
 pub use Rattle.krieg_split.specs.Parts.{IsParted}
 pub use Rattle.krieg_split.specs.Tallies.{AreTallies, tally_of}
@@ -70,13 +70,13 @@ pub use Rattle.krieg_search.specs.Blocks.{TellsBlock, TellsFirst}
 pub use Rattle.krieg_search.specs.Building.{Builds, IsPaidFor, WinsAreBelow, WonBy, edges_for, roots_for, with_root}
 pub use Rattle.krieg_search.specs.Decision.{IsAccount, IsAsked, IsAsking, IsBetween, IsDecision, IsFound, IsLost, IsWon, sets_in}
 pub use Rattle.krieg_search.specs.Laws.{AccountIsBetween, KeysAreWon}
-pub use Rattle.krieg_search.specs.Remainders.{FailsAtOnce, IsPaidUnlessCut, IsRemainder, Leaves}
+pub use Rattle.krieg_search.specs.Remainders.{FailsAtOnce, IsRemainder, Leaves}
 pub use Rattle.krieg_search.specs.LostParts.{HasLostPart}
 pub use Rattle.krieg_search.specs.Notes.{AreNotes, IsBlock, IsLostPart, IsRow, NoteState, Rows, items_of, notes_in, same_asked}
 pub use Rattle.krieg_search.specs.Openings.{AddsSets, AreAdded, AreNumbered, IsAdded, IsOpened, opening_in}
 pub use Rattle.krieg_search.specs.PackedKey.{IsPacked, bytes_of, number_of, unpacked}
 pub use Rattle.krieg_search.specs.BuiltPlan.{IsPlan, IsPlanned, IsUnfit}
-pub use Rattle.krieg_search.specs.KeyTries.{AreKeys, IsKeyAnswer, IsTaken, IsWithinFresh, Told, key_tries, key_try, keys_of, told_of}
+pub use Rattle.krieg_search.specs.KeyTries.{AreKeys, IsKeyAnswer, IsTaken, IsWithinFresh, key_tries, key_try, keys_of, told_of}
 pub use Rattle.krieg_search.specs.SetKeys.{AreKeysAt, AreSetKeys, behind, later_price, least_pair, numbers_of, set_keys, told_set}
 pub use Rattle.krieg_search.specs.Stretches.{AreCounted, IsAtWork, IsNumbered, IsReady, IsSearched, Stretches, TellsSet, TellsSets, TellsTry, sets_of}
 pub use Rattle.krieg_search.specs.Solutions.{HasAccount, IsAnswer, IsBest, IsCharged, IsChargedAtMost, IsLarge, NoneMates, Takes}

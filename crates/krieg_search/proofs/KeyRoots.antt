@@ -4,7 +4,7 @@ use Rattle.std.specs.Prelude.{◌==◌}
 use Rattle.std.specs.List.{list_any}
 use Rattle.std.specs.Result.{IsErrAnd}
 use Rattle.std.proofs.lemmas.Bool.{both_ways, eqb-true, eq-eqb}
-use Rattle.std.proofs.lemmas.List.{append_assoc, map-append}
+use Rattle.std.proofs.lemmas.List.{append-nil, append_assoc, map-append}
 use Rattle.krieg_search.proofs.Common.{Pos, Move, Side, Dialect, In, least, greatest, known, total, pairs, once, IsOnce, reach_of, first_made, CoversSets, opening_sets, RootKey, chess, outset, SetRows, set_at, sets, entries, IsSearched, Stretches, WonBy, Opening, opening_in, sets_in, Outlook, IsAsked, SearchStop, Large, SetKeys, KeyTry, KeysAt, Keys, KeyAnswer, AreKeys, AreKeysAt, AreSetKeys, IsKeyAnswer, IsTaken, IsWithinFresh, keys_of, told_of, told_set, set_keys, numbers_of, later_price, least_pair}
 use Rattle.krieg_theory.proofs.Lists.{any_at, any_none, append_in, in_map, map_in}
 use Rattle.krieg_costs.proofs.Onces.{once_append}
@@ -13,7 +13,6 @@ use Rattle.krieg_accounts.proofs.Tables.{known_in, in_known}
 use Rattle.krieg_game.proofs.ChessLaws.{chess_is_game, outset_is_lawful}
 use Rattle.krieg_search.specs.declared.keys.KeyAnswer.TheVariants as answer
 use Rattle.krieg_search.specs.declared.stop.SearchStop.TheVariants.{Spent, NoMemory}
-use Rattle.krieg_search.proofs.Keying.{append_nil}
 use Rattle.krieg_search.proofs.KeySets.{won_least}
 use Rattle.krieg_search.proofs.LaterPrices.{within_prices, pairs_once}
 use Rattle.krieg_search.proofs.Deciding.{sets_are_opened, answer as can_is, asked_ready, asked_reached, opening_won}
@@ -88,7 +87,7 @@ module _ (d : Dialect) (n : ℕ) where
   no_root_keyed all = record { joined = refl; numbers = omega arith }
 
   pub all_roots_keyed : (keys : Keys) (all : List (RootKey × List Pos)) → IsKeyed keys.roots.items keys.worst [] all → AreKeysAt d n all keys
-  all_roots_keyed keys all a = record { roots = sym (append_nil (map told_of keys.roots.items)) ∙ a.joined; worst = (let e = a.numbers in omega arith) }
+  all_roots_keyed keys all a = record { roots = sym (append-nil (map told_of keys.roots.items)) ∙ a.joined; worst = (let e = a.numbers in omega arith) }
 
   -- the next opening, by the keys of its set
   pub one_root_keyed : (T : SetRows) (found : List SetKeys) (k : SetKeys) (o : Opening) (x : KeysAt) (pushed : List KeysAt) (worst worse : ℕ) (rest all : List (RootKey × List Pos)) → AreSetKeys d n T (map (λ k. k.set) found) found → In k found → k.set ≡ o.set

@@ -1,6 +1,6 @@
 -- Sets that are won, one after another: the keys of each.
 use Rattle.std.proofs.Common.{Bool, ◌≡◌, ℕ, ◌+◌, ◌≤◌, ◌<◌, true, inl, inr, List, [], ◌∷◌, ◌++◌, length, map, Option, Some, refl, sym, ap, subst, ◌∙◌, arith}
-use Rattle.std.proofs.lemmas.List.{append_assoc, map-append}
+use Rattle.std.proofs.lemmas.List.{append-nil, append_assoc, map-append}
 use Rattle.krieg_search.proofs.Common.{Pos, Move, Dialect, In, can, least, known, total, CoversSets, CoversTries, chess, SetRows, set_at, entries, IsReady, IsSearched, WonBy, SetKeys, key_tries, later_price, least_pair, set_keys, told_set, AreSetKeys}
 use Rattle.krieg_theory.proofs.Lists.{in_map}
 use Rattle.krieg_theory.proofs.Unique.{can_upto}
@@ -8,7 +8,6 @@ use Rattle.krieg_accounts.proofs.Covering.{covers_set, covers_pair}
 use Rattle.krieg_accounts.proofs.Tables.{result_can, wins_least}
 use Rattle.krieg_game.proofs.ChessLaws.{chess_is_game}
 use Rattle.krieg_search.proofs.Searching.{searched_nothing, searched_then}
-use Rattle.krieg_search.proofs.Keying.{append_nil}
 
 module _ (d : Dialect) (cut : Bool) (n : ℕ) where
   -- how a set is won that the table has
@@ -38,7 +37,7 @@ module _ (d : Dialect) (cut : Bool) (n : ℕ) where
   pub all_sets : {T0 T : SetRows} {sets rest : List ℕ} {u0 u : ℕ} (found : List SetKeys) → rest ≡ [] → AreKeying T0 T sets rest found u0 u
       → AreSetKeys d n T0 sets found × IsSearched d cut (CoversSets (chess d) (map (set_at T0) sets) n) (total (later_price d) (map (least_pair d n T0) sets)) T0 T u0 u
   all_sets {T0 = T0} {T = T} {sets = sets} {rest = rest} {u0 = u0} {u = u} found none a = (
-    sym (append_nil (map told_set found)) ∙ ap (λ xs. map told_set found ++ map (set_keys d n T0) xs) (sym none) ∙ a.joined,
+    sym (append-nil (map told_set found)) ∙ ap (λ xs. map told_set found ++ map (set_keys d n T0) xs) (sym none) ∙ a.joined,
     subst (λ c. IsSearched d cut (CoversSets (chess d) (map (set_at T0) sets) n) c T0 T u0 u) (let p = a.price in let z = ap (λ xs. total (later_price d) (map (least_pair d n T0) xs)) none in let e : a.cost ≡ total (later_price d) (map (least_pair d n T0) sets) = omega arith in e) a.searched,
   )
 

@@ -6,7 +6,7 @@ use Rattle.std.specs.List.{filter}
 use Rattle.std.specs.Ordering.{is_eq}
 use Rattle.std.proofs.lemmas.Cmp.{tied_itself}
 use Rattle.std.proofs.lemmas.Bool.{cases_Bool, cond-true, cond-false, both_ways, eqb-true, eq-eqb, false_from_ne_true, not_from_true, not_from_false}
-use Rattle.std.proofs.lemmas.List.{append_assoc}
+use Rattle.std.proofs.lemmas.List.{append-nil, append_assoc}
 use Rattle.krieg_moves.specs.Legal.{is_legal}
 use Rattle.krieg_board.specs.Order.{move_cmp}
 use Rattle.krieg_search.proofs.Common.{Pos, Move, Dialect, is_nil, refused, legal_in_some, begins, tries, total, made, CoversTry, CoversTries, known, chess, SetRows, entries, IsReady, IsSearched, KeyTry, key_try, key_tries, behind, later_price}
@@ -17,10 +17,6 @@ use Rattle.krieg_board.proofs.MoveOrder.{move_eq_derived, move_total, move_equal
 use Rattle.krieg_game.proofs.ChessLaws.{chess_is_game}
 use Rattle.krieg_search.proofs.Checking.{at_item}
 use Rattle.krieg_search.proofs.Searching.{searched_nothing, searched_then}
-
-pub append_nil : {X : Type 0} (xs : List X) → xs ++ [] ≡ xs
-append_nil [] = refl
-append_nil (x ∷ xs) = ap (λ ys. x ∷ ys) (append_nil xs)
 
 -- no keys are found, or some are, as the code tells
 pub no_keys : (ks : List KeyTry) (n : ℕ) → n ≡ length ks → (n == 0) ≡ true → ks ≡ []
@@ -157,7 +153,7 @@ module _ (d : Dialect) (cut : Bool) (B : List Pos) (j : ℕ) (m : Move) where
         no_later_key e = record {
           joined = none_more ts t rest keys e a.joined;
           cost = a.cost + made (chess d) B t;
-          through = subst (λ ks. IsThrough ks (a.cost + made (chess d) B t) rest ts) (append_nil keys) (further keys [] a.cost some a.through);
+          through = subst (λ ks. IsThrough ks (a.cost + made (chess d) B t) rest ts) (append-nil keys) (further keys [] a.cost some a.through);
           searched = after;
         }
 
@@ -165,7 +161,7 @@ module _ (d : Dialect) (cut : Bool) (B : List Pos) (j : ℕ) (m : Move) where
   pub all_keyed : {T0 T : SetRows} {ts rest : List Move} {u0 u : ℕ} (keys : List KeyTry) → rest ≡ [] → ts ≡ tries (chess d) B → IsKeying T0 T ts rest keys u0 u
       → (keys ≡ key_tries d j B) × IsSearched d cut (CoversTries (chess d) B j) (later_price d (B, j)) T0 T u0 u
   all_keyed {T0 = T0} {T = T} {ts = ts} {rest = rest} {u0 = u0} {u = u} keys none are a = (
-    sym (append_nil keys) ∙ ap (λ xs. keys ++ map (key_try d B) (filter (begins (chess d) j B) xs)) (sym none) ∙ a.joined ∙ ap (λ xs. map (key_try d B) (filter (begins (chess d) j B) xs)) are,
+    sym (append-nil keys) ∙ ap (λ xs. keys ++ map (key_try d B) (filter (begins (chess d) j B) xs)) (sym none) ∙ a.joined ∙ ap (λ xs. map (key_try d B) (filter (begins (chess d) j B) xs)) are,
     subst (λ c. IsSearched d cut (CoversTries (chess d) B j) c T0 T u0 u) (all_taken keys a.cost (subst (λ xs. IsThrough keys a.cost xs ts) none a.through)) a.searched,
   )
     where

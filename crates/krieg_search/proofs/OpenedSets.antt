@@ -2,7 +2,7 @@
 use Rattle.std.proofs.Common.{◌≡◌, ℕ, suc, ◌||◌, ◌+◌, ◌<◌, true, false, not, cond, List, [], ◌∷◌, ◌++◌, length, map, Some, Result, Ok, Err, refl, sym, ap, subst, inl, inr, ◌⊎◌, ◌∙◌, arith}
 use Rattle.std.specs.List.{list_any, slice_get}
 use Rattle.std.specs.Result.{IsErrAnd}
-use Rattle.std.proofs.lemmas.List.{map-append, append_assoc}
+use Rattle.std.proofs.lemmas.List.{append-nil, map-append, append_assoc}
 use Rattle.krieg_search.proofs.Common.{is_same_side, Pos, Side, Dialect, In, is_nil, is_over, first_made, RootKey, chess, outset, starts, waits, IsOwnTurn, IsOthersTurn, IsPaid, Charges, PartStop, SetRows, IsMore, Opening, AreCounted, IsNumbered, AddsSets, opening_in, AreNumbered, IsAdded, AreAdded}
 use Rattle.krieg_theory.proofs.Lists.{append_in}
 use Rattle.krieg_game.proofs.Starting.{own_start}
@@ -87,10 +87,6 @@ pub record IsOpening (T0 T : SetRows) (os : List Opening) (rest all : List (Root
   pub numbered : AreNumbered T os
   pub joined : map (opening_in T) os ++ rest ≡ all
 
-no_more : {X : Type 0} (xs : List X) → xs ++ [] ≡ xs
-no_more [] = refl
-no_more (x ∷ xs) = ap (λ ys. x ∷ ys) (no_more xs)
-
 -- the openings come of a list
 module _ {X : Type 0} (f : X → RootKey × List Pos) where
   -- none has come
@@ -114,5 +110,5 @@ module _ {X : Type 0} (f : X → RootKey × List Pos) where
   all_openings T0 T os ahead xs e a = record {
     sets = a.sets;
     numbered = a.numbered;
-    are = sym (no_more (map (opening_in T) os)) ∙ ap (λ (ys : List X). map (opening_in T) os ++ map f ys) (sym e) ∙ a.joined;
+    are = sym (append-nil (map (opening_in T) os)) ∙ ap (λ (ys : List X). map (opening_in T) os ++ map f ys) (sym e) ∙ a.joined;
   }

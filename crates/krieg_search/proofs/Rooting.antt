@@ -1,8 +1,8 @@
 -- The roots of a plan, one after another.
-use Rattle.std.proofs.Common.{true, ◌≡◌, ℕ, ◌+◌, ◌≤◌, ◌<◌, ◌⊎◌, inl, inr, cond, List, [], ◌∷◌, ◌++◌, max, refl, sym, ap, ◌∙◌, arith, Some, length, subst}
+use Rattle.std.proofs.Common.{true, ◌≡◌, ℕ, ◌+◌, ◌≤◌, ◌<◌, ◌⊎◌, inl, inr, cond, List, [], ◌∷◌, ◌++◌, max, refl, sym, ap, ◌∙◌, arith, Some, length, subst, eq-or-lt_of_le}
 use Rattle.std.specs.Ordering.{is_lt, nat_cmp, ord_max}
 use Rattle.std.proofs.lemmas.Bool.{cases_lt}
-use Rattle.std.proofs.lemmas.List.{append_assoc}
+use Rattle.std.proofs.lemmas.List.{append-nil, append_assoc}
 use Rattle.std.proofs.Math.Nat.{le-max_left, le-max_right}
 use Rattle.krieg_search.proofs.Common.{Pos, Dialect, In, Just, size, depth, least, canon, greatest, stored, RootKey, chess, position_lt, NodeTree, PlanTrees, plan_size, plan_depth, SetRows, set_at, entries, AddsSets, AreNumbered, sets_in, Win, Opening, WonBy, IsPaidFor, with_root, roots_for}
 use Rattle.krieg_theory.proofs.Lists.{in_map}
@@ -15,20 +15,13 @@ use Rattle.krieg_search.proofs.Building.{adds_then, still_paid, still_won, won_a
 pub greater_is : (a b : ℕ) → ord_max nat_cmp a b ≡ max a b
 greater_is a b = go (cases_lt b a)
   where
-    other : (b ≡ a) ⊎ (a < b) → cond (is_lt (nat_cmp b a)) a b ≡ max a b
-    other (inl e) = let h : cond (is_lt (nat_cmp b a)) a b ≡ b = ap (λ o. cond (is_lt o) a b) (cmp_same b a e) in omega (arith, h)
+    other : (a ≡ b) ⊎ (a < b) → cond (is_lt (nat_cmp b a)) a b ≡ max a b
+    other (inl e) = let h : cond (is_lt (nat_cmp b a)) a b ≡ b = ap (λ o. cond (is_lt o) a b) (cmp_same b a (sym e)) in omega (arith, h)
     other (inr l) = let h : cond (is_lt (nat_cmp b a)) a b ≡ b = ap (λ o. cond (is_lt o) a b) (cmp_greater b a l) in omega (arith, h)
-
-    same_or : a ≤ b → (b ≡ a) ⊎ (a < b)
-    same_or l = split (cases_lt a b)
-      where
-        split : (a < b) ⊎ (b ≤ a) → (b ≡ a) ⊎ (a < b)
-        split (inl h) = inr h
-        split (inr h) = inl (omega arith)
 
     go : (b < a) ⊎ (a ≤ b) → cond (is_lt (nat_cmp b a)) a b ≡ max a b
     go (inl l) = let h : cond (is_lt (nat_cmp b a)) a b ≡ a = ap (λ o. cond (is_lt o) a b) (cmp_less b a l) in omega (arith, h)
-    go (inr l) = other (same_or l)
+    go (inr l) = other (eq-or-lt_of_le l)
 
 module _ (d : Dialect) (j : ℕ) where
   -- the same for the roots of a plan, and with the greatest of the least numbers
@@ -43,14 +36,10 @@ module _ (d : Dialect) (j : ℕ) where
   pub no_root : (T : SetRows) (all : List (RootKey × List Pos)) (had deep : ℕ) → AddsSets T T → IsRooting T T [] 0 all all had had deep
   no_root T all had deep s = record { joined = refl; numbers = omega arith; nodes = refl; longest = omega arith; short = λ h. h; sets = s }
 
-  no_more : (xs : PlanTrees) → xs ++ [] ≡ xs
-  no_more [] = refl
-  no_more (x ∷ xs) = ap (λ ys. x ∷ ys) (no_more xs)
-
   pub all_roots : (T0 T : SetRows) (pushed : PlanTrees) (worst : ℕ) (all : List (RootKey × List Pos)) (had has deep : ℕ) → IsRooting T0 T pushed worst [] all had has deep
       → (pushed ≡ roots_for d j all) × (worst ≡ greatest (λ (c : RootKey × List Pos). least (chess d) j c.1) all) × (has + plan_size (roots_for d j all) ≡ had) × (plan_depth (roots_for d j all) ≤ deep) × AddsSets T0 T
   all_roots T0 T pushed worst all had has deep a = (
-    sym (no_more pushed) ∙ a.joined,
+    sym (append-nil pushed) ∙ a.joined,
     (let n = a.numbers in omega arith),
     (let n = a.nodes in omega arith),
     a.short (omega arith),

@@ -1,5 +1,5 @@
 -- One stretch of the search behind another, over the table in which sets have numbers.
-use Rattle.std.proofs.Common.{Bool, ◌≡◌, ℕ, ◌+◌, ◌≤◌, true, List, Result, Ok, Err, refl, sym, subst, ◌∙◌, arith}
+use Rattle.std.proofs.Common.{Bool, ◌≡◌, ℕ, ◌+◌, ◌≤◌, ◌<◌, true, List, length, Result, Ok, Err, refl, sym, subst, ◌∙◌, arith}
 use Rattle.std.specs.Result.{IsErrAnd}
 use Rattle.krieg_search.proofs.Common.{Pos, Move, Dialect, Entries, IsStretch, FallsShort, chess, SetRows, entries, IsMore, SearchStop, Large, IsNumbered, IsReady, IsSearched, Stretches}
 use Rattle.krieg_accounts.proofs.Stretches.{stretch_of_nothing, stretch_of_split, stretch_of_cut, stretch_then, short_then, stretch_cost, short_cost}
@@ -10,6 +10,10 @@ more_itself T = record { longer = omega arith; same = λ k h. refl }
 
 pub more_then : (T0 T1 T2 : SetRows) → IsMore T0 T1 → IsMore T1 T2 → IsMore T0 T2
 more_then T0 T1 T2 a b = record { longer = (let x = a.longer in let y = b.longer in omega arith); same = λ k h. (let x = a.longer in b.same k (omega arith) ∙ a.same k h) }
+
+-- a number of a set stays one
+pub still_within : {T T' : SetRows} (k : ℕ) → IsMore T T' → k < length T → k < length T'
+still_within k m w = let l = m.longer in omega arith
 
 module _ (d : Dialect) (cut : Bool) where
   pub ready_from : {Q : List (List Pos × ℕ) → Type 0} {a : ℕ} {T T' : SetRows} {u0 u1 : ℕ} → IsSearched d cut Q a T T' u0 u1 → IsReady d cut T'

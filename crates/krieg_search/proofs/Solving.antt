@@ -42,9 +42,6 @@ module _ (d : Dialect) (who : Side) (S : List Pos) (n : ℕ) where
   }
 
   module _ (cut : Bool) (w : Findings) (had : ℕ) (a : IsWon d who S n cut w had) where
-    pairs : List (RootKey × List Pos)
-    pairs = map (opening_in w.table) w.openings.items
-
     plan_is : roots_for d n (map (opening_in w.table) w.openings.items) ≡ canon_plan (chess d) (outset d who) n S
     plan_is = ap (roots_for d n) a.found.sets ∙ roots_are (openings (chess d) (outset d who) S)
 

@@ -1,5 +1,6 @@
 -- What blocked a try of a set before is asked again.
-use Rattle.std.proofs.Common.{◌≡◌, ℕ, suc, ◌+◌, ◌*◌, ◌^◌, ◌-◌, ◌<◌, ◌⊎◌, inl, inr, Bool, true, false, not, ◌||◌, List, [], ◌∷◌, ◌++◌, length, Option, Result, Ok, Err, sym, ap, subst, ◌∙◌, arith}
+use Rattle.std.proofs.Common.{◌≡◌, ℕ, suc, ◌+◌, ◌*◌, ◌^◌, ◌-◌, ◌<◌, ◌⊎◌, inl, inr, Bool, true, false, not, ◌||◌, List, [], ◌∷◌, ◌++◌, length, Option, Some, Result, Ok, Err, sym, ap, subst, ◌∙◌, arith}
+use Rattle.std.specs.Prelude.{IfSome}
 use Rattle.std.specs.List.{list_all}
 use Rattle.std.proofs.lemmas.Bool.{both_ways, and_parts, or_cases, not-true, false_from_ne_true}
 use Rattle.krieg_search.proofs.Common.{Pos, Move, Dialect, In, is_nil, refused, legal_in_some, stale_in_some, keys, class, can, begins, made, LostRefused, block, CoversSet, CoversTry, classes, Key, chess, SetRows, set_at, IsMore, Block, Refused, IsReady, IsSearched, IsBlock, Stretches, SearchStop, Large, TellsSet, TellsBlock}
@@ -13,7 +14,7 @@ use Rattle.krieg_search.specs.Blockers.{moves_for, IsPart, IsBlocker, AreBlocker
 use Rattle.krieg_search.specs.declared.blockers.Blocker.{Blocker}
 use Rattle.krieg_search.specs.declared.notes.Block.TheVariants.{Class}
 use Rattle.krieg_search.specs.declared.stop.SearchStop.TheVariants.{Spent, NoMemory}
-use Rattle.krieg_search.proofs.Searching.{searched_nothing, searched_then, short_behind}
+use Rattle.krieg_search.proofs.Searching.{searched_nothing, searched_then, short_behind, still_within}
 
 -- there are none yet
 pub no_blockers : (d : Dialect) (cut : Bool) (T : SetRows) (bs : List Blocker) → bs ≡ [] → AreBlockers d cut T bs
@@ -29,9 +30,12 @@ one_more d cut T bs b all h x i = go (append_in bs (b ∷ []) x i)
     go (inr (inr k)) = absurd k
 
 -- or none
-pub after_keep : (d : Dialect) (cut : Bool) (T : SetRows) (bs bs' : List Blocker) (b : Blocker) → (bs' ≡ bs) ⊎ ((cut ≡ true) × (bs' ≡ bs ++ b ∷ [])) → AreBlockers d cut T bs → (cut ≡ true → IsBlocker d cut T b) → AreBlockers d cut T bs'
-after_keep d cut T bs bs' b (inl e) all h = subst (AreBlockers d cut T) (sym e) all
-after_keep d cut T bs bs' b (inr e) all h = subst (AreBlockers d cut T) (sym e.1) (one_more d cut T bs b all (h e.0))
+pub after_keep : (d : Dialect) (cut : Bool) (T : SetRows) (bs bs' : List Blocker) (b : Blocker) {kept : Option Blocker} → IfSome kept (λ x. x ≡ b) → (bs' ≡ bs) ⊎ ((x : Blocker) × (kept ≡ Some x) × (cut ≡ true) × (bs' ≡ bs ++ x ∷ []))
+    → AreBlockers d cut T bs → (cut ≡ true → IsBlocker d cut T b) → AreBlockers d cut T bs'
+after_keep d cut T bs bs' b is (inl e) all h = subst (AreBlockers d cut T) (sym e) all
+after_keep d cut T bs bs' b is (inr e) all h =
+    let same : e.0 ≡ b = subst (λ o. IfSome o (λ x. x ≡ b)) e.1 is in
+    subst (AreBlockers d cut T) (sym e.3) (one_more d cut T bs e.0 all (subst (IsBlocker d cut T) (sym same) (h e.2)))
 
 -- they stay right where sets come to the table
 pub more_blockers : (d : Dialect) (cut : Bool) {T T' : SetRows} (bs : List Blocker) → IsMore T T' → AreBlockers d cut T bs → AreBlockers d cut T' bs
@@ -39,11 +43,10 @@ more_blockers d cut {T = T} {T' = T'} bs m all b i =
     let h = all b i in
     let same = m.same b.set h.within in
     let part = m.same b.part h.part_within in
-    let longer = m.longer in
     record {
       may = h.may;
-      within = (let w = h.within in omega arith);
-      part_within = (let w = h.part_within in omega arith);
+      within = still_within b.set m h.within;
+      part_within = still_within b.part m h.part_within;
       part = subst (λ (X : List Pos). IsPart d X b.mv b.refuses (set_at T' b.part)) (sym same) (subst (IsPart d (set_at T b.set) b.mv b.refuses) (sym part) h.part);
       made = h.made ∙ ap (λ (X : List Pos). made (chess d) X b.mv) (sym same);
     }
@@ -122,10 +125,9 @@ module _ (d : Dialect) (cut : Bool) {T0 T1 : SetRows} {set : ℕ} {t : Move} {j 
   kept : (r : Bool) → part < length T1 → IsPart d (set_at T0 set) t r (set_at T1 part) → IsBlocker d cut T1 (record { set = set; mv = t; part = part; refuses = r; made = u0 - u1 })
   kept r l p =
       let same = m.same set w in
-      let longer = m.longer in
       record {
         may = may;
-        within = omega arith;
+        within = still_within set m w;
         part_within = l;
         part = subst (λ (X : List Pos). IsPart d X t r (set_at T1 part)) (sym same) p;
         made = (let e : u0 - u1 ≡ made (chess d) (set_at T0 set) t = omega arith in e) ∙ ap (λ (X : List Pos). made (chess d) X t) (sym same);

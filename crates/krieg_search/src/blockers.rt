@@ -1,5 +1,6 @@
-ghost use Rattle.std.specs.Prelude.{◌≡◌, ◌<◌, ◌⊎◌, ◌++◌, ◌∷◌, [], true, false, IfSome};
+ghost use Rattle.std.specs.Prelude.{◌≡◌, ◌<◌, ◌⊎◌, ◌++◌, ◌∷◌, [], true, false, Some, IfSome};
 ghost use Rattle.krieg_theory.specs.Sets.{In};
+ghost use Rattle.krieg_search.specs.declared.blockers.Blocker.{Blocker};
 ghost use Rattle.krieg_search.specs.Blockers.{moves_for};
 
 use crate::try_list::is_same;
@@ -8,27 +9,45 @@ use krieg_board::Move;
 use std::alloc::Global;
 use std::marker::Model;
 
-/// So many are kept: some 250 MB.
+/// So many are kept: some 180 MB.
 const MOST_KEPT: usize = 8_000_000;
 
 /// So many are looked through for one try of a set.
 const MOST_OF_SET: usize = 500;
 
-/// The part of a set that a try left, and that could not be won, when the try was split last.
+/// The part of a set that a try left, and that could not be won, when the try was split last. 16 bytes in memory.
 #[derive(Clone, Copy)]
 pub(crate) struct Blocker {
     /// The set, by its number.
     pub set: u32,
     pub mv: Move,
-    /// The part, by its number.
-    pub part: u32,
     /// Whether it is the part that refuses the try. Else it is a class.
     pub refuses: bool,
+    /// The part, by its number.
+    pub part: u32,
     /// What the split took.
-    pub made: u64,
+    pub made: u32,
 }
 
+// A search may keep millions of them.
+const _: () = prove!(size_of::<Blocker>() <= 16);
+
 impl Blocker {
+    /// What is to be kept of a try that was split: nothing where the split took more than 32 bits count.
+    pub(crate) fn new(set: u32, mv: Move, refuses: bool, part: u32, made: u64) -> Option<Blocker>
+        ensures { IfSome result (λ b. b
+            ≡ record { set = set; mv = mv; refuses = refuses; part = part; made = made }) }
+    {
+        let made = u32::try_from(made).ok()?;
+        Some(Blocker {
+            set,
+            mv,
+            refuses,
+            part,
+            made,
+        })
+    }
+
     /// With how many moves the part is to be won where the try is to win with so many.
     pub(crate) fn moves_for(&self, moves: u8) -> u8
         requires { 0 < moves }
@@ -155,14 +174,16 @@ impl Blockers {
         }
     }
 
-    /// Keeps it, where tries may be cut and there is room and memory for it.
+    /// Keeps it, if there is one, where tries may be cut and there is room and memory for it.
     #[inline(never)]
-    pub(crate) fn keep(&mut self, way: Way, blocker: Blocker)
-        ensures { (self.new ≡ self.old)
-            ⊎ ((way.cut ≡ true) × (self.new ≡ self.old ++ blocker ∷ [])) }
+    pub(crate) fn keep(&mut self, way: Way, blocker: Option<Blocker>)
+        ensures { (self.new ≡ self.old) ⊎ ((b : Blocker) × (blocker ≡ Some b)
+            × (way.cut ≡ true) × (self.new ≡ self.old ++ b ∷ [])) }
     {
-        if way.cut {
-            self.add(blocker);
+        if way.cut
+            && let Some(kept) = blocker
+        {
+            self.add(kept);
         }
     }
 }

@@ -10,7 +10,7 @@ use krieg_table::Table;
 use std::alloc::Global;
 
 /// Where the men of the side to move stand, kind by kind.
-#[derive(Clone, Copy, Debug, PartialEq, Eq, Hash)]
+#[derive(Clone, Copy, PartialEq, Eq, Hash)]
 struct OwnMen {
     pawns: u64,
     knights: u64,

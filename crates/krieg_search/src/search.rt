@@ -1,17 +1,15 @@
 ghost use Rattle.std.specs.Prelude.{◌≡◌, ◌<◌, ◌≤◌, true, false, Ok, OnOk, is_some, length, map, not};
 ghost use Rattle.krieg_theory.specs.Can.{begins, can};
 ghost use Rattle.krieg_theory.specs.Split.{legal_in_some};
-ghost use Rattle.krieg_costs.specs.Cost.{made};
 ghost use Rattle.krieg_accounts.specs.Answers.{LostBelow};
 ghost use Rattle.krieg_accounts.specs.Stretch.{CoversSet, CoversPair, CoversTry, CoversSets};
 ghost use Rattle.krieg_game.specs.Chess.{chess};
 ghost use Rattle.krieg_table.specs.SetRows.{set_at};
 ghost use Rattle.krieg_table.specs.Entries.{entries};
-ghost use Rattle.krieg_table.specs.Opened.{IsOpened};
 ghost use Rattle.krieg_table.specs.Table.{IsNext};
-ghost use Rattle.krieg_search.specs.Tries.{IsTold, move_of};
+ghost use Rattle.krieg_search.specs.Tries.{move_of};
 ghost use Rattle.krieg_search.specs.Stretches.{IsAtWork, Searches, TellsSet, sets_of};
-ghost use Rattle.krieg_search.specs.Blocks.{TellsBlock, TellsFirst};
+ghost use Rattle.krieg_search.specs.Blocks.{FindsBlock, IsAskedIn, IsTryOf, TellsFirst};
 ghost use Rattle.krieg_search.specs.Blockers.{IsBlocker};
 
 use crate::blockers::{Blocker, Blockers};
@@ -197,20 +195,10 @@ impl Search {
         tried: &Try,
         deep: u16,
     ) -> Result<Option<Block>, SearchStop>
-        requires some { 0 < asked.now.moves }
-        requires within { asked.now.set < length self.old.table }
-        requires opened { IsOpened asked.now.opened (set_at self.old.table asked.now.set) }
+        requires asked { IsAskedIn self.old.table asked.now }
         requires ready { IsAtWork way self.old }
-        requires told { IsTold (set_at self.old.table asked.now.set) asked.now.moves tried.now }
-        requires legal { legal_in_some (chess way.d) (set_at self.old.table asked.now.set)
-            (move_of tried.now) ≡ true }
-        ensures searched { Searches way result (TellsBlock way.d way.cut
-            self.new.table (set_at self.old.table asked.now.set) asked.now.moves (move_of tried.now)
-            self.old.units self.new.units)
-            (CoversTry (chess way.d) (set_at self.old.table asked.now.set) asked.now.moves
-            (move_of tried.now))
-            (made (chess way.d) (set_at self.old.table asked.now.set) (move_of tried.now))
-            self.old self.new }
+        requires tried { IsTryOf way.d self.old.table asked.now tried.now }
+        ensures searched { FindsBlock way asked.now (move_of tried.now) result self.old self.new }
         ensures ready { OnOk result (IsAtWork way self.new) }
         ensures most { self.new.notes.most ≡ self.old.notes.most }
     {
@@ -220,7 +208,7 @@ impl Search {
         if !self.still_blocks(way, asked, &blocker, deep)? {
             return self.block_anew(way, asked, tried, true, deep);
         }
-        if self.units.take(blocker.made).is_err() {
+        if self.units.take(blocker.made as u64).is_err() {
             return Err(SearchStop::Spent);
         }
         Ok(Some(Block::AtOnce))
@@ -235,8 +223,7 @@ impl Search {
         blocker: &Blocker,
         deep: u16,
     ) -> Result<bool, SearchStop>
-        requires some { 0 < asked.now.moves }
-        requires within { asked.now.set < length self.old.table }
+        requires asked { IsAskedIn self.old.table asked.now }
         requires ready { IsAtWork way self.old }
         requires blocker { IsBlocker way.d way.cut self.old.table blocker.now }
         requires set { blocker.now.set ≡ asked.now.set }
@@ -269,20 +256,10 @@ impl Search {
         uncut: bool,
         deep: u16,
     ) -> Result<Option<Block>, SearchStop>
-        requires some { 0 < asked.now.moves }
-        requires within { asked.now.set < length self.old.table }
-        requires opened { IsOpened asked.now.opened (set_at self.old.table asked.now.set) }
+        requires asked { IsAskedIn self.old.table asked.now }
         requires ready { IsAtWork way self.old }
-        requires told { IsTold (set_at self.old.table asked.now.set) asked.now.moves tried.now }
-        requires legal { legal_in_some (chess way.d) (set_at self.old.table asked.now.set)
-            (move_of tried.now) ≡ true }
-        ensures searched { Searches way result (TellsBlock way.d way.cut
-            self.new.table (set_at self.old.table asked.now.set) asked.now.moves (move_of tried.now)
-            self.old.units self.new.units)
-            (CoversTry (chess way.d) (set_at self.old.table asked.now.set) asked.now.moves
-            (move_of tried.now))
-            (made (chess way.d) (set_at self.old.table asked.now.set) (move_of tried.now))
-            self.old self.new }
+        requires tried { IsTryOf way.d self.old.table asked.now tried.now }
+        ensures searched { FindsBlock way asked.now (move_of tried.now) result self.old self.new }
         ensures ready { OnOk result (IsAtWork way self.new) }
         ensures most { self.new.notes.most ≡ self.old.notes.most }
     {
@@ -291,29 +268,15 @@ impl Search {
             return Ok(Some(Block::AtOnce));
         }
         let before = self.units.left();
-        let Some(Remainder { classes, refused }) = left_of(
-            way,
-            b,
-            tried,
-            asked.moves,
-            &mut self.units,
-        )?
-        else {
+        let left = left_of(way, b, tried, asked.moves, &mut self.units)?;
+        let Some(Remainder { classes, refused }) = left else {
             return Ok(Some(Block::AtOnce));
         };
         let made = before - self.units.left();
         let lost = self.first_lost(way, classes, asked.moves - 1, deep)?;
         if let Some(class) = lost {
-            self.blockers.keep(
-                way,
-                Blocker {
-                    set: asked.set,
-                    mv: move_of_try(tried),
-                    part: class.1,
-                    refuses: false,
-                    made,
-                },
-            );
+            let kept = Blocker::new(asked.set, move_of_try(tried), false, class.1, made);
+            self.blockers.keep(way, kept);
             return Ok(Some(Block::Class(class.0, class.1)));
         }
         if refused.is_empty() {
@@ -323,16 +286,8 @@ impl Search {
         if self.can_win(way, rest, asked.moves, deep)? {
             return Ok(None);
         }
-        self.blockers.keep(
-            way,
-            Blocker {
-                set: asked.set,
-                mv: move_of_try(tried),
-                part: rest,
-                refuses: true,
-                made,
-            },
-        );
+        let kept = Blocker::new(asked.set, move_of_try(tried), true, rest, made);
+        self.blockers.keep(way, kept);
         Ok(Some(Block::Refused(rest)))
     }
 

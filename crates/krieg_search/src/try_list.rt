@@ -10,7 +10,7 @@ use krieg_split::{MOST_TALLIED, Tally, tally_large, tally_tries, tries};
 use std::alloc::Global;
 
 /// A try of a set, and what it does there where one move is left, if that was counted.
-#[derive(Clone, Copy, Debug, PartialEq, Eq)]
+#[derive(Clone, Copy)]
 pub(crate) enum Try {
     Plain(Move),
     Counted(Tally),

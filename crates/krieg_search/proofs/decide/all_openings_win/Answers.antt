@@ -1,7 +1,8 @@
 use Rattle.std.proofs.Common.{List, refl, subst, ◌∙◌, arith}
+use Rattle.std.proofs.lemmas.List.{drop_all}
 use Rattle.krieg_search.proofs.Common.{Opening, sets_in}
 use Rattle.krieg_search.proofs.Searching.{stopped}
-use Rattle.krieg_search.proofs.Checking.{IsChecking, none_checked, all_checked, no_rest}
+use Rattle.krieg_search.proofs.Checking.{IsChecking, none_checked, all_checked}
 use Rattle.krieg_search.proofs.Asking.{opening_within, opening_covers, opening_lost, opening_won}
 use Rattle.krieg_search.proofs.decide.all_openings_win.Goals as goal
 
@@ -35,5 +36,5 @@ pub returns-clause-searched : goal.returns-clause-searched
 returns-clause-searched c =
     let T0 = c.args.search.now.table in
     let Cs = sets_in T0 c.args.openings.now in
-    let none = no_rest c.args.openings.now c.loop-o.o-index c.loop-o-test.false in
+    let none = drop_all c.loop-o.o-index c.args.openings.now c.loop-o-test.false in
     all_checked c.args.way.d c.args.way.cut (subst (λ (ys : List Opening). IsChecking c.args.way.d c.args.way.cut T0 c.loop-o.search.table Cs (sets_in T0 ys) c.args.moves c.args.search.now.units c.loop-o.search.units) none c.loop-o.invariant.checking)

@@ -1,8 +1,8 @@
 use Rattle.std.proofs.Common.{inl, inr, List, [], length, map, refl, sym, ap, subst, ◌∙◌, arith}
 use Rattle.std.specs.Vec.Iter.{into_iter_items}
+use Rattle.std.proofs.lemmas.List.{nil_from_length}
 use Rattle.krieg_search.proofs.Common.{In, Opening, opening_in, KeysAt, Keys}
 use Rattle.krieg_theory.proofs.Lists.{in_map}
-use Rattle.krieg_search.proofs.Checking.{no_items}
 use Rattle.krieg_search.proofs.Rooting.{greater_is}
 use Rattle.krieg_search.proofs.KeyRoots.{IsKeyed, no_root_keyed, one_root_keyed, all_roots_keyed}
 use Rattle.krieg_search.proofs.keys.keys_at_openings.Goals as goal
@@ -44,7 +44,7 @@ loop-o-preserved c =
 
 pub returns : goal.returns
 returns c d n T are =
-    let none = no_items (into_iter_items c.loop-o.o-iterator) (let n = c.in-None.ensures.steps in let k = c.loop-o.invariant.counted in omega arith) in
+    let none = nil_from_length (into_iter_items c.loop-o.o-iterator) (let n = c.in-None.ensures.steps in let k = c.loop-o.invariant.counted in omega arith) in
     let keys : Keys = record { worst = c.loop-o.worst; roots = c.loop-o.roots } in
     let all = map (opening_in T) c.args.openings.items in
     all_roots_keyed d n keys all (subst (λ (ahead : List Opening). IsKeyed d n c.loop-o.roots.items c.loop-o.worst (map (opening_in T) ahead) all) none (c.loop-o.invariant.keyed d n T are))

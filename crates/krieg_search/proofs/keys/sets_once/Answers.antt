@@ -1,7 +1,8 @@
 use Rattle.std.proofs.Common.{inl, [], ◌∷◌, ◌++◌, refl}
+use Rattle.std.proofs.lemmas.List.{drop_all}
 use Rattle.krieg_search.proofs.Common.{Opening, numbers_of}
 use Rattle.krieg_theory.proofs.Lists.{in_append_left, in_append_right, in_map}
-use Rattle.krieg_search.proofs.Checking.{at_item, item_in, no_rest}
+use Rattle.krieg_search.proofs.Checking.{at_item, item_in}
 use Rattle.krieg_search.proofs.KeyRoots.{contains_is, numbers_more, numbers_all, number_put, put_only}
 use Rattle.krieg_search.proofs.keys.sets_once.Goals as goal
 use Rattle.krieg_search.proofs.keys.sets_once.Goals.{then-not-contains+in_ok-push, else-not-contains}
@@ -32,4 +33,4 @@ loop-o-preserved c =
     ]
 
 pub returns-clause-all : goal.returns-clause-all
-returns-clause-all c = numbers_all c.args.openings.now c.loop-o.o-index c.loop-o.sets.items (no_rest c.args.openings.now c.loop-o.o-index c.loop-o-test.false) c.loop-o.invariant.all
+returns-clause-all c = numbers_all c.args.openings.now c.loop-o.o-index c.loop-o.sets.items (drop_all c.loop-o.o-index c.args.openings.now c.loop-o-test.false) c.loop-o.invariant.all

@@ -33,7 +33,6 @@ returns-in_err-ended c =
 
 pub returns-then-ended : goal.returns-then-ended
 returns-then-ended c =
-    let d = c.args.d in
     let who = c.args.who in
     let S = c.args.b.now in
     let turn : IsOthersTurn who S = λ p i. c.is_own_turn.ensures p i ∙ c.if-is_own_turn.false in
@@ -44,7 +43,6 @@ returns-then-ended c =
 
 pub returns : goal.returns
 returns c =
-    let d = c.args.d in
     let who = c.args.who in
     let S = c.args.b.now in
     let T = c.args.table.now in

@@ -1,7 +1,7 @@
 use Rattle.std.proofs.Common.{ap, length, arith}
 use Rattle.std.specs.Vec.Iter.{into_iter_items}
+use Rattle.std.proofs.lemmas.List.{nil_from_length}
 use Rattle.krieg_search.proofs.Common.{first_set}
-use Rattle.krieg_search.proofs.Checking.{no_items}
 use Rattle.krieg_search.proofs.OpenedSets.{no_opening, one_opening, all_openings}
 use Rattle.krieg_search.proofs.openings.first_openings.Goals as goal
 
@@ -31,5 +31,5 @@ loop-class-preserved c =
 pub returns : goal.returns
 returns c =
     let ahead = into_iter_items c.loop-class.class-iterator in
-    let none = no_items ahead (let n = c.in-None.ensures.steps in let k = c.loop-class.invariant.counted in omega arith) in
+    let none = nil_from_length ahead (let n = c.in-None.ensures.steps in let k = c.loop-class.invariant.counted in omega arith) in
     all_openings first_set c.args.table.now c.loop-class.table c.loop-class.found.items ahead c.args.classes.items none c.loop-class.invariant.opening

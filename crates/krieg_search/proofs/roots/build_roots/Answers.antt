@@ -1,8 +1,7 @@
 use Rattle.std.proofs.Common.{◌≡◌, ◌<◌, ◌≤◌, ◌+◌, inr, ◌⊎◌, max, sym, ap, subst, ◌∙◌, arith, [], ◌∷◌, ◌++◌, map, length}
 use Rattle.std.specs.Vec.Iter.{into_iter_items}
-use Rattle.std.proofs.lemmas.List.{map-append}
+use Rattle.std.proofs.lemmas.List.{map-append, nil_from_length}
 use Rattle.krieg_search.proofs.Common.{In, size, depth, size_other, depth_other, least, canon, chess, tree_of, root_of, Root, MOST_ON_PATH, set_at, opening_in}
-use Rattle.krieg_search.proofs.Checking.{no_items}
 use Rattle.krieg_search.proofs.Building.{adds_nothing, too_large, still_paid}
 use Rattle.krieg_search.proofs.Rooting.{greater_is, IsRooting, no_root, all_roots, root_large, one_root, root_within, root_same, root_won, root_node, root_least}
 use Rattle.krieg_search.proofs.roots.build_roots.Goals as goal
@@ -101,6 +100,6 @@ returns c =
     let has = c.loop-o.builder.left in
     let all = map (opening_in T0) c.args.openings.items in
     let pushed = map root_of c.loop-o.roots.items in
-    let none = no_items (into_iter_items c.loop-o.o-iterator) (let n = c.in-None.ensures.steps in let k = c.loop-o.invariant.counted in omega arith) in
+    let none = nil_from_length (into_iter_items c.loop-o.o-iterator) (let n = c.in-None.ensures.steps in let k = c.loop-o.invariant.counted in omega arith) in
     let a = all_roots d j T0 T pushed c.loop-o.worst all had has MOST_ON_PATH (subst (λ ahead. IsRooting d j T0 T pushed c.loop-o.worst ahead all had has MOST_ON_PATH) (ap (map (opening_in T0)) none) c.loop-o.invariant.rooting) in
     (record { are = a.0; worst = a.1 }, a.2, a.3, a.4)

@@ -1,13 +1,12 @@
-use Rattle.std.proofs.Common.{◌≡◌, ◌<◌, List, [], ◌∷◌, ◌++◌, length, vec_len, not, map, true, sym, ap, subst, ◌∙◌, arith}
+use Rattle.std.proofs.Common.{◌≡◌, List, [], ◌∷◌, ◌++◌, vec_len, not, map, sym, ap, subst, ◌∙◌, arith}
 use Rattle.std.proofs.lemmas.Bool.{both_ways}
-use Rattle.std.proofs.lemmas.List.{length-map}
-use Rattle.krieg_search.proofs.Common.{Pos, Move, legal_in_some, chess, set_at, move_of, KeyTry, key_try}
+use Rattle.std.proofs.lemmas.List.{drop_all, length-map}
+use Rattle.krieg_search.proofs.Common.{Pos, Move, chess, set_at, move_of, KeyTry, key_try}
 use Rattle.krieg_theory.specs.Split.{tries as tries_of}
 use Rattle.krieg_accounts.proofs.TryWalk.{legal_at}
 use Rattle.krieg_game.proofs.ChessLaws.{chess_is_game}
-use Rattle.krieg_search.proofs.Searching.{stopped}
-use Rattle.krieg_search.proofs.Checking.{no_rest}
-use Rattle.krieg_search.proofs.Telling.{move_at}
+use Rattle.krieg_search.proofs.Searching.{still_within, stopped}
+use Rattle.krieg_search.proofs.Telling.{move_at, told_at}
 use Rattle.krieg_search.proofs.Keying.{no_keys, some_keys, IsKeying, none_keyed, stored_found, at_next, behind_next, first_key, no_key_yet, later_covers, later_within, later_key, no_later_key, all_keyed}
 use Rattle.krieg_search.proofs.set_keys.keys_of_set.Goals as goal
 use Rattle.krieg_search.proofs.set_keys.keys_of_set.Goals.{then-is_empty+then-is_same+in_ok-add_key, then-is_empty+else-is_same, else-is_empty+in_ok-block_of+then-is_none+in_ok-add_key-2, else-is_empty+in_ok-block_of+else-is_none}
@@ -27,15 +26,18 @@ loop-tried-init c =
       ready = c.requires.ready;
     }
 
-pub block_of-requires-clause-legal : goal.block_of-requires-clause-legal
-block_of-requires-clause-legal c =
+pub block_of-requires-clause-tried : goal.block_of-requires-clause-tried
+block_of-requires-clause-tried c =
     let d = c.args.way.d in
     let B = set_at c.args.search.now.table c.args.set in
-    let t = move_of c.tried-item.result in
     let ts = map move_of c.deref-tried-items.result.now in
     let are = ap (map move_of) c.deref-tried-items.ensures.value ∙ c.in_ok-tries.ensures.moves d ∙ ap (tries_of (chess d)) c.of-b.ensures in
     let at = move_at c.deref-tried-items.result.now c.loop-tried.tried-index c.tried-item.result c.loop-tried-test.true c.tried-item.is in
-    subst (λ (X : List Pos). legal_in_some (chess d) X t ≡ true) (sym (c.loop-tried.invariant.keying.searched.more.same c.args.set c.requires.within)) (legal_at (chess d) (chess_is_game d) B c.args.win.moves ts are c.loop-tried.tried-index t at.0 at.1)
+    let same = c.loop-tried.invariant.keying.searched.more.same c.args.set c.requires.within in
+    record {
+      told = told_at c.of-b.result.now (set_at c.loop-tried.search.table c.args.set) c.args.win.moves c.deref-tried-items.result.now c.in_ok-tries.tries.items c.loop-tried.tried-index c.tried-item.result c.in_ok-tries.ensures.told c.deref-tried-items.ensures.value c.loop-tried-test.true c.tried-item.is (c.of-b.ensures ∙ sym same);
+      legal = rw (sym same) at (legal_at (chess d) (chess_is_game d) B c.args.win.moves ts are c.loop-tried.tried-index (move_of c.tried-item.result) at.0 at.1);
+    }
 
 pub returns-in_err-block_of-clause-searched : goal.returns-in_err-block_of-clause-searched
 returns-in_err-block_of-clause-searched c =
@@ -72,7 +74,7 @@ loop-tried-preserved c =
     let a = at_next d cut B j m keys at.0 at.1 c.loop-tried.invariant.keying in
     let is = c.move_of_try-mv.ensures in
     let same = a.searched.more.same c.args.set c.requires.within in
-    let within : c.args.set < length c.loop-tried.search.table = (let longer = a.searched.more.longer in let w = c.requires.within in omega arith) in
+    let within = still_within c.args.set a.searched.more c.requires.within in
     elim c.if-is_empty.branch [
       | then-is_empty+then-is_same+in_ok-add_key w ↦
           let none = no_keys keys (vec_len c.loop-tried.keys) c.loop-tried.keys.ok.0 (sym c.is_empty.ensures ∙ w.if-is_empty.true) in
@@ -100,4 +102,4 @@ returns-clause-searched c =
     let ts = map move_of c.deref-tried-items.result.now in
     let are = ap (map move_of) c.deref-tried-items.ensures.value ∙ c.in_ok-tries.ensures.moves d ∙ ap (tries_of (chess d)) c.of-b.ensures in
     let l = length-map c.deref-tried-items.result.now move_of in
-    all_keyed d c.args.way.cut B c.args.win.moves c.args.win.mv c.loop-tried.keys.items (no_rest ts c.loop-tried.tried-index (let past = c.loop-tried-test.false in omega arith)) are c.loop-tried.invariant.keying
+    all_keyed d c.args.way.cut B c.args.win.moves c.args.win.mv c.loop-tried.keys.items (drop_all c.loop-tried.tried-index ts (let past = c.loop-tried-test.false in omega arith)) are c.loop-tried.invariant.keying

@@ -1,16 +1,15 @@
 use Rattle.std.proofs.Common.{◌≡◌, ℕ, suc, ◌+◌, List, [], ◌∷◌, ◌++◌, drop, drop-cons, get_or, refl, sym, subst, arith}
+use Rattle.std.proofs.lemmas.List.{drop_all}
 use Rattle.krieg_search.proofs.Common.{Pos, set_at, SetKeys, WonBy}
 use Rattle.krieg_accounts.proofs.TryOrder.{get_in}
-use Rattle.krieg_search.proofs.Searching.{stopped}
-use Rattle.krieg_search.proofs.Checking.{no_rest}
+use Rattle.krieg_search.proofs.Searching.{still_within, stopped}
 use Rattle.krieg_search.proofs.KeySets.{AreKeying, all_sets, still_stored, set_covers, set_within, one_set}
 use Rattle.krieg_search.proofs.set_keys.keys_of_sets.Goals as goal
 
 pub win_of-win-requires-clause-within : goal.win_of-win-requires-clause-within
 win_of-win-requires-clause-within c =
-    let w = c.requires.within (get_or c.args.sets.now c.loop-number.number-index 0) (get_in c.args.sets.now c.loop-number.number-index 0 c.loop-number-test.true) in
-    let longer = c.loop-number.invariant.keying.searched.more.longer in
-    omega arith
+    let s = get_or c.args.sets.now c.loop-number.number-index 0 in
+    still_within s c.loop-number.invariant.keying.searched.more (c.requires.within s (get_in c.args.sets.now c.loop-number.number-index 0 c.loop-number-test.true))
 
 pub win_of-win-requires-clause-won : goal.win_of-win-requires-clause-won
 win_of-win-requires-clause-won c =
@@ -23,9 +22,8 @@ win_of-win-requires-clause-won c =
 
 pub keys_of_set-requires-clause-within : goal.keys_of_set-requires-clause-within
 keys_of_set-requires-clause-within c =
-    let w = c.requires.within (get_or c.args.sets.now c.loop-number.number-index 0) (get_in c.args.sets.now c.loop-number.number-index 0 c.loop-number-test.true) in
-    let longer = c.loop-number.invariant.keying.searched.more.longer in
-    omega arith
+    let s = get_or c.args.sets.now c.loop-number.number-index 0 in
+    still_within s c.loop-number.invariant.keying.searched.more (c.requires.within s (get_in c.args.sets.now c.loop-number.number-index 0 c.loop-number-test.true))
 
 pub returns-in_err-tries : goal.returns-in_err-tries
 returns-in_err-tries c =
@@ -68,4 +66,4 @@ loop-number-preserved c =
     }
 
 pub returns : goal.returns
-returns c = record { searched = all_sets c.args.way.d c.args.way.cut c.args.moves c.loop-number.found.items (no_rest c.args.sets.now c.loop-number.number-index c.loop-number-test.false) c.loop-number.invariant.keying }
+returns c = record { searched = all_sets c.args.way.d c.args.way.cut c.args.moves c.loop-number.found.items (drop_all c.loop-number.number-index c.args.sets.now c.loop-number-test.false) c.loop-number.invariant.keying }

@@ -1,7 +1,8 @@
 use Rattle.std.proofs.Common.{◌≡◌, suc, ◌+◌, false, true, List, drop, not, sym, ap, ◌∙◌, arith}
+use Rattle.std.proofs.lemmas.List.{drop_all}
 use Rattle.krieg_moves.specs.Legal.{is_legal}
 use Rattle.krieg_search.proofs.Common.{Pos, is_nil, chess, refused}
-use Rattle.krieg_search.proofs.Checking.{at_item, no_rest}
+use Rattle.krieg_search.proofs.Checking.{at_item}
 use Rattle.krieg_search.proofs.Keying.{one_refuses, not_this}
 use Rattle.krieg_search.proofs.set_keys.some_refuses.Goals as goal
 
@@ -30,4 +31,4 @@ pub returns : goal.returns
 returns c d =
     let ps = c.args.members.now in
     let t = c.args.mv.now in
-    ap (λ (qs : List Pos). not (is_nil qs)) (ap (λ (qs : List Pos). refused (chess d) qs t) (sym (no_rest ps c.loop-member.member-index c.loop-member-test.false)) ∙ c.loop-member.invariant d)
+    ap (λ (qs : List Pos). not (is_nil qs)) (ap (λ (qs : List Pos). refused (chess d) qs t) (sym (drop_all c.loop-member.member-index ps c.loop-member-test.false)) ∙ c.loop-member.invariant d)

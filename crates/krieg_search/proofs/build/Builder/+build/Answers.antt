@@ -2,13 +2,12 @@ use Rattle.std.proofs.Common.{◌≡◌, ◌<◌, ◌≤◌, ◌-◌, ◌+◌, �
 use Rattle.std.specs.Prelude.{option_map}
 use Rattle.std.specs.Vec.Iter.{into_iter_items}
 use Rattle.std.proofs.lemmas.Bool.{cond-false}
-use Rattle.std.proofs.lemmas.List.{map-append}
+use Rattle.std.proofs.lemmas.List.{map-append, nil_from_length}
 use Rattle.krieg_search.proofs.Common.{Pos, In, is_nil, Just, Nothing, size, size_other, depth, depth_other, canon, made, refused_canon, chess, class_pair, IsParted, set_at, tree_of, edge_of, as_other, Node, Edge-F, roll-Edge, sets_of, edges_for}
 use Rattle.krieg_theory.specs.Tree.{Try}
 use Rattle.krieg_plan.specs.declared.node.Edge.{Edge}
 use Rattle.krieg_plan.proofs.NodeTrees.{edge_rolled}
 use Rattle.krieg_search.proofs.Trying.{some_is}
-use Rattle.krieg_search.proofs.Checking.{no_items}
 use Rattle.krieg_search.proofs.Building.{adds_nothing, adds_then, adds_number, still_won, won_at, too_large, still_paid, won_node, no_nodes, no_path, paid_by, classes_won, refused_is_won, node_is, edges_large, other_large, node_fits}
 use Rattle.krieg_search.proofs.Edging.{IsEdging, no_edge, all_edges, node_large, one_edge}
 use Rattle.krieg_search.proofs.build.Builder.+build.Goals as goal
@@ -113,7 +112,6 @@ build_edges-build-requires t c =
     let d = c.args.d in
     let j = c.args.moves in
     let all = map class_pair c.args.classes.items in
-    let rest = map class_pair (into_iter_items c.next.new.self) in
     let x = c.in-Some.class in
     let T0 = c.args.self.now.table in
     let T1 = c.loop-class.self.table in
@@ -174,13 +172,8 @@ build_edges-loop-class-preserved t c =
     let T0 = c.args.self.now.table in
     let T1 = c.loop-class.self.table in
     let T2 = c.number_of.new.table in
-    let X = set_at T2 c.in_ok-set.set in
     let i = c.in_ok-set.ensures in
     let a = subst (λ ahead. IsEdging d j T0 T1 (map edge_of c.loop-class.edges.items) ahead all c.args.self.now.left c.loop-class.self.left c.args.deep) (ap (map class_pair) c.in-Some.ensures.steps.0) c.loop-class.invariant.edging in
-    let s = adds_then T0 T1 T2 a.sets (adds_number T1 T2 x.belief c.in_ok-set.set i) in
-    let paid = still_paid d T0 T2 s c.requires.paid in
-    let inside = c.loop-class.invariant.inside x.belief (subst (λ ys. In x.belief (sets_of ys)) (sym c.in-Some.ensures.steps.0) (inl refl)) in
-    let won = won_at T2 x.belief X j i.interned.at (still_won T0 T2 x.belief j s (c.requires.won x.belief inside)) in
     let b = c.in_ok-node.ensures in
     let m = tree_of c.in_ok-node.node.value in
     let is : canon (chess d) j x.belief ≡ Just m = ap (canon (chess d) j) (sym i.interned.at) ∙ b.0 in
@@ -203,7 +196,7 @@ build_edges-returns t c =
     let d = c.args.d in
     let all = map class_pair c.args.classes.items in
     let pushed = map edge_of c.loop-class.edges.items in
-    let none = no_items (into_iter_items c.loop-class.class-iterator) (let n = c.in-None.ensures.steps in let k = c.loop-class.invariant.counted in omega arith) in
+    let none = nil_from_length (into_iter_items c.loop-class.class-iterator) (let n = c.in-None.ensures.steps in let k = c.loop-class.invariant.counted in omega arith) in
     all_edges d c.args.moves c.args.self.now.table c.loop-class.self.table pushed all c.args.self.now.left c.loop-class.self.left c.args.deep (subst (λ ahead. IsEdging d c.args.moves c.args.self.now.table c.loop-class.self.table pushed ahead all c.args.self.now.left c.loop-class.self.left c.args.deep) (ap (map class_pair) none) c.loop-class.invariant.edging)
 
 pub build_other-build-requires : goal.build_other-build-requires
@@ -219,7 +212,6 @@ build_other-build-requires t c =
     let s = adds_number T0 T1 R c.in_ok-set.set i in
     let paid = still_paid d T0 T1 s c.requires.paid in
     let won = won_at T1 R X j i.interned.at (still_won T0 T1 R j s (c.requires.won some)) in
-    let same : refused_canon (chess d) j R ≡ canon (chess d) j X = cond-false (is_nil R) Nothing (canon (chess d) j R) some ∙ ap (canon (chess d) j) (sym i.interned.at) in
     (omega arith, (i.interned.within, (paid, won)))
 
 pub build_other-returns-in_err-build : goal.build_other-returns-in_err-build
@@ -227,14 +219,10 @@ build_other-returns-in_err-build t c =
     let d = c.args.d in
     let j = c.args.moves in
     let R = c.args.refused in
-    let T0 = c.args.self.now.table in
     let T1 = c.number_of.new.table in
     let X = set_at T1 c.in_ok-set.set in
     let i = c.in_ok-set.ensures in
     let some : is_nil R ≡ false = some_is R c.is_empty.result c.is_empty.ensures c.if-is_empty.false in
-    let s = adds_number T0 T1 R c.in_ok-set.set i in
-    let paid = still_paid d T0 T1 s c.requires.paid in
-    let won = won_at T1 R X j i.interned.at (still_won T0 T1 R j s (c.requires.won some)) in
     let same : refused_canon (chess d) j R ≡ canon (chess d) j X = cond-false (is_nil R) Nothing (canon (chess d) j R) some ∙ ap (canon (chess d) j) (sym i.interned.at) in
     too_large _ c.from_residual-in_err-build.result c.in_err-build.field-0.0 _ _ _ _ _ _ _ _ _ _ _ _ _ _ _ _ (λ x h. cc) c.from_residual-in_err-build.ensures.1
     (λ h. subst (λ m. (c.args.self.now.left < size_other m) ⊎ (c.args.deep < depth_other m)) (sym same) h) c.in_err-build.ensures
@@ -250,8 +238,6 @@ build_other-returns t c =
     let i = c.in_ok-set.ensures in
     let some : is_nil R ≡ false = some_is R c.is_empty.result c.is_empty.ensures c.if-is_empty.false in
     let s = adds_number T0 T1 R c.in_ok-set.set i in
-    let paid = still_paid d T0 T1 s c.requires.paid in
-    let won = won_at T1 R X j i.interned.at (still_won T0 T1 R j s (c.requires.won some)) in
     let same : refused_canon (chess d) j R ≡ canon (chess d) j X = cond-false (is_nil R) Nothing (canon (chess d) j R) some ∙ ap (canon (chess d) j) (sym i.interned.at) in
     let b = c.in_ok-build.ensures in (
       sym (same ∙ b.0),
