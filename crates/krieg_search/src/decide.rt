@@ -1,7 +1,10 @@
 ghost use Rattle.std.specs.Prelude.{◌≡◌, ◌≤◌, ◌⊎◌, [], IfOk, IfSome, OnOk};
+ghost use Rattle.krieg_accounts.specs.Stored.{pairs};
 ghost use Rattle.krieg_accounts.specs.Stretch.{CoversSets};
+ghost use Rattle.krieg_costs.specs.Sums.{IsOnce};
 ghost use Rattle.krieg_game.specs.Chess.{chess};
 ghost use Rattle.krieg_parting.specs.Turns.{IsOwnTurn, IsOthersTurn};
+ghost use Rattle.krieg_table.specs.Entries.{entries};
 ghost use Rattle.krieg_search.specs.Stretches.{IsAtWork, Searches, TellsSets};
 ghost use Rattle.krieg_search.specs.Openings.{AreNumbered};
 ghost use Rattle.krieg_search.specs.Decision.{IsAsking, IsDecision, AreFewNotes, sets_in};
@@ -19,6 +22,8 @@ use krieg_board::{Side, Units};
 use krieg_pack::Belief;
 use krieg_sight::Sight;
 use krieg_table::Table;
+use std::alloc::Global;
+use std::mem;
 
 /// What a search leaves: the results, and what may be heard before the first own turn.
 #[derive(Drop)]
@@ -125,6 +130,21 @@ pub(crate) fn ask_openings(
     Ok(Some(Outlook { openings, all_win }))
 }
 
+/// What a search leaves, with these openings: it has no table and no notes from then on.
+fn take_findings(search: &mut Search, alloc: Global, openings: Vec<Opening>) -> Findings
+    ensures table { result.table ≡ search.old.table }
+    ensures once { IsOnce (pairs (entries search.old.table)) }
+    ensures openings { result.openings ≡ openings }
+    ensures notes { result.notes ≡ search.old.notes }
+{
+    search.table.know_once();
+    Findings {
+        table: mem::replace(&mut search.table, Table::new(alloc)),
+        openings,
+        notes: mem::replace(&mut search.notes, Notes::new(alloc, 0)),
+    }
+}
+
 /// Whether some plan mates every listed position within `moves`, and by which results.
 ///
 /// Where tries may be cut it looks into no part of a try that is found to fail even for a player who sees the position: the
@@ -147,27 +167,13 @@ pub fn decide(
 {
     let mut search = new_search(way, noted, units.left());
     let asked = ask_openings(&mut search, way, who, b, moves)?;
-    let Search {
-        notes,
-        mut table,
-        units: left,
-        ..
-    } = search;
-    *units = left;
-    table.know_once();
+    *units = Units::new(search.units.left());
     let Some(Outlook { openings, all_win }) = asked else {
         return Ok(Decision::Over);
     };
+    let found = take_findings(&mut search, way.alloc, openings);
     if !all_win {
-        return Ok(Decision::Lost(Findings {
-            table,
-            openings,
-            notes,
-        }));
+        return Ok(Decision::Lost(found));
     }
-    Ok(Decision::Won(Findings {
-        table,
-        openings,
-        notes,
-    }))
+    Ok(Decision::Won(found))
 }

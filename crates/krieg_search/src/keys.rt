@@ -173,6 +173,6 @@ pub fn find_keys(
 {
     let mut search = new_search(way, 0, units.left());
     let answer = keys_by(&mut search, way, who, b, moves)?;
-    *units = search.units;
+    *units = Units::new(search.units.left());
     Ok(answer)
 }

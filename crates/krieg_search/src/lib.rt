@@ -40,7 +40,7 @@
 //! tries, by the number of a part and the words that are heard there (`packed_key`). `solve` and `find` keep none.
 //!
 //! The search calls itself for each part of a set, and building for each node below a node. Where one try after another
-//! is refused, they go a level deeper for each, some 2,490 levels at most. A level of the search takes some 460 bytes of
+//! is refused, they go a level deeper for each, some 2,490 levels at most. A level of the search takes some 600 bytes of
 //! the stack, or less than 2,900 in a program that Rattle's own compiler builds, and a level of building less than 600.
 //!
 //! ```

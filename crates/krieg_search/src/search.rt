@@ -26,11 +26,10 @@ use krieg_game::Class;
 use krieg_sight::{Sight, some_is_no_mate};
 use krieg_table::{OpenSet, SetResult, Table};
 
-/// A search goes so many levels deep at most, which take less than 5 MB of the stack.
+/// A search goes so many levels deep at most, which take less than 8 MB of the stack.
 pub(crate) const MOST_LEVELS: u16 = 10_000;
 
 /// A search at work: what it has found out so far, and the units that are left to it.
-#[derive(Drop)]
 pub(crate) struct Search {
     pub sight: Sight,
     pub notes: Notes,
@@ -38,6 +37,20 @@ pub(crate) struct Search {
     pub table: Table,
     pub units: Units,
     pub blockers: Blockers,
+}
+
+/// Written out, so that each owner of a search lets it go by one call.
+impl Drop for Search {
+    fn drop(self) {
+        let Search {
+            sight: _,
+            notes: _,
+            lost_sets: _,
+            table: _,
+            units: _,
+            blockers: _,
+        } = self;
+    }
 }
 
 /// What is asked of a set: whether it can be won within a number of moves. It is open meanwhile.

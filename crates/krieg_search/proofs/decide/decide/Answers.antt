@@ -1,5 +1,6 @@
-use Rattle.std.proofs.Common.{ℕ, refl, subst, ◌∙◌}
-use Rattle.krieg_search.proofs.Common.{Findings, IsAsked}
+use Rattle.std.proofs.Common.{Vec, ap, sym, ◌∙◌}
+use Rattle.std.specs.declared.alloc.Global.{Global}
+use Rattle.krieg_search.proofs.Common.{Opening}
 use Rattle.krieg_search.proofs.Deciding.{asking_stopped, over, not_won, all_are_won}
 use Rattle.krieg_search.proofs.decide.decide.Goals as goal
 
@@ -10,25 +11,17 @@ returns-in_err-asked-clause-decided c =
 
 pub returns-in_default-clause-decided : goal.returns-in_default-clause-decided
 returns-in_default-clause-decided c =
-    let k = rw c.in_default.is at c.in_ok-asked.ensures.asked in
-    over c.args.way.d c.args.way.cut c.args.who c.args.b.now c.args.moves c.args.units.now c.ask_openings.new.search.units k.0 (k.1 ∙ c.new_search-search.ensures.units ∙ c.left.ensures)
+    let k = rw (c.in_default.is, c.new_search-search.ensures.units, c.left.ensures, sym c.left-2.ensures, sym c.new.ensures) at c.in_ok-asked.ensures.asked in
+    over c.args.way.d c.args.way.cut c.args.who c.args.b.now c.args.moves c.args.units.now c.new.result k.0 k.1
 
 pub returns-then-not-all_win-clause-decided : goal.returns-then-not-all_win-clause-decided
 returns-then-not-all_win-clause-decided c =
-    let d = c.args.way.d in
-    let T = c.ask_openings.new.search.table in
-    let u2 = c.ask_openings.new.search.units in
-    let asked = c.in-Some.field-0 in
-    let lost : Findings = record { table = T; openings = asked.openings; notes = c.ask_openings.new.search.notes } in
-    let a = subst (λ (u : ℕ). IsAsked d c.args.who c.args.b.now c.args.moves c.args.way.cut T asked u u2) (c.new_search-search.ensures.units ∙ c.left.ensures) (rw c.in-Some.is at c.in_ok-asked.ensures.asked) in
-    not_won d c.args.way.cut c.args.who c.args.b.now c.args.moves T asked c.args.units.now u2 a c.know_once.ensures.results c.if-not-all_win.true lost refl refl (rw c.in-Some.is at c.in_ok-asked.ensures.noted)
+    let a = rw (c.in-Some.is, c.new_search-search.ensures.units, c.left.ensures, sym c.left-2.ensures, sym c.new.ensures) at c.in_ok-asked.ensures.asked in
+    let noted = rw (c.in-Some.is, sym c.take_findings-found.ensures.notes) at c.in_ok-asked.ensures.noted in
+    not_won c.args.way.d c.args.way.cut c.args.who c.args.b.now c.args.moves c.ask_openings.new.search.table c.in-Some.field-0 c.args.units.now c.new.result a c.take_findings-found.ensures.once c.if-not-all_win.true c.take_findings-found.result c.take_findings-found.ensures.table (ap (λ (v : Vec Opening Global). v.items) c.take_findings-found.ensures.openings) noted
 
 pub returns-clause-decided : goal.returns-clause-decided
 returns-clause-decided c =
-    let d = c.args.way.d in
-    let T = c.ask_openings.new.search.table in
-    let u2 = c.ask_openings.new.search.units in
-    let asked = c.in-Some.field-0 in
-    let won : Findings = record { table = T; openings = asked.openings; notes = c.ask_openings.new.search.notes } in
-    let a = subst (λ (u : ℕ). IsAsked d c.args.who c.args.b.now c.args.moves c.args.way.cut T asked u u2) (c.new_search-search.ensures.units ∙ c.left.ensures) (rw c.in-Some.is at c.in_ok-asked.ensures.asked) in
-    all_are_won d c.args.way.cut c.args.who c.args.b.now c.args.moves T asked c.args.units.now u2 a c.know_once.ensures.results c.if-not-all_win.false won refl refl (rw c.in-Some.is at c.in_ok-asked.ensures.noted)
+    let a = rw (c.in-Some.is, c.new_search-search.ensures.units, c.left.ensures, sym c.left-2.ensures, sym c.new.ensures) at c.in_ok-asked.ensures.asked in
+    let noted = rw (c.in-Some.is, sym c.take_findings-found.ensures.notes) at c.in_ok-asked.ensures.noted in
+    all_are_won c.args.way.d c.args.way.cut c.args.who c.args.b.now c.args.moves c.ask_openings.new.search.table c.in-Some.field-0 c.args.units.now c.new.result a c.take_findings-found.ensures.once c.if-not-all_win.false c.take_findings-found.result c.take_findings-found.ensures.table (ap (λ (v : Vec Opening Global). v.items) c.take_findings-found.ensures.openings) noted

@@ -1,4 +1,4 @@
-use Rattle.std.proofs.Common.{◌∙◌}
+use Rattle.std.proofs.Common.{sym, ◌∙◌}
 use Rattle.krieg_search.proofs.KeyRoots.{taken_then, stopped_then}
 use Rattle.krieg_search.proofs.keys.find_keys.Goals as goal
 
@@ -13,4 +13,4 @@ returns-in_err-answer-clause-units c =
     (c.new_search-search.ensures.units ∙ c.left.ensures) c.in_err-answer.ensures.answer c.in_err-answer.ensures.taken).1
 
 pub returns-clause-units : goal.returns-clause-units
-returns-clause-units c = taken_then c.args.way.d c.args.who c.args.b.now c.args.moves c.in_ok-answer.answer c.args.units.now c.new_search-search.result.units c.keys_by.new.search.units (c.new_search-search.ensures.units ∙ c.left.ensures) c.in_ok-answer.ensures.taken
+returns-clause-units c = taken_then c.args.way.d c.args.who c.args.b.now c.args.moves c.in_ok-answer.answer c.args.units.now c.new_search-search.result.units c.new.result (c.new_search-search.ensures.units ∙ c.left.ensures) (rw (sym c.left-2.ensures, sym c.new.ensures) at c.in_ok-answer.ensures.taken)
