@@ -40,8 +40,8 @@
 //! tries, by the number of a part and the words that are heard there (`packed_key`). `solve` and `find` keep none.
 //!
 //! The search calls itself for each part of a set, and building for each node below a node. Where one try after another
-//! is refused, they go a level deeper for each, some 2,490 levels at most. A level of the search takes some 600 bytes of
-//! the stack, or less than 2,900 in a program that Rattle's own compiler builds, and a level of building less than 600.
+//! is refused, they go a level deeper for each, some 2,490 levels at most. A level of the search takes up to 1,200 bytes of
+//! the stack, or some 2,900 in a program that Rattle's own compiler builds, and a level of building less than 600.
 //!
 //! ```
 //! let mut units = Units::new(5_000_000);

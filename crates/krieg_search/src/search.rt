@@ -26,8 +26,8 @@ use krieg_game::Class;
 use krieg_sight::{Sight, some_is_no_mate};
 use krieg_table::{OpenSet, SetResult, Table};
 
-/// A search goes so many levels deep at most, which take less than 8 MB of the stack.
-pub(crate) const MOST_LEVELS: u16 = 10_000;
+/// A search goes so many levels deep at most, which take less than 6 MB of the stack.
+pub(crate) const MOST_LEVELS: u16 = 5_000;
 
 /// A search at work: what it has found out so far, and the units that are left to it.
 pub(crate) struct Search {
