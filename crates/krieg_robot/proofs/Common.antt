@@ -31,8 +31,6 @@ pub use Rattle.krieg_theory.specs.Sets.{In}
 pub use Rattle.krieg_theory.specs.Tree.{Edges, Just, Maybe, Nothing, Try}
 pub use Rattle.krieg_theory.specs.Wins.{wins, wins_other}
 pub use Rattle.krieg_seats.specs.Accounts.{Account, new_account, once_asked}
-pub use Rattle.krieg_seats.specs.declared.seat.Say.{Say}
-pub use Rattle.krieg_seats.specs.declared.seat.Say.TheVariants.{Leave}
 pub use Rattle.krieg_play.specs.Games.{AreOnTurn, IsGameFrom, events_of, tries_of, try_of}
 pub use Rattle.krieg_play.specs.Played.{once, played_counts}
 pub use Rattle.krieg_play.specs.Players.{IsStepped, due_in}
@@ -46,7 +44,7 @@ pub use Rattle.krieg_plan.specs.Nodes.{as_other, tree_of}
 pub use Rattle.krieg_plan.specs.Plans.{plan_of}
 pub use Rattle.krieg_plan.specs.Trees.{NodeTree, PlanTrees, first_edge_in, first_root_in}
 pub use Rattle.krieg_robot.specs.Guides.{Guidance}
-pub use Rattle.krieg_robot.specs.Followers.{Follower, follow_guide, is_first, said_so, say_of, stand_of}
+pub use Rattle.krieg_robot.specs.Followers.{Follower, follow_guide, is_first, said_so, stand_of}
 pub use Rattle.krieg_robot.specs.Laws.{MatingPlanWins}
 pub use Rattle.krieg_robot.specs.Leading.{AreTried, Breaks, IsBroken, IsLed, IsTried, LastAsk, LeadStops, broken_counts, is_own_move, lines_of, own_moves, stand_after}
 pub use Rattle.krieg_robot.specs.Places.{behind, changed, node_at, node_on, node_with, stand_at, try_there}
@@ -55,6 +53,5 @@ pub use Rattle.krieg_robot.specs.Turns.{AfterPass, BothTold, HasTried, HearsPart
 pub use Rattle.krieg_robot.specs.declared.led.LeadFault.{LeadFault}
 pub use Rattle.krieg_robot.specs.declared.led.LeadFault.TheVariants.{NoMemory, Seat}
 pub use Rattle.krieg_robot.specs.declared.place.Change.{Change}
-pub use Rattle.krieg_robot.specs.declared.place.Change.TheVariants.{Steps}
 pub use Rattle.krieg_robot.specs.declared.place.Place.{Place}
 pub use Rattle.krieg_robot.specs.declared.guide.Step.{Step}

@@ -2,7 +2,7 @@
 use Rattle.std.proofs.Common.{◌≡◌, ◌<◌, Bool, true, false, List, [], refl, sym, ap, subst, ◌∙◌, inl, inr, arith, Result, Ok, Err, Option, Some}
 use Rattle.std.specs.Prelude.{⊤}
 use Rattle.std.proofs.lemmas.List.{append-nil}
-use Rattle.krieg_robot.proofs.Common.{is_same_side, other, Pos, Move, Side, White, Black, Dialect, Line, GameState, Event, Account, IsStepped, due_in, judged, Follower, HearsPart, BothTold, TurnAsked, AfterPass, Passes, hearing, lead, lead_fault, next_pass, LeadFault, NoMemory}
+use Rattle.krieg_robot.proofs.Common.{is_same_side, other, Pos, Move, Side, White, Black, Dialect, Line, GameState, Account, IsStepped, due_in, judged, Follower, Guidance, HearsPart, BothTold, TurnAsked, AfterPass, Passes, hearing, lead, lead_fault, next_pass, LeadFault, NoMemory}
 use Rattle.krieg_seats.specs.declared.seat.SeatFault.{SeatFault}
 use Rattle.krieg_seats.specs.declared.seat.SeatFault.TheVariants.{Failed}
 use Rattle.krieg_seats.specs.declared.seat.SeatFault.TheVariants as fault
@@ -124,15 +124,18 @@ passes_by (Err met) result s t u a b c game game' more asks (is, same, game_same
 
 -- ---- from either side
 
--- a try that was judged, and told in this dialect
-judged_by : (side : Side) (d : Dialect) (r : Result (Unit {0}) LeadFault) (e : Event) (a a' : Account) (s s' : Follower) (game game' : GameState) → s.guide.side ≡ side → s.guide.dialect ≡ d → IsStepped e game game' →
-    BothTold r side s s' (due_in d (judged game.position e) side) a a' (due_in d (judged game.position e) (other side)) → IsJudged r e a a' s s' game game'
-judged_by side d r e a a' s s' game game' side_is d_is stepped tells =
-    let lines : Dialect → Side → List Line = λ x who. due_in x (judged game.position e) who in
+-- a try of the side to move was judged, and told in this dialect
+judged_by : {d : Dialect} (s t s' : Follower) (a b b' : Account) (game game' : GameState) (m : Move) (r : Result (Unit {0}) LeadFault) → d ≡ s.guide.dialect → (side : Side) → s.guide.side ≡ side →
+    TurnAsked (own_turn s game) (Ok (Tried m)) s t a b → IsStepped (event game.position.side m) game game' →
+    BothTold r side t s' (due_in d (judged game.position (event game.position.side m)) side) b b' (due_in d (judged game.position (event game.position.side m)) (other side)) →
+    IsJudged r (event game.position.side m) b b' t s' game game'
+judged_by s t s' a b b' game game' m r d_is side side_is asks stepped tells =
+    let kept = guide_kept (own_turn s game) m s t a b asks in
+    let lines : Dialect → Side → List Line = λ y who. due_in y (judged game.position (event game.position.side m)) who in
     record {
       stepped = stepped;
-      tells = subst (λ (x : Side). BothTold r x s s' (lines s.guide.dialect x) a a' (lines s.guide.dialect (other x))) (sym side_is)
-          (subst (λ (x : Dialect). BothTold r side s s' (lines x side) a a' (lines x (other side))) (sym d_is) tells);
+      tells = subst (λ (y : Side). BothTold r y t s' (lines t.guide.dialect y) b b' (lines t.guide.dialect (other y))) (sym (ap (λ (f : Guidance). f.side) kept ∙ side_is))
+          (subst (λ (y : Dialect). BothTold r side t s' (lines y side) b b' (lines y (other side))) (sym (ap (λ (f : Guidance). f.dialect) kept ∙ sym d_is)) tells);
     }
 
 module _ {X : Type 0} (account : X → Account) {d : Dialect} {start : Pos} {result : Result (Option Side) PlayFault} {s s' : Follower} {b b' : X} {game game' : GameState} (d_is : d ≡ s.guide.dialect) where
@@ -146,12 +149,7 @@ module _ {X : Type 0} (account : X → Account) {d : Dialect} {start : Pos} {res
         Follows (OwnAsks account) (TheirAsks account) (OwnHearing account) (TheirHears account) said result d start game.position.side t.white s' t.black b' game game' →
         Ends said result t.white s' (account t.black) (account b') game game'
     white_ends_by (Ok (Tried m)) asks (told, is, stepped, both) =
-        let kept = guide_kept (own_turn s game) m s t.white (account b) (account t.black) asks in (
-          told,
-          is,
-          judged_by White d (lead told) (event game.position.side m) (account t.black) (account b') t.white s' game game'
-              (ap (λ x. x.side) kept ∙ side) (ap (λ x. x.dialect) kept ∙ sym d_is) stepped (told_white account told (λ who. lines_to start who game'.log) (due_in d (judged game.position (event game.position.side m))) t.white s' t.black b' both),
-        )
+        (told, is, judged_by s t.white s' (account b) (account t.black) (account b') game game' m (lead told) d_is White side asks stepped (told_white account told (λ who. lines_to start who game'.log) (due_in d (judged game.position (event game.position.side m))) t.white s' t.black b' both))
     white_ends_by (Ok Relieved) asks h = tt
     white_ends_by (Ok Left) asks h = (h.0, ap account h.2, h.3)
     white_ends_by (Err met) asks h = (h.0, ap account h.2, h.3)
@@ -169,12 +167,7 @@ module _ {X : Type 0} (account : X → Account) {d : Dialect} {start : Pos} {res
         Follows (TheirAsks account) (OwnAsks account) (TheirHears account) (OwnHearing account) said result d start game.position.side t.white b' t.black s' game game' →
         Ends said result t.black s' (account t.white) (account b') game game'
     black_ends_by (Ok (Tried m)) asks (told, is, stepped, both) =
-        let kept = guide_kept (own_turn s game) m s t.black (account b) (account t.white) asks in (
-          told,
-          is,
-          judged_by Black d (lead told) (event game.position.side m) (account t.white) (account b') t.black s' game game'
-              (ap (λ x. x.side) kept ∙ side) (ap (λ x. x.dialect) kept ∙ sym d_is) stepped (told_black account told (λ who. lines_to start who game'.log) (due_in d (judged game.position (event game.position.side m))) t.black s' t.white b' both),
-        )
+        (told, is, judged_by s t.black s' (account b) (account t.white) (account b') game game' m (lead told) d_is Black side asks stepped (told_black account told (λ who. lines_to start who game'.log) (due_in d (judged game.position (event game.position.side m))) t.black s' t.white b' both))
     black_ends_by (Ok Relieved) asks h = tt
     black_ends_by (Ok Left) asks h = (h.0, ap account h.1, h.3)
     black_ends_by (Err met) asks h = (h.0, ap account h.1, h.3)

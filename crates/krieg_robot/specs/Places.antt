@@ -14,7 +14,7 @@ use Rattle.krieg_robot.specs.declared.guide.Step.TheVariants.{From, No, On}
 use Rattle.krieg_robot.specs.declared.place.Place.{Place}
 use Rattle.krieg_robot.specs.declared.place.Place.TheVariants.{Unopened, Opened, At, Sent, Won, Lost}
 use Rattle.krieg_robot.specs.declared.place.Change.{Change}
-use Rattle.krieg_robot.specs.declared.place.Change.TheVariants.{Stays, Goes, Steps}
+use Rattle.krieg_robot.specs.declared.place.Change.TheVariants.{Goes, Steps}
 
 -- the node behind a step from a node
 abbrev pub below : NodeTree → Step → Maybe Move Key
@@ -63,8 +63,8 @@ stand_at (Sent w) n = sent n w
 stand_at Won n = stand.Won
 stand_at Lost n = stand.Lost
 
--- where he stands after a change
-abbrev pub changed : PlanTrees → Place → Maybe Move Key → Change → Stand
-changed plan place n Stays = stand_at place n
-changed plan place n (Goes to) = stand_at to n
-changed plan place n (Steps s) = at (behind plan n s)
+-- where he stands after a change, if there was one
+abbrev pub changed : PlanTrees → Place → Maybe Move Key → Option Change → Stand
+changed plan place n None = stand_at place n
+changed plan place n (Some (Goes to)) = stand_at to n
+changed plan place n (Some (Steps s)) = at (behind plan n s)

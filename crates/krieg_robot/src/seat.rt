@@ -8,7 +8,7 @@ ghost use Rattle.krieg_robot.specs.Turns.{AsksOwn, HearsOwn};
 
 use crate::guide::{Guide, Step};
 use crate::next::Next;
-use crate::place::{Change, Place, change_by, next_of, next_try};
+use crate::place::{Place, change_by, go, next_of, next_try};
 use krieg_board::{Move, Position, Side};
 use krieg_play::AskOutcome;
 use krieg_seats::{Say, Seat, SeatFault};
@@ -158,14 +158,7 @@ impl<G: Guide> Seat for GuidedSeat<G> {
             Ok(()) => {}
             Err(_) => return Err(SeatFault::NoMemory),
         }
-        match change {
-            Change::Stays => {}
-            Change::Goes(place) => self.place = place,
-            Change::Steps(step) => {
-                self.way.push_reserved(step);
-                self.place = Place::At;
-            }
-        }
+        go(change, &mut self.place, &mut self.way);
         Ok(())
     }
 
