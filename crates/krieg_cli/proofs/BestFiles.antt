@@ -1,6 +1,6 @@
 -- The best plan for positions of one hand can be written as a plan file.
-use Rattle.std.proofs.Common.{◌≡◌, ℕ, zero, suc, ◌+◌, take, Some, ◌≤◌, Bool, true, false, not, List, [], ◌∷◌, ◌++◌, map, length, refl, sym, ap, subst, inl, inr, ◌∙◌, arith}
-use Rattle.std.specs.Prelude.{◌⊎◌, slice_get, if◌then◌else◌}
+use Rattle.std.proofs.Common.{◌≡◌, ℕ, zero, suc, ◌+◌, ◌≤◌, Bool, true, false, not, List, [], ◌∷◌, ◌++◌, map, length, refl, sym, ap, subst, inl, inr, ◌∙◌, arith}
+use Rattle.std.specs.Prelude.{◌⊎◌, if◌then◌else◌}
 use Rattle.std.specs.List.{All, list_any}
 use Rattle.std.proofs.lemmas.Bool.{both_ways, and_parts, cases_Bool}
 use Rattle.std.proofs.lemmas.List.Elements.{All-head, All-tail, All-nil, All-cons}
@@ -12,31 +12,18 @@ use Rattle.krieg_theory.proofs.Lists.{all_at, any_none, in_flat}
 use Rattle.krieg_game.proofs.KeyLaws.{root_order}
 use Rattle.krieg_game.proofs.Winning.{nothing_wins_in_none}
 use Rattle.krieg_planfile.specs.PlanFiles.{CanBeWritten}
-use Rattle.krieg_cli.proofs.ToldPlans.{AreValid, some_member, plan_told}
-
--- one place more
-pub take_more : {X : Type 0} (xs : List X) (i : ℕ) (x : X) → slice_get xs i ≡ Some x → take i xs ++ x ∷ [] ≡ take (i + 1) xs
-take_more {X = X} xs i x h = let next : suc i ≡ i + 1 = omega arith in go xs i h ∙ ap (λ n. take n xs) next
-  where
-    go : (xs : List X) (i : ℕ) → slice_get xs i ≡ Some x → take i xs ++ x ∷ [] ≡ take (suc i) xs
-    go [] i h = absurd cc
-    go (y ∷ xs) zero h = let same : y ≡ x = cc in ap (λ z. z ∷ []) (sym same)
-    go (y ∷ xs) (suc i) h = ap (λ zs. y ∷ zs) (go xs i h)
-
--- one more of a list
-pub all_more : {X : Type 0} (P : X → Type 0) (xs : List X) (x : X) → All P xs → P x → All P (xs ++ x ∷ [])
-all_more P [] x all here = All-cons P x [] here (All-nil P)
-all_more P (y ∷ xs) x all here = All-cons P y (xs ++ x ∷ []) (All-head P y xs all) (all_more P xs x (All-tail P y xs all) here)
+use Rattle.krieg_cli.proofs.ToldPlans.{some_member, plan_told}
 
 -- each of a list, by its members
 pub all_of : {X : Type 0} (P : X → Type 0) (xs : List X) → ((x : X) → In x xs → P x) → All P xs
 all_of P [] each = All-nil P
 all_of P (x ∷ xs) each = All-cons P x xs (each x (inl refl)) (all_of P xs (λ y at. each y (inr at)))
 
-pub valid_of : (S : List Pos) → All IsValid S → AreValid S
-valid_of [] all p at = absurd at
-valid_of (q ∷ S) all p (inl same) = subst IsValid same (All-head IsValid q S all)
-valid_of (q ∷ S) all p (inr at) = valid_of S (All-tail IsValid q S all) p at
+-- and of its members
+pub each_of : {X : Type 0} (P : X → Type 0) (xs : List X) → All P xs → (x : X) → In x xs → P x
+each_of P [] all x at = absurd at
+each_of P (y ∷ xs) all x (inl same) = subst P same (All-head P y xs all)
+each_of P (y ∷ xs) all x (inr at) = each_of P xs (All-tail P y xs all) x at
 
 pub some_length : {X : Type 0} (xs : List X) → is_nil xs ≡ false → 1 ≤ length xs
 some_length [] h = absurd (both_ways true h refl)
@@ -102,7 +89,7 @@ module _ (d : Dialect) (who : Side) where
   pub can_be_written : (S : List Pos) (n w : ℕ) (plan : PlanTrees) → is_nil S ≡ false → length S ≤ MOST_LISTED → HaveOneHand who S → All IsValid S → n ≤ MOST_FIND_MOVES → IsBest d who S n w plan → IsFit MOST_NODES plan →
       CanBeWritten (file_of d who S w plan)
   can_be_written S n w plan some few hand valid few_moves best fit =
-      let told = plan_told d who S (valid_of S valid) (waits who S) plan (turn_is who S hand) best.canonical in
+      let told = plan_told d who S (each_of IsValid S valid) (waits who S) plan (turn_is who S hand) best.canonical in
       record {
         some_listed = some_length S some;
         few_listed = few;

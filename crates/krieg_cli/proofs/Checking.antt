@@ -1,7 +1,5 @@
 -- What a check finds, as the answer to a plan file.
 use Rattle.std.proofs.Common.{◌≡◌, ℕ, ◌+◌, List, [], ◌∷◌, Ok, inl, inr, true, sym, ap, ◌∙◌, arith}
-use Rattle.std.specs.List.{All}
-use Rattle.std.proofs.lemmas.List.Elements.{All-head, All-tail}
 use Rattle.krieg_cli.proofs.Common.{same_hand, Pos, Side, In, PlanFile, AreAlike, IsOneTurn, IsVerdict, worst_text}
 use Rattle.krieg_moves.proofs.Hands.{same_hand_alike}
 use Rattle.krieg_planfile.specs.PlanFiles.{state_of}
@@ -9,17 +7,13 @@ use Rattle.krieg_checker.specs.Verdict.{check_cost as cost_of}
 use Rattle.krieg_checker.specs.declared.plan_check.PlanVerdict.{PlanVerdict as Found}
 use Rattle.krieg_checker.specs.declared.plan_check.PlanVerdict.TheVariants.{Mates}
 use Rattle.krieg_cli.specs.Check.{Checked}
+use Rattle.krieg_cli.proofs.BestFiles.{each_of}
 
 -- the same side is to move in each position of one hand
 
-turn_among : (who : Side) (first q : Pos) (ps : List Pos) → All (λ p. same_hand first p who ≡ true) ps → In q ps → first.side ≡ q.side
-turn_among who first q [] alike at = absurd at
-turn_among who first q (p ∷ ps) alike (inl same) = (same_hand_alike who first p (All-head (λ p. same_hand first p who ≡ true) p ps alike)).turn ∙ ap (λ (p : Pos). p.side) same
-turn_among who first q (p ∷ ps) alike (inr at) = turn_among who first q ps (All-tail (λ p. same_hand first p who ≡ true) p ps alike) at
-
 turn_of : (who : Side) (first q : Pos) (ps : List Pos) → AreAlike who (first ∷ ps) → In q (first ∷ ps) → first.side ≡ q.side
 turn_of who first q ps alike (inl same) = ap (λ (p : Pos). p.side) same
-turn_of who first q ps alike (inr at) = turn_among who first q ps alike at
+turn_of who first q ps alike (inr at) = (same_hand_alike who first q (each_of (λ p. same_hand first p who ≡ true) ps alike q at)).turn
 
 pub one_turn : (who : Side) (S : List Pos) → AreAlike who S → IsOneTurn S
 one_turn who [] alike = record { same_side = λ p q at other. absurd at }

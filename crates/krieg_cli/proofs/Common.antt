@@ -30,13 +30,12 @@ pub use Rattle.krieg_words.specs.declared.line.Line.TheVariants.{Done, Early, He
 unfoldable pub use Rattle.krieg_record.specs.RecordReading.{record_at}
 pub use Rattle.krieg_referee.specs.Games.{judge}
 pub use Rattle.krieg_referee.specs.declared.verdict.Event.{Event}
-pub use Rattle.krieg_referee.specs.declared.verdict.Verdict.{Verdict}
 pub use Rattle.krieg_sheet.specs.Games.{IsConsistent, Gives}
 pub use Rattle.krieg_sheet.specs.Places.{IsSheet}
 unfoldable pub use Rattle.krieg_sheet.specs.SheetReading.{sheet_at}
 unfoldable pub use Rattle.krieg_sheet.specs.SheetText.{sheet_text}
 pub use Rattle.krieg_sheet.specs.Sheets.{SheetState, new_sheet}
-pub use Rattle.krieg_sheet.specs.Turns.{first_turn, is_my_turn, turn_behind, turn_of}
+pub use Rattle.krieg_sheet.specs.Turns.{first_turn, is_my_turn, is_over, turn_behind, turn_of}
 pub use Rattle.krieg_session.specs.Laws.{IsGame}
 unfoldable pub use Rattle.krieg_session.specs.SessionReading.{session_at}
 pub use Rattle.krieg_session.specs.SessionReading.{start_at}
@@ -84,14 +83,12 @@ pub use Rattle.krieg_plan.specs.Plans.{plan_of}
 pub use Rattle.krieg_plan.specs.Trees.{NodeTree, PlanTrees, plan_size}
 pub use Rattle.krieg_plan.specs.declared.limits.TheConstants.{MOST_NODES}
 pub use Rattle.krieg_plan.specs.declared.plan.PlanFile.{PlanFile}
-pub use Rattle.krieg_planfile.specs.HeardReading.{HeardState}
 pub use Rattle.krieg_planfile.specs.NodeText.{AreTold, IsToldIn, IsToldKey, IsToldOther}
 pub use Rattle.krieg_planfile.specs.PlanFiles.{AreAlike, AreRootsOf, AreToldRoots, IsToldRoot, PlanState, waits}
 unfoldable pub use Rattle.krieg_planfile.specs.PlanReading.{plan_at}
 pub use Rattle.krieg_parting.specs.declared.stop.PartStop.{PartStop}
 pub use Rattle.krieg_parting.specs.Charges.{Charges}
 pub use Rattle.krieg_checker.specs.Verdict.{IsVerdict}
-pub use Rattle.krieg_checker.specs.declared.plan_check.PlanVerdict.TheVariants.{Fails}
 pub use Rattle.krieg_parting.specs.Turns.{IsOthersTurn, IsOwnTurn}
 pub use Rattle.krieg_split.specs.Units.{IsPaid}
 pub use Rattle.krieg_search.specs.Decision.{IsBetween}
@@ -99,7 +96,6 @@ pub use Rattle.krieg_search.specs.BuiltPlan.{IsFit}
 pub use Rattle.krieg_search.specs.KeyTries.{AreKeys, IsKeyAnswer, IsWithinFresh, Told, key_tries, key_try, keys_of, told_of}
 pub use Rattle.krieg_search.specs.Solutions.{IsAnswer, IsBest, IsCharged, IsChargedAtMost}
 pub use Rattle.krieg_search.specs.declared.best_plan.Answer.{Answer}
-pub use Rattle.krieg_search.specs.declared.keys.KeyAnswer.TheVariants.{Found}
 pub use Rattle.krieg_search.specs.declared.keys.KeyTry.{KeyTry}
 pub use Rattle.krieg_search.specs.declared.keys.KeysAt.{KeysAt}
 pub use Rattle.krieg_search.specs.declared.keys.Keys.{Keys as FoundKeys}
@@ -122,42 +118,38 @@ pub use Rattle.krieg_make.specs.MadeSheets.{made_list, made_sheet}
 pub use Rattle.krieg_args.specs.Command.{takes_input}
 pub use Rattle.krieg_args.specs.declared.command.Command.{Command}
 pub use Rattle.krieg_args.specs.declared.command.Command.TheVariants.{Advise, Believe, Check, Conduct, Deny, Find, Job, Judge, Keys, Lead, Make, Next, Play, Refute, San, Share, Solve, Umpire, Unsan, Why}
-pub use Rattle.krieg_args.specs.declared.command.MadeInput.{MadeInput}
 pub use Rattle.krieg_args.specs.declared.command.TheConstants.{MOST_FIND_MOVES}
-pub use Rattle.krieg_cli.specs.Asked.{IsGiven, Leaves, OfPossible, has_no_turn}
+pub use Rattle.krieg_cli.specs.Asked.{IsGiven, Leaves, OfPossible, OfSheet, Search, Searches, has_no_turn}
 pub use Rattle.krieg_cli.specs.Believe.{Believed}
 unfoldable pub use Rattle.krieg_cli.specs.Check.{worst_text}
 pub use Rattle.krieg_cli.specs.Check.{check_cost}
 pub use Rattle.krieg_cli.specs.Judge.{JudgedSo}
-pub use Rattle.krieg_cli.specs.WholeStrategies.{JudgesStrategies, WritesWorst}
-pub use Rattle.krieg_strategyfile.specs.Strategies.{StrategyState}
+pub use Rattle.krieg_cli.specs.WholeStrategies.{JudgesStrategies}
 unfoldable pub use Rattle.krieg_strategyfile.specs.StrategyFormat.{strategy_at}
-unfoldable pub use Rattle.krieg_strategyfile.specs.StrategyText.{strategy_text}
 pub use Rattle.krieg_share.specs.Answers.{IsBestStrategy, IsStrategyAnswer, MakesStrategy, TakesAsPlan}
-pub use Rattle.krieg_cli.specs.Complete.{BenchHolds, CanBeChecked, CanBeDenied, CanBeJudged, CanBeKeyed, CanBeRefuted, CanBeShared, CanBeShown, CanBeSolved, CanBeSummed, CanPlay, Completes, HoldsText, MustAnswer, NoneFailed, seats_since}
+pub use Rattle.krieg_cli.specs.Complete.{BenchHolds, CanBeChecked, CanBeDenied, CanBeJudged, CanBeSearched, CanBeShown, CanBeSummed, CanPlay, ClaimsFit, Completes, HoldsText, KeysFit, MustAnswer, NoneFailed, PlanFits, StrategyFits, seats_since}
 unfoldable pub use Rattle.krieg_cli.specs.Deny.{refuted_text}
 pub use Rattle.krieg_cli.specs.Deny.{Judged}
 pub use Rattle.krieg_cli.specs.Ending.{line_of, status}
-pub use Rattle.krieg_cli.specs.Headline.{AnswersKeys, AnswersShared, AnswersSheet, HasSheet, ListsKeys, SharesPlans, WritesKeys, WritesNone, WritesPlan, WritesStrategy}
-pub use Rattle.krieg_cli.specs.Input.{WasRead, WasTaken}
+pub use Rattle.krieg_cli.specs.Headline.{AnswersBy, FindsSheets, HasSheet, ListsKeys, SharesPlans, SolvesSheets, WritesKeys, WritesNone, WritesPlan, WritesStrategy, Writing}
+pub use Rattle.krieg_cli.specs.Input.{WasRead}
 unfoldable pub use Rattle.krieg_cli.specs.Job.{summary_text}
 pub use Rattle.krieg_cli.specs.Job.{IsFound, Plans, Summarizes, checked_line, found_lines, mates_line, summary_lines}
 pub use Rattle.krieg_cli.specs.Guides.{guided, plan_guide, plan_guide_in, strategy_guide, strategy_guide_in}
 pub use Rattle.krieg_cli.specs.Lead.{HasLed, HasLedBy, IsGivenUp, IsLedTo, Leads, LeadsFrom, LeadsWhole, OpponentChanges}
-pub use Rattle.krieg_cli.specs.LedGames.{ConductsToMate, IsWonGame, LeadsToMate}
+pub use Rattle.krieg_cli.specs.LedGames.{ConductsToMate, IsWonGame, LeadsToMate, MatesBy}
 pub use Rattle.krieg_cli.specs.Limits.{AreLimits, FitInputs}
 unfoldable pub use Rattle.krieg_cli.specs.Keys.{keys_text}
-pub use Rattle.krieg_cli.specs.Keys.{AreKeysAt, AreSetKeys, Begins, IsKeysText, Keyed, KeyedFor, TellsKeys, heard_lines, try_line}
-pub use Rattle.krieg_cli.specs.Live.{LivesBy}
-pub use Rattle.krieg_cli.specs.Make.{Makes}
-pub use Rattle.krieg_cli.specs.Next.{Advised, Says}
+pub use Rattle.krieg_cli.specs.Keys.{AreKeysAt, AreSetKeys, Begins, IsKeysText, Keyed, TellsKeys, heard_lines, try_line}
+pub use Rattle.krieg_cli.specs.Live.{HasBegunBy, LivesBy, is_live}
+pub use Rattle.krieg_cli.specs.Next.{Says}
 pub use Rattle.krieg_cli.specs.Outcome.{HasOutcome, LiveOutcome}
-pub use Rattle.krieg_cli.specs.Parts.{Decides, LeavesSeats, SearchedBy, SolvedBy, ending_of, of_lead, of_part, of_play, of_search}
+pub use Rattle.krieg_cli.specs.Parts.{ByKind, Decides, LeavesSeats, SearchedBy, ending_of, of_lead, of_part, of_play, of_search}
 pub use Rattle.krieg_cli.specs.Play.{HasBegun, PlaysFrom, PlaysWhole}
 pub use Rattle.krieg_cli.specs.Refusal.{OfText, refusal_status, text_status}
-pub use Rattle.krieg_cli.specs.Refute.{CanBeListed, Claimed, IsDenialText, Refuted, denial_file}
-pub use Rattle.krieg_cli.specs.Share.{IsShared, IsSharedText, SharedBy, SharedFor, TellsShared, strategy_of}
-pub use Rattle.krieg_cli.specs.Solve.{IsBestFile, IsTooLarge, Searched, Tells, file_of, least_units, mates_all}
+pub use Rattle.krieg_cli.specs.Refute.{CanBeListed, Claimed, IsDenialText, denial_file}
+pub use Rattle.krieg_cli.specs.Share.{SharedBy, TellsShared, strategy_of}
+pub use Rattle.krieg_cli.specs.Solve.{IsBestFile, IsTooLarge, NoneMates, Searched, Tells, file_of, fresh_units, least_units, mates_all, none_text}
 pub use Rattle.krieg_cli.specs.VerdictCounts.{verdict_counts}
 pub use Rattle.krieg_cli.specs.Top.{Answers, ComesTo, Ends, Gets, IsRun, LeavesBench, Reports, Runs}
 pub use Rattle.krieg_cli.specs.Umpire.{told_text}
@@ -171,6 +163,7 @@ pub use Rattle.krieg_cli.specs.declared.commands.job.Finding.{Finding}
 pub use Rattle.krieg_cli.specs.declared.commands.job.Finding.TheVariants.{Plan}
 pub use Rattle.krieg_cli.specs.declared.commands.job.TheConstants.{JOB_MOVES}
 pub use Rattle.krieg_cli.specs.declared.commands.job.verdict_counts.VerdictCounts.{VerdictCounts}
+pub use Rattle.krieg_cli.specs.declared.commands.search.SearchKind.{SearchKind}
 pub use Rattle.krieg_cli.specs.declared.ending.Ending.{Ending}
 pub use Rattle.krieg_cli.specs.declared.ending.Ending.TheVariants.{Answered, Refused, WriteFault}
 pub use Rattle.krieg_cli.specs.declared.input.TheConstants.{MOST_INPUT}

@@ -2,22 +2,17 @@
 use Rattle.std.proofs.Common.{◌≡◌, Bool, ◌⊎◌, inl, inr, ℕ, ◌<◌, ◌≤◌, true, false, List, [], ◌∷◌, ◌++◌, length, drop, map, Option, Some, Result, Ok, Err, refl, sym, ap, subst, ◌∙◌, arith}
 use Rattle.std.specs.Prelude.{MatchBool}
 use Rattle.std.proofs.lemmas.Bool.{both_ways}
-use Rattle.std.proofs.lemmas.List.{append-nil}
-use Rattle.krieg_cli.proofs.Common.{JudgedSo, Pos, White, Black, SheetState, san_of, unsan_of, IsPossible, is_nil, PlanState, made_sheet, Line, Account, Team, Turns, Service, BrokenCourse, HasFailed, entry_of, now_of, Sides, takes_input, Command, Solve, Check, Refute, Deny, Believe, Why, Umpire, San, Unsan, Play, Lead, Next, Find, Keys, Share, Judge, Advise, Conduct, Make, Job, MadeInput, World, FaultsRose, WasRead, OfText, status, Leaves, has_no_turn, OfPossible, SearchedBy, SolvedBy, Claimed, Refuted, Keyed, KeyedFor, SharedBy, SharedFor, Judged, told_text, Believed, Shows, HeardState, StrategyState, Guidance, guided, plan_guide, strategy_guide, Advised, PlaysFrom, PlaysWhole, LeadsFrom, LeadsWhole, Says, LivesBy, Makes, Plans, Summarizes, LiveOutcome, HasOutcome, ComesTo, Ends, Runs, CanBeSolved, CanBeJudged, CanBeKeyed, CanBeShared, CanBeRefuted, CanBeDenied, CanBeChecked, CanBeShown, CanBeSummed, HoldsText, MustAnswer, NoneFailed, seats_since, CanPlay, BenchHolds, Completes, Refusal, Ending, MOST_INPUT}
-use Rattle.krieg_pack.proofs.PositionSets.{same_members}
-use Rattle.krieg_sheet.specs.Turns.{is_over}
+use Rattle.std.proofs.Math.Seq.{drop-append_seam, drop-length}
+use Rattle.krieg_cli.proofs.Common.{JudgedSo, Pos, White, Black, SheetState, san_of, unsan_of, is_nil, made_sheet, Line, Account, Team, Turns, Service, BrokenCourse, HasFailed, entry_of, now_of, Sides, takes_input, Command, Solve, Check, Refute, Deny, Believe, Why, Umpire, San, Unsan, Play, Lead, Next, Find, Keys, Share, Judge, Advise, Conduct, Make, Job, World, FaultsRose, WasRead, OfText, status, Leaves, has_no_turn, OfPossible, Claimed, Keyed, SharedBy, Judged, told_text, Believed, Shows, Guidance, guided, plan_guide, strategy_guide, PlaysFrom, PlaysWhole, LeadsFrom, LeadsWhole, Says, LivesBy, Plans, Summarizes, LiveOutcome, HasOutcome, ComesTo, Ends, Runs, CanBeJudged, CanBeDenied, CanBeChecked, CanBeShown, CanBeSummed, HoldsText, MustAnswer, NoneFailed, seats_since, CanPlay, BenchHolds, Completes, Refusal, Ending, MOST_INPUT, Side, Dialect, is_over, Search, Searches, OfSheet, Searched, CanBeSearched, PlanFits, KeysFit, StrategyFits, ClaimsFit, fresh_units}
 use Rattle.krieg_belief.proofs.Prefixes.{excess_not_within}
 use Rattle.krieg_cli.specs.Check.{Checked}
+use Rattle.krieg_cli.specs.Find.{Found}
 use Rattle.krieg_cli.specs.declared.refusal.Refusal.TheVariants as refusal
 use Rattle.krieg_cli.specs.declared.ending.Ending.TheVariants as ending
-use Rattle.krieg_cli.proofs.WholeGames.{text_read, given_le}
+use Rattle.krieg_cli.proofs.WholeGames.{text_read, given_le, not_refused}
+use Rattle.krieg_cli.proofs.Searching.{one_list}
 
 -- ---- solve, find, keys, share and refute
-
--- a sheet has one list of possible positions
-one_list : (s : SheetState) (S T : List Pos) → IsPossible s S → IsPossible s T → S ≡ T
-one_list s S T a b =
-    same_members S T a.ascending b.ascending (λ p i. (b.exact p).1 ((a.exact p).0 i)) (λ p i. (a.exact p).1 ((b.exact p).0 i))
 
 -- a sheet of which something is asked is refused nothing, where a search of what it leaves possible is not
 module _ (limit : ℕ) (s : SheetState) (rests : Bool) (By : List Pos → Result (List ℕ) Refusal → Type 0) (S : List Pos) (leaves : Leaves limit s S) (goes : rests ≡ false) (answers : (r : Refusal) → By S (Err r) → ⊥) where
@@ -27,45 +22,42 @@ module _ (limit : ℕ) (s : SheetState) (rests : Bool) (By : List Pos → Result
   asking refusal.NotThePlayersTurn h = both_ways rests goes h.2
   asking r (T, other, go, h) = answers r (subst (λ T. By T (Err r)) (one_list s T S other.possible leaves.possible) h)
 
-solving : (cut : Bool) (n budget limit : ℕ) (text : List ℕ) (can : CanBeSolved n budget limit text) (r : Refusal) → SolvedBy cut n budget limit can.sheet (Err r) → ⊥
-solving cut n budget limit text can r h = asking limit can.sheet (is_over can.sheet) (λ S. SearchedBy cut can.sheet.dialect can.sheet.side S n budget) can.positions can.leaves can.goes_on (go cut) r h
-  where
-    go : (cut : Bool) (r : Refusal) → SearchedBy cut can.sheet.dialect can.sheet.side can.positions n budget (Err r) → ⊥
-    go true refusal.BudgetSpent h = let enough = can.enough in omega (arith, h, enough)
-    go false refusal.BudgetSpent h = let enough = can.enough in omega (arith, h, enough)
-    go true refusal.PlanTooLarge (f, best, large) = can.fits f best large
-    go false refusal.PlanTooLarge (least, f, best, large) = can.fits f best large
-    go true _ h = h
-    go false _ h = h
+-- so it is of a text that can be searched
+searching : (By : Search) (rests : SheetState → Bool) (Fits : Dialect → Side → List Pos → ℕ → Type 0) (n budget limit : ℕ) (text : List ℕ) →
+    ((d : Dialect) (who : Side) (S : List Pos) → fresh_units d who S n ≤ budget → Fits d who S n → (r : Refusal) → By d who S n budget (Err r) → ⊥) →
+    (can : CanBeSearched rests Fits n budget limit text) (r : Refusal) → Searches By rests n budget limit text (Err r) → ⊥
+searching By rests Fits n budget limit text answers can r h =
+    asking limit can.sheet (rests can.sheet) (λ S. By can.sheet.dialect can.sheet.side S n budget) can.positions can.leaves can.goes_on
+    (answers can.sheet.dialect can.sheet.side can.positions can.enough can.fits) r
+    (subst (λ x. OfText x (OfSheet By rests n budget limit) (Err r)) can.spelled h)
 
-keying : (n budget limit : ℕ) (text : List ℕ) (can : CanBeKeyed n budget limit text) (r : Refusal) → KeyedFor n budget limit can.sheet (Err r) → ⊥
-keying n budget limit text can r h = asking limit can.sheet (is_over can.sheet) (λ S. Keyed can.sheet.dialect can.sheet.side S n budget) can.positions can.leaves can.goes_on go r h
-  where
-    go : (r : Refusal) → Keyed can.sheet.dialect can.sheet.side can.positions n budget (Err r) → ⊥
-    go refusal.BudgetSpent h = let enough = can.enough in omega (arith, h, enough)
-    go _ h = h
+module _ (n budget : ℕ) (d : Dialect) (who : Side) (S : List Pos) (enough : fresh_units d who S n ≤ budget) where
+  solving : PlanFits d who S n → (r : Refusal) → Searched d who S n budget (Err r) → ⊥
+  solving fits refusal.BudgetSpent h = omega (arith, h, enough)
+  solving fits refusal.PlanTooLarge (least, f, best, large) = fits f best large
+  solving fits _ h = h
 
-sharing : (n budget limit : ℕ) (text : List ℕ) (can : CanBeShared n budget limit text) (r : Refusal) → SharedFor n budget limit can.sheet (Err r) → ⊥
-sharing n budget limit text can r h = asking limit can.sheet (is_over can.sheet) (λ S. SharedBy can.sheet.dialect can.sheet.side S n budget) can.positions can.leaves can.goes_on go r h
-  where
-    go : (r : Refusal) → SharedBy can.sheet.dialect can.sheet.side can.positions n budget (Err r) → ⊥
-    go refusal.BudgetSpent h = let enough = can.enough in omega (arith, h, enough)
-    go refusal.PlanTooLarge h = can.fits h
-    go _ h = h
+  finding : PlanFits d who S n → (r : Refusal) → Found d who S n budget (Err r) → ⊥
+  finding fits refusal.BudgetSpent h = omega (arith, h, enough)
+  finding fits refusal.PlanTooLarge (f, best, large) = fits f best large
+  finding fits _ h = h
 
-refuting : (n budget limit : ℕ) (text : List ℕ) (can : CanBeRefuted n budget limit text) (r : Refusal) → Refuted n budget limit can.sheet (Err r) → ⊥
-refuting n budget limit text can r h = asking limit can.sheet (has_no_turn can.sheet) (λ S. Claimed can.sheet.dialect can.sheet.side S n budget) can.positions can.leaves can.turn go r h
-  where
-    go : (r : Refusal) → Claimed can.sheet.dialect can.sheet.side can.positions n budget (Err r) → ⊥
-    go refusal.BudgetSpent h = let enough = can.enough in omega (arith, h, enough)
-    go refusal.PlanTooLarge h = can.fits h.1
-    go refusal.PlanExists (least, (plan, mates)) = both_ways _ (can.none_mates plan) mates
-    go _ h = h
+  keying : KeysFit d who S n → (r : Refusal) → Keyed d who S n budget (Err r) → ⊥
+  keying fits refusal.BudgetSpent h = omega (arith, h, enough)
+  keying fits _ h = h
 
--- ---- umpire, san, unsan, check, judge, deny, believe, and why
+  sharing : StrategyFits d who S n → (r : Refusal) → SharedBy d who S n budget (Err r) → ⊥
+  sharing fits refusal.BudgetSpent h = omega (arith, h, enough)
+  sharing fits refusal.PlanTooLarge h = fits h
+  sharing fits _ h = h
 
-answering : (text : List ℕ) (r : Refusal) → ◌≡◌ {A = Result (List ℕ) Refusal} (Err r) (Ok text) → ⊥
-answering text r e = cc
+  refuting : ClaimsFit d who S n → (r : Refusal) → Claimed d who S n budget (Err r) → ⊥
+  refuting fits refusal.BudgetSpent h = omega (arith, h, enough)
+  refuting fits refusal.PlanTooLarge h = fits.1 h.1
+  refuting fits refusal.PlanExists (least, (plan, mates)) = both_ways _ (fits.0 plan) mates
+  refuting fits _ h = h
+
+-- ---- check, judge, deny, believe, and why
 
 checking : (budget : ℕ) (text : List ℕ) (can : CanBeChecked budget text) (r : Refusal) → Checked budget can.file (Err r) → ⊥
 checking budget text can refusal.BudgetSpent h = let enough = can.enough in omega (arith, h, enough)
@@ -92,11 +84,6 @@ showing limit text can refusal.NonePossible h = can.some h.0
 showing limit text can refusal.AnswerTooLong (games, has, long) = let fits = can.fits games has.shown in omega (arith, long, fits)
 showing limit text can _ h = h
 
--- ---- make
-
-making : (what : MadeInput) (number : ℕ) (r : Refusal) → Makes what number (Err r) → ⊥
-making what number r e = cc
-
 -- ---- job
 
 summing : (number : ℕ) → CanBeSummed number → (r : Refusal) → Summarizes number (Err r) → ⊥
@@ -110,10 +97,6 @@ summing number can r (S, possible, h) = go r (subst (λ S. Plans S (Err r)) (one
 
 -- ---- play
 
-drop_front : {X : Type 0} (xs ys : List X) → drop (length xs) (xs ++ ys) ≡ ys
-drop_front [] ys = refl
-drop_front (x ∷ xs) ys = drop_front xs ys
-
 -- the seat behind those that were relieved has not failed
 not_failed : {X : Type 0} (account : X → Account) (relieved : List (Service X)) (entry now : X) (vain : ℕ) (behind : List X) →
     NoneFailed (map account (map entry_of relieved ++ entry ∷ behind)) (map account (map now_of relieved ++ now ∷ behind)) → HasFailed vain (account entry) (account now) → ⊥
@@ -124,7 +107,7 @@ side_holds : {X : Type 0} (account : X → Account) (entry now : Team X) (ls : L
 side_holds {X = X} account entry now ls turns can (due, c) =
     let since : seats_since entry now ≡ map now_of c.relieved ++ c.sitting.now ∷ c.behind =
     ap (λ out. drop (length entry.out) out ++ now.seats) c.out_now
-    ∙ ap (λ xs. xs ++ now.seats) (drop_front entry.out (map now_of c.relieved))
+    ∙ ap (λ xs. xs ++ now.seats) (drop-append_seam entry.out (map now_of c.relieved))
     ∙ ap (λ xs. map now_of c.relieved ++ xs) c.seats_now in
     not_failed account c.relieved c.sitting.entry c.sitting.now c.sitting.vain c.behind
     (subst (λ (xs : List X). NoneFailed (map account (map entry_of c.relieved ++ c.sitting.entry ∷ c.behind)) (map account xs)) since
@@ -151,7 +134,7 @@ leading account asks number entry now g refusal.NoSuchPosition listed w h = let 
 leading account asks number entry now g (refusal.NoSeat who) listed w h = some_seat entry.white.seats w.some h.1
 leading {X = X} account asks number entry now g (refusal.SeatFault who) listed w h =
     let c = h.2 in
-    let none_out : drop (length entry.white.out) entry.white.out ≡ [] = ap (drop (length entry.white.out)) (sym (append-nil entry.white.out)) ∙ drop_front entry.white.out [] in
+    let none_out : drop (length entry.white.out) entry.white.out ≡ [] = drop-length entry.white.out in
     let since : seats_since entry.white now.white ≡ c.seats.first' ∷ c.seats.behind =
     ap (λ out. drop (length entry.white.out) out ++ now.white.seats) c.out
     ∙ ap (λ xs. xs ++ now.white.seats) none_out
@@ -162,42 +145,33 @@ leading {X = X} account asks number entry now g (refusal.SeatFault who) listed w
     none.0 c.seats.changes.is_broken.breaks.counts.0
 leading account asks number entry now g _ listed w h = h
 
-saying : (h : HeardState PlanState) (r : Refusal) → Says h (Err r) → ⊥
-saying h r e = cc
-
-advising : (h : HeardState StrategyState) (r : Refusal) → Advised h (Err r) → ⊥
-advising h r e = cc
-
 -- ---- any command
 
 -- no refusal has a cause
 refused : {X : Type 0} (account : X → Account) (entry now : Sides X) (c : Command) (text : List ℕ) (r : Refusal) → HasOutcome (LivesBy account entry now) c text (Err r) → MustAnswer c text →
     BenchHolds account c entry now → ⊥
-refused account entry now (Solve n budget limit) text r h can bench =
-    solving false n budget limit text can r (subst (λ x. OfText x (SolvedBy false n budget limit) (Err r)) can.spelled h)
-refused account entry now (Find n budget limit) text r h can bench =
-    solving true n budget limit text can r (subst (λ x. OfText x (SolvedBy true n budget limit) (Err r)) can.spelled h)
-refused account entry now (Keys n budget limit) text r h can bench = keying n budget limit text can r (subst (λ x. OfText x (KeyedFor n budget limit) (Err r)) can.spelled h)
-refused account entry now (Share n budget limit) text r h can bench = sharing n budget limit text can r (subst (λ x. OfText x (SharedFor n budget limit) (Err r)) can.spelled h)
+refused account entry now (Solve n budget limit) text r h can bench = searching Searched is_over PlanFits n budget limit text (solving n budget) can r h
+refused account entry now (Find n budget limit) text r h can bench = searching Found is_over PlanFits n budget limit text (finding n budget) can r h
+refused account entry now (Keys n budget limit) text r h can bench = searching Keyed is_over KeysFit n budget limit text (keying n budget) can r h
+refused account entry now (Share n budget limit) text r h can bench = searching SharedBy is_over StrategyFits n budget limit text (sharing n budget) can r h
 refused account entry now (Judge budget) text r h can bench = judging budget text can r (subst (λ x. OfText x (JudgedSo budget) (Err r)) can.spelled h)
 refused account entry now (Check budget) text r h can bench = checking budget text can r (subst (λ x. OfText x (Checked budget) (Err r)) can.spelled h)
-refused account entry now (Refute n budget limit) text r h can bench =
-    refuting n budget limit text can r (subst (λ x. OfText x (Refuted n budget limit) (Err r)) can.spelled h)
+refused account entry now (Refute n budget limit) text r h can bench = searching Claimed has_no_turn ClaimsFit n budget limit text (refuting n budget) can r h
 refused account entry now (Deny budget) text r h can bench = denying budget text can r (subst (λ x. OfText x (Judged budget) (Err r)) can.spelled h)
 refused account entry now (Believe limit) text r h can bench = believing limit can.sheet r (subst (λ x. OfText x (Believed limit) (Err r)) can.spelled h) can.within
 refused account entry now (Why limit) text r h can bench = showing limit text can r (subst (λ x. OfText x (Shows limit) (Err r)) can.spelled h)
-refused account entry now (Umpire who) text r h (s, spelled) bench = answering (told_text s who) r (subst (λ x. OfText x (λ session told. told ≡ Ok (told_text session who)) (Err r)) spelled h)
-refused account entry now San text r h (s, spelled) bench = answering (san_of s) r (subst (λ x. OfText x (λ session written. written ≡ Ok (san_of session)) (Err r)) spelled h)
-refused account entry now Unsan text r h (g, spelled) bench = answering (unsan_of g) r (subst (λ x. OfText x (λ game written. written ≡ Ok (unsan_of game)) (Err r)) spelled h)
+refused account entry now (Umpire who) text r h (s, spelled) bench = not_refused r (told_text s who) (subst (λ x. OfText x (λ session told. told ≡ Ok (told_text session who)) (Err r)) spelled h)
+refused account entry now San text r h (s, spelled) bench = not_refused r (san_of s) (subst (λ x. OfText x (λ session written. written ≡ Ok (san_of session)) (Err r)) spelled h)
+refused account entry now Unsan text r h (g, spelled) bench = not_refused r (unsan_of g) (subst (λ x. OfText x (λ game written. written ≡ Ok (unsan_of game)) (Err r)) spelled h)
 refused account entry now (Play asks) text r h (start, spelled) bench =
     playing account asks entry now start r bench.0 bench.1 (subst (λ x. PlaysWhole account asks entry now x (Err r)) spelled h)
 refused account entry now (Lead asks number) text r h (s, spelled, listed) bench =
     leading account asks number entry now (plan_guide s) r listed bench (subst (λ x. LeadsWhole account asks number entry now (guided plan_guide x) (Err r)) spelled h)
-refused account entry now Next text r h (heard, spelled) bench = saying heard r (subst (λ x. OfText x Says (Err r)) spelled h)
-refused account entry now Advise text r h (heard, spelled) bench = advising heard r (subst (λ x. OfText x Advised (Err r)) spelled h)
+refused account entry now Next text r h (heard, spelled) bench = not_refused r _ (subst (λ x. OfText x (Says plan_guide) (Err r)) spelled h)
+refused account entry now Advise text r h (heard, spelled) bench = not_refused r _ (subst (λ x. OfText x (Says strategy_guide) (Err r)) spelled h)
 refused account entry now (Conduct asks number) text r h (s, spelled, listed) bench =
     leading account asks number entry now (strategy_guide s) r listed bench (subst (λ x. LeadsWhole account asks number entry now (guided strategy_guide x) (Err r)) spelled h)
-refused account entry now (Make what number) text r h can bench = making what number r h
+refused account entry now (Make what number) text r h can bench = not_refused r _ h
 refused account entry now (Job number) text r h can bench = summing number can r h
 
 -- a command that takes an input has its text

@@ -1,14 +1,18 @@
 -- A run of `solve`, of `find`, of `keys` or of `share` that answers keeps the promise of the headline.
-use Rattle.std.proofs.Common.{◌≡◌, ◌⊎◌, inl, inr, ℕ, Bool, true, false, List, length, ◌≤◌, Option, Some, Result, Ok, Err, refl, sym, subst, ◌∙◌}
+use Rattle.std.proofs.Common.{◌≡◌, ◌⊎◌, inl, inr, ℕ, Bool, List, length, ◌≤◌, Option, Ok, subst}
 use Rattle.std.specs.Io.KnownBytes.{Appends}
-use Rattle.krieg_cli.proofs.Common.{Pos, lines, whole, TextFault, SheetState, sheet_at, plan_at, Command, Solve, Find, Keys, Share, Stream, World, WasRead, OfText, status, Tells, SearchedBy, SolvedBy, TellsKeys, KeyedFor, TellsShared, SharedFor, strategy_at, LiveOutcome, Answers, Ends, Runs, Reports, WritesPlan, WritesNone, WritesKeys, WritesStrategy, AnswersSheet, AnswersKeys, AnswersShared, ListsKeys, SharesPlans, MOST_INPUT, Ending}
-use Rattle.krieg_text.specs.declared.fault.TextFault.TheVariants as fault
-use Rattle.krieg_cli.proofs.WholeGames.{answered}
+use Rattle.krieg_cli.proofs.Common.{Pos, lines, whole, SheetState, sheet_at, is_over, plan_at, Command, Solve, Find, Keys, Share, Stream, World, WasRead, status, Search, Searches, OfSheet, Searched, Keyed, SharedBy, Tells, TellsKeys, TellsShared, NoneMates, none_text, strategy_at, LiveOutcome, ComesTo, Runs, Reports, HasSheet, Writing, AnswersBy, WritesPlan, WritesNone, WritesKeys, WritesStrategy, SolvesSheets, FindsSheets, ListsKeys, SharesPlans, MOST_INPUT, Ending}
+use Rattle.krieg_cli.specs.Find.{Found}
+use Rattle.krieg_cli.proofs.WholeGames.{answers, quiet, text_spells}
 
--- what is told is what is written
-told : (n : ℕ) (s : SheetState) (S : List Pos) (before after : World) (answer : List ℕ) → Appends before.out.bytes after.out.bytes answer → Tells s.dialect s.side S n answer →
+-- ---- what is told is what is written
+
+none_written : (n : ℕ) (s : SheetState) (S : List Pos) (before after : World) (answer : List ℕ) → NoneMates s.dialect s.side S n × (answer ≡ none_text n) → Appends before.out.bytes after.out.bytes answer → WritesNone n s S before after
+none_written n s S before after answer (none, text) written = record { none_mates = none; written = subst (Appends before.out.bytes after.out.bytes) text written }
+
+plan_written : (n : ℕ) (s : SheetState) (S : List Pos) (before after : World) (answer : List ℕ) → Tells s.dialect s.side S n answer → Appends before.out.bytes after.out.bytes answer →
     WritesPlan n s S before after ⊎ WritesNone n s S before after
-told n s S before after answer written (inl t) = inl (record {
+plan_written n s S before after answer (inl t) written = inl (record {
   file = t.file;
   dialect = t.best.dialect;
   side = t.best.side;
@@ -20,69 +24,16 @@ told n s S before after answer written (inl t) = inl (record {
   again = subst (λ text. whole plan_at (lines text) ≡ Ok t.file) t.text t.again;
   short = subst (λ (text : List ℕ). length text ≤ MOST_INPUT) t.text t.short;
 })
-told n s S before after answer written (inr (none, text)) = inr (record { none_mates = none; written = subst (Appends before.out.bytes after.out.bytes) text written })
+plan_written n s S before after answer (inr none) written = inr (none_written n s S before after answer none written)
 
-tells : (cut : Bool) (n budget : ℕ) (s : SheetState) (S : List Pos) (answer : List ℕ) → SearchedBy cut s.dialect s.side S n budget (Ok answer) → Tells s.dialect s.side S n answer
-tells true n budget s S answer searched = searched
-tells false n budget s S answer searched = searched.1
-
-of_text : (cut : Bool) (n budget limit : ℕ) (before after : World) (err err' : Stream) (text answer : List ℕ) (r : Result SheetState TextFault) → whole sheet_at (lines text) ≡ r → WasRead before.input after.input text →
-    Appends before.out.bytes after.out.bytes answer → err' ≡ err → OfText r (SolvedBy cut n budget limit) (Ok answer) → AnswersSheet n before after err err'
-of_text cut n budget limit before after err err' text answer (Ok s) is read written quiet (S, leaves, goes, searched) =
-    (s, S, record { text = text; was_read = read; spelled = is; possible = leaves.possible; some = leaves.some }, told n s S before after answer written (tells cut n budget s S answer searched), quiet)
-of_text cut n budget limit before after err err' text answer (Err (fault.At line kind)) is read written quiet e = absurd cc
-of_text cut n budget limit before after err err' text answer (Err fault.NoMemory) is read written quiet e = absurd e
-
--- the command by which a search is asked for
-abbrev search : Bool → ℕ → ℕ → ℕ → Command
-search true = Find
-search false = Solve
-
-kept : (cut : Bool) (plays : LiveOutcome) (n budget limit : ℕ) (before after : World) (err err' : Stream) → Answers plays (search cut n budget limit) before after → err' ≡ err → AnswersSheet n before after err err'
-kept true plays n budget limit before after err err' (answer, (text, read, comes), written, no_fault) quiet =
-    of_text true n budget limit before after err err' text answer (whole sheet_at (lines text)) refl read written quiet comes
-kept false plays n budget limit before after err err' (answer, (text, read, comes), written, no_fault) quiet =
-    of_text false n budget limit before after err err' text answer (whole sheet_at (lines text)) refl read written quiet comes
-
-pub answers_sheets : (cut : Bool) (plays : LiveOutcome) (e : Ending) (asked : Option Command) (before after : World) (err err' : Stream) (code : ℕ) → Runs plays e asked before after → Reports e err err' → code ≡ status e →
-    (n budget limit : ℕ) → asked ≡ Some (search cut n budget limit) → code ≡ 0 → AnswersSheet n before after err err'
-answers_sheets cut plays e asked before after err err' code runs reports is n budget limit words zero =
-    let done = answered e (sym is ∙ zero) in
-    kept cut plays n budget limit before after err err'
-    (subst (λ x. Ends plays x (search cut n budget limit) before after) done (subst (λ x. Runs plays e x before after) words runs))
-    (subst (λ x. Reports x err err') done reports)
-
--- ---- keys
-
-keys_told : (n : ℕ) (s : SheetState) (S : List Pos) (before after : World) (answer : List ℕ) → Appends before.out.bytes after.out.bytes answer → TellsKeys s.dialect s.side S n answer →
+keys_written : (n : ℕ) (s : SheetState) (S : List Pos) (before after : World) (answer : List ℕ) → TellsKeys s.dialect s.side S n answer → Appends before.out.bytes after.out.bytes answer →
     WritesKeys n s S before after ⊎ WritesNone n s S before after
-keys_told n s S before after answer written (inl keys) = inl (record { answer = answer; keys = keys; written = written })
-keys_told n s S before after answer written (inr (none, text)) = inr (record { none_mates = none; written = subst (Appends before.out.bytes after.out.bytes) text written })
+keys_written n s S before after answer (inl keys) written = inl (record { answer = answer; keys = keys; written = written })
+keys_written n s S before after answer (inr none) written = inr (none_written n s S before after answer none written)
 
-keys_of_text : (n budget limit : ℕ) (before after : World) (err err' : Stream) (text answer : List ℕ) (r : Result SheetState TextFault) → whole sheet_at (lines text) ≡ r → WasRead before.input after.input text →
-    Appends before.out.bytes after.out.bytes answer → err' ≡ err → OfText r (KeyedFor n budget limit) (Ok answer) → AnswersKeys n before after err err'
-keys_of_text n budget limit before after err err' text answer (Ok s) is read written quiet (S, leaves, goes, told) =
-    (s, S, record { text = text; was_read = read; spelled = is; possible = leaves.possible; some = leaves.some }, keys_told n s S before after answer written told, quiet)
-keys_of_text n budget limit before after err err' text answer (Err (fault.At line kind)) is read written quiet e = absurd cc
-keys_of_text n budget limit before after err err' text answer (Err fault.NoMemory) is read written quiet e = absurd e
-
-keys_kept : (plays : LiveOutcome) (n budget limit : ℕ) (before after : World) (err err' : Stream) → Answers plays (Keys n budget limit) before after → err' ≡ err → AnswersKeys n before after err err'
-keys_kept plays n budget limit before after err err' (answer, (text, read, comes), written, no_fault) quiet =
-    keys_of_text n budget limit before after err err' text answer (whole sheet_at (lines text)) refl read written quiet comes
-
-pub lists_keys : (plays : LiveOutcome) (e : Ending) (asked : Option Command) (before after : World) (err err' : Stream) (code : ℕ) → Runs plays e asked before after → Reports e err err' → code ≡ status e →
-    ListsKeys asked code before after err err'
-lists_keys plays e asked before after err err' code runs reports is n budget limit words zero =
-    let done = answered e (sym is ∙ zero) in
-    keys_kept plays n budget limit before after err err'
-    (subst (λ x. Ends plays x (Keys n budget limit) before after) done (subst (λ x. Runs plays e x before after) words runs))
-    (subst (λ x. Reports x err err') done reports)
-
--- ---- share
-
-shared_told : (n : ℕ) (s : SheetState) (S : List Pos) (before after : World) (answer : List ℕ) → Appends before.out.bytes after.out.bytes answer → TellsShared s.dialect s.side S n answer →
+strategy_written : (n : ℕ) (s : SheetState) (S : List Pos) (before after : World) (answer : List ℕ) → TellsShared s.dialect s.side S n answer → Appends before.out.bytes after.out.bytes answer →
     WritesStrategy n s S before after ⊎ WritesNone n s S before after
-shared_told n s S before after answer written (inl t) = inl (record {
+strategy_written n s S before after answer (inl t) written = inl (record {
   strategy = t.strategy;
   shared = t.shared;
   mates = t.shared.best.best.worst_case.mates_within;
@@ -92,23 +43,43 @@ shared_told n s S before after answer written (inl t) = inl (record {
   again = subst (λ text. whole strategy_at (lines text) ≡ Ok t.strategy) t.text t.again;
   short = subst (λ (text : List ℕ). length text ≤ MOST_INPUT) t.text t.short;
 })
-shared_told n s S before after answer written (inr (none, text)) = inr (record { none_mates = none; written = subst (Appends before.out.bytes after.out.bytes) text written })
+strategy_written n s S before after answer (inr none) written = inr (none_written n s S before after answer none written)
 
-shared_of_text : (n budget limit : ℕ) (before after : World) (err err' : Stream) (text answer : List ℕ) (r : Result SheetState TextFault) → whole sheet_at (lines text) ≡ r → WasRead before.input after.input text →
-    Appends before.out.bytes after.out.bytes answer → err' ≡ err → OfText r (SharedFor n budget limit) (Ok answer) → AnswersShared n before after err err'
-shared_of_text n budget limit before after err err' text answer (Ok s) is read written quiet (S, leaves, goes, told) =
-    (s, S, record { text = text; was_read = read; spelled = is; possible = leaves.possible; some = leaves.some }, shared_told n s S before after answer written told, quiet)
-shared_of_text n budget limit before after err err' text answer (Err (fault.At line kind)) is read written quiet e = absurd cc
-shared_of_text n budget limit before after err err' text answer (Err fault.NoMemory) is read written quiet e = absurd e
+-- ---- the run
 
-shared_kept : (plays : LiveOutcome) (n budget limit : ℕ) (before after : World) (err err' : Stream) → Answers plays (Share n budget limit) before after → err' ≡ err → AnswersShared n before after err err'
-shared_kept plays n budget limit before after err err' (answer, (text, read, comes), written, no_fault) quiet =
-    shared_of_text n budget limit before after err err' text answer (whole sheet_at (lines text)) refl read written quiet comes
+-- the sheet that was searched
+pub sheet_of : (By : Search) (rests : SheetState → Bool) (n budget limit : ℕ) (before after : World) (text answer : List ℕ) → WasRead before.input after.input text → Searches By rests n budget limit text (Ok answer) →
+    (s : SheetState) × (S : List Pos) × HasSheet s S before after × By s.dialect s.side S n budget (Ok answer)
+sheet_of By rests n budget limit before after text answer read searched =
+    let (s, spells, found) = text_spells (OfSheet By rests n budget limit) answer (whole sheet_at (lines text)) searched in
+    let (S, leaves, goes, told) = found in
+    (s, S, record { text = text; was_read = read; spelled = spells; possible = leaves.possible; some = leaves.some }, told)
 
-pub shares_plans : (plays : LiveOutcome) (e : Ending) (asked : Option Command) (before after : World) (err err' : Stream) (code : ℕ) → Runs plays e asked before after → Reports e err err' → code ≡ status e →
-    SharesPlans asked code before after err err'
-shares_plans plays e asked before after err err' code runs reports is n budget limit words zero =
-    let done = answered e (sym is ∙ zero) in
-    shared_kept plays n budget limit before after err err'
-    (subst (λ x. Ends plays x (Share n budget limit) before after) done (subst (λ x. Runs plays e x before after) words runs))
-    (subst (λ x. Reports x err err') done reports)
+module _ (By : Search) (Writes : Writing) (command : ℕ → ℕ → ℕ → Command) (writes : (n budget : ℕ) (s : SheetState) (S : List Pos) (before after : World) (answer : List ℕ) → By s.dialect s.side S n budget (Ok answer) →
+    Appends before.out.bytes after.out.bytes answer → Writes n s S before after ⊎ WritesNone n s S before after)
+    (comes : (plays : LiveOutcome) (n budget limit : ℕ) (before after : World) (answer : List ℕ) → ComesTo plays (command n budget limit) before after (Ok answer) →
+    (text : List ℕ) × WasRead before.input after.input text × Searches By is_over n budget limit text (Ok answer)) where
+  answers_by : (plays : LiveOutcome) (e : Ending) (asked : Option Command) (before after : World) (err err' : Stream) (code : ℕ) → Runs plays e asked before after → Reports e err err' → code ≡ status e →
+      AnswersBy command Writes asked code before after err err'
+  answers_by plays e asked before after err err' code runs reports is n budget limit words zero =
+      let (answer, came, written, kept) = answers plays e asked (command n budget limit) before after code runs is words zero in
+      let (text, read, searched) = comes plays n budget limit before after answer came in
+      let (s, S, sheet, told) = sheet_of By is_over n budget limit before after text answer read searched in
+      (s, S, sheet, writes n budget s S before after answer told written, quiet e err err' code reports is zero)
+
+-- a promise that a run keeps with status 0
+abbrev pub Kept : (Option Command → ℕ → World → World → Stream → Stream → Type 0) → Type 1
+Kept Promise = (plays : LiveOutcome) (e : Ending) (asked : Option Command) (before after : World) (err err' : Stream) (code : ℕ) → Runs plays e asked before after → Reports e err err' → code ≡ status e →
+    Promise asked code before after err err'
+
+pub solves_sheets : Kept SolvesSheets
+solves_sheets = answers_by Searched WritesPlan Solve (λ n budget s S before after answer told. plan_written n s S before after answer told.1) (λ plays n budget limit before after answer came. came)
+
+pub finds_sheets : Kept FindsSheets
+finds_sheets = answers_by Found WritesPlan Find (λ n budget. plan_written n) (λ plays n budget limit before after answer came. came)
+
+pub lists_keys : Kept ListsKeys
+lists_keys = answers_by Keyed WritesKeys Keys (λ n budget. keys_written n) (λ plays n budget limit before after answer came. came)
+
+pub shares_plans : Kept SharesPlans
+shares_plans = answers_by SharedBy WritesStrategy Share (λ n budget. strategy_written n) (λ plays n budget limit before after answer came. came)

@@ -14,8 +14,7 @@ use Rattle.krieg_game.proofs.ChessLaws.{chess_is_game, outset_is_lawful}
 use Rattle.krieg_search.specs.Laws.{KeysAreWon}
 use Rattle.krieg_search.specs.declared.stop.SearchStop.TheVariants as stop
 use Rattle.krieg_why.proofs.Facts.{kept_up}
-use Rattle.krieg_cli.proofs.Asking.{IsLater}
-use Rattle.krieg_cli.proofs.BestFiles.{all_of, valid_of, turn_is}
+use Rattle.krieg_cli.proofs.BestFiles.{all_of, each_of, turn_is}
 use Rattle.krieg_cli.proofs.ToldPlans.{some_member, opening_told}
 
 pub flat_last : {A B : Type 0} (f : A → List B) (xs : List A) (x : A) → flat_map f (xs ++ x ∷ []) ≡ flat_map f xs ++ f x
@@ -106,7 +105,7 @@ module _ (d : Dialect) (who : Side) (S : List Pos) (n : ℕ) where
     roots_told valid hand = all_of (λ (r : KeysAt). IsToldRoot d (told_of r).0) keys.roots.items (λ r at. (
         let key = (told_of r).0 in
         let heard = in_map (λ (r : Told). r.0) told_roots (told_of r) (in_map told_of keys.roots.items r at) in
-        opening_told d who S (valid_of S valid) (waits who S) (turn_is who S hand) key (subst (In key) heard_is heard)))
+        opening_told d who S (each_of IsValid S valid) (waits who S) (turn_is who S hand) key (subst (In key) heard_is heard)))
 
     -- their text is the answer
     pub keys_told : KeysAreWon d → (answer : List ℕ) → answer ≡ keys_text d who S keys.worst told_roots → IsKeysText d who S n answer
@@ -129,7 +128,3 @@ module _ (d : Dialect) (who : Side) (S : List Pos) (n : ℕ) where
   stop_told view budget start left same stop.Spent answer units = omega (arith, same, units.0)
   stop_told view budget start left same stop.Large answer units = absurd answer
   stop_told view budget start left same stop.NoMemory answer units = tt
-
--- a search for keys refuses nothing that is refused before it
-pub later : (n budget : ℕ) → IsLater (λ d who S. Keyed d who S n budget)
-later n budget = record { many = λ d who S line h. h; none = λ d who S h. h; turn = λ d who S h. h }

@@ -1,6 +1,7 @@
 -- A game that was led against the first of White's seats, as the answer to a guide.
 use Rattle.std.proofs.Common.{◌≡◌, ℕ, ◌<◌, ◌≤◌, ◌-◌, List, length, inl, Some, Result, Ok, Err, sym, ap, subst, ◌∙◌}
 use Rattle.std.specs.Prelude.{slice_get, slice_set, slice_index_or, IfOk, IfErr}
+use Rattle.std.proofs.lemmas.Option.{same_Some}
 use Rattle.krieg_cli.proofs.Common.{other, Pos, Side, session_text, Account, FirstChanges, Sides, Guidance, LedFrom, BrokenFrom, IsWon, Led, LeadFault, IsLedTo, IsGivenUp, Leads, LeadsFrom, HasLed, Decides, of_lead, Ending}
 use Rattle.krieg_play.proofs.FirstSeats.{first_written}
 use Rattle.krieg_robot.specs.Laws.{Mates}
@@ -35,11 +36,8 @@ module _ {X : Type 0} (account : X → Account) (g : Guidance) (asks number : �
   leads led start answer seats won listed is = record {
     led = led;
     is_led = led_to led seats won;
-    is_session = is ∙ ap (λ (p : Pos). session_text (session_of g.dialect p led.game led.stop)) (same_some start seats.changes.start (sym listed ∙ seats.changes.listed));
+    is_session = is ∙ ap (λ (p : Pos). session_text (session_of g.dialect p led.game led.stop)) (same_Some start seats.changes.start (sym listed ∙ seats.changes.listed));
   }
-    where
-      same_some : (p q : Pos) → Some p ≡ Some q → p ≡ q
-      same_some p q e = cc
 
   -- the ending of a game that was given up
   pub broken : {V : Type 0} (view : V → List ℕ) (who : Side) (fault : LeadFault) (e : Ending) → number ≤ length g.list → who ≡ other g.side → e ≡ of_lead who fault →

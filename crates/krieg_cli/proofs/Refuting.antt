@@ -3,7 +3,7 @@ use Rattle.std.proofs.Common.{◌≡◌, ℕ, ◌<◌, ◌≤◌, Bool, true, fa
 use Rattle.std.specs.Prelude.{◌||◌}
 use Rattle.std.proofs.lemmas.List.{length-map}
 use Rattle.std.proofs.lemmas.Bool.{both_ways, and_parts, and_from, false_from_ne_true}
-use Rattle.krieg_cli.proofs.Common.{is_same_side, Pos, Side, MOST_MOVES, lines, whole, SheetState, is_my_turn, has_no_turn, Dialect, is_nil, can_plan, chess, outset, HaveOneHand, IsOwnTurn, side_of, IsOneSide, IsDenial, IsMated, IsDenied, IsTaken, SearchStop, Denial, Exists, most_claims, most_claimed, RefutationState, state_from, is_refutation, claim_from, IsTurnOf, refutation_at, refutation_text, text_bound, AreFew, denial, IsBetween, PlanExists, of_search, Decides, CanBeListed, denial_file, IsDenialText, Claimed}
+use Rattle.krieg_cli.proofs.Common.{is_same_side, Pos, IsValid, Side, MOST_MOVES, lines, whole, SheetState, is_my_turn, has_no_turn, Dialect, is_nil, can_plan, chess, outset, HaveOneHand, IsOwnTurn, side_of, IsOneSide, IsDenial, IsMated, IsDenied, IsTaken, SearchStop, Denial, Exists, most_claims, most_claimed, RefutationState, state_from, is_refutation, claim_from, IsTurnOf, refutation_at, refutation_text, text_bound, AreFew, denial, IsBetween, PlanExists, of_search, Decides, CanBeListed, denial_file, IsDenialText, Claimed}
 use Rattle.krieg_board.proofs.MenLemmas.{same_side_eq}
 use Rattle.krieg_sheet.specs.Turns.{is_over}
 use Rattle.krieg_theory.proofs.Lists.{all_from}
@@ -15,7 +15,7 @@ use Rattle.krieg_search.specs.declared.stop.SearchStop.TheVariants as stop
 use Rattle.krieg_refutefile.specs.Writable.{CanBeWritten}
 use Rattle.krieg_refutefile.proofs.Agreeing.{states_from, claims_again, positions_same, reasons_same}
 use Rattle.krieg_cli.specs.Solve.{NoneMates}
-use Rattle.krieg_cli.proofs.BestFiles.{valid_of, some_length, alike, one_turn_of}
+use Rattle.krieg_cli.proofs.BestFiles.{each_of, some_length, alike, one_turn_of}
 use Rattle.krieg_cli.proofs.ClaimedSets.{denial_written}
 use Rattle.krieg_cli.proofs.ToldClaims.{told_claims}
 use Rattle.krieg_cli.proofs.Asking.{IsLater}
@@ -100,7 +100,7 @@ module _ (d : Dialect) (who : Side) (S : List Pos) (n : ℕ) (cs : List Claim) (
         few_claims = omega (arith, few.claims, size);
         few_positions = omega (arith, few.positions, positions);
         few_reasons = omega (arith, few.reasons, reasons);
-        told = told_claims d [] claims 1 (omega arith) (λ c i. absurd i) (denial_written d who S n (valid_of S listed.valid) listed.turn most) claimed.0;
+        told = told_claims d [] claims 1 (omega arith) (λ c i. absurd i) (denial_written d who S n (each_of IsValid S listed.valid) listed.turn most) claimed.0;
       }
     where
       some_claim : (xs : List (theory.Claim (chess d))) → theory.denies (chess d) (outset d who) n S (theory.last_of xs) ≡ true → 1 ≤ length xs
@@ -109,8 +109,8 @@ module _ (d : Dialect) (who : Side) (S : List Pos) (n : ℕ) (cs : List Claim) (
 
 -- ---- the answer
 
-pub later : (n budget : ℕ) → IsLater (λ d who S. Claimed d who S n budget)
-later n budget = record { many = λ d who S line h. h; none = λ d who S h. h; turn = λ d who S h. h }
+pub later : IsLater Claimed
+later = record { many = λ d who S n budget line h. h; none = λ d who S n budget h. h; turn = λ d who S n budget h. h }
 
 none_mates : (d : Dialect) (who : Side) (S : List Pos) (n : ℕ) → can_plan (chess d) (outset d who) n S ≡ false → NoneMates d who S n
 none_mates d who S n cannot plan =

@@ -5,15 +5,18 @@ use Rattle.std.proofs.lemmas.List.{take_all}
 use Rattle.krieg_cli.proofs.Common.{Pos, Side, Dialect, Line, SheetState, IsPossible, AllWithin, PlanTrees, MOST_NODES, IsBest, IsAnswer, IsCharged, IsChargedAtMost, Answer, SearchStop, of_search, Decides, SearchedBy, file_of, IsBestFile, Searched, Tells}
 use Rattle.krieg_pack.proofs.PositionSets.{same_members}
 use Rattle.krieg_search.specs.declared.stop.SearchStop.TheVariants as search
-use Rattle.krieg_cli.proofs.Asking.{IsLater}
+
+-- a sheet has one list of possible positions
+pub one_list : (s : SheetState) (S T : List Pos) → IsPossible s S → IsPossible s T → S ≡ T
+one_list s S T a b =
+    same_members S T a.ascending b.ascending (λ p i. (b.exact p).1 ((a.exact p).0 i)) (λ p i. (a.exact p).1 ((b.exact p).0 i))
 
 -- where a search may stop at all, no more is possible than the limit
 pub few_possible : (s : SheetState) (limit : ℕ) (S : List Pos) → AllWithin limit s → IsPossible s S → length S ≤ limit
 few_possible s limit S within possible =
     let (ps, is, few) = within (suc (length s.entries)) (omega arith) in
     let all : IsPossible s ps = subst (λ (ls : List Line). IsPossible (record { dialect = s.dialect; side = s.side; list = s.list; opens = s.opens; entries = ls }) ps) (take_all (length s.entries) s.entries (omega arith)) is in
-    let same : S ≡ ps = same_members S ps possible.ascending all.ascending (λ p i. (all.exact p).1 ((possible.exact p).0 i)) (λ p i. (possible.exact p).1 ((all.exact p).0 i)) in
-    omega (arith, few, ap (λ (ps : List Pos). length ps) same)
+    omega (arith, few, ap (λ (ps : List Pos). length ps) (one_list s S ps possible all))
 
 -- the best plan with its worst case is the best file
 pub best_file : (d : Dialect) (who : Side) (S : List Pos) (n w : ℕ) (plan : PlanTrees) → IsBest d who S n w plan → IsBestFile d who S n (file_of d who S w plan)
@@ -38,8 +41,3 @@ module _ (d : Dialect) (who : Side) (S : List Pos) (n budget start left : ℕ) (
   pub answer_told_by : (cut : Bool) (found : Answer) (answer : List ℕ) → ChargedBy cut (Ok found) → Tells d who S n answer → SearchedBy cut d who S n budget (Ok answer)
   answer_told_by false found answer units tells = (omega (arith, same, units.at_least), tells)
   answer_told_by true found answer units tells = tells
-
--- a search for a plan refuses nothing that is refused before it
-pub later : (cut : Bool) (n budget : ℕ) → IsLater (λ d who S. SearchedBy cut d who S n budget)
-later false n budget = record { many = λ d who S line h. h; none = λ d who S h. h; turn = λ d who S h. h }
-later true n budget = record { many = λ d who S line h. h; none = λ d who S h. h; turn = λ d who S h. h }

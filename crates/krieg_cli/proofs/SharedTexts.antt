@@ -3,7 +3,7 @@ use Rattle.std.proofs.Common.{◌≡◌, ℕ, ◌<◌, ◌≤◌, Bool, true, fa
 use Rattle.std.specs.Prelude.{if◌then◌else◌}
 use Rattle.std.specs.List.{All}
 use Rattle.std.proofs.lemmas.List.{length-map}
-use Rattle.std.proofs.lemmas.List.Elements.{All-nil, All-cons}
+use Rattle.std.proofs.lemmas.List.Elements.{All-nil, All-cons, All-push}
 use Rattle.krieg_cli.proofs.Common.{Pos, IsValid, Side, Move, MOST_LISTED, Dialect, HaveOneHand, is_nil, refused, class, edge_keys, Try, Maybe, Nothing, Just, Edges, NoEdges, Edge, opening_set, Key, RootKey, chess, outset, NodeTree, PlanTrees, IsToldKey, IsToldOther, AreTold, IsToldRoot, AreToldRoots, AreRootsOf, waits, IsBestStrategy, IsStrategyAnswer, TakesAsPlan, SearchStop, of_search, Decides, strategy_of, SharedBy}
 use Rattle.krieg_planfile.specs.NodeText.{IsTold}
 use Rattle.krieg_strategy.specs.Nodes.{Node}
@@ -14,8 +14,7 @@ use Rattle.krieg_strategy.specs.WellFormed.{IsStrategy}
 use Rattle.krieg_strategyfile.specs.Writable.{CanBeWritten, IsToldNode}
 use Rattle.krieg_share.specs.Sharing.{Shared, has_node, number_of, node_for, nothing_shared, share, share_other, share_edges, share_roots, shared}
 use Rattle.krieg_search.specs.declared.stop.SearchStop.TheVariants as stop
-use Rattle.krieg_cli.proofs.Asking.{IsLater}
-use Rattle.krieg_cli.proofs.BestFiles.{all_more, alike, some_length, some_roots, turn_is, valid_of}
+use Rattle.krieg_cli.proofs.BestFiles.{alike, each_of, some_length, some_roots, turn_is}
 use Rattle.krieg_cli.proofs.ToldPlans.{plan_told}
 
 module _ (d : Dialect) where
@@ -42,7 +41,7 @@ module _ (d : Dialect) where
         let parts = share_edges (chess d) es B t (share_other (chess d) other (refused (chess d) B t) s) in
         let parts_told : AllTold parts = edges_share_told es B t (share_other (chess d) other (refused (chess d) B t) s) told.2 (other_share_told other (refused (chess d) B t) s told.1 old) in
         if_told (has_node (chess d) B s.sets) s _ old
-        (all_more (IsToldNode d) parts.nodes (node_for (chess d) parts.sets B t (edge_keys es)) parts_told (record { on_board = told.0; told = edges_told parts.sets B t es told.2 }))
+        (All-push (IsToldNode d) parts.nodes (node_for (chess d) parts.sets B t (edge_keys es)) parts_told (record { on_board = told.0; told = edges_told parts.sets B t es told.2 }))
 
     other_share_told : (other : Maybe Move Key) (R : List Pos) (s : Shared (chess d)) → IsToldOther d other → AllTold s → AllTold (share_other (chess d) other R s)
     other_share_told Nothing R s told old = old
@@ -95,7 +94,7 @@ module _ (d : Dialect) where
       -- it has a text
       pub can_be_written : length S ≤ MOST_LISTED → All IsValid S → IsStrategy nodes roots worst → CanBeWritten (strategy_of d who S worst nodes roots)
       can_be_written few valid well_formed =
-          let told = plan_told d who S (valid_of S valid) (waits who S) plan (turn_is who S hand) best.best.canonical in
+          let told = plan_told d who S (each_of IsValid S valid) (waits who S) plan (turn_is who S hand) best.best.canonical in
           record {
             some_listed = some_length S some;
             few_listed = few;
@@ -117,7 +116,3 @@ module _ (d : Dialect) (who : Side) (S : List Pos) (n : ℕ) where
   stop_told view cut budget start left same stop.Spent answer units = omega (arith, same, units.0)
   stop_told view cut budget start left same stop.Large answer units = answer
   stop_told view cut budget start left same stop.NoMemory answer units = tt
-
--- a search for a strategy refuses nothing that is refused before it
-pub later : (n budget : ℕ) → IsLater (λ d who S. SharedBy d who S n budget)
-later n budget = record { many = λ d who S line h. h; none = λ d who S h. h; turn = λ d who S h. h }

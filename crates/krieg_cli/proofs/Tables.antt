@@ -1,6 +1,6 @@
 -- What a run shows, where more is known of what seats make of a text.
-use Rattle.std.proofs.Common.{◌≡◌, ℕ, List, map, Option, Some, None, Result, Ok, Err, ap, subst, inl, inr}
-use Rattle.krieg_cli.proofs.Common.{Pos, lines, whole, TextFault, start_at, Account, Sides, seen, seen_team, Vacant, Command, Play, Lead, Conduct, Stream, World, LiveOutcome, HasOutcome, Guidance, plan_guide_in, strategy_guide_in, Led, LeadFault, PlaysFrom, PlaysWhole, HasBegun, OpponentChanges, IsLedTo, IsGivenUp, LeadsFrom, LeadsWhole, HasLedBy, LivesBy, ComesTo, Ends, Runs, LeavesBench, IsRun, Refusal, NoSuchPosition, NoSeat, SeatFault, Ending, Answered, WriteFault, Refused}
+use Rattle.std.proofs.Common.{◌≡◌, ℕ, List, map, Option, Some, None, Result, Ok, Err, ap, inl, inr}
+use Rattle.krieg_cli.proofs.Common.{Pos, lines, whole, TextFault, start_at, Account, Sides, seen, seen_team, Vacant, Command, Play, Lead, Conduct, Stream, World, LiveOutcome, HasOutcome, Guidance, plan_guide_in, strategy_guide_in, Led, LeadFault, PlaysFrom, PlaysWhole, HasBegun, HasBegunBy, OpponentChanges, IsLedTo, IsGivenUp, LeadsFrom, LeadsWhole, HasLedBy, LivesBy, ComesTo, Ends, Runs, LeavesBench, IsRun, Refusal, NoSuchPosition, NoSeat, SeatFault, Ending, Answered, WriteFault, Refused}
 use Rattle.krieg_text.specs.declared.fault.TextFault.TheVariants as fault
 use Rattle.krieg_play.specs.declared.outcome.PlayFault.TheVariants.{Seat, NoMemory}
 use Rattle.krieg_play.proofs.Seen.{played_seen, refuses_seen}
@@ -28,10 +28,6 @@ ends_as t u f _ c before after h = h
 runs_as : (t u : LiveOutcome) → Follows t u → (e : Ending) (asked : Option Command) (before after : World) → Runs t e asked before after → Runs u e asked before after
 runs_as t u f e None before after h = h
 runs_as t u f e (Some c) before after h = ends_as t u f e c before after h
-
--- the words are those of this command
-pub runs_of : (t : LiveOutcome) (e : Ending) (asked words : Option Command) (before after : World) → asked ≡ words → Runs t e asked before after → Runs t e words before after
-runs_of t e asked words before after same runs = subst (λ x. Runs t e x before after) same runs
 
 -- ---- the bench by what its seats mean
 
@@ -111,14 +107,16 @@ has_led_seen : {X : Type 0} (account : X → Account) (asks number : ℕ) (entry
 has_led_seen account asks number entry now read (g, is, inl up) = (g, is, inl (given_up_seen account asks number entry now g lead.NoMemory up))
 has_led_seen account asks number entry now read (g, is, inr (led, h)) = (g, is, inr (led, led_seen account asks number entry now g led h))
 
+begun_by_seen : {X : Type 0} (account : X → Account) (c : Command) (text : List ℕ) (entry now : Sides X) → HasBegunBy account c text entry now → HasBegunBy itself c text (seen account entry) (seen account now)
+begun_by_seen account (Play asks) text entry now h = begun_seen account asks entry now text h
+begun_by_seen account (Lead asks number) text entry now h = has_led_seen account asks number entry now (plan_guide_in text) h
+begun_by_seen account (Conduct asks number) text entry now h = has_led_seen account asks number entry now (strategy_guide_in text) h
+begun_by_seen account _ text entry now h = h
+
 bench_seen : {X : Type 0} (account : X → Account) (asked : Option Command) (e : Ending) (input input' : Stream) (entry now : Sides X) →
     LeavesBench account asked e input input' entry now → LeavesBench itself asked e input input' (seen account entry) (seen account now)
-bench_seen account (Some (Play asks)) ending.NoMemory input input' entry now (inl same) = inl (ap (seen account) same)
-bench_seen account (Some (Play asks)) ending.NoMemory input input' entry now (inr (text, was, begun)) = inr (text, was, begun_seen account asks entry now text begun)
-bench_seen account (Some (Lead asks number)) ending.NoMemory input input' entry now (inl same) = inl (ap (seen account) same)
-bench_seen account (Some (Lead asks number)) ending.NoMemory input input' entry now (inr (text, was, led)) = inr (text, was, has_led_seen account asks number entry now (plan_guide_in text) led)
-bench_seen account (Some (Conduct asks number)) ending.NoMemory input input' entry now (inl same) = inl (ap (seen account) same)
-bench_seen account (Some (Conduct asks number)) ending.NoMemory input input' entry now (inr (text, was, led)) = inr (text, was, has_led_seen account asks number entry now (strategy_guide_in text) led)
+bench_seen account (Some c) ending.NoMemory input input' entry now (inl same) = inl (ap (seen account) same)
+bench_seen account (Some c) ending.NoMemory input input' entry now (inr (text, was, begun)) = inr (text, was, begun_by_seen account c text entry now begun)
 bench_seen account _ _ input input' entry now h = λ none. ap (seen account) (h none)
 
 pub run_seen : {X : Type 0} {account : X → Account} {entry now : Sides X} {asked : Option Command} {code : ℕ} {before after : World} {err err' : Stream} →

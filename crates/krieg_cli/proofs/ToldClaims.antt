@@ -8,7 +8,7 @@ use Rattle.krieg_cli.proofs.Common.{Pos, move_lt, IsValid, Move, Dialect, positi
 use Rattle.krieg_theory.proofs.Lists.{all_at, any_at, append_in}
 use Rattle.krieg_costs.specs.Refutation.{Claim}
 use Rattle.krieg_refute.specs.declared.refutation.Reason.{Reason as Told}
-use Rattle.krieg_cli.proofs.BestFiles.{all_of}
+use Rattle.krieg_cli.proofs.BestFiles.{all_of, some_length}
 use Rattle.krieg_cli.proofs.ClaimedSets.{IsWritten}
 use Rattle.krieg_cli.proofs.ToldPlans.{AreValid, some_member, told_of_class, tried_on_board}
 
@@ -18,10 +18,6 @@ cited_within cs zero c e = absurd cc
 cited_within [] (suc i) c e = absurd cc
 cited_within (x ∷ cs) (suc zero) c e = let same : x ≡ c = cc in (omega arith, omega arith, inl same)
 cited_within (x ∷ cs) (suc (suc i)) c e = let r = cited_within cs (suc i) c e in (omega arith, omega (arith, r.1), inr r.2)
-
-some_first : {X : Type 0} (xs : List X) → is_nil xs ≡ false → 1 ≤ length xs
-some_first [] h = absurd (both_ways true h refl)
-some_first (x ∷ xs) h = omega arith
 
 moves_from : (rs : List (Move × Reason Key)) → map (λ (r : Told). r.mv) (map reason_from rs) ≡ map (λ (r : Move × Reason Key). r.0) rs
 moves_from [] = refl
@@ -79,7 +75,7 @@ module _ (d : Dialect) where
         go (suc j) e r = record {
           least_moves = omega (arith, e);
           most_moves = w.most;
-          some = some_first c.set (not-true (is_nil c.set) both.0);
+          some = some_length c.set (not-true (is_nil c.set) both.0);
           valid = all_of IsValid c.set w.valid;
           ascending = w.ascending;
           reasons = told_reasons j c.set c.reasons w.valid (and_parts _ (list_all (λ r. legal_in_some (chess d) c.set r.0 && holds (chess d) before j c.set r.0 r.1) c.reasons) r).1;

@@ -2,7 +2,7 @@
 use Rattle.std.proofs.Common.{◌≡◌, ℕ, ◌≤◌, List, [], ◌∷◌, length, map, Option, Some, None, Result, Ok, Err, refl, sym, ap, subst, ◌∙◌, arith, length-append}
 use Rattle.std.specs.Prelude.{IfSome}
 use Rattle.std.specs.Io.KnownBytes.{Appends, Consumes}
-use Rattle.krieg_cli.proofs.Common.{Side, lines, whole, TextFault, TextKind, opening, told, told_line, Line, sheet_at, sheet_text, SessionState, session_at, IsGame, Command, Believe, Umpire, Stream, World, WasRead, text_status, refusal_status, OfText, status, Believed, told_text, LiveOutcome, ComesTo, Answers, Ends, Runs, heard_sheet, standing, stripped, IsUmpired, IsHeard, TellsGame, EndsOnHeard, UmpiresGames, BelievesGames, Refusal, BadText, TooMany, Ending}
+use Rattle.krieg_cli.proofs.Common.{Side, lines, whole, TextFault, TextKind, opening, told, told_line, Line, sheet_at, sheet_text, SessionState, session_at, IsGame, Command, Believe, Umpire, Stream, World, WasRead, text_status, refusal_status, OfText, status, Believed, told_text, LiveOutcome, ComesTo, Answers, Ends, Runs, Reports, heard_sheet, standing, stripped, IsUmpired, IsHeard, TellsGame, EndsOnHeard, UmpiresGames, BelievesGames, Refusal, BadText, TooMany, Ending}
 use Rattle.krieg_text.specs.declared.fault.TextFault.TheVariants as fault
 use Rattle.krieg_text.specs.declared.fault.TextKind.TheVariants as kind
 use Rattle.krieg_referee.proofs.Stripping.{lines_strip}
@@ -22,10 +22,30 @@ refused : (r : Refusal) → refusal_status r ≡ 0 → ⊥
 refused (BadText line k) h = bad_text k h
 refused _ h = omega (arith, h)
 
-pub answered : (e : Ending) → status e ≡ 0 → e ≡ ending.Answered
+answered : (e : Ending) → status e ≡ 0 → e ≡ ending.Answered
 answered ending.Answered h = refl
 answered (ending.Refused r) h = absurd (refused r h)
 answered _ h = absurd (omega (arith, h))
+
+pub answers : (plays : LiveOutcome) (e : Ending) (asked : Option Command) (c : Command) (before after : World) (code : ℕ) → Runs plays e asked before after → code ≡ status e → asked ≡ Some c → code ≡ 0 → Answers plays c before after
+answers plays e asked c before after code runs is words zero =
+    subst (λ x. Ends plays x c before after) (answered e (sym is ∙ zero)) (subst (λ x. Runs plays e x before after) words runs)
+
+-- then err is as it was
+pub quiet : (e : Ending) (err err' : Stream) (code : ℕ) → Reports e err err' → code ≡ status e → code ≡ 0 → err' ≡ err
+quiet e err err' code reports is zero = subst (λ x. Reports x err err') (answered e (sym is ∙ zero)) reports
+
+-- an answer is that of what the text spells
+pub text_spells : {A : Type 0} (Of : A → Result (List ℕ) Refusal → Type 0) (answer : List ℕ) (r : Result A TextFault) → OfText r Of (Ok answer) → (x : A) × (r ≡ Ok x) × Of x (Ok answer)
+text_spells Of answer (Ok x) h = (x, refl, h)
+text_spells Of answer (Err (fault.At line kind)) h = absurd cc
+text_spells Of answer (Err fault.NoMemory) h = absurd h
+
+pub same_answer : (x y : List ℕ) → ◌≡◌ {A = Result (List ℕ) Refusal} (Ok x) (Ok y) → x ≡ y
+same_answer x y e = cc
+
+pub not_refused : (r : Refusal) (y : List ℕ) → ◌≡◌ {A = Result (List ℕ) Refusal} (Err r) (Ok y) → ⊥
+not_refused r y e = cc
 
 -- What is written.
 
@@ -43,25 +63,14 @@ same s who =
     ap (λ (ls : List Line). sheet_text (record { dialect = s.dialect; side = who; list = s.start ∷ []; opens = Some (told s.dialect (opening s.start)); entries = map (told_line s.dialect) ls }))
     (lines_strip s.start s.events who)
 
-same_answer : (x y : List ℕ) → ◌≡◌ {A = Result (List ℕ) Refusal} (Ok x) (Ok y) → x ≡ y
-same_answer x y e = cc
-
--- an answer is that of a session
-session_of : (given text : List ℕ) (who : Side) (r : Result SessionState TextFault) → whole session_at (lines given) ≡ r →
-    OfText r (λ s outcome. outcome ≡ Ok (told_text s (Some who))) (Ok text) → (s : SessionState) × IsUmpired given s who text
-session_of given text who (Ok s) is e = (s, record { spelled = is; told = same_answer text (told_text s (Some who)) e })
-session_of given text who (Err (fault.At line kind)) is e = absurd cc
-session_of given text who (Err fault.NoMemory) is e = absurd e
-
 told_game : (plays : LiveOutcome) (who : Side) (before after : World) → Answers plays (Umpire (Some who)) before after → TellsGame who before after
 told_game plays who before after (text, (given, read, comes), written, kept) =
-    let (s, u) = session_of given text who (whole session_at (lines given)) refl comes in
+    let (s, spells, told) = text_spells (λ s outcome. outcome ≡ Ok (told_text s (Some who))) text (whole session_at (lines given)) comes in
+    let u : IsUmpired given s who text = record { spelled = spells; told = same_answer text (told_text s (Some who)) told } in
     record { given = given; session = s; text = text; was_read = read; umpired = u; heard = heard given s who text u; same = u.told ∙ same s who; written = written }
 
 pub umpires_games : (plays : LiveOutcome) (e : Ending) (asked : Option Command) (before after : World) (code : ℕ) → Runs plays e asked before after → code ≡ status e → UmpiresGames asked code before after
-umpires_games plays e asked before after code runs is who words zero =
-    told_game plays who before after
-    (subst (λ x. Ends plays x (Umpire (Some who)) before after) (answered e (sym is ∙ zero)) (subst (λ x. Runs plays e x before after) words runs))
+umpires_games plays e asked before after code runs is who words zero = told_game plays who before after (answers plays e asked (Umpire (Some who)) before after code runs is words zero)
 
 -- What is believed.
 

@@ -6,7 +6,7 @@ use Rattle.krieg_session.proofs.SessionFormat.{code_game}
 use Rattle.krieg_score.specs.Scores.{session_of}
 use Rattle.krieg_score.proofs.DoneMoves.{done_tries, sans_again, unsans_again, record_is}
 use Rattle.krieg_cli.specs.declared.ending.Ending.TheVariants as ending
-use Rattle.krieg_cli.proofs.WholeGames.{text_read, given_le}
+use Rattle.krieg_cli.proofs.WholeGames.{text_read, given_le, same_answer, not_refused}
 
 -- the session of the record of a session is that of its tries that were done
 done : (s : SessionState) → session_of (record_of s) ≡ done_session s
@@ -27,12 +27,6 @@ comes_back plays given s text before after outcome scored holds (read, was, made
 read_again : (given : List ℕ) (s : SessionState) (text : List ℕ) → IsScored given s text → whole session_at (lines (session_text (done_session s))) ≡ Ok (done_session s)
 read_again given s text scored =
     subst (λ (x : SessionState). whole session_at (lines (session_text x)) ≡ Ok x) (done s) (unsans_again (record_of s) (record_is s (game given s text scored).valid))
-
-same_answer : (x y : List ℕ) → ◌≡◌ {A = Result (List ℕ) Refusal} (Ok x) (Ok y) → x ≡ y
-same_answer x y e = cc
-
-not_refused : (r : Refusal) (y : List ℕ) → ◌≡◌ {A = Result (List ℕ) Refusal} (Err r) (Ok y) → ⊥
-not_refused r y e = cc
 
 ends_on_record : (plays : LiveOutcome) (e : Ending) (given : List ℕ) (s : SessionState) (text : List ℕ) (before after : World) →
     IsScored given s text → before.input.bytes ≡ Some text → Ends plays e Unsan before after → EndsOnRecord e s text before after

@@ -1,12 +1,12 @@
 -- A run of `refute` that answers writes a refutation, and one like those is judged by `deny` with its number of moves.
-use Rattle.std.proofs.Common.{◌≡◌, ℕ, ◌<◌, ◌≤◌, List, length, Option, Some, Result, Ok, Err, refl, sym, ap, subst, ◌∙◌, arith}
+use Rattle.std.proofs.Common.{◌≡◌, ℕ, ◌<◌, ◌≤◌, List, length, Option, Some, Result, Ok, Err, ap, subst, ◌∙◌, arith}
 use Rattle.std.proofs.lemmas.Bool.{both_ways}
 use Rattle.std.specs.Io.KnownBytes.{Appends}
-use Rattle.krieg_cli.proofs.Common.{Pos, lines, whole, TextFault, SheetState, sheet_at, RefutationState, refutation_at, Command, Refute, Deny, World, WasRead, OfText, status, IsDenialText, Refuted, Judged, HasSheet, LiveOutcome, ComesTo, Answers, Ends, Runs, IsRefutation, sheet_file, WritesRefutation, RefutesSheets, EndsOnRefutation, DeniesRefutations, MOST_INPUT, Refusal, BudgetSpent, RefutationFails, Ending}
-use Rattle.krieg_text.specs.declared.fault.TextFault.TheVariants as fault
+use Rattle.krieg_cli.proofs.Common.{Pos, lines, whole, SheetState, RefutationState, refutation_at, Command, Refute, Deny, World, OfText, status, IsDenialText, Claimed, has_no_turn, Judged, LiveOutcome, ComesTo, Ends, Runs, IsRefutation, sheet_file, WritesRefutation, RefutesSheets, EndsOnRefutation, DeniesRefutations, MOST_INPUT, Refusal, BudgetSpent, RefutationFails, Ending}
 use Rattle.krieg_refutefile.proofs.Sizes.{read_short}
 use Rattle.krieg_cli.specs.declared.ending.Ending.TheVariants as ending
-use Rattle.krieg_cli.proofs.WholeGames.{answered, text_read, given_le}
+use Rattle.krieg_cli.proofs.WholeGames.{answers, text_read, given_le}
+use Rattle.krieg_cli.proofs.Headline.{sheet_of}
 
 -- ---- refute
 
@@ -20,24 +20,12 @@ told n s S before after answer written t = record {
   short = subst (λ (text : List ℕ). length text ≤ MOST_INPUT) t.text t.short;
 }
 
-abbrev Keeps : ℕ → World → World → Type 0
-Keeps n before after = (s : SheetState) × (S : List Pos) × HasSheet s S before after × WritesRefutation n s S before after
-
-of_text : (n budget limit : ℕ) (before after : World) (text answer : List ℕ) (r : Result SheetState TextFault) → whole sheet_at (lines text) ≡ r → WasRead before.input after.input text →
-    Appends before.out.bytes after.out.bytes answer → OfText r (Refuted n budget limit) (Ok answer) → Keeps n before after
-of_text n budget limit before after text answer (Ok s) is read written (S, leaves, goes, claimed) =
-    (s, S, record { text = text; was_read = read; spelled = is; possible = leaves.possible; some = leaves.some }, told n s S before after answer written claimed.1)
-of_text n budget limit before after text answer (Err (fault.At line kind)) is read written e = absurd cc
-of_text n budget limit before after text answer (Err fault.NoMemory) is read written e = absurd e
-
-kept : (plays : LiveOutcome) (n budget limit : ℕ) (before after : World) → Answers plays (Refute n budget limit) before after → Keeps n before after
-kept plays n budget limit before after (answer, (text, read, comes), written, no_fault) =
-    of_text n budget limit before after text answer (whole sheet_at (lines text)) refl read written comes
-
 pub refutes_sheets : (plays : LiveOutcome) (e : Ending) (asked : Option Command) (before after : World) (code : ℕ) → Runs plays e asked before after → code ≡ status e → RefutesSheets asked code before after
 refutes_sheets plays e asked before after code runs is n budget limit words zero =
-    let done = answered e (sym is ∙ zero) in
-    kept plays n budget limit before after (subst (λ x. Ends plays x (Refute n budget limit) before after) done (subst (λ x. Runs plays e x before after) words runs))
+    let (answer, came, written, kept) = answers plays e asked (Refute n budget limit) before after code runs is words zero in
+    let (text, read, searched) = came in
+    let (s, S, sheet, claimed) = sheet_of Claimed has_no_turn n budget limit before after text answer read searched in
+    (s, S, sheet, told n s S before after answer written claimed.1)
 
 -- ---- deny
 

@@ -1,11 +1,13 @@
 -- When a command must answer: where its input is good and nothing is refused for a cause, the status is 0, or memory ran out.
-use Rattle.std.specs.Prelude.{◌≡◌, ◌≤◌, ◌<◌, ◌⊎◌, ◌++◌, ℕ, true, false, List, [], ◌∷◌, length, drop, map, Option, Some, Ok, MatchBool}
+use Rattle.std.specs.Prelude.{◌≡◌, ◌≤◌, ◌<◌, ◌⊎◌, ◌++◌, ℕ, Bool, true, false, List, [], ◌∷◌, length, drop, map, Option, Some, Ok, MatchBool}
 use Rattle.krieg_board.specs.Pos.{Pos}
+use Rattle.krieg_board.specs.declared.men.Side.{Side}
 use Rattle.krieg_board.specs.declared.men.Side.TheVariants.{White}
 use Rattle.krieg_board.specs.declared.limits.TheConstants.{MOST_UNITS}
 use Rattle.krieg_text.specs.Lines.{lines}
 use Rattle.krieg_text.specs.Reading.{whole}
 use Rattle.krieg_ports.specs.Faults.{Rose}
+use Rattle.krieg_words.specs.declared.dialects.Dialect.{Dialect}
 use Rattle.krieg_words.specs.declared.dialects.Dialect.TheVariants.{Wild16}
 use Rattle.krieg_make.specs.MadeSheets.{made_sheet}
 use Rattle.krieg_sheet.specs.Sheets.{SheetState}
@@ -50,35 +52,32 @@ use Rattle.krieg_cli.specs.declared.commands.job.TheConstants.{JOB_MOVES}
 abbrev pub HoldsText : Command → Stream → List ℕ → Type 0
 HoldsText c input text = MatchBool (takes_input c) ((input.bytes ≡ Some text) × (length text ≤ MOST_INPUT)) (text ≡ [])
 
--- The sheet asks for a plan, the budget is as much as a search may take, and the best plan, where there is one, is not too large.
-pub record CanBeSolved (n budget limit : ℕ) (text : List ℕ) : Type 0 where
-  pub sheet : SheetState
-  pub positions : List Pos
-  pub spelled : whole sheet_at (lines text) ≡ Ok sheet
-  pub leaves : Leaves limit sheet positions
-  pub goes_on : is_over sheet ≡ false
-  pub enough : fresh_units sheet.dialect sheet.side positions n ≤ budget
-  pub fits : (f : PlanState) → IsBestFile sheet.dialect sheet.side positions n f → IsTooLarge f → ⊥
+-- the best plan within n own moves, where there is one, is not too large for a plan file
+abbrev pub PlanFits : Dialect → Side → List Pos → ℕ → Type 0
+PlanFits d who S n = (f : PlanState) → IsBestFile d who S n f → IsTooLarge f → ⊥
 
--- The sheet asks for keys, and the budget is as much as a search may take. No answer is too large.
-pub record CanBeKeyed (n budget limit : ℕ) (text : List ℕ) : Type 0 where
-  pub sheet : SheetState
-  pub positions : List Pos
-  pub spelled : whole sheet_at (lines text) ≡ Ok sheet
-  pub leaves : Leaves limit sheet positions
-  pub goes_on : is_over sheet ≡ false
-  pub enough : fresh_units sheet.dialect sheet.side positions n ≤ budget
+-- no answer of `keys` is too large
+abbrev pub KeysFit : Dialect → Side → List Pos → ℕ → Type 0
+KeysFit d who S n = Unit {0}
 
--- The sheet asks for a plan, the budget is as much as a search may take, and the best plan, where there is one, has not too many nodes,
--- edges and roots for a strategy.
-pub record CanBeShared (n budget limit : ℕ) (text : List ℕ) : Type 0 where
+-- the best plan, where there is one, has not too many nodes, edges and roots for a strategy
+abbrev pub StrategyFits : Dialect → Side → List Pos → ℕ → Type 0
+StrategyFits d who S n = IsLargeStrategy d who S n → ⊥
+
+-- no plan mates, and the claims are not too many for a refutation file
+abbrev pub ClaimsFit : Dialect → Side → List Pos → ℕ → Type 0
+ClaimsFit d who S n = NoneMates d who S n × (AreTooMany d who S n → ⊥)
+
+-- The sheet leaves some position possible and asks something of it, the budget is as much as a search may take, and the answer fits.
+pub record CanBeSearched (rests : SheetState → Bool) (Fits : Dialect → Side → List Pos → ℕ → Type 0)
+    (n budget limit : ℕ) (text : List ℕ) : Type 0 where
   pub sheet : SheetState
   pub positions : List Pos
   pub spelled : whole sheet_at (lines text) ≡ Ok sheet
   pub leaves : Leaves limit sheet positions
-  pub goes_on : is_over sheet ≡ false
+  pub goes_on : rests sheet ≡ false
   pub enough : fresh_units sheet.dialect sheet.side positions n ≤ budget
-  pub fits : IsLargeStrategy sheet.dialect sheet.side positions n → ⊥
+  pub fits : Fits sheet.dialect sheet.side positions n
 
 -- The plan mates from each listed position within the number that the file states, and the budget is as much as a check takes.
 pub record CanBeChecked (budget : ℕ) (text : List ℕ) : Type 0 where
@@ -94,17 +93,6 @@ pub record CanBeJudged (budget : ℕ) (text : List ℕ) : Type 0 where
   pub spelled : whole strategy_at (lines text) ≡ Ok strategy
   pub enough : judge_cost strategy ≤ budget
   pub mates : mates_all strategy.dialect strategy.side strategy.list (unfolded strategy) strategy.worst ≡ true
-
--- The sheet asks for a refutation: no plan mates, the claims are not too many, and the budget is as much as a search may take.
-pub record CanBeRefuted (n budget limit : ℕ) (text : List ℕ) : Type 0 where
-  pub sheet : SheetState
-  pub positions : List Pos
-  pub spelled : whole sheet_at (lines text) ≡ Ok sheet
-  pub leaves : Leaves limit sheet positions
-  pub turn : has_no_turn sheet ≡ false
-  pub enough : fresh_units sheet.dialect sheet.side positions n ≤ budget
-  pub none_mates : NoneMates sheet.dialect sheet.side positions n
-  pub fits : AreTooMany sheet.dialect sheet.side positions n → ⊥
 
 -- The refutation holds, and the budget is as much as the look at all of its claims takes.
 pub record CanBeDenied (budget : ℕ) (text : List ℕ) : Type 0 where
@@ -138,13 +126,13 @@ pub record CanBeSummed (number : ℕ) : Type 0 where
 
 -- the input that a command must answer
 abbrev pub MustAnswer : Command → List ℕ → Type 0
-MustAnswer (Solve n budget limit) text = CanBeSolved n budget limit text
-MustAnswer (Find n budget limit) text = CanBeSolved n budget limit text
-MustAnswer (Keys n budget limit) text = CanBeKeyed n budget limit text
-MustAnswer (Share n budget limit) text = CanBeShared n budget limit text
+MustAnswer (Solve n budget limit) text = CanBeSearched is_over PlanFits n budget limit text
+MustAnswer (Find n budget limit) text = CanBeSearched is_over PlanFits n budget limit text
+MustAnswer (Keys n budget limit) text = CanBeSearched is_over KeysFit n budget limit text
+MustAnswer (Share n budget limit) text = CanBeSearched is_over StrategyFits n budget limit text
 MustAnswer (Check budget) text = CanBeChecked budget text
 MustAnswer (Judge budget) text = CanBeJudged budget text
-MustAnswer (Refute n budget limit) text = CanBeRefuted n budget limit text
+MustAnswer (Refute n budget limit) text = CanBeSearched has_no_turn ClaimsFit n budget limit text
 MustAnswer (Deny budget) text = CanBeDenied budget text
 MustAnswer (Believe limit) text = CanBeBelieved limit text
 MustAnswer (Why limit) text = CanBeShown limit text

@@ -2,16 +2,9 @@
 use Rattle.std.specs.Prelude.{ℕ, ◌<◌, List, Result, Ok, Err}
 use Rattle.krieg_board.specs.Pos.{Pos}
 use Rattle.krieg_board.specs.declared.men.Side.{Side}
-use Rattle.krieg_text.specs.Lines.{lines}
-use Rattle.krieg_text.specs.Reading.{whole}
 use Rattle.krieg_words.specs.declared.dialects.Dialect.{Dialect}
-use Rattle.krieg_sheet.specs.Sheets.{SheetState}
-use Rattle.krieg_sheet.specs.SheetReading.{sheet_at}
-use Rattle.krieg_sheet.specs.Turns.{is_over}
 use Rattle.krieg_planfile.specs.PlanFiles.{PlanState}
-use Rattle.krieg_cli.specs.Asked.{OfPossible}
 use Rattle.krieg_cli.specs.Solve.{IsBestFile, IsTooLarge, Tells, fresh_units}
-use Rattle.krieg_cli.specs.Refusal.{OfText}
 use Rattle.krieg_cli.specs.declared.refusal.Refusal.{Refusal}
 use Rattle.krieg_cli.specs.declared.refusal.Refusal.TheVariants.{BudgetSpent, PlanTooLarge}
 
@@ -22,11 +15,3 @@ Found d who S n budget (Ok answer) = Tells d who S n answer
 Found d who S n budget (Err PlanTooLarge) = (f : PlanState) × IsBestFile d who S n f × IsTooLarge f
 Found d who S n budget (Err BudgetSpent) = budget < fresh_units d who S n
 Found d who S n budget (Err _) = ⊥
-
--- of the positions that a sheet leaves possible, unless the game is over
-abbrev pub FoundFor : ℕ → ℕ → ℕ → SheetState → Result (List ℕ) Refusal → Type 0
-FoundFor n budget limit s outcome = OfPossible limit s (is_over s) (λ S. Found s.dialect s.side S n budget) outcome
-
--- the same of a text that may spell a sheet
-abbrev pub Finds : ℕ → ℕ → ℕ → List ℕ → Result (List ℕ) Refusal → Type 0
-Finds n budget limit text outcome = OfText (whole sheet_at (lines text)) (FoundFor n budget limit) outcome

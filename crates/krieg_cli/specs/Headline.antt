@@ -57,40 +57,12 @@ pub record WritesNone (n : ℕ) (s : SheetState) (S : List Pos) (before after : 
   pub none_mates : (plan : PlanTrees) → mates_all s.dialect s.side S plan n ≡ false
   pub written : Appends before.out.bytes after.out.bytes (none_text n)
 
--- a sheet was answered so, and err stays as it was
-abbrev pub AnswersSheet : ℕ → World → World → Stream → Stream → Type 0
-AnswersSheet n before after err err' =
-    (s : SheetState) × (S : List Pos) × HasSheet s S before after × (WritesPlan n s S before after ⊎ WritesNone n s S before after) × (err' ≡ err)
-
--- status 0 is that answer, with the words of `solve`
-
-abbrev pub SolvesSheets : Option Command → ℕ → World → World → Stream → Stream → Type 0
-SolvesSheets asked code before after err err' =
-    (n budget limit : ℕ) → asked ≡ Some (Solve n budget limit) → code ≡ 0 → AnswersSheet n before after err err'
-
--- and with those of `find`
-
-abbrev pub FindsSheets : Option Command → ℕ → World → World → Stream → Stream → Type 0
-FindsSheets asked code before after err err' =
-    (n budget limit : ℕ) → asked ≡ Some (Find n budget limit) → code ≡ 0 → AnswersSheet n before after err err'
-
 -- The answer lists the keys of these positions: for each thing that may be heard before the first own turn, every try that begins as
 -- short a mate as any.
 pub record WritesKeys (n : ℕ) (s : SheetState) (S : List Pos) (before after : World) : Type 0 where
   pub answer : List ℕ
   pub keys : IsKeysText s.dialect s.side S n answer
   pub written : Appends before.out.bytes after.out.bytes answer
-
--- the keys of a sheet, or that there is none, and err stays as it was
-abbrev pub AnswersKeys : ℕ → World → World → Stream → Stream → Type 0
-AnswersKeys n before after err err' =
-    (s : SheetState) × (S : List Pos) × HasSheet s S before after × (WritesKeys n s S before after ⊎ WritesNone n s S before after) × (err' ≡ err)
-
--- status 0 is that answer, with the words of `keys`
-
-abbrev pub ListsKeys : Option Command → ℕ → World → World → Stream → Stream → Type 0
-ListsKeys asked code before after err err' =
-    (n budget limit : ℕ) → asked ≡ Some (Keys n budget limit) → code ≡ 0 → AnswersKeys n before after err err'
 
 -- The answer is a strategy for these positions, is read as that strategy again, and is short enough to be the input of `judge`. The
 -- plan that it unfolds to mates from each of the positions, against every reply, within the number that the strategy states, which is
@@ -105,14 +77,33 @@ pub record WritesStrategy (n : ℕ) (s : SheetState) (S : List Pos) (before afte
   pub again : whole strategy_at (lines (strategy_text strategy)) ≡ Ok strategy
   pub short : length (strategy_text strategy) ≤ MOST_INPUT
 
--- the strategy of a sheet, or that there is none, and err stays as it was
-abbrev pub AnswersShared : ℕ → World → World → Stream → Stream → Type 0
-AnswersShared n before after err err' =
-    (s : SheetState) × (S : List Pos) × HasSheet s S before after ×
-    (WritesStrategy n s S before after ⊎ WritesNone n s S before after) × (err' ≡ err)
+-- what may be written of a sheet that leaves these positions, asked for so many own moves
+abbrev pub Writing : Type 1
+Writing = ℕ → SheetState → List Pos → World → World → Type 0
 
--- status 0 is that answer, with the words of `share`
+-- a sheet was answered so, or by the line that there is none, and err stays as it was
+abbrev pub AnswersSheet : Writing → ℕ → World → World → Stream → Stream → Type 0
+AnswersSheet Writes n before after err err' =
+    (s : SheetState) × (S : List Pos) × HasSheet s S before after
+    × (Writes n s S before after ⊎ WritesNone n s S before after) × (err' ≡ err)
 
+-- with the words of this command, status 0 is that answer
+abbrev pub AnswersBy : (ℕ → ℕ → ℕ → Command) → Writing → Option Command → ℕ → World → World → Stream → Stream → Type 0
+AnswersBy command Writes asked code before after err err' =
+    (n budget limit : ℕ) → asked ≡ Some (command n budget limit) → code ≡ 0 → AnswersSheet Writes n before after err err'
+
+-- of `solve`: a plan file
+abbrev pub SolvesSheets : Option Command → ℕ → World → World → Stream → Stream → Type 0
+SolvesSheets = AnswersBy Solve WritesPlan
+
+-- of `find`: the same
+abbrev pub FindsSheets : Option Command → ℕ → World → World → Stream → Stream → Type 0
+FindsSheets = AnswersBy Find WritesPlan
+
+-- of `keys`: the keys
+abbrev pub ListsKeys : Option Command → ℕ → World → World → Stream → Stream → Type 0
+ListsKeys = AnswersBy Keys WritesKeys
+
+-- of `share`: a strategy
 abbrev pub SharesPlans : Option Command → ℕ → World → World → Stream → Stream → Type 0
-SharesPlans asked code before after err err' =
-    (n budget limit : ℕ) → asked ≡ Some (Share n budget limit) → code ≡ 0 → AnswersShared n before after err err'
+SharesPlans = AnswersBy Share WritesStrategy

@@ -6,17 +6,12 @@ use Rattle.krieg_board.specs.Pos.{Pos}
 use Rattle.krieg_board.specs.declared.men.Move.{Move}
 use Rattle.krieg_board.specs.declared.men.Side.{Side}
 use Rattle.krieg_text.specs.Decimals.{number_text}
-use Rattle.krieg_text.specs.Lines.{lines}
-use Rattle.krieg_text.specs.Reading.{whole}
 use Rattle.krieg_text.specs.Writing.{Pieces, alone, put_lines}
 use Rattle.krieg_fen.specs.ListText.{listing_lines}
 use Rattle.krieg_fen.specs.MoveText.{move_text}
 use Rattle.krieg_moves.specs.Legal.{is_legal}
 use Rattle.krieg_words.specs.Versions.{dialect_line}
 use Rattle.krieg_words.specs.declared.dialects.Dialect.{Dialect}
-use Rattle.krieg_sheet.specs.Sheets.{SheetState}
-use Rattle.krieg_sheet.specs.SheetReading.{sheet_at}
-use Rattle.krieg_sheet.specs.Turns.{is_over}
 use Rattle.krieg_theory.specs.Sets.{In, Ascending}
 use Rattle.krieg_theory.specs.Split.{legal_in_some}
 use Rattle.krieg_theory.specs.Tree.{Try, Maybe, Edges}
@@ -30,8 +25,6 @@ use Rattle.krieg_plan.specs.Trees.{PlanTrees}
 use Rattle.krieg_planfile.specs.PlanText.{root_line, worst_line, count_line}
 use Rattle.krieg_search.specs.KeyTries.{Told}
 use Rattle.krieg_search.specs.declared.keys.KeyTry.{KeyTry}
-use Rattle.krieg_cli.specs.Asked.{OfPossible}
-use Rattle.krieg_cli.specs.Refusal.{OfText}
 use Rattle.krieg_cli.specs.Refute.{SomeMates}
 use Rattle.krieg_cli.specs.Solve.{mates_all, NoneMates, none_text, fresh_units}
 use Rattle.krieg_cli.specs.declared.refusal.Refusal.{Refusal}
@@ -107,11 +100,3 @@ module _ (d : Dialect) (who : Side) (S : List Pos) where
   Keyed n budget (Ok answer) = TellsKeys n answer
   Keyed n budget (Err BudgetSpent) = budget < fresh_units d who S n
   Keyed n budget (Err _) = ⊥
-
--- of the positions that a sheet leaves possible, unless the game is over
-abbrev pub KeyedFor : ℕ → ℕ → ℕ → SheetState → Result (List ℕ) Refusal → Type 0
-KeyedFor n budget limit s outcome = OfPossible limit s (is_over s) (λ S. Keyed s.dialect s.side S n budget) outcome
-
--- the same of a text that may spell a sheet
-abbrev pub FindsKeys : ℕ → ℕ → ℕ → List ℕ → Result (List ℕ) Refusal → Type 0
-FindsKeys n budget limit text outcome = OfText (whole sheet_at (lines text)) (KeyedFor n budget limit) outcome

@@ -1,26 +1,20 @@
 -- `lead` on a plan that mates, and `conduct` on a strategy whose plan does: the game that is written is won.
-use Rattle.std.specs.Prelude.{◌≡◌, ◌-◌, ◌≤◌, ℕ, true, List, slice_get, Option, Some, Ok}
+use Rattle.std.specs.Prelude.{◌≡◌, ◌-◌, ◌≤◌, ℕ, true, List, slice_get, Option, Some, Result, Ok}
 use Rattle.std.specs.Io.KnownBytes.{Appends}
 use Rattle.krieg_board.specs.Men.{other}
 use Rattle.krieg_board.specs.Pos.{Pos}
-use Rattle.krieg_text.specs.Lines.{lines}
-use Rattle.krieg_text.specs.Reading.{whole}
+use Rattle.krieg_text.specs.declared.fault.TextFault.{TextFault}
 use Rattle.krieg_moves.specs.Moves.{is_mate}
 use Rattle.krieg_referee.specs.Games.{GameState}
 use Rattle.krieg_referee.specs.declared.verdict.Stop.{Stop}
 use Rattle.krieg_referee.specs.declared.verdict.Stop.TheVariants.{Ended, Left}
 use Rattle.krieg_session.specs.SessionText.{session_text}
 use Rattle.krieg_play.specs.Games.{IsGameFrom}
-use Rattle.krieg_planfile.specs.PlanFiles.{PlanState}
-use Rattle.krieg_planfile.specs.PlanReading.{plan_at}
-use Rattle.krieg_strategyfile.specs.Strategies.{StrategyState}
-use Rattle.krieg_strategyfile.specs.StrategyFormat.{strategy_at}
 use Rattle.krieg_robot.specs.Guides.{Guidance}
 use Rattle.krieg_robot.specs.Leading.{own_moves}
 use Rattle.krieg_args.specs.declared.command.Command.{Command}
 use Rattle.krieg_args.specs.declared.command.Command.TheVariants.{Lead, Conduct}
-use Rattle.krieg_cli.specs.Guides.{plan_guide, strategy_guide}
-use Rattle.krieg_cli.specs.Judge.{unfolded}
+use Rattle.krieg_cli.specs.Guides.{plan_guide_in, strategy_guide_in}
 use Rattle.krieg_cli.specs.Recorded.{session_of}
 use Rattle.krieg_cli.specs.Solve.{mates_all}
 use Rattle.krieg_cli.specs.World.{World}
@@ -38,14 +32,18 @@ pub record IsWonGame (g : Guidance) (asks number : ℕ) (text : List ℕ) : Type
   pub few : own_moves g.side game.log ≤ g.worst
   pub mates : stop ≡ Ended → (is_mate game.position ≡ true) × (game.position.side ≡ other g.side)
 
--- Given a plan that mates each position that it lists within the number that it states, `lead` at status 0 has written such a game.
-abbrev pub LeadsToMate : Option Command → ℕ → World → World → Type 0
-LeadsToMate asked code before after =
-    (asks number : ℕ) (s : PlanState) (text : List ℕ) → asked ≡ Some (Lead asks number) → code ≡ 0 → before.input.bytes ≡ Some text → whole plan_at (lines text) ≡ Ok s →
-    mates_all s.dialect s.side s.list s.plan s.worst ≡ true → (answer : List ℕ) × IsWonGame (plan_guide s) asks number answer × Appends before.out.bytes after.out.bytes answer
+-- Given a guide that mates from each position that it lists within the number that it states, status 0 has written such a game, with
+-- the words of this command and a text that spells the guide.
+abbrev pub MatesBy : (ℕ → ℕ → Command) → (List ℕ → Result Guidance TextFault) → Option Command → ℕ → World → World → Type 0
+MatesBy command guide_in asked code before after =
+    (asks number : ℕ) (g : Guidance) (text : List ℕ) → asked ≡ Some (command asks number) → code ≡ 0 →
+    before.input.bytes ≡ Some text → guide_in text ≡ Ok g → mates_all g.dialect g.side g.list g.plan g.worst ≡ true →
+    (answer : List ℕ) × IsWonGame g asks number answer × Appends before.out.bytes after.out.bytes answer
 
--- The same of `conduct`, given a strategy that unfolds to such a plan.
+-- with the words of `lead` and the text of a plan file
+abbrev pub LeadsToMate : Option Command → ℕ → World → World → Type 0
+LeadsToMate = MatesBy Lead plan_guide_in
+
+-- with those of `conduct` and the text of a strategy, whose plan is the one that it unfolds to
 abbrev pub ConductsToMate : Option Command → ℕ → World → World → Type 0
-ConductsToMate asked code before after =
-    (asks number : ℕ) (s : StrategyState) (text : List ℕ) → asked ≡ Some (Conduct asks number) → code ≡ 0 → before.input.bytes ≡ Some text → whole strategy_at (lines text) ≡ Ok s →
-    mates_all s.dialect s.side s.list (unfolded s) s.worst ≡ true → (answer : List ℕ) × IsWonGame (strategy_guide s) asks number answer × Appends before.out.bytes after.out.bytes answer
+ConductsToMate = MatesBy Conduct strategy_guide_in

@@ -4,8 +4,9 @@ use Rattle.krieg_seats.specs.Accounts.{Account}
 use Rattle.krieg_play.specs.Played.{Sides}
 use Rattle.krieg_args.specs.declared.command.Command.{Command}
 use Rattle.krieg_args.specs.declared.command.Command.TheVariants.{Play, Lead, Conduct}
-use Rattle.krieg_cli.specs.Play.{Plays}
-use Rattle.krieg_cli.specs.Lead.{LeadsText, ConductsText}
+use Rattle.krieg_cli.specs.Guides.{plan_guide_in, strategy_guide_in}
+use Rattle.krieg_cli.specs.Play.{Plays, HasBegun}
+use Rattle.krieg_cli.specs.Lead.{LeadsText, ConductsText, HasLedBy}
 use Rattle.krieg_cli.specs.declared.refusal.Refusal.{Refusal}
 use Rattle.krieg_cli.specs.declared.refusal.Refusal.TheVariants.{SeatFault}
 use Rattle.krieg_cli.specs.declared.ending.Ending.{Ending}
@@ -17,6 +18,13 @@ LivesBy account before after (Play asks) text outcome = Plays account before aft
 LivesBy account before after (Lead asks number) text outcome = LeadsText account before after asks number text outcome
 LivesBy account before after (Conduct asks number) text outcome = ConductsText account before after asks number text outcome
 LivesBy account before after _ text outcome = ⊥
+
+-- a game was begun from the start, or by the guide, that the text of such a command spells
+abbrev pub HasBegunBy : {X : Type 0} → (X → Account) → Command → List ℕ → Sides X → Sides X → Type 0
+HasBegunBy account (Play asks) text entry now = HasBegun account asks entry now text
+HasBegunBy account (Lead asks number) text entry now = HasLedBy account asks number entry now (plan_guide_in text)
+HasBegunBy account (Conduct asks number) text entry now = HasLedBy account asks number entry now (strategy_guide_in text)
+HasBegunBy account _ text entry now = ⊥
 
 -- a command that may call seats, once it has its text and there are seats to call
 abbrev pub is_live : Command → Bool

@@ -5,9 +5,7 @@ use Rattle.krieg_text.specs.Lines.{lines}
 use Rattle.krieg_text.specs.Writing.{put_lines}
 use Rattle.krieg_words.specs.declared.line.Line.{Line}
 use Rattle.krieg_planfile.specs.HeardReading.{HeardState, heard_plan}
-use Rattle.krieg_planfile.specs.PlanFiles.{PlanState}
 use Rattle.krieg_strategyfile.specs.HeardStrategies.{heard_strategy}
-use Rattle.krieg_strategyfile.specs.Strategies.{StrategyState}
 use Rattle.krieg_robot.specs.Followers.{follow_guide, next_of}
 use Rattle.krieg_robot.specs.Guides.{Guidance}
 use Rattle.krieg_robot.specs.declared.next.Next.{Next}
@@ -31,18 +29,14 @@ next_text next = put_lines [] ((next_line next ∷ []) ∷ [])
 abbrev pub said_next : Guidance → List Line → List ℕ
 said_next g heard = next_text (next_of (follow_guide g heard))
 
--- the answer to a plan file and these lines
-abbrev pub Says : HeardState PlanState → Result (List ℕ) Refusal → Type 0
-Says h outcome = outcome ≡ Ok (said_next (plan_guide h.file) h.heard)
+-- the answer to these lines, and a plan file or a strategy that guides so
+abbrev pub Says : {A : Type 0} → (A → Guidance) → HeardState A → Result (List ℕ) Refusal → Type 0
+Says guide h outcome = outcome ≡ Ok (said_next (guide h.file) h.heard)
 
--- the same of a text that may spell them
+-- the same of a text that may spell a plan file and these lines
 abbrev pub SaysNext : List ℕ → Result (List ℕ) Refusal → Type 0
-SaysNext text outcome = OfText (heard_plan (lines text)) Says outcome
+SaysNext text outcome = OfText (heard_plan (lines text)) (Says plan_guide) outcome
 
--- the answer to a strategy and these lines: by the plan that it unfolds to
-abbrev pub Advised : HeardState StrategyState → Result (List ℕ) Refusal → Type 0
-Advised h outcome = outcome ≡ Ok (said_next (strategy_guide h.file) h.heard)
-
--- the same of a text that may spell them
+-- and of one that may spell a strategy: its plan is the one that it unfolds to
 abbrev pub Advises : List ℕ → Result (List ℕ) Refusal → Type 0
-Advises text outcome = OfText (heard_strategy (lines text)) Advised outcome
+Advises text outcome = OfText (heard_strategy (lines text)) (Says strategy_guide) outcome

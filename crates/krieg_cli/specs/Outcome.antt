@@ -1,14 +1,16 @@
 -- What a command makes of its input: an answer, or a refusal.
 use Rattle.std.specs.Prelude.{ℕ, List, Result}
+use Rattle.krieg_sheet.specs.Turns.{is_over}
 use Rattle.krieg_args.specs.declared.command.Command.{Command}
 use Rattle.krieg_args.specs.declared.command.Command.TheVariants.{Solve, Check, Refute, Deny, Believe, Why, Umpire, San, Unsan, Play, Lead, Next, Find, Keys, Share, Judge, Advise, Conduct, Make, Job}
-use Rattle.krieg_cli.specs.Solve.{Solves}
-use Rattle.krieg_cli.specs.Find.{Finds}
-use Rattle.krieg_cli.specs.Keys.{FindsKeys}
-use Rattle.krieg_cli.specs.Share.{SharesPlan}
+use Rattle.krieg_cli.specs.Asked.{Searches, has_no_turn}
+use Rattle.krieg_cli.specs.Solve.{Searched}
+use Rattle.krieg_cli.specs.Find.{Found}
+use Rattle.krieg_cli.specs.Keys.{Keyed}
+use Rattle.krieg_cli.specs.Share.{SharedBy}
 use Rattle.krieg_cli.specs.Check.{Checks}
 use Rattle.krieg_cli.specs.Judge.{Judges}
-use Rattle.krieg_cli.specs.Refute.{Refutes}
+use Rattle.krieg_cli.specs.Refute.{Claimed}
 use Rattle.krieg_cli.specs.Deny.{Denies}
 use Rattle.krieg_cli.specs.Believe.{Believes}
 use Rattle.krieg_cli.specs.Why.{ShowsWhy}
@@ -26,13 +28,13 @@ LiveOutcome = Command → List ℕ → Result (List ℕ) Refusal → Type 0
 
 -- what a command makes of the text that it takes
 abbrev pub HasOutcome : LiveOutcome → Command → List ℕ → Result (List ℕ) Refusal → Type 0
-HasOutcome live (Solve moves budget limit) text outcome = Solves moves budget limit text outcome
-HasOutcome live (Find moves budget limit) text outcome = Finds moves budget limit text outcome
-HasOutcome live (Keys moves budget limit) text outcome = FindsKeys moves budget limit text outcome
-HasOutcome live (Share moves budget limit) text outcome = SharesPlan moves budget limit text outcome
+HasOutcome live (Solve moves budget limit) text outcome = Searches Searched is_over moves budget limit text outcome
+HasOutcome live (Find moves budget limit) text outcome = Searches Found is_over moves budget limit text outcome
+HasOutcome live (Keys moves budget limit) text outcome = Searches Keyed is_over moves budget limit text outcome
+HasOutcome live (Share moves budget limit) text outcome = Searches SharedBy is_over moves budget limit text outcome
 HasOutcome live (Check budget) text outcome = Checks budget text outcome
 HasOutcome live (Judge budget) text outcome = Judges budget text outcome
-HasOutcome live (Refute moves budget limit) text outcome = Refutes moves budget limit text outcome
+HasOutcome live (Refute moves budget limit) text outcome = Searches Claimed has_no_turn moves budget limit text outcome
 HasOutcome live (Deny budget) text outcome = Denies budget text outcome
 HasOutcome live (Believe limit) text outcome = Believes limit text outcome
 HasOutcome live (Why limit) text outcome = ShowsWhy limit text outcome

@@ -15,25 +15,19 @@ use Rattle.krieg_search.specs.declared.stop.SearchStop.TheVariants as search
 use Rattle.krieg_seats.specs.Accounts.{Account}
 use Rattle.krieg_play.specs.Played.{Sides}
 use Rattle.krieg_args.specs.declared.command.Command.{Command}
-use Rattle.krieg_args.specs.declared.command.Command.TheVariants.{Play, Lead, Conduct, Refute}
+use Rattle.krieg_args.specs.declared.command.Command.TheVariants.{Refute}
 use Rattle.krieg_fen.specs.declared.forms.TheConstants.{MOST_LISTED}
 use Rattle.krieg_args.specs.declared.command.TheConstants.{MOST_FIND_MOVES}
-use Rattle.krieg_cli.specs.declared.commands.solve.Terms.{Terms}
-use Rattle.krieg_cli.specs.Play.{HasBegun}
-use Rattle.krieg_cli.specs.Lead.{HasLedBy}
-use Rattle.krieg_cli.specs.Guides.{plan_guide_in, strategy_guide_in}
-use Rattle.krieg_cli.specs.Live.{calls_seats}
+use Rattle.krieg_cli.specs.declared.commands.search.SearchKind.{SearchKind}
+use Rattle.krieg_cli.specs.declared.commands.search.SearchKind.TheVariants as kind
+use Rattle.krieg_cli.specs.declared.commands.search.Terms.{Terms}
+use Rattle.krieg_cli.specs.Live.{HasBegunBy, calls_seats}
 use Rattle.krieg_board.specs.declared.men.Side.{Side}
-use Rattle.krieg_text.specs.Lines.{lines}
-use Rattle.krieg_text.specs.Reading.{whole}
 use Rattle.krieg_words.specs.declared.dialects.Dialect.{Dialect}
-use Rattle.krieg_sheet.specs.Sheets.{SheetState}
-use Rattle.krieg_sheet.specs.SheetReading.{sheet_at}
-use Rattle.krieg_sheet.specs.Turns.{is_over}
-use Rattle.krieg_cli.specs.Asked.{OfPossible}
 use Rattle.krieg_cli.specs.Solve.{Searched}
 use Rattle.krieg_cli.specs.Find.{Found}
-use Rattle.krieg_cli.specs.Refusal.{OfText}
+use Rattle.krieg_cli.specs.Keys.{Keyed}
+use Rattle.krieg_cli.specs.Share.{SharedBy}
 use Rattle.krieg_robot.specs.declared.led.LeadFault.{LeadFault}
 use Rattle.krieg_robot.specs.declared.led.LeadFault.TheVariants as led
 use Rattle.krieg_cli.specs.declared.refusal.Refusal.{Refusal}
@@ -121,21 +115,19 @@ pub record AreTerms (t : Terms) : Type 0 where
   pub most : t.moves ≤ MOST_FIND_MOVES
   pub few : t.limit ≤ MOST_LISTED
 
--- What a search makes of positions, of a sheet and of a text: that of `find`, which may cut tries, or that of `solve`.
-
+-- what a search for the best plan makes of positions: that of `find`, which may cut tries, or that of `solve`
 abbrev pub SearchedBy : Bool → Dialect → Side → List Pos → ℕ → ℕ → Result (List ℕ) Refusal → Type 0
 SearchedBy true d who S n budget outcome = Found d who S n budget outcome
 SearchedBy false d who S n budget outcome = Searched d who S n budget outcome
 
-abbrev pub SolvedBy : Bool → ℕ → ℕ → ℕ → SheetState → Result (List ℕ) Refusal → Type 0
-SolvedBy cut n budget limit s outcome = OfPossible limit s (is_over s) (λ S. SearchedBy cut s.dialect s.side S n budget) outcome
-
-abbrev pub SolvesBy : Bool → ℕ → ℕ → ℕ → List ℕ → Result (List ℕ) Refusal → Type 0
-SolvesBy cut n budget limit text outcome = OfText (whole sheet_at (lines text)) (SolvedBy cut n budget limit) outcome
+-- what each search makes of positions
+abbrev pub ByKind : SearchKind → Dialect → Side → List Pos → ℕ → ℕ → Result (List ℕ) Refusal → Type 0
+ByKind kind.Solve d who S n budget outcome = Searched d who S n budget outcome
+ByKind kind.Find d who S n budget outcome = Found d who S n budget outcome
+ByKind kind.Keys d who S n budget outcome = Keyed d who S n budget outcome
+ByKind kind.Share d who S n budget outcome = SharedBy d who S n budget outcome
 
 -- what becomes of the bench where a command made this of its text
 abbrev pub LeavesSeats : {X : Type 0} → (X → Account) → Command → Ending → List ℕ → Sides X → Sides X → Type 0
-LeavesSeats account (Play asks) NoMemory text entry now = (now ≡ entry) ⊎ HasBegun account asks entry now text
-LeavesSeats account (Lead asks number) NoMemory text entry now = (now ≡ entry) ⊎ HasLedBy account asks number entry now (plan_guide_in text)
-LeavesSeats account (Conduct asks number) NoMemory text entry now = (now ≡ entry) ⊎ HasLedBy account asks number entry now (strategy_guide_in text)
+LeavesSeats account c NoMemory text entry now = (now ≡ entry) ⊎ HasBegunBy account c text entry now
 LeavesSeats account c ending text entry now = calls_seats ending (Some c) ≡ false → now ≡ entry

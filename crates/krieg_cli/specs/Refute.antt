@@ -10,8 +10,6 @@ use Rattle.krieg_parting.specs.Turns.{IsOwnTurn}
 use Rattle.krieg_text.specs.Lines.{lines}
 use Rattle.krieg_text.specs.Reading.{whole}
 use Rattle.krieg_words.specs.declared.dialects.Dialect.{Dialect}
-use Rattle.krieg_sheet.specs.Sheets.{SheetState}
-use Rattle.krieg_sheet.specs.SheetReading.{sheet_at}
 use Rattle.krieg_game.specs.Chess.{chess}
 use Rattle.krieg_game.specs.Outset.{outset}
 use Rattle.krieg_claims.specs.Sizes.{AreMany}
@@ -21,8 +19,6 @@ use Rattle.krieg_refute.specs.Refutations.{most_claims, most_claimed}
 use Rattle.krieg_refutefile.specs.Refutations.{RefutationState, file_of, is_refutation}
 use Rattle.krieg_refutefile.specs.RefutationFormat.{refutation_at}
 use Rattle.krieg_refutefile.specs.RefutationText.{refutation_text}
-use Rattle.krieg_cli.specs.Asked.{has_no_turn, OfPossible}
-use Rattle.krieg_cli.specs.Refusal.{OfText}
 use Rattle.krieg_cli.specs.Solve.{mates_all, NoneMates, least_units, fresh_units}
 use Rattle.krieg_cli.specs.declared.input.TheConstants.{MOST_INPUT}
 use Rattle.krieg_cli.specs.declared.refusal.Refusal.{Refusal}
@@ -65,11 +61,3 @@ module _ (d : Dialect) (who : Side) (S : List Pos) where
   Claimed n budget (Err PlanTooLarge) = NoneMates d who S n × AreTooMany n
   Claimed n budget (Err BudgetSpent) = budget < fresh_units d who S n
   Claimed n budget (Err _) = ⊥
-
--- of the positions that a sheet leaves possible, unless the game is over or the opponent is to move
-abbrev pub Refuted : ℕ → ℕ → ℕ → SheetState → Result (List ℕ) Refusal → Type 0
-Refuted n budget limit s outcome = OfPossible limit s (has_no_turn s) (λ S. Claimed s.dialect s.side S n budget) outcome
-
--- the same of a text that may spell a sheet
-abbrev pub Refutes : ℕ → ℕ → ℕ → List ℕ → Result (List ℕ) Refusal → Type 0
-Refutes n budget limit text outcome = OfText (whole sheet_at (lines text)) (Refuted n budget limit) outcome

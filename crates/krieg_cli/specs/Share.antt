@@ -6,18 +6,13 @@ use Rattle.krieg_board.specs.declared.men.Side.{Side}
 use Rattle.krieg_text.specs.Lines.{lines}
 use Rattle.krieg_text.specs.Reading.{whole}
 use Rattle.krieg_words.specs.declared.dialects.Dialect.{Dialect}
-use Rattle.krieg_sheet.specs.Sheets.{SheetState}
-use Rattle.krieg_sheet.specs.SheetReading.{sheet_at}
-use Rattle.krieg_sheet.specs.Turns.{is_over}
 use Rattle.krieg_game.specs.Keys.{Key, RootKey}
 use Rattle.krieg_strategy.specs.Nodes.{Node}
 use Rattle.krieg_strategyfile.specs.Strategies.{StrategyState}
 use Rattle.krieg_strategyfile.specs.StrategyFormat.{strategy_at}
 use Rattle.krieg_strategyfile.specs.StrategyText.{strategy_text}
 use Rattle.krieg_share.specs.Answers.{IsBestStrategy, IsLargeStrategy}
-use Rattle.krieg_cli.specs.Asked.{OfPossible}
 use Rattle.krieg_cli.specs.Solve.{NoneMates, none_text, fresh_units}
-use Rattle.krieg_cli.specs.Refusal.{OfText}
 use Rattle.krieg_cli.specs.declared.input.TheConstants.{MOST_INPUT}
 use Rattle.krieg_cli.specs.declared.refusal.Refusal.{Refusal}
 use Rattle.krieg_cli.specs.declared.refusal.Refusal.TheVariants.{BudgetSpent, PlanTooLarge}
@@ -54,11 +49,3 @@ module _ (d : Dialect) (who : Side) (S : List Pos) where
   SharedBy n budget (Err PlanTooLarge) = IsLargeStrategy d who S n
   SharedBy n budget (Err BudgetSpent) = budget < fresh_units d who S n
   SharedBy n budget (Err _) = ⊥
-
--- of the positions that a sheet leaves possible, unless the game is over
-abbrev pub SharedFor : ℕ → ℕ → ℕ → SheetState → Result (List ℕ) Refusal → Type 0
-SharedFor n budget limit s outcome = OfPossible limit s (is_over s) (λ S. SharedBy s.dialect s.side S n budget) outcome
-
--- the same of a text that may spell a sheet
-abbrev pub SharesPlan : ℕ → ℕ → ℕ → List ℕ → Result (List ℕ) Refusal → Type 0
-SharesPlan n budget limit text outcome = OfText (whole sheet_at (lines text)) (SharedFor n budget limit) outcome

@@ -7,9 +7,6 @@ use Rattle.krieg_text.specs.Lines.{lines}
 use Rattle.krieg_text.specs.Reading.{whole}
 use Rattle.krieg_text.specs.Writing.{Pieces, put_lines}
 use Rattle.krieg_words.specs.declared.dialects.Dialect.{Dialect}
-use Rattle.krieg_sheet.specs.Sheets.{SheetState}
-use Rattle.krieg_sheet.specs.SheetReading.{sheet_at}
-use Rattle.krieg_sheet.specs.Turns.{is_over}
 use Rattle.krieg_theory.specs.Plans.{mates, IsCanonPlan}
 use Rattle.krieg_costs.specs.Reach.{fresh}
 use Rattle.krieg_costs.specs.Backing.{floor}
@@ -20,8 +17,6 @@ use Rattle.krieg_plan.specs.declared.limits.TheConstants.{MOST_NODES, MOST_ON_PA
 use Rattle.krieg_planfile.specs.PlanFiles.{PlanState}
 use Rattle.krieg_planfile.specs.PlanReading.{plan_at}
 use Rattle.krieg_planfile.specs.PlanText.{plan_text}
-use Rattle.krieg_cli.specs.Asked.{OfPossible}
-use Rattle.krieg_cli.specs.Refusal.{OfText}
 use Rattle.krieg_cli.specs.declared.input.TheConstants.{MOST_INPUT}
 use Rattle.krieg_cli.specs.declared.refusal.Refusal.{Refusal}
 use Rattle.krieg_cli.specs.declared.refusal.Refusal.TheVariants.{BudgetSpent, PlanTooLarge}
@@ -90,11 +85,3 @@ module _ (d : Dialect) (who : Side) (S : List Pos) where
   Searched n budget (Err PlanTooLarge) = (least_units n ≤ budget) × (f : PlanState) × IsBestFile n f × IsTooLarge f
   Searched n budget (Err BudgetSpent) = budget < fresh_units n
   Searched n budget (Err _) = ⊥
-
--- of the positions that a sheet leaves possible, unless the game is over
-abbrev pub Solved : ℕ → ℕ → ℕ → SheetState → Result (List ℕ) Refusal → Type 0
-Solved n budget limit s outcome = OfPossible limit s (is_over s) (λ S. Searched s.dialect s.side S n budget) outcome
-
--- the same of a text that may spell a sheet
-abbrev pub Solves : ℕ → ℕ → ℕ → List ℕ → Result (List ℕ) Refusal → Type 0
-Solves n budget limit text outcome = OfText (whole sheet_at (lines text)) (Solved n budget limit) outcome

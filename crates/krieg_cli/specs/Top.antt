@@ -4,16 +4,12 @@ use Rattle.std.specs.Io.KnownBytes.{Appends}
 use Rattle.krieg_ports.specs.Bytes.{AppendsPrefix}
 use Rattle.krieg_args.specs.Command.{command_of, find_of, takes_input}
 use Rattle.krieg_args.specs.declared.command.Command.{Command}
-use Rattle.krieg_args.specs.declared.command.Command.TheVariants.{Play, Lead, Conduct}
 use Rattle.krieg_cli.specs.World.{Stream, World, FaultsRose, NoFault}
-use Rattle.krieg_cli.specs.Input.{WasRead, WasTaken, FailsToTake}
+use Rattle.krieg_cli.specs.Input.{WasTaken, FailsToTake}
 use Rattle.krieg_cli.specs.Outcome.{LiveOutcome, HasOutcome}
 use Rattle.krieg_seats.specs.Accounts.{Account}
 use Rattle.krieg_play.specs.Played.{Sides}
-use Rattle.krieg_cli.specs.Play.{HasBegun}
-use Rattle.krieg_cli.specs.Lead.{HasLedBy}
-use Rattle.krieg_cli.specs.Guides.{plan_guide_in, strategy_guide_in}
-use Rattle.krieg_cli.specs.Live.{LivesBy, calls_seats}
+use Rattle.krieg_cli.specs.Live.{HasBegunBy, LivesBy, calls_seats}
 use Rattle.krieg_cli.specs.Ending.{status, line_of}
 use Rattle.krieg_cli.specs.declared.refusal.Refusal.{Refusal}
 use Rattle.krieg_cli.specs.declared.ending.Ending.{Ending}
@@ -73,12 +69,8 @@ Reports ending before after = Gets (line_of ending) before after
 -- What becomes of the bench: it is as it was, but where seats may have been called. Where memory ran out under `play`,
 -- `lead` or `conduct` it is as it was, or the input was read whole, and a game was begun from the start, or by the guide, that it spells.
 abbrev pub LeavesBench : {X : Type 0} → (X → Account) → Option Command → Ending → Stream → Stream → Sides X → Sides X → Type 0
-LeavesBench account (Some (Play asks)) NoMemory input input' entry now =
-    (now ≡ entry) ⊎ ((text : List ℕ) × WasRead input input' text × HasBegun account asks entry now text)
-LeavesBench account (Some (Lead asks number)) NoMemory input input' entry now =
-    (now ≡ entry) ⊎ ((text : List ℕ) × WasRead input input' text × HasLedBy account asks number entry now (plan_guide_in text))
-LeavesBench account (Some (Conduct asks number)) NoMemory input input' entry now =
-    (now ≡ entry) ⊎ ((text : List ℕ) × WasRead input input' text × HasLedBy account asks number entry now (strategy_guide_in text))
+LeavesBench account (Some c) NoMemory input input' entry now =
+    (now ≡ entry) ⊎ ((text : List ℕ) × WasTaken c input input' text × HasBegunBy account c text entry now)
 LeavesBench account asked ending input input' entry now = calls_seats ending asked ≡ false → now ≡ entry
 
 -- A run ended with this status: by an ending whose causes hold, which err tells, with the bench as it was or as the game left it.

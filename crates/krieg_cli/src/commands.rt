@@ -1,4 +1,5 @@
-//! What each command makes of its text, one file each, and one for `solve` and `find`. `asked`, `counted` and `recorded` have what several of them share.
+//! What each command makes of its text, one file each, and one for `solve` and `find`. `asked`, `search`, `counted` and
+//! `recorded` have what several of them share.
 
 pub(crate) mod advise;
 pub(crate) mod asked;
@@ -17,6 +18,7 @@ pub(crate) mod play;
 pub(crate) mod recorded;
 pub(crate) mod refute;
 pub(crate) mod san;
+pub(crate) mod search;
 pub(crate) mod share;
 pub(crate) mod solve;
 pub(crate) mod umpire;

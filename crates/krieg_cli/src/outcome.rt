@@ -6,10 +6,10 @@ ghost use Rattle.krieg_cli.specs.Live.{LivesBy};
 ghost use Rattle.krieg_cli.specs.Outcome as spec;
 
 use crate::answers::{CommandAnswer, in_pieces, whole};
-use crate::commands::solve::Terms;
+use crate::commands::search::SearchKind;
 use crate::commands::{
-    advise, believe, check, conduct, deny, job, judge, keys, lead, make, next, play, refute, san,
-    share, solve, umpire, unsan, why,
+    advise, believe, check, conduct, deny, job, judge, lead, make, next, play, refute, san, search,
+    umpire, unsan, why,
 };
 use crate::ending::Ending;
 use krieg_args::Command;
@@ -37,54 +37,22 @@ fn whole_outcome(
             moves,
             budget,
             limit,
-        } => {
-            let terms = Terms {
-                cut: false,
-                moves: *moves,
-                budget: *budget,
-                limit: *limit,
-            };
-            solve::answer(alloc, terms, text)
-        }
+        } => search::answer(alloc, SearchKind::Solve, *moves, *budget, *limit, text),
         Command::Find {
             moves,
             budget,
             limit,
-        } => {
-            let terms = Terms {
-                cut: true,
-                moves: *moves,
-                budget: *budget,
-                limit: *limit,
-            };
-            solve::answer(alloc, terms, text)
-        }
+        } => search::answer(alloc, SearchKind::Find, *moves, *budget, *limit, text),
         Command::Keys {
             moves,
             budget,
             limit,
-        } => {
-            let terms = Terms {
-                cut: true,
-                moves: *moves,
-                budget: *budget,
-                limit: *limit,
-            };
-            keys::answer(alloc, terms, text)
-        }
+        } => search::answer(alloc, SearchKind::Keys, *moves, *budget, *limit, text),
         Command::Share {
             moves,
             budget,
             limit,
-        } => {
-            let terms = Terms {
-                cut: true,
-                moves: *moves,
-                budget: *budget,
-                limit: *limit,
-            };
-            share::answer(alloc, terms, text)
-        }
+        } => search::answer(alloc, SearchKind::Share, *moves, *budget, *limit, text),
         Command::Check { budget } => check::answer(alloc, *budget, text),
         Command::Judge { budget } => judge::answer(alloc, *budget, text),
         Command::Refute { .. } => unreachable!(),

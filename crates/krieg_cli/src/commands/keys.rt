@@ -8,10 +8,10 @@ ghost use Rattle.krieg_search.specs.KeyTries.{told_of, IsKeyAnswer};
 ghost use Rattle.krieg_cli.specs.Parts.{Decides, AreTerms};
 ghost use Rattle.krieg_cli.specs.Keys as spec;
 
-use crate::commands::asked::asked;
 use crate::commands::believe::put_positions;
 use crate::commands::counted::{put_count, put_counted};
-use crate::commands::solve::{Terms, none_text};
+use crate::commands::search::Terms;
+use crate::commands::solve::none_text;
 use crate::ending::Ending;
 use krieg_board::{NoMemory, Side, Units};
 use krieg_fen::{put_list_head, put_move};
@@ -19,7 +19,6 @@ use krieg_pack::Belief;
 use krieg_planfile::put_root_line;
 use krieg_search::laws::keys_are_won;
 use krieg_search::{KeyAnswer, KeyTry, Keys, KeysAt, Way, find_keys};
-use krieg_sheet::{Sheet, read_sheet};
 use krieg_text::Text;
 use krieg_words::{Dialect, put_dialect_line};
 use std::alloc::Global;
@@ -161,7 +160,7 @@ fn told(
 }
 
 /// What a search for the keys of the set comes to.
-fn searched(
+pub(crate) fn searched(
     alloc: Global,
     terms: Terms,
     d: Dialect,
@@ -177,32 +176,9 @@ fn searched(
     let way = Way {
         alloc,
         d,
-        cut: terms.cut,
+        cut: true,
     };
     let mut units = Units::new(terms.budget);
     let answer = find_keys(way, who, set, terms.moves as u8, &mut units)?;
     Ok(told(alloc, d, who, set, terms.moves, answer)?)
-}
-
-/// What `keys` answers to a sheet, which is let go before the search.
-fn keyed(alloc: Global, terms: Terms, sheet: Sheet) -> Result<Vec<u8>, Ending>
-    requires terms { AreTerms terms }
-    ensures { let found = spec.KeyedFor terms.moves terms.budget terms.limit sheet in
-        Decides (λ answer. answer.items) result found }
-{
-    let set = asked(alloc, &sheet, terms.limit, sheet.is_over())?;
-    let (dialect, side) = (sheet.dialect(), sheet.side());
-    drop(sheet);
-    searched(alloc, terms, dialect, side, &set)
-}
-
-/// What `keys` answers to the text of a sheet.
-pub(crate) fn answer(alloc: Global, terms: Terms, text: Vec<u8>) -> Result<Vec<u8>, Ending>
-    requires terms { AreTerms terms }
-    ensures { let found = spec.FindsKeys terms.moves terms.budget terms.limit text.items in
-        Decides (λ answer. answer.items) result found }
-{
-    let sheet = read_sheet(alloc, &text)?;
-    drop(text);
-    keyed(alloc, terms, sheet)
 }

@@ -57,7 +57,8 @@ fn refuted(
     requires least { 1 ≤ moves }
     requires most { moves ≤ MOST_MOVES }
     requires few { limit ≤ MOST_LISTED }
-    ensures { Decides (λ answer. answer) result (spec.Refuted moves budget limit sheet) }
+    ensures { let found = sheets.OfSheet spec.Claimed sheets.has_no_turn moves budget limit sheet in
+        Decides (λ answer. answer) result found }
 {
     let set = asked(alloc, &sheet, limit, has_no_turn(&sheet))?;
     let (dialect, side) = (sheet.dialect(), sheet.side());
@@ -76,7 +77,9 @@ pub(crate) fn answer(
     requires least { 1 ≤ moves }
     requires most { moves ≤ MOST_MOVES }
     requires few { limit ≤ MOST_LISTED }
-    ensures { Decides (λ answer. answer) result (spec.Refutes moves budget limit text.items) }
+    ensures { let found = sheets.Searches spec.Claimed sheets.has_no_turn moves budget limit
+        text.items in
+        Decides (λ answer. answer) result found }
 {
     let sheet = read_sheet(alloc, &text)?;
     drop(text);

@@ -7,15 +7,15 @@ ghost use Rattle.krieg_share.specs.Answers.{IsStrategyAnswer, MakesStrategy};
 ghost use Rattle.krieg_cli.specs.Parts.{Decides, AreTerms};
 ghost use Rattle.krieg_cli.specs.Share as spec;
 
-use crate::commands::asked::{asked, listed};
-use crate::commands::solve::{Terms, none_text};
+use crate::commands::asked::listed;
+use crate::commands::search::Terms;
+use crate::commands::solve::none_text;
 use crate::ending::Ending;
 use krieg_board::{NoMemory, Side, Units};
 use krieg_fen::MOST_LISTED;
 use krieg_pack::Belief;
 use krieg_search::Way;
 use krieg_share::{Answer, share};
-use krieg_sheet::{Sheet, read_sheet};
 use krieg_strategy::Strategy;
 use krieg_strategyfile::write_strategy;
 use krieg_words::Dialect;
@@ -59,7 +59,7 @@ fn told(
 }
 
 /// What a search for the best plan for the set as a strategy comes to.
-fn searched(
+pub(crate) fn searched(
     alloc: Global,
     terms: Terms,
     d: Dialect,
@@ -77,32 +77,9 @@ fn searched(
     let way = Way {
         alloc,
         d,
-        cut: terms.cut,
+        cut: true,
     };
     let mut units = Units::new(terms.budget);
     let answer = share(way, who, set, terms.moves as u8, &mut units)?;
     Ok(told(alloc, d, who, set, terms.moves, answer)?)
-}
-
-/// What `share` answers to a sheet, which is let go before the search.
-fn shared(alloc: Global, terms: Terms, sheet: Sheet) -> Result<Vec<u8>, Ending>
-    requires terms { AreTerms terms }
-    ensures { let found = spec.SharedFor terms.moves terms.budget terms.limit sheet in
-        Decides (λ answer. answer.items) result found }
-{
-    let set = asked(alloc, &sheet, terms.limit, sheet.is_over())?;
-    let (dialect, side) = (sheet.dialect(), sheet.side());
-    drop(sheet);
-    searched(alloc, terms, dialect, side, &set)
-}
-
-/// What `share` answers to the text of a sheet.
-pub(crate) fn answer(alloc: Global, terms: Terms, text: Vec<u8>) -> Result<Vec<u8>, Ending>
-    requires terms { AreTerms terms }
-    ensures { let found = spec.SharesPlan terms.moves terms.budget terms.limit text.items in
-        Decides (λ answer. answer.items) result found }
-{
-    let sheet = read_sheet(alloc, &text)?;
-    drop(text);
-    shared(alloc, terms, sheet)
 }

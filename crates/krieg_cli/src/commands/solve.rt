@@ -9,11 +9,12 @@ ghost use Rattle.krieg_plan.specs.Plans.{plan_of};
 ghost use Rattle.krieg_planfile.specs.PlanFiles.{CanBeWritten};
 ghost use Rattle.krieg_planfile.specs.PlanReading.{plan_at};
 ghost use Rattle.krieg_planfile.specs.PlanText.{plan_text};
-ghost use Rattle.krieg_cli.specs.Parts.{Decides, AreTerms, SearchedBy, SolvedBy, SolvesBy};
+ghost use Rattle.krieg_cli.specs.Parts.{Decides, AreTerms, SearchedBy};
 ghost use Rattle.krieg_cli.specs.Solve as spec;
 
-use crate::commands::asked::{asked, listed};
+use crate::commands::asked::listed;
 use crate::commands::counted::counted;
+use crate::commands::search::Terms;
 use crate::ending::Ending;
 use crate::input::MOST_INPUT;
 use krieg_args::MOST_FIND_MOVES;
@@ -22,23 +23,9 @@ use krieg_fen::MOST_LISTED;
 use krieg_pack::Belief;
 use krieg_plan::{MOST_NODES, Plan, PlanFile};
 use krieg_planfile::write_plan;
-use krieg_search::{Answer, SearchStop, find, solve};
-use krieg_sheet::{Sheet, read_sheet};
+use krieg_search::{Answer, SearchStop, Way, find, solve};
 use krieg_words::Dialect;
 use std::alloc::Global;
-
-/// What the words ask of a search for the best plan.
-#[derive(Clone, Copy)]
-pub(crate) struct Terms {
-    /// Whether tries may be cut, as `find` does.
-    pub cut: bool,
-    /// Within how many own moves the plan is to mate.
-    pub moves: u64,
-    /// How many units the search may take.
-    pub budget: u64,
-    /// How many positions may be possible.
-    pub limit: u64,
-}
 
 /// The text of the plan file of a plan for the listed positions.
 fn file_text(
@@ -103,31 +90,31 @@ fn told(
 
 /// What the search for the best plan finds that may cut tries, or the one that cuts none.
 fn search(
-    alloc: Global,
+    way: Way,
     terms: Terms,
-    d: Dialect,
     who: Side,
     set: &Belief,
     units: &mut Units,
 ) -> Result<Answer, SearchStop>
     requires terms { AreTerms terms }
     requires turn { IsOwnTurn who set.now ⊎ IsOthersTurn who set.now }
-    ensures answer { IsAnswer d who set.now terms.moves MOST_NODES result }
-    ensures units { MatchBool terms.cut
-        (IsChargedAtMost d who set.now terms.moves result units.old units.new)
-        (IsCharged d who set.now terms.moves result units.old units.new) }
+    ensures answer { IsAnswer way.d who set.now terms.moves MOST_NODES result }
+    ensures units { MatchBool way.cut
+        (IsChargedAtMost way.d who set.now terms.moves result units.old units.new)
+        (IsCharged way.d who set.now terms.moves result units.old units.new) }
 {
     let moves = terms.moves as u8;
-    if terms.cut {
-        find(alloc, d, who, set, moves, MOST_NODES, units)
+    if way.cut {
+        find(way.alloc, way.d, who, set, moves, MOST_NODES, units)
     } else {
-        solve(alloc, d, who, set, moves, MOST_NODES, units)
+        solve(way.alloc, way.d, who, set, moves, MOST_NODES, units)
     }
 }
 
-/// What a search for the best plan for the set comes to.
-fn searched(
+/// What a search for the best plan for the set comes to, which may cut tries or not.
+pub(crate) fn searched(
     alloc: Global,
+    cut: bool,
     terms: Terms,
     d: Dialect,
     who: Side,
@@ -137,33 +124,11 @@ fn searched(
     requires some { is_nil set.now ≡ false }
     requires few { length set.now ≤ MOST_LISTED }
     requires hand { HaveOneHand who set.now }
-    ensures { let found = SearchedBy terms.cut d who set.now terms.moves terms.budget in
+    ensures { let found = SearchedBy cut d who set.now terms.moves terms.budget in
         Decides (λ answer. answer.items) result found }
 {
+    let way = Way { alloc, d, cut };
     let mut units = Units::new(terms.budget);
-    let answer = search(alloc, terms, d, who, set, &mut units)?;
+    let answer = search(way, terms, who, set, &mut units)?;
     Ok(told(alloc, d, who, set, terms.moves, answer)?)
-}
-
-/// What `solve` or `find` answers to a sheet, which is let go before the search.
-fn solved(alloc: Global, terms: Terms, sheet: Sheet) -> Result<Vec<u8>, Ending>
-    requires terms { AreTerms terms }
-    ensures { let found = SolvedBy terms.cut terms.moves terms.budget terms.limit sheet in
-        Decides (λ answer. answer.items) result found }
-{
-    let set = asked(alloc, &sheet, terms.limit, sheet.is_over())?;
-    let (dialect, side) = (sheet.dialect(), sheet.side());
-    drop(sheet);
-    searched(alloc, terms, dialect, side, &set)
-}
-
-/// What `solve` or `find` answers to the text of a sheet.
-pub(crate) fn answer(alloc: Global, terms: Terms, text: Vec<u8>) -> Result<Vec<u8>, Ending>
-    requires terms { AreTerms terms }
-    ensures { let found = SolvesBy terms.cut terms.moves terms.budget terms.limit text.items in
-        Decides (λ answer. answer.items) result found }
-{
-    let sheet = read_sheet(alloc, &text)?;
-    drop(text);
-    solved(alloc, terms, sheet)
 }

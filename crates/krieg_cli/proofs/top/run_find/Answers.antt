@@ -1,30 +1,24 @@
-use Rattle.std.proofs.Common.{true}
 use Rattle.krieg_cli.proofs.Common.{LivesBy}
-use Rattle.krieg_cli.proofs.Tables.{runs_of}
-use Rattle.krieg_cli.proofs.Headline.{answers_sheets, lists_keys, shares_plans}
+use Rattle.krieg_cli.proofs.Headline.{finds_sheets, lists_keys, shares_plans}
 use Rattle.krieg_cli.proofs.Judging.{judges_strategies}
 use Rattle.krieg_cli.proofs.LedGames.{conducts_to_mate}
 use Rattle.krieg_cli.proofs.Complete.{completes}
 use Rattle.krieg_cli.proofs.top.run_find.Goals as goal
 
 pub returns-clause-finds : goal.returns-clause-finds
-returns-clause-finds g c =
-    answers_sheets true (LivesBy _ _ _) _ _ _ _ _ _ _ (runs_of (LivesBy _ _ _) _ _ _ _ _ c.find_of.ensures c.obey-ending.ensures.runs) c.report.ensures c.status.ensures
+returns-clause-finds g c = finds_sheets (LivesBy _ _ _) _ _ _ _ _ _ _ (rw c.find_of.ensures at c.obey-ending.ensures.runs) c.report.ensures c.status.ensures
 
 pub returns-clause-keys : goal.returns-clause-keys
-returns-clause-keys g c =
-    lists_keys (LivesBy _ _ _) _ _ _ _ _ _ _ (runs_of (LivesBy _ _ _) _ _ _ _ _ c.find_of.ensures c.obey-ending.ensures.runs) c.report.ensures c.status.ensures
+returns-clause-keys g c = lists_keys (LivesBy _ _ _) _ _ _ _ _ _ _ (rw c.find_of.ensures at c.obey-ending.ensures.runs) c.report.ensures c.status.ensures
 
 pub returns-clause-shares : goal.returns-clause-shares
-returns-clause-shares g c =
-    shares_plans (LivesBy _ _ _) _ _ _ _ _ _ _ (runs_of (LivesBy _ _ _) _ _ _ _ _ c.find_of.ensures c.obey-ending.ensures.runs) c.report.ensures c.status.ensures
+returns-clause-shares g c = shares_plans (LivesBy _ _ _) _ _ _ _ _ _ _ (rw c.find_of.ensures at c.obey-ending.ensures.runs) c.report.ensures c.status.ensures
 
 pub returns-clause-judges : goal.returns-clause-judges
-returns-clause-judges g c =
-    judges_strategies (LivesBy _ _ _) _ _ _ _ _ _ _ (runs_of (LivesBy _ _ _) _ _ _ _ _ c.find_of.ensures c.obey-ending.ensures.runs) c.report.ensures c.status.ensures
+returns-clause-judges g c = judges_strategies (LivesBy _ _ _) _ _ _ _ _ _ _ (rw c.find_of.ensures at c.obey-ending.ensures.runs) c.report.ensures c.status.ensures
 
 pub returns-clause-wins : goal.returns-clause-wins
-returns-clause-wins g c = conducts_to_mate _ _ _ _ _ _ _ _ (runs_of (LivesBy _ _ _) _ _ _ _ _ c.find_of.ensures c.obey-ending.ensures.runs) c.status.ensures
+returns-clause-wins g c = conducts_to_mate _ _ _ _ _ _ _ _ (rw c.find_of.ensures at c.obey-ending.ensures.runs) c.status.ensures
 
 pub returns-clause-completes : goal.returns-clause-completes
-returns-clause-completes g c = completes _ _ _ _ _ _ _ _ (runs_of (LivesBy _ _ _) _ _ _ _ _ c.find_of.ensures c.obey-ending.ensures.runs) c.status.ensures
+returns-clause-completes g c = completes _ _ _ _ _ _ _ _ (rw c.find_of.ensures at c.obey-ending.ensures.runs) c.status.ensures

@@ -22,6 +22,5 @@ searched-requires-clause-listed c =
 pub returns : goal.returns
 returns c =
     let is = given c.args.limit c.args.sheet c.has_no_turn.result c.in_ok-set.set c.in_ok-set.ensures.set in
-    asked c.args.limit c.args.sheet (has_no_turn c.args.sheet) (λ d who S. Claimed d who S c.args.moves c.args.budget) (later c.args.moves c.args.budget) c.in_ok-set.set is.0
-    (sym c.has_no_turn.ensures.none ∙ is.1)
+    asked Claimed later c.args.moves c.args.budget c.args.limit c.args.sheet has_no_turn c.in_ok-set.set is.0 (sym c.has_no_turn.ensures.none ∙ is.1)
     (λ answer. answer) c.searched.result c.dialect-dialect.result c.side-side.result c.dialect-dialect.ensures.value c.side-side.ensures.value c.searched.ensures

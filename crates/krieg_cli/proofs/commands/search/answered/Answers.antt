@@ -1,11 +1,9 @@
 use Rattle.std.proofs.Common.{sym, ◌∙◌, arith}
-use Rattle.krieg_sheet.specs.Turns.{is_over}
-use Rattle.krieg_cli.proofs.Common.{SharedBy}
-use Rattle.krieg_cli.proofs.Asking.{given, asked}
+use Rattle.krieg_cli.proofs.Common.{is_over, ByKind}
+use Rattle.krieg_cli.proofs.Asking.{given, later, asked}
 use Rattle.krieg_cli.proofs.Searching.{few_possible}
-use Rattle.krieg_cli.proofs.SharedTexts.{later}
 use Rattle.krieg_cli.proofs.SheetTurns.{valid_possible}
-use Rattle.krieg_cli.proofs.commands.share.shared.Goals as goal
+use Rattle.krieg_cli.proofs.commands.search.answered.Goals as goal
 
 pub searched-requires-clause-few : goal.searched-requires-clause-few
 searched-requires-clause-few c =
@@ -20,5 +18,5 @@ searched-requires-clause-valid c =
 pub returns : goal.returns
 returns c =
     let is = given c.args.terms.limit c.args.sheet c.is_over.result c.in_ok-set.set c.in_ok-set.ensures.set in
-    asked c.args.terms.limit c.args.sheet (is_over c.args.sheet) (λ d who S. SharedBy d who S c.args.terms.moves c.args.terms.budget) (later c.args.terms.moves c.args.terms.budget) c.in_ok-set.set is.0 (sym c.is_over.ensures.value ∙ is.1)
+    asked (ByKind c.args.kind) (later c.args.kind) c.args.terms.moves c.args.terms.budget c.args.terms.limit c.args.sheet is_over c.in_ok-set.set is.0 (sym c.is_over.ensures.value ∙ is.1)
     (λ answer. answer.items) c.searched.result c.dialect-dialect.result c.side-side.result c.dialect-dialect.ensures.value c.side-side.ensures.value c.searched.ensures
