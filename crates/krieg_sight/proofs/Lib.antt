@@ -3,3 +3,4 @@ pub mod Theorems
 pub mod Telling
 pub mod Looking
 pub mod Placing
+pub mod Moving

@@ -4,19 +4,33 @@ ghost use Rattle.krieg_sight.specs.Seen.{mates_within, flees};
 
 use crate::memo::Sight;
 use crate::seeing::{all_may_mate, may_mate};
-use krieg_board::Move;
-use krieg_moves::after_if_legal;
+use crate::spot::Spot;
+use krieg_board::{Move, Position};
+use krieg_moves::{after_if_legal, is_legal};
 use krieg_pack::{Belief, Packed, unpack};
 use std::alloc::Global;
+
+/// Whether the move is found to be legal and some reply to leave no mate within so many moves, whatever is known without making it.
+fn is_fled_anew(alloc: Global, sight: &mut Sight, p: &Position, mv: &Move, moves: u8) -> bool
+    ensures fled { result ≡ true → flees moves mv.now p.now ≡ true }
+    ensures no_more { sight.new.left ≤ sight.old.left }
+{
+    match after_if_legal(p, *mv) {
+        Some(q) => !all_may_mate(alloc, sight, &Spot::of(q), moves),
+        None => false,
+    }
+}
 
 /// Whether the move is found to be legal in the member and some reply to leave no mate within so many moves.
 fn is_fled(alloc: Global, sight: &mut Sight, member: &Packed, mv: &Move, moves: u8) -> bool
     ensures fled { result ≡ true → flees moves mv.now member.now ≡ true }
     ensures no_more { sight.new.left ≤ sight.old.left }
 {
-    match after_if_legal(&unpack(member), *mv) {
-        Some(q) => !all_may_mate(alloc, sight, &q, moves),
-        None => false,
+    let spot = Spot::of(unpack(member));
+    match sight.told_of_replies_after(&spot, mv, moves) {
+        Some(true) => false,
+        Some(false) => is_legal(&spot.position, *mv),
+        None => is_fled_anew(alloc, sight, &spot.position, mv, moves),
     }
 }
 
@@ -25,10 +39,10 @@ fn is_no_mate(alloc: Global, sight: &mut Sight, member: &Packed, moves: u8) -> b
     ensures none { result ≡ true → not (mates_within moves member.now) ≡ true }
     ensures no_more { sight.new.left ≤ sight.old.left }
 {
-    let p = unpack(member);
-    match sight.told(&p, moves) {
+    let spot = Spot::of(unpack(member));
+    match sight.told(&spot, moves) {
         Some(told) => !told,
-        None => !may_mate(alloc, sight, &p, moves),
+        None => !may_mate(alloc, sight, &spot, moves),
     }
 }
 

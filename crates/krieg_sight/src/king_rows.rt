@@ -20,6 +20,9 @@ pub(crate) struct KingRows {
     told: Vec<Told>,
     /// Where the rows of men may be, which are asked first: for each number that `hint_of` gives. Nothing is claimed of it.
     hints: Vec<u32>,
+    /// The row that was found last, which is asked first of all: what is looked for one after another mostly has the same men. Nothing is
+    /// claimed of it.
+    last: usize,
 }
 
 impl Model for KingRows {
@@ -72,7 +75,19 @@ impl KingRows {
             others: IndexSet::new(alloc),
             told: Vec::new(alloc),
             hints: Vec::new(alloc),
+            last: 0,
         }
+    }
+
+    /// That row, where it is the one of these men.
+    #[inline]
+    fn row_if(&self, row: usize, others: &Others) -> Option<usize>
+        ensures { IfSome result (λ n. slice_get self.now.others n ≡ Some others.now) }
+    {
+        if *self.others.get_index(row)? == *others {
+            return Some(row);
+        }
+        None
     }
 
     /// The row of these men by the hint, where it is that.
@@ -80,19 +95,16 @@ impl KingRows {
     fn hinted(&self, others: &Others) -> Option<usize>
         ensures { IfSome result (λ n. slice_get self.now.others n ≡ Some others.now) }
     {
-        let row = *self.hints.get(hint_of(others))? as usize;
-        if *self.others.get_index(row)? == *others {
-            return Some(row);
-        }
-        None
+        self.row_if(*self.hints.get(hint_of(others))? as usize, others)
     }
 
-    /// The row of these men, where there is one.
-    fn row(&mut self, others: &Others) -> Option<usize>
+    /// The row of these men, where it is not the one that was found last.
+    fn other_row(&mut self, others: &Others) -> Option<usize>
         ensures row { IfSome result (λ n. slice_get self.new.others n ≡ Some others.now) }
         ensures same { self.new ≡ self.old }
     {
         if let Some(row) = self.hinted(others) {
+            self.last = row;
             return Some(row);
         }
         let (row, found) = self.others.get_full(others)?;
@@ -100,7 +112,20 @@ impl KingRows {
             return None;
         }
         set_hint(&mut self.hints, others, row);
+        self.last = row;
         Some(row)
+    }
+
+    /// The row of these men, where there is one.
+    #[inline]
+    fn row(&mut self, others: &Others) -> Option<usize>
+        ensures row { IfSome result (λ n. slice_get self.new.others n ≡ Some others.now) }
+        ensures same { self.new ≡ self.old }
+    {
+        if let Some(row) = self.row_if(self.last, others) {
+            return Some(row);
+        }
+        self.other_row(others)
     }
 
     /// What is known of the position at the place.

@@ -2,13 +2,14 @@ ghost use Rattle.std.specs.Prelude.{◌≡◌, ◌+◌, [], true, false, Some};
 ghost use Rattle.std.specs.Bool.{OnTrue, OnFalse};
 ghost use Rattle.krieg_sight.specs.Seen.{leaves_none, mates_within};
 ghost use Rattle.krieg_sight.specs.Memo.{IsRight};
+ghost use Rattle.krieg_moves.specs.After as change;
 
 use crate::king_rows::KingRows;
 use crate::last_moves::LastMoves;
-use crate::place::place_of;
+use crate::spot::Spot;
 use crate::told::Told;
 use indexmap::IndexMap;
-use krieg_board::Position;
+use krieg_board::Move;
 use krieg_pack::{Packed, pack};
 use std::alloc::Global;
 use std::marker::Model;
@@ -88,46 +89,67 @@ impl Sight {
         }
     }
 
-    /// What is known of the position.
-    fn of(&mut self, p: &Position) -> Told
-        ensures right { IsRight p.now result }
+    /// What is known of the position at the spot.
+    fn of(&mut self, spot: &Spot) -> Told
+        ensures right { IsRight spot.now.position result }
         ensures same { self.new ≡ self.old }
     {
-        if let Some(place) = place_of(p) {
-            return self.kings.of(&place);
+        match &spot.place {
+            Some(place) => self.kings.of(place),
+            None => self.of_packed(&pack(&spot.position)),
         }
-        let key = pack(p);
-        self.of_packed(&key)
     }
 
     /// Whether there may be a mate within so many moves, where it is known.
-    pub(crate) fn told(&mut self, p: &Position, moves: u8) -> Option<bool>
+    pub(crate) fn told(&mut self, spot: &Spot, moves: u8) -> Option<bool>
         ensures same { self.new ≡ self.old }
-        ensures none { result ≡ Some false → mates_within moves p.now ≡ false }
+        ensures none { result ≡ Some false → mates_within moves spot.now.position ≡ false }
     {
-        let told = self.of(p);
-        if moves <= told.none {
-            return Some(false);
-        }
-        if 0 < told.some && told.some <= moves {
-            return Some(true);
-        }
-        None
+        self.of(spot).mate_within(moves)
     }
 
     /// Whether each move in the position may be followed by a mate of the other side within so many moves, where it is known.
-    pub(crate) fn told_of_replies(&mut self, p: &Position, moves: u8) -> Option<bool>
+    pub(crate) fn told_of_replies(&mut self, spot: &Spot, moves: u8) -> Option<bool>
         ensures same { self.new ≡ self.old }
-        ensures fled { result ≡ Some false → leaves_none moves p.now ≡ true }
+        ensures fled { result ≡ Some false → leaves_none moves spot.now.position ≡ true }
     {
-        let told = self.of(p);
-        if 0 < told.fled && moves <= told.fled {
-            return Some(false);
+        self.of(spot).met_within(moves)
+    }
+
+    /// What is known of the position after a move, as far as it is known without making that: nothing where it is not.
+    fn of_after(&mut self, spot: &Spot, mv: &Move) -> Told
+        ensures right { IsRight (change.after spot.now.position mv.now) result }
+        ensures same { self.new ≡ self.old }
+    {
+        if let Some(place) = &spot.place
+            && let Some(after) = place.after(mv)
+        {
+            return self.kings.of(&after);
         }
-        if 0 < told.met && told.met <= moves {
-            return Some(true);
-        }
-        None
+        Told::nothing()
+    }
+
+    /// Whether there may be a mate within so many moves after a move, where it is known without making that.
+    pub(crate) fn told_after(&mut self, spot: &Spot, mv: &Move, moves: u8) -> Option<bool>
+        ensures same { self.new ≡ self.old }
+        ensures none { result ≡ Some false →
+            mates_within moves (change.after spot.now.position mv.now) ≡ false }
+    {
+        self.of_after(spot, mv).mate_within(moves)
+    }
+
+    /// Whether each reply to a move may be followed by a mate within so many moves, where it is known without making that.
+    pub(crate) fn told_of_replies_after(
+        &mut self,
+        spot: &Spot,
+        mv: &Move,
+        moves: u8,
+    ) -> Option<bool>
+        ensures same { self.new ≡ self.old }
+        ensures fled { result ≡ Some false →
+            leaves_none moves (change.after spot.now.position mv.now) ≡ true }
+    {
+        self.of_after(spot, mv).met_within(moves)
     }
 
     /// Whether there may be a mate in one move, where it is known.
@@ -158,27 +180,25 @@ impl Sight {
         }
     }
 
-    /// Keeps what is known of the position, where there is room and memory for it.
-    fn keep(&mut self, p: &Position, told: Told)
-        requires { IsRight p.now told }
+    /// Keeps what is known of the position at the spot, where there is room and memory for it.
+    fn keep(&mut self, spot: &Spot, told: Told)
+        requires { IsRight spot.now.position told }
         ensures { self.new.left ≡ self.old.left }
     {
-        if let Some(place) = place_of(p) {
-            self.kings.keep(&place, told);
-            return;
+        match &spot.place {
+            Some(place) => self.kings.keep(place, told),
+            None => self.keep_packed(&pack(&spot.position), told),
         }
-        let key = pack(p);
-        self.keep_packed(&key, told);
     }
 
     /// Notes that there is no mate within so many moves.
-    pub(crate) fn note_none(&mut self, p: &Position, moves: u8)
-        requires { mates_within moves p.now ≡ false }
+    pub(crate) fn note_none(&mut self, spot: &Spot, moves: u8)
+        requires { mates_within moves spot.now.position ≡ false }
         ensures { self.new.left ≡ self.old.left }
     {
-        let told = self.of(p);
+        let told = self.of(spot);
         self.keep(
-            p,
+            spot,
             Told {
                 none: moves,
                 some: told.some,
@@ -189,12 +209,12 @@ impl Sight {
     }
 
     /// Notes that there may be one.
-    pub(crate) fn note_some(&mut self, p: &Position, moves: u8)
+    pub(crate) fn note_some(&mut self, spot: &Spot, moves: u8)
         ensures { self.new.left ≡ self.old.left }
     {
-        let told = self.of(p);
+        let told = self.of(spot);
         self.keep(
-            p,
+            spot,
             Told {
                 none: told.none,
                 some: moves,
@@ -205,13 +225,13 @@ impl Sight {
     }
 
     /// Notes that some move leaves the other side no mate within so many moves.
-    pub(crate) fn note_fled(&mut self, p: &Position, moves: u8)
-        requires { leaves_none moves p.now ≡ true }
+    pub(crate) fn note_fled(&mut self, spot: &Spot, moves: u8)
+        requires { leaves_none moves spot.now.position ≡ true }
         ensures { self.new.left ≡ self.old.left }
     {
-        let told = self.of(p);
+        let told = self.of(spot);
         self.keep(
-            p,
+            spot,
             Told {
                 none: told.none,
                 some: told.some,
@@ -222,12 +242,12 @@ impl Sight {
     }
 
     /// Notes that each move may be followed by one.
-    pub(crate) fn note_met(&mut self, p: &Position, moves: u8)
+    pub(crate) fn note_met(&mut self, spot: &Spot, moves: u8)
         ensures { self.new.left ≡ self.old.left }
     {
-        let told = self.of(p);
+        let told = self.of(spot);
         self.keep(
-            p,
+            spot,
             Told {
                 none: told.none,
                 some: told.some,

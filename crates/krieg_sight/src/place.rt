@@ -130,7 +130,7 @@ impl Place {
 #[inline(always)]
 pub(crate) fn place_of(p: &Position) -> Option<Place>
     ensures number { IfSome result (λ at. at.number < 128) }
-    ensures position { IfSome result (λ at. spec.position_at at.others at.number ≡ p.now) }
+    ensures position { spec.IsPlaceOf result p.now }
 {
     let sets = p.bits().sets();
     let king = lone_king(sets);

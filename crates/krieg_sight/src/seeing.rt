@@ -5,6 +5,7 @@ ghost use Rattle.krieg_moves.specs.Moves as list;
 ghost use Rattle.krieg_sight.specs.Seen.{is_met, leaves_none, mates_within};
 
 use crate::memo::Sight;
+use crate::spot::Spot;
 use krieg_board::{Move, Position};
 use krieg_moves::{after, is_mate, is_stalemate, legal_moves};
 use krieg_pack::pack;
@@ -22,71 +23,87 @@ fn has_few_men(p: &Position) -> bool {
 ///
 /// What is found is kept. Of last moves with more than a few men it is kept for a while alone: there are too many of them.
 #[cycle(seeing)]
-pub(crate) fn may_mate(alloc: Global, sight: &mut Sight, p: &Position, moves: u8) -> bool
-    ensures none { result ≡ false → mates_within moves p.now ≡ false }
+pub(crate) fn may_mate(alloc: Global, sight: &mut Sight, spot: &Spot, moves: u8) -> bool
+    ensures none { result ≡ false → mates_within moves spot.now.position ≡ false }
     ensures no_more { sight.new.left ≤ sight.old.left }
 {
     if moves == 0 {
         return false;
     }
-    if moves == 1 && !has_few_men(p) {
-        return may_mate_at_once(alloc, sight, p);
+    if moves == 1 && !has_few_men(&spot.position) {
+        return may_mate_at_once(alloc, sight, spot);
     }
-    if let Some(told) = sight.told(p, moves) {
+    if let Some(told) = sight.told(spot, moves) {
         return told;
     }
-    if may_mate_anew(alloc, sight, p, moves) {
-        sight.note_some(p, moves);
+    if may_mate_anew(alloc, sight, spot, moves) {
+        sight.note_some(spot, moves);
         return true;
     }
-    sight.note_none(p, moves);
+    sight.note_none(spot, moves);
     false
 }
 
 /// Whether some move may mate.
 #[cycle(seeing)]
-fn may_mate_at_once(alloc: Global, sight: &mut Sight, p: &Position) -> bool
-    ensures none { result ≡ false → mates_within 1 p.now ≡ false }
+fn may_mate_at_once(alloc: Global, sight: &mut Sight, spot: &Spot) -> bool
+    ensures none { result ≡ false → mates_within 1 spot.now.position ≡ false }
     ensures no_more { sight.new.left ≤ sight.old.left }
 {
-    let key = pack(p);
+    let key = pack(&spot.position);
     if let Some(may) = sight.told_of_last(&key) {
         return may;
     }
-    let may = may_mate_anew(alloc, sight, p, 1);
+    let may = may_mate_anew(alloc, sight, spot, 1);
     sight.note_last(&key, may);
     may
 }
 
 /// The same, whatever is known. It looks at the position, and where none may be looked at any more it tells nothing.
 #[cycle(seeing)]
-fn may_mate_anew(alloc: Global, sight: &mut Sight, p: &Position, moves: u8) -> bool
-    ensures none { result ≡ false → mates_within moves p.now ≡ false }
+fn may_mate_anew(alloc: Global, sight: &mut Sight, spot: &Spot, moves: u8) -> bool
+    ensures none { result ≡ false → mates_within moves spot.now.position ≡ false }
     ensures looked { result ≡ false → 0 < moves → sight.new.left < sight.old.left }
     ensures no_more { sight.new.left ≤ sight.old.left }
 {
     if moves == 0 {
         return false;
     }
-    let Ok(tries) = legal_moves(alloc, p) else {
+    let Ok(tries) = legal_moves(alloc, &spot.position) else {
         return true;
     };
     if !sight.look() {
         return true;
     }
-    one_may_mate(alloc, sight, p, tries.as_slice(), moves - 1)
+    one_may_mate(alloc, sight, spot, tries.as_slice(), moves - 1)
 }
 
-/// Whether one of the legal moves may mate, where so many more are left.
+/// Whether it is known of the move, without making it, that some reply leaves no mate within so many moves.
+#[tactic(auto, using(crate::proofs::Looking::fled_not_met))]
+fn is_known_to_fail(sight: &mut Sight, spot: &Spot, mv: &Move, fewer: u8) -> bool
+    ensures none { result ≡ true →
+        is_met (mates_within fewer) (change.after spot.now.position mv.now) ≡ false }
+    ensures same { sight.new ≡ sight.old }
+{
+    match sight.told_of_replies_after(spot, mv, fewer) {
+        Some(told) => !told,
+        None => false,
+    }
+}
+
+/// Whether one of the legal moves may mate, where so many more are left. A move is made only where it is not known to fail.
 #[cycle(seeing)]
-fn one_may_mate(alloc: Global, sight: &mut Sight, p: &Position, tries: &[Move], fewer: u8) -> bool
-    requires { tries.now ≡ list.moves p.now }
+fn one_may_mate(alloc: Global, sight: &mut Sight, spot: &Spot, tries: &[Move], fewer: u8) -> bool
+    requires { tries.now ≡ list.moves spot.now.position }
     ensures none { result ≡ false → list_any
-        (λ t. is_met (mates_within fewer) (change.after p.now t)) tries.now ≡ false }
+        (λ t. is_met (mates_within fewer) (change.after spot.now.position t)) tries.now ≡ false }
     ensures no_more { sight.new.left ≤ sight.old.left }
 {
     for mv in tries {
-        if may_follow(alloc, sight, &after(p, *mv), fewer) {
+        if is_known_to_fail(sight, spot, mv, fewer) {
+            continue;
+        }
+        if may_follow(alloc, sight, &Spot::of(after(&spot.position, *mv)), fewer) {
             return true;
         }
     }
@@ -95,65 +112,63 @@ fn one_may_mate(alloc: Global, sight: &mut Sight, p: &Position, tries: &[Move], 
 
 /// Whether the opponent, who is to move, is mated, or may be mated within so many moves after each of his.
 #[cycle(seeing)]
-fn may_follow(alloc: Global, sight: &mut Sight, q: &Position, moves: u8) -> bool
-    ensures none { result ≡ false → is_met (mates_within moves) q.now ≡ false }
+fn may_follow(alloc: Global, sight: &mut Sight, spot: &Spot, moves: u8) -> bool
+    ensures none { result ≡ false → is_met (mates_within moves) spot.now.position ≡ false }
     ensures no_more { sight.new.left ≤ sight.old.left }
 {
     if moves == 0 {
-        return is_mate(q);
+        return is_mate(&spot.position);
     }
-    all_may_mate(alloc, sight, q, moves) && !is_stalemate(q)
+    all_may_mate(alloc, sight, spot, moves) && !is_stalemate(&spot.position)
 }
 
 /// Whether after each move of the opponent, who is to move, there may be a mate within so many moves: `false` only where some move of his
 /// leaves none. With few men on the board it is kept.
 #[cycle(seeing)]
-pub(crate) fn all_may_mate(alloc: Global, sight: &mut Sight, q: &Position, moves: u8) -> bool
-    ensures fled { result ≡ false → leaves_none moves q.now ≡ true }
+pub(crate) fn all_may_mate(alloc: Global, sight: &mut Sight, spot: &Spot, moves: u8) -> bool
+    ensures fled { result ≡ false → leaves_none moves spot.now.position ≡ true }
     ensures no_more { sight.new.left ≤ sight.old.left }
 {
-    if !has_few_men(q) {
-        return all_may_mate_anew(alloc, sight, q, moves);
+    if !has_few_men(&spot.position) {
+        return all_may_mate_anew(alloc, sight, spot, moves);
     }
-    if let Some(told) = sight.told_of_replies(q, moves) {
+    if let Some(told) = sight.told_of_replies(spot, moves) {
         return told;
     }
-    if all_may_mate_anew(alloc, sight, q, moves) {
-        sight.note_met(q, moves);
+    if all_may_mate_anew(alloc, sight, spot, moves) {
+        sight.note_met(spot, moves);
         return true;
     }
-    sight.note_fled(q, moves);
+    sight.note_fled(spot, moves);
     false
 }
 
 /// The same, whatever is known.
 #[cycle(seeing)]
-fn all_may_mate_anew(alloc: Global, sight: &mut Sight, q: &Position, moves: u8) -> bool
-    ensures fled { result ≡ false → leaves_none moves q.now ≡ true }
+fn all_may_mate_anew(alloc: Global, sight: &mut Sight, spot: &Spot, moves: u8) -> bool
+    ensures fled { result ≡ false → leaves_none moves spot.now.position ≡ true }
     ensures no_more { sight.new.left ≤ sight.old.left }
 {
-    let Ok(replies) = legal_moves(alloc, q) else {
+    let Ok(replies) = legal_moves(alloc, &spot.position) else {
         return true;
     };
-    each_may_mate(alloc, sight, q, replies.as_slice(), moves)
+    each_may_mate(alloc, sight, spot, replies.as_slice(), moves)
 }
 
 /// Whether after each of the replies there may be a mate within so many moves.
 #[cycle(seeing)]
-fn each_may_mate(
-    alloc: Global,
-    sight: &mut Sight,
-    q: &Position,
-    replies: &[Move],
-    moves: u8,
-) -> bool
-    requires { replies.now ≡ list.moves q.now }
-    ensures fled { result ≡ false → list_any (λ r. not (mates_within moves (change.after q.now r)))
-        replies.now ≡ true }
+fn each_may_mate(alloc: Global, sight: &mut Sight, spot: &Spot, replies: &[Move], moves: u8) -> bool
+    requires { replies.now ≡ list.moves spot.now.position }
+    ensures fled { result ≡ false → list_any
+        (λ r. not (mates_within moves (change.after spot.now.position r))) replies.now ≡ true }
     ensures no_more { sight.new.left ≤ sight.old.left }
 {
     for mv in replies {
-        if !may_mate(alloc, sight, &after(q, *mv), moves) {
+        let may = match sight.told_after(spot, mv, moves) {
+            Some(told) => told,
+            None => may_mate(alloc, sight, &Spot::of(after(&spot.position, *mv)), moves),
+        };
+        if !may {
             return false;
         }
     }
