@@ -1,6 +1,7 @@
 ghost use Rattle.std.specs.Prelude.{◌≡◌, ◌-◌, ◌<◌, ◌≤◌, true, false, not};
 ghost use Rattle.std.specs.List.{list_any};
 ghost use Rattle.krieg_moves.specs.After as change;
+ghost use Rattle.krieg_moves.specs.Legal.{is_legal};
 ghost use Rattle.krieg_moves.specs.Moves as list;
 ghost use Rattle.krieg_sight.specs.Seen.{is_met, leaves_none, mates_within};
 
@@ -91,7 +92,7 @@ fn is_known_to_fail(sight: &mut Sight, spot: &Spot, mv: &Move, fewer: u8) -> boo
     }
 }
 
-/// Whether one of the legal moves may mate, where so many more are left. A move is made only where it is not known to fail.
+/// Whether one of the legal moves may mate, where so many more are left.
 #[cycle(seeing)]
 fn one_may_mate(alloc: Global, sight: &mut Sight, spot: &Spot, tries: &[Move], fewer: u8) -> bool
     requires { tries.now ≡ list.moves spot.now.position }
@@ -100,26 +101,30 @@ fn one_may_mate(alloc: Global, sight: &mut Sight, spot: &Spot, tries: &[Move], f
     ensures no_more { sight.new.left ≤ sight.old.left }
 {
     for mv in tries {
-        if is_known_to_fail(sight, spot, mv, fewer) {
-            continue;
-        }
-        if may_follow(alloc, sight, &Spot::of(after(&spot.position, *mv)), fewer) {
+        if may_follow(alloc, sight, spot, mv, fewer) {
             return true;
         }
     }
     false
 }
 
-/// Whether the opponent, who is to move, is mated, or may be mated within so many moves after each of his.
+/// Whether behind the legal move the opponent is mated, or may be mated within so many moves after each of his. The move is made only where
+/// it is not known to fail.
 #[cycle(seeing)]
-fn may_follow(alloc: Global, sight: &mut Sight, spot: &Spot, moves: u8) -> bool
-    ensures none { result ≡ false → is_met (mates_within moves) spot.now.position ≡ false }
+fn may_follow(alloc: Global, sight: &mut Sight, spot: &Spot, mv: &Move, moves: u8) -> bool
+    requires { is_legal spot.now.position mv.now ≡ true }
+    ensures none { result ≡ false →
+        is_met (mates_within moves) (change.after spot.now.position mv.now) ≡ false }
     ensures no_more { sight.new.left ≤ sight.old.left }
 {
     if moves == 0 {
-        return is_mate(&spot.position);
+        return is_mate(&after(&spot.position, *mv));
     }
-    all_may_mate(alloc, sight, spot, moves) && !is_stalemate(&spot.position)
+    if is_known_to_fail(sight, spot, mv, moves) {
+        return false;
+    }
+    let next = Spot::of(after(&spot.position, *mv));
+    all_may_mate(alloc, sight, &next, moves) && !is_stalemate(&next.position)
 }
 
 /// Whether after each move of the opponent, who is to move, there may be a mate within so many moves: `false` only where some move of his
