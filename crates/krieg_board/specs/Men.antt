@@ -33,6 +33,10 @@ is_same_bool true true = true
 is_same_bool false false = true
 is_same_bool _ _ = false
 
+-- nobody may castle
+abbrev pub no_rights : Rights
+no_rights = record { white_short = false; white_long = false; black_short = false; black_long = false }
+
 -- the rights as a number: White short 1, White long 2, Black short 4, Black long 8
 abbrev pub bits_of : Rights → ℕ
 bits_of r = (if r.white_short then 1 else 0) + (if r.white_long then 2 else 0) + (if r.black_short then 4 else 0) + (if r.black_long then 8 else 0)

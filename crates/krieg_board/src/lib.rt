@@ -34,7 +34,7 @@ pub use board::{Board, is_man, is_of};
 pub use hand::same_hand;
 pub use krieg_faults::{BadPosition, NoMemory};
 pub use limits::{MOST_MOVES, MOST_UNITS};
-pub use men::{Kind, Man, Move, Promo, Rights, Side, know_squares};
+pub use men::{Kind, Man, Move, NO_RIGHTS, Promo, Rights, Side, know_squares};
 pub use position::{Position, know_valid};
 pub use set::{has, lowest, only, only_if, without_lowest};
 pub use square::{

@@ -62,6 +62,14 @@ pub struct Rights {
     pub black_long: bool,
 }
 
+/// Nobody may castle.
+pub const NO_RIGHTS: Rights = Rights {
+    white_short: false,
+    white_long: false,
+    black_short: false,
+    black_long: false,
+};
+
 impl Side {
     /// The opponent's side.
     pub fn other(self) -> Side

@@ -6,7 +6,7 @@ unfoldable pub use Rattle.krieg_board.specs.Boards.{empty_board}
 pub use Rattle.krieg_board.specs.Boards.{Show, is_kind}
 unfoldable pub use Rattle.krieg_board.specs.Hand.{has_same_men, same_hand}
 pub use Rattle.krieg_board.specs.Hand.{has_same_rights, is_same_of}
-pub use Rattle.krieg_board.specs.Men.{is_same_bool, is_same_kind, is_same_side, other}
+pub use Rattle.krieg_board.specs.Men.{is_same_bool, is_same_kind, is_same_side, no_rights, other}
 pub use Rattle.krieg_board.specs.Pos.{Pos}
 unfoldable pub use Rattle.krieg_board.specs.Sets.{has}
 pub use Rattle.krieg_board.specs.Sets.{IsLowest}
@@ -42,7 +42,7 @@ unfoldable pub use Rattle.krieg_fen.specs.Fen.{position_of}
 pub use Rattle.krieg_fen.specs.Fen.{checked, clocks_at, field, position_at, unless}
 unfoldable pub use Rattle.krieg_fen.specs.FenText.{board_text, position_text, rights_text, state_text}
 pub use Rattle.krieg_fen.specs.FenText.{AreRanks, held_text, mark_text, or_dash, rank_at, rank_text, ranks_text, row_text, run, side_text}
-pub use Rattle.krieg_fen.specs.Fields.{is_clock, letter_at, letters_of, mark_at, mark_of, no_rights, rights_of, side_of}
+pub use Rattle.krieg_fen.specs.Fields.{is_clock, letter_at, letters_of, mark_at, mark_of, rights_of, side_of}
 unfoldable pub use Rattle.krieg_fen.specs.Forms.{list_form, listed_form, listing_at, position_form, side_form, start_form}
 pub use Rattle.krieg_fen.specs.Forms.{has_turn, list_line, matching, position_kind, positions_at, side_line, side_mark}
 pub use Rattle.krieg_fen.specs.Letters.{capital, kind_by, letter, man_of, small_letter}

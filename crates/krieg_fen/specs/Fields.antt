@@ -2,6 +2,7 @@
 use Rattle.std.specs.Prelude.{ℕ, ◌==◌, Bool, true, false, ◌&&◌, ◌||◌, List, [], ◌∷◌, length, Option, Some, None, nat_le, if◌then◌else◌}
 use Rattle.std.specs.List.{list_all}
 use Rattle.std.specs.Char.{is_ascii_digit}
+use Rattle.krieg_board.specs.Men.{no_rights}
 use Rattle.krieg_board.specs.declared.men.Side.{Side}
 use Rattle.krieg_board.specs.declared.men.Side.TheVariants.{White, Black}
 use Rattle.krieg_board.specs.declared.men.Rights.{Rights}
@@ -16,10 +17,6 @@ side_of _ = None
 abbrev pub letter_at : ℕ → List ℕ → Bool × List ℕ
 letter_at c [] = (false, [])
 letter_at c (b ∷ bs) = if b == c then (true, bs) else (false, b ∷ bs)
-
--- nobody may castle
-abbrev pub no_rights : Rights
-no_rights = record { white_short = false; white_long = false; black_short = false; black_long = false }
 
 -- those of `K` 75, `Q` 81, `k` 107 and `q` 113 that stand at the front in this order, and what stands after them
 abbrev pub letters_of : List ℕ → Rights × List ℕ

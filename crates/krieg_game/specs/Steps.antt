@@ -2,7 +2,7 @@
 use Rattle.std.specs.Prelude.{◌≡◌, ◌<◌, ℕ, true, false, List, Some, None, IfSome, slice_set}
 use Rattle.krieg_board.specs.Board.{man_at}
 use Rattle.krieg_board.specs.Boards.{board_of}
-use Rattle.krieg_board.specs.Men.{other}
+use Rattle.krieg_board.specs.Men.{no_rights, other}
 use Rattle.krieg_board.specs.Pos.{Pos}
 use Rattle.krieg_board.specs.Sets.{has}
 use Rattle.krieg_board.specs.declared.bits.Sets.{Sets}
@@ -20,10 +20,6 @@ use Rattle.krieg_theory.specs.Sets.{In}
 use Rattle.krieg_game.specs.Outcomes.{KeyedPosition}
 use Rattle.krieg_game.specs.declared.steps.Before.{Before}
 use Rattle.krieg_game.specs.declared.steps.Steps.{Steps}
-
--- no right is held
-abbrev pub no_rights : Rights
-no_rights = record { white_short = false; white_long = false; black_short = false; black_long = false }
 
 -- the king of that side
 abbrev pub king_of : Side → Man

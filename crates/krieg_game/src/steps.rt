@@ -1,6 +1,7 @@
 ghost use Rattle.std.specs.Prelude.{◌≡◌, true, List, Some, None, IfSome, slice_set};
 ghost use Rattle.krieg_board.specs.Board.{man_at};
 ghost use Rattle.krieg_board.specs.Boards.{board_of};
+ghost use Rattle.krieg_board.specs.Men.{no_rights};
 ghost use Rattle.krieg_board.specs.Pos.{Pos};
 ghost use Rattle.krieg_board.specs.declared.men.Promo.TheVariants.{Plain};
 ghost use Rattle.krieg_moves.specs.Wings.{king_square};
@@ -14,17 +15,10 @@ ghost use Rattle.krieg_game.specs.Steps.{AreFor, AreReached};
 ghost use Rattle.krieg_theory.specs.Sets.{In};
 
 use krieg_board::{
-    Kind, Man, Move, Position, Promo, Rights, Sets, Side, Square, has, home_rank, know_valid, only,
-    square_at,
+    Kind, Man, Move, NO_RIGHTS, Position, Promo, Sets, Side, Square, has, home_rank, know_valid,
+    only, square_at,
 };
 use krieg_words::{Dialect, SILENT, Words, words_number};
-
-const NO_RIGHTS: Rights = Rights {
-    white_short: false,
-    white_long: false,
-    black_short: false,
-    black_long: false,
-};
 
 /// What was told of the move before, and in which dialect.
 #[derive(Clone, Copy)]
@@ -50,7 +44,7 @@ pub(crate) struct Steps {
 
 /// Whether no right is held and no mark stands.
 fn is_plain(p: &Position) -> bool
-    ensures rights { result ≡ true → p.now.rights ≡ spec.no_rights }
+    ensures rights { result ≡ true → p.now.rights ≡ no_rights }
     ensures mark { result ≡ true → p.now.mark ≡ None }
 {
     p.rights() == NO_RIGHTS && p.mark().is_none()
@@ -84,7 +78,7 @@ fn lone_king(p: &Position) -> Option<Square>
     ensures stands { IfSome result (λ king.
         man_at p.now.board king ≡ Some (spec.king_of p.now.side)) }
     ensures away { IfSome result (λ king. (king ≡ king_square p.now.side) → ⊥) }
-    ensures rights { IfSome result (λ king. p.now.rights ≡ spec.no_rights) }
+    ensures rights { IfSome result (λ king. p.now.rights ≡ no_rights) }
     ensures mark { IfSome result (λ king. p.now.mark ≡ None) }
 {
     let king = lone_man(p)?;

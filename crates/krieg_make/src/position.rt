@@ -3,17 +3,10 @@ ghost use Rattle.krieg_board.specs.Boards.{empty_board};
 ghost use Rattle.krieg_make.specs.MadePositions as spec;
 
 use crate::named::{C1, G1, H7};
-use krieg_board::{Bits, Kind, Man, Position, Rights, Side, square_at};
+use krieg_board::{Bits, Kind, Man, NO_RIGHTS, Position, Side, square_at};
 
 /// How many positions there are.
 pub(crate) const POSITION_COUNT: u64 = 1380;
-
-const NO_RIGHTS: Rights = Rights {
-    white_short: false,
-    white_long: false,
-    black_short: false,
-    black_long: false,
-};
 
 /// The square of the place for pawns with this number, from 0 to 23.
 fn pawn_place(u: u8) -> u8

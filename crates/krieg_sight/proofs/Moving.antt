@@ -7,7 +7,7 @@ use Rattle.std.proofs.lemmas.Bool.{eq-eqb, ne_eqb, cases_eq}
 use Rattle.std.proofs.lemmas.List.{ext_get_or, get_or-map, length-map}
 use Rattle.krieg_board.specs.Board.{Board, man_at}
 use Rattle.krieg_board.specs.Boards.{board_of, man_on}
-use Rattle.krieg_board.specs.Men.{is_same_kind, other}
+use Rattle.krieg_board.specs.Men.{is_same_kind, no_rights, other}
 use Rattle.krieg_board.specs.Sets.{has}
 use Rattle.krieg_board.specs.Squares.{landing_rank, pawn_rank, rank_of, squares}
 use Rattle.krieg_board.specs.declared.bits.Sets.{Sets}
@@ -26,7 +26,7 @@ use Rattle.krieg_moves.specs.Wings.{arrival, king_square}
 use Rattle.krieg_moves.specs.declared.wing.Wing.{Wing}
 use Rattle.krieg_moves.specs.declared.wing.Wing.TheVariants.{Short, Long}
 use Rattle.krieg_sight.proofs.Common.{Pos, Move, after}
-use Rattle.krieg_sight.specs.Places.{IsMoved, IsMovedSet, OnlyGoes, all_of, king_at, king_after, no_rights, only, pawns_of, position_at, sets_with, turn_of}
+use Rattle.krieg_sight.specs.Places.{IsMoved, IsMovedSet, OnlyGoes, all_of, king_at, king_after, only, pawns_of, position_at, sets_with, turn_of}
 use Rattle.krieg_sight.specs.declared.place.Others.{Others}
 
 -- the kind of an officer or a king, by which of the three sets have his square

@@ -6,11 +6,12 @@ use Rattle.std.proofs.lemmas.List.{length-replicate}
 use Rattle.std.proofs.lemmas.Option.{slice_get_within}
 use Rattle.indexmap.specs.IndexSet.{insert_key}
 use Rattle.krieg_board.specs.Boards.{Show, board_of}
+use Rattle.krieg_board.specs.Men.{no_rights}
 use Rattle.krieg_board.specs.declared.bits.Sets.{Sets}
 use Rattle.krieg_board.proofs.Writing.{shown_board}
 use Rattle.krieg_sight.proofs.Common.{Pos, In, Told, IsRight}
 use Rattle.krieg_sight.specs.Told.{nothing}
-use Rattle.krieg_sight.specs.Places.{no_rights, only, position_at, sets_with, turn_of}
+use Rattle.krieg_sight.specs.Places.{only, position_at, sets_with, turn_of}
 use Rattle.krieg_sight.specs.Rows.{AreRowsRight}
 use Rattle.krieg_sight.specs.declared.place.Others.{Others}
 

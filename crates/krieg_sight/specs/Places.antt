@@ -1,6 +1,7 @@
 -- Positions in which one side has its king alone, by all other men, his square and the turn.
 use Rattle.std.specs.Prelude.{ℕ, ◌≡◌, ◌<◌, ◌||◌, ◌*◌, ◌/◌, ◌%◌, ◌^◌, ◌==◌, true, false, Option, None, IfSome, cond, if◌then◌else◌, bit_and, bit_or, bit_xor}
 use Rattle.krieg_board.specs.Boards.{board_of}
+use Rattle.krieg_board.specs.Men.{no_rights}
 use Rattle.krieg_board.specs.Pos.{Pos}
 use Rattle.krieg_board.specs.Sets.{has}
 use Rattle.krieg_board.specs.declared.bits.Sets.{Sets}
@@ -39,10 +40,6 @@ sets_with o king = record {
 -- the side to move at a place with that number
 abbrev pub turn_of : ℕ → Side
 turn_of number = if number % 2 == 0 then White else Black
-
--- no right is held
-abbrev pub no_rights : Rights
-no_rights = record { white_short = false; white_long = false; black_short = false; black_long = false }
 
 -- the position by the number of its place, without rights and without a mark
 unfoldable pub position_at : Others → ℕ → Pos

@@ -1,14 +1,8 @@
 ghost use Rattle.std.specs.Prelude.{◌≡◌, ◌<◌, ◌↔◌, true, IsTrue, IfSome};
+ghost use Rattle.krieg_board.specs.Men.{no_rights};
 ghost use Rattle.krieg_sight.specs.Places as spec;
 
-use krieg_board::{Position, Rights, Sets, Side, lowest};
-
-const NO_RIGHTS: Rights = Rights {
-    white_short: false,
-    white_long: false,
-    black_short: false,
-    black_long: false,
-};
+use krieg_board::{NO_RIGHTS, Position, Rights, Sets, Side, lowest};
 
 /// Where all men of a position stand but a king who is the only man of his side.
 ///
@@ -101,7 +95,7 @@ fn is_same_side(a: Side, b: Side) -> bool
 /// Whether no right is held.
 #[inline]
 fn holds_none(rights: Rights) -> bool
-    ensures { IsTrue result ↔ (rights ≡ spec.no_rights) }
+    ensures { IsTrue result ↔ (rights ≡ no_rights) }
 {
     rights == NO_RIGHTS
 }
