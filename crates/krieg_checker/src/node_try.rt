@@ -62,7 +62,7 @@ fn part(
     };
     let parts = gather(alloc, &attempt, b.members(), units)?;
     drop(b);
-    Ok(parts_of(alloc, parts)?)
+    Ok(parts_of(parts)?)
 }
 
 /// What the try of the node makes of the set, for one unit for each member and each reply.

@@ -46,7 +46,7 @@ fn at_own_turn(alloc: Global, d: Dialect, b: Belief) -> Result<FirstTurn, PartSt
 {
     let pool = with_openings(alloc, d, b.members())?;
     drop(b);
-    let classes = pool.into_classes(alloc)?;
+    let classes = pool.into_classes()?;
     Ok(FirstTurn {
         own: true,
         over: false,
@@ -66,7 +66,7 @@ fn at_others_turn(
 {
     let FirstMoves { ended, pool } = first_moves(alloc, d, b.members(), units)?;
     drop(b);
-    let classes = pool.into_classes(alloc)?;
+    let classes = pool.into_classes()?;
     Ok(FirstTurn {
         own: false,
         over: ended,

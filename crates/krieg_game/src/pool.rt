@@ -25,6 +25,7 @@ use std::marker::Model;
 /// In contracts it is the list of the outcomes that it keeps, by what is heard.
 #[derive(Drop)]
 pub struct Pool {
+    alloc: Global,
     kept: KeptOutcomes,
     /// Of the member that came last.
     steps: Steps,
@@ -87,6 +88,7 @@ impl Pool {
         ensures { result ≡ [] }
     {
         Pool {
+            alloc,
             kept: KeptOutcomes::with_room(alloc, first_room),
             steps: Steps::none(),
         }
@@ -96,7 +98,6 @@ impl Pool {
     /// `p`: what the dialect tells of both, and the position after the reply.
     pub fn add(
         &mut self,
-        alloc: Global,
         d: Dialect,
         own: &Words,
         p: &Position,
@@ -112,7 +113,7 @@ impl Pool {
         };
         let mut steps = self.steps.at(&before, p);
         self.steps = Steps::none();
-        add_replies(alloc, &before, p, replies, &mut steps, &mut self.kept)?;
+        add_replies(self.alloc, &before, p, replies, &mut steps, &mut self.kept)?;
         self.kept.trim();
         self.steps = steps;
         Ok(())
@@ -120,20 +121,25 @@ impl Pool {
 
     /// Adds a position at the player's turn: what the dialect tells of it at the start of a game, and silence in place
     /// of a reply's words.
-    pub fn add_opening(&mut self, alloc: Global, d: Dialect, p: &Position) -> Result<(), NoMemory>
+    pub fn add_opening(&mut self, d: Dialect, p: &Position) -> Result<(), NoMemory>
         ensures { OnOk result (Holds self.new (self.old ++ opened d silent p.now ∷ [])) }
     {
         let opens = told(d, opening(p));
         self.steps = Steps::none();
-        self.kept.put(alloc, Heard::new(&opens, &SILENT), pack(p))
+        self.kept
+            .put(self.alloc, Heard::new(&opens, &SILENT), pack(p))
     }
 
     /// The classes of the outcomes, ascending.
-    pub fn into_classes(self, alloc: Global) -> Result<Vec<Class>, NoMemory>
+    pub fn into_classes(self) -> Result<Vec<Class>, NoMemory>
         ensures { IfOk result (λ v. (os : List KeyedPosition) → Holds self os →
             map class_pair v.items ≡ classes_in os) }
     {
-        let Pool { kept, steps: _ } = self;
+        let Pool {
+            alloc,
+            kept,
+            steps: _,
+        } = self;
         kept.into_classes(alloc)
     }
 }

@@ -37,9 +37,7 @@ fn add_first_moves(
     let moves = legal_moves(alloc, &p)?;
     take(units, moves.len() as u64)?;
     found.ended = found.ended || moves.is_empty();
-    found
-        .pool
-        .add(alloc, d, &opening(&p), &p, moves.as_slice())?;
+    found.pool.add(d, &opening(&p), &p, moves.as_slice())?;
     Ok(())
 }
 

@@ -17,7 +17,7 @@
 //! let mut units = Units::new(1_000);
 //! let attempt = Attempt { dialect: Dialect::Wild16, mv, always: true };
 //! let parts = gather(alloc, &attempt, b.members(), &mut units)?;
-//! let parted = parts_of(alloc, parts)?;
+//! let parted = parts_of(parts)?;
 //! // the move is illegal in `parted.refused`; after it one of `parted.classes` is heard
 //! ```
 #![tactic(auto)]

@@ -15,7 +15,7 @@ pub fn with_openings(alloc: Global, d: Dialect, members: &[Packed]) -> Result<Po
 {
     let mut pool = Pool::with_room(alloc, members.len());
     for member in members {
-        pool.add_opening(alloc, d, &unpack(member))?;
+        pool.add_opening(d, &unpack(member))?;
     }
     Ok(pool)
 }

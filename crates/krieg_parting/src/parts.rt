@@ -70,7 +70,6 @@ fn add_legal(
     parts.stale = parts.stale || is_stalemate_by(&made.position, replies.len());
     if attempt.always || !parts.stale {
         parts.pool.add(
-            alloc,
             attempt.dialect,
             &made.words,
             &made.position,
@@ -139,7 +138,7 @@ pub fn gather(
 }
 
 /// The parts of what was gathered, which is sorted in its place.
-pub fn parts_of(alloc: Global, parts: UnsortedParts) -> Result<Parted, NoMemory>
+pub fn parts_of(parts: UnsortedParts) -> Result<Parted, NoMemory>
     ensures { IfOk result (IsPartedOf parts) }
 {
     let UnsortedParts {
@@ -147,7 +146,7 @@ pub fn parts_of(alloc: Global, parts: UnsortedParts) -> Result<Parted, NoMemory>
         stale,
         pool,
     } = parts;
-    let classes = pool.into_classes(alloc)?;
+    let classes = pool.into_classes()?;
     Ok(Parted {
         refused: Belief::from_packed(refused),
         stale,

@@ -87,7 +87,7 @@ pub fn first_replies(
 {
     let mut left = Units::new(units.left());
     let FirstMoves { ended, pool } = moves_of_all(alloc, d, b.members(), &mut left)?;
-    let classes = firsts_of(alloc, pool.into_classes(alloc)?)?;
+    let classes = firsts_of(alloc, pool.into_classes()?)?;
     *units = left;
     Ok(Firsts { ended, classes })
 }

@@ -46,5 +46,5 @@ pub fn openings(alloc: Global, d: Dialect, b: &Belief) -> Result<Vec<OpeningSet>
         → map opened_set v.items ≡ opening_sets d who b.now) }
 {
     let pool = with_openings(alloc, d, b.members())?;
-    opened_of(alloc, pool.into_classes(alloc)?)
+    opened_of(alloc, pool.into_classes()?)
 }

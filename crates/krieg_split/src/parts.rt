@@ -32,7 +32,7 @@ pub fn split(
         always: true,
     };
     let parts = gather(alloc, &attempt, b.members(), &mut left)?;
-    let parted = parts_of(alloc, parts)?;
+    let parted = parts_of(parts)?;
     *units = left;
     Ok(parted)
 }
@@ -63,7 +63,7 @@ pub fn split_unless_stale(
         *units = left;
         return Ok(None);
     }
-    let parted = parts_of(alloc, parts)?;
+    let parted = parts_of(parts)?;
     *units = left;
     Ok(Some(parted))
 }
