@@ -22,6 +22,7 @@ fn search(scene: &Scene, who: Side, moves: u8, most: u64) -> Result<KeySearch, L
         alloc: *alloc,
         d: *dialect,
         cut: true,
+        noted: 0,
     };
     let found = find_keys(way, who, b, moves, &mut units);
     Ok(found)

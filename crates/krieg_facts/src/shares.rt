@@ -22,6 +22,7 @@ fn search(scene: &Scene, who: Side, moves: u8, most: u64) -> Result<ShareSearch,
         alloc: *alloc,
         d: *dialect,
         cut: true,
+        noted: 0,
     };
     let found = share(way, who, b, moves, &mut units);
     Ok(found)

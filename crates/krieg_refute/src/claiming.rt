@@ -29,7 +29,7 @@ use krieg_moves::{after_if_legal, is_mate};
 use krieg_pack::{Belief, Packed, unpack};
 use krieg_parting::PartStop;
 use krieg_search::{
-    Block, Note, Notes, PackedKey, Question, Remainder, SearchStop, left_by, number_of,
+    Block, Note, Notes, PackedKey, Question, Remainder, SearchStop, Way, left_by, number_of,
 };
 use krieg_split::tries;
 use krieg_table::{SetResult, Table};
@@ -51,8 +51,7 @@ pub(crate) struct ClaimList {
 /// What stays the same while claims are written, with what the search has noted.
 #[derive(Clone, Copy)]
 pub(crate) struct Setting<'a> {
-    pub alloc: Global,
-    pub dialect: Dialect,
+    pub way: Way,
     pub notes: &'a Notes,
 }
 
@@ -85,22 +84,16 @@ fn lives_in_some(members: &[Packed], mv: &Move) -> bool
 
 /// What the try leaves to be won, by units that are made for this split alone, since the search has paid for it. Where one
 /// move is left, no reply is counted once a member lives.
-fn left_again(
-    alloc: Global,
-    d: Dialect,
-    b: &Belief,
-    mv: Move,
-    moves: u8,
-) -> Result<Option<Remainder>, NoMemory>
+fn left_again(way: Way, b: &Belief, mv: Move, moves: u8) -> Result<Option<Remainder>, NoMemory>
     requires some { 0 < moves }
-    requires paid { made (chess d) b.now mv < 2 ^ 64 }
-    ensures { IfOk result (IsRemainder d false b.now mv moves) }
+    requires paid { made (chess way.d) b.now mv < 2 ^ 64 }
+    ensures { IfOk result (IsRemainder way.d false b.now mv moves) }
 {
     if moves == 1 && lives_in_some(b.members(), &mv) {
         return Ok(None);
     }
     let mut units = Units::new(u64::MAX);
-    match left_by(alloc, d, b, mv, moves, &mut units) {
+    match left_by(way, b, mv, moves, &mut units) {
         Ok(left) => Ok(left),
         Err(PartStop::Spent) => unreachable!(),
         Err(PartStop::NoMemory) => Err(NoMemory),
@@ -109,29 +102,16 @@ fn left_again(
 
 /// What blocks the try, by one split more: the first class that is stored as lost with one move less, or the members that refuse
 /// it; or it fails at once.
-fn block_of(
-    alloc: Global,
-    d: Dialect,
-    table: &mut Table,
-    set: u32,
-    mv: Move,
-    moves: u8,
-) -> Result<Block, NoMemory>
+fn block_of(way: Way, table: &mut Table, set: u32, mv: Move, moves: u8) -> Result<Block, NoMemory>
     requires some { 0 < moves }
     requires within { set < length table.old }
-    requires paid { IsPaidFor d false table.old }
+    requires paid { IsPaidFor way.d false table.old }
     requires lost { IsLost table.old (set_at table.old set) moves }
-    requires legal { legal_in_some (chess d) (set_at table.old set) mv ≡ true }
-    ensures { IfOk result (HasBlock d table.old table.new (set_at table.old set) mv moves) }
+    requires legal { legal_in_some (chess way.d) (set_at table.old set) mv ≡ true }
+    ensures { IfOk result (HasBlock way.d table.old table.new (set_at table.old set) mv moves) }
 {
-    let opened = table.open(alloc, set)?;
-    let Some(Remainder { classes, refused }) = left_again(
-        alloc,
-        d,
-        opened.of(table, set),
-        mv,
-        moves,
-    )?
+    let opened = table.open(way.alloc, set)?;
+    let Some(Remainder { classes, refused }) = left_again(way, opened.of(table, set), mv, moves)?
     else {
         return Ok(Block::AtOnce);
     };
@@ -142,23 +122,18 @@ fn block_of(
 }
 
 /// Each try that makes sense in the set, in order, with what blocks it.
-fn row_of(
-    alloc: Global,
-    d: Dialect,
-    table: &mut Table,
-    asked: Question,
-) -> Result<Vec<Note>, NoMemory>
+fn row_of(way: Way, table: &mut Table, asked: Question) -> Result<Vec<Note>, NoMemory>
     requires some { 0 < asked.moves }
     requires within { asked.set < length table.old }
-    requires paid { IsPaidFor d false table.old }
+    requires paid { IsPaidFor way.d false table.old }
     requires lost { IsLost table.old (set_at table.old asked.set) asked.moves }
-    ensures { IfOk result (λ row. HasRow d table.old table.new asked row.items) }
+    ensures { IfOk result (λ row. HasRow way.d table.old table.new asked row.items) }
 {
-    let opened = table.open(alloc, asked.set)?;
-    let tries = tries(alloc, opened.of(table, asked.set))?;
-    let mut row = Vec::with_capacity(alloc, tries.len())?;
+    let opened = table.open(way.alloc, asked.set)?;
+    let tries = tries(way.alloc, opened.of(table, asked.set))?;
+    let mut row = Vec::with_capacity(way.alloc, tries.len())?;
     for mv in &tries {
-        let block = block_of(alloc, d, table, asked.set, *mv, asked.moves)?;
+        let block = block_of(way, table, asked.set, *mv, asked.moves)?;
         row.push(Note { mv: *mv, block })?;
     }
     Ok(row)
@@ -257,11 +232,11 @@ pub(crate) fn claim(
     requires some { 0 < asked.moves }
     requires within { asked.set < length table.old }
     requires members { is_nil (set_at table.old asked.set) ≡ false }
-    requires paid { IsPaidFor setting.now.dialect false table.old }
-    requires noted { AreNotes setting.now.dialect false table.old setting.now.notes.now }
+    requires paid { IsPaidFor setting.now.way.d false table.old }
+    requires noted { AreNotes setting.now.way.d false table.old setting.now.notes.now }
     requires lost { IsLost table.old (set_at table.old asked.set) asked.moves }
-    requires claimed { IsClaimList setting.now.dialect table.old claimed.old }
-    ensures { Claims setting.now.dialect result (set_at table.old asked.set) asked.moves
+    requires claimed { IsClaimList setting.now.way.d table.old claimed.old }
+    ensures { Claims setting.now.way.d result (set_at table.old asked.set) asked.moves
         table.old table.new claimed.old claimed.new }
 {
     table.know_once();
@@ -270,8 +245,8 @@ pub(crate) fn claim(
     }
     let reasons = reasons_of(setting, table, claimed, asked)?;
     push(
-        setting.alloc,
-        setting.dialect,
+        setting.way.alloc,
+        setting.way.d,
         table,
         claimed,
         asked,
@@ -290,18 +265,18 @@ fn reasons_of(
 ) -> Result<Vec<Reason>, SearchStop>
     requires some { 0 < asked.moves }
     requires within { asked.set < length table.old }
-    requires paid { IsPaidFor setting.now.dialect false table.old }
-    requires noted { AreNotes setting.now.dialect false table.old setting.now.notes.now }
+    requires paid { IsPaidFor setting.now.way.d false table.old }
+    requires noted { AreNotes setting.now.way.d false table.old setting.now.notes.now }
     requires lost { IsLost table.old (set_at table.old asked.set) asked.moves }
-    requires claimed { IsClaimList setting.now.dialect table.old claimed.old }
-    ensures { Reasons setting.now.dialect result (set_at table.old asked.set) asked.moves
-        (theory.tries (chess setting.now.dialect) (set_at table.old asked.set)) table.old table.new
+    requires claimed { IsClaimList setting.now.way.d table.old claimed.old }
+    ensures { Reasons setting.now.way.d result (set_at table.old asked.set) asked.moves
+        (theory.tries (chess setting.now.way.d) (set_at table.old asked.set)) table.old table.new
         claimed.old claimed.new }
 {
     if let Some(row) = setting.notes.of(asked.set, asked.moves) {
         return reasons_for(setting, table, claimed, asked, row);
     }
-    let row = row_of(setting.alloc, setting.dialect, table, asked)?;
+    let row = row_of(setting.way, table, asked)?;
     reasons_for(setting, table, claimed, asked, row.as_slice())
 }
 
@@ -316,16 +291,16 @@ fn reasons_for(
 ) -> Result<Vec<Reason>, SearchStop>
     requires some { 0 < asked.moves }
     requires within { asked.set < length table.old }
-    requires paid { IsPaidFor setting.now.dialect false table.old }
-    requires noted { AreNotes setting.now.dialect false table.old setting.now.notes.now }
+    requires paid { IsPaidFor setting.now.way.d false table.old }
+    requires noted { AreNotes setting.now.way.d false table.old setting.now.notes.now }
     requires lost { IsLost table.old (set_at table.old asked.set) asked.moves }
-    requires claimed { IsClaimList setting.now.dialect table.old claimed.old }
-    requires row { IsRow setting.now.dialect false table.old asked row.now }
-    ensures { Reasons setting.now.dialect result (set_at table.old asked.set) asked.moves
-        (theory.tries (chess setting.now.dialect) (set_at table.old asked.set)) table.old table.new
+    requires claimed { IsClaimList setting.now.way.d table.old claimed.old }
+    requires row { IsRow setting.now.way.d false table.old asked row.now }
+    ensures { Reasons setting.now.way.d result (set_at table.old asked.set) asked.moves
+        (theory.tries (chess setting.now.way.d) (set_at table.old asked.set)) table.old table.new
         claimed.old claimed.new }
 {
-    let mut reasons = Vec::with_capacity(setting.alloc, row.len())?;
+    let mut reasons = Vec::with_capacity(setting.way.alloc, row.len())?;
     for note in row {
         let why = why(setting, table, claimed, asked, note)?;
         reasons.push(Reason { mv: note.mv, why })?;
@@ -344,15 +319,15 @@ fn why(
 ) -> Result<Why, SearchStop>
     requires some { 0 < asked.moves }
     requires within { asked.set < length table.old }
-    requires paid { IsPaidFor setting.now.dialect false table.old }
-    requires noted { AreNotes setting.now.dialect false table.old setting.now.notes.now }
+    requires paid { IsPaidFor setting.now.way.d false table.old }
+    requires noted { AreNotes setting.now.way.d false table.old setting.now.notes.now }
     requires lost { IsLost table.old (set_at table.old asked.set) asked.moves }
-    requires claimed { IsClaimList setting.now.dialect table.old claimed.old }
-    requires legal { legal_in_some (chess setting.now.dialect) (set_at table.old asked.set)
+    requires claimed { IsClaimList setting.now.way.d table.old claimed.old }
+    requires legal { legal_in_some (chess setting.now.way.d) (set_at table.old asked.set)
         note.now.mv ≡ true }
-    requires blocked { IsBlock setting.now.dialect false table.old (set_at table.old asked.set)
+    requires blocked { IsBlock setting.now.way.d false table.old (set_at table.old asked.set)
         asked.moves note.now.mv note.now.block }
-    ensures { Blocks setting.now.dialect result (set_at table.old asked.set) asked.moves note.now.mv
+    ensures { Blocks setting.now.way.d result (set_at table.old asked.set) asked.moves note.now.mv
         table.old table.new claimed.old claimed.new }
 {
     let moves = asked.moves;

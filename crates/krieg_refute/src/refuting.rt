@@ -58,8 +58,7 @@ fn lost_opening(table: &Table, openings: &[Opening], moves: u8) -> u32
 
 /// The claims that the set, which is stored as such, cannot be won within `moves`.
 fn claims_for(
-    alloc: Global,
-    d: Dialect,
+    way: Way,
     notes: Notes,
     mut table: Table,
     set: u32,
@@ -68,26 +67,22 @@ fn claims_for(
     requires some { 0 < moves }
     requires within { set < length table }
     requires members { is_nil (set_at table set) ≡ false }
-    requires paid { IsPaidFor d false table }
-    requires noted { AreNotes d false table notes }
+    requires paid { IsPaidFor way.d false table }
+    requires noted { AreNotes way.d false table notes }
     requires lost { IsLost table (set_at table set) moves }
-    ensures { AreClaims d (set_at table set) moves result }
+    ensures { AreClaims way.d (set_at table set) moves result }
 {
     let mut claimed = ClaimList {
-        claims: Vec::new(alloc),
-        places: IndexSet::new(alloc),
+        claims: Vec::new(way.alloc),
+        places: IndexSet::new(way.alloc),
         positions: 0,
         reasons: 0,
     };
-    let setting = Setting {
-        alloc,
-        dialect: d,
-        notes: &notes,
-    };
+    let setting = Setting { way, notes: &notes };
     claim(&setting, &mut table, &mut claimed, Question { set, moves })?;
     drop(notes);
     drop(claimed.places);
-    Ok(claims_of(alloc, table, claimed.claims)?)
+    Ok(claims_of(way.alloc, table, claimed.claims)?)
 }
 
 /// The claims that no plan of the side to move mates all members within `moves`, as the umpire tells games in the
@@ -122,8 +117,9 @@ pub fn refute(
         alloc,
         d,
         cut: false,
+        noted: MOST_NOTED,
     };
-    match decide(way, MOST_NOTED, who, b, moves, &mut left)? {
+    match decide(way, who, b, moves, &mut left)? {
         Decision::Over => unreachable!(),
         Decision::Lost(found) => {
             let Findings {
@@ -132,7 +128,7 @@ pub fn refute(
                 notes,
             } = found;
             let set = lost_opening(&table, openings.as_slice(), moves);
-            let claims = claims_for(alloc, d, notes, table, set, moves)?;
+            let claims = claims_for(way, notes, table, set, moves)?;
             *units = left;
             Ok(Denied::Denial(claims))
         }

@@ -77,7 +77,7 @@ fn answer_for(
     ensures units { Takes way.d who b.now moves way.cut result units.old units.new }
 {
     let mut left = Units::new(units.left());
-    let won = match decide(way, 0, who, b, moves, &mut left)? {
+    let won = match decide(way, who, b, moves, &mut left)? {
         Decision::Over => {
             *units = left;
             return Ok(Answer::None);
@@ -136,6 +136,7 @@ pub fn solve(
         alloc,
         d,
         cut: false,
+        noted: 0,
     };
     answer_for(way, who, b, moves, nodes, units)
 }
@@ -170,6 +171,7 @@ pub fn find(
         alloc,
         d,
         cut: true,
+        noted: 0,
     };
     answer_for(way, who, b, moves, nodes, units)
 }

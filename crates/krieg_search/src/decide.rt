@@ -76,17 +76,17 @@ pub(crate) struct Outlook {
     pub all_win: bool,
 }
 
-/// A search that has found out nothing yet, and keeps at most `noted` notes.
-pub(crate) fn new_search(way: Way, noted: usize, units: u64) -> Search
+/// A search that has found out nothing yet.
+pub(crate) fn new_search(way: Way, units: u64) -> Search
     ensures empty { result.table ≡ [] }
     ensures noted { AreNotes way.d way.cut result.table result.notes }
-    ensures most { result.notes.most ≡ noted }
+    ensures most { result.notes.most ≡ way.noted }
     ensures blockers { result.blockers ≡ [] }
     ensures units { result.units ≡ units }
 {
     Search {
         sight: Sight::new(way.alloc, if way.cut { units } else { 0 }),
-        notes: Notes::new(way.alloc, noted),
+        notes: Notes::new(way.alloc, way.noted),
         lost_sets: LostSets::new(way.alloc),
         table: Table::new(way.alloc),
         units: Units::new(units),
@@ -151,11 +151,10 @@ fn take_findings(search: &mut Search, alloc: Global, openings: Vec<Opening>) -> 
 /// answer is the same, but of such tries the table has no block. At most as many positions are looked at for it as there are
 /// units.
 ///
-/// At most `noted` notes are kept. An answer takes what its account says, or less where tries may be cut, and after an error
+/// At most as many notes are kept as the way says. An answer takes what its account says, or less where tries may be cut, and after an error
 /// no units are new.
 pub fn decide(
     way: Way,
-    noted: usize,
     who: Side,
     b: &Belief,
     moves: u8,
@@ -163,9 +162,9 @@ pub fn decide(
 ) -> Result<Decision, SearchStop>
     requires turn { IsOwnTurn who b.now ⊎ IsOthersTurn who b.now }
     ensures decided { IsDecision way.d who b.now moves way.cut result units.old units.new }
-    ensures noted { IfOk result (λ r. AreFewNotes r noted) }
+    ensures noted { IfOk result (λ r. AreFewNotes r way.noted) }
 {
-    let mut search = new_search(way, noted, units.left());
+    let mut search = new_search(way, units.left());
     let asked = ask_openings(&mut search, way, who, b, moves)?;
     *units = Units::new(search.units.left());
     let Some(Outlook { openings, all_win }) = asked else {

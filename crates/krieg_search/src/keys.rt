@@ -171,7 +171,7 @@ pub fn find_keys(
     ensures answer { IsKeyAnswer way.d who b.now moves result }
     ensures units { IsWithinFresh way.d who b.now moves result units.old units.new }
 {
-    let mut search = new_search(way, 0, units.left());
+    let mut search = new_search(way, units.left());
     let answer = keys_by(&mut search, way, who, b, moves)?;
     *units = Units::new(search.units.left());
     Ok(answer)

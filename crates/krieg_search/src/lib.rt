@@ -36,7 +36,7 @@
 //!
 //! Who goes on by what a search leaves, as krieg_refute does, calls `decide` itself: it gives the table and the openings,
 //! whatever the answer. `left_by` makes one split of it again, and `number_of` finds the number of a part. `decide` also
-//! keeps `notes`, at most as many as it is asked for: of a set that cannot be won with two moves or more, what blocks each of its
+//! keeps `notes`, at most as many as its way says: of a set that cannot be won with two moves or more, what blocks each of its
 //! tries, by the number of a part and the words that are heard there (`packed_key`). `solve` and `find` keep none.
 //!
 //! The search calls itself for each part of a set, and building for each node below a node. Where one try after another

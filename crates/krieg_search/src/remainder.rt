@@ -75,24 +75,23 @@ fn left_by_tally(
 /// What the try leaves to be won where it is to win within `moves`: nothing where it fails at once, since in some
 /// member it stalemates or, with one move left, does not mate.
 ///
-/// It takes as many units as a split, or none with an error.
+/// It cuts no try, whatever the way says, and takes as many units as a split, or none with an error.
 #[inline(never)]
 pub fn left_by(
-    alloc: Global,
-    d: Dialect,
+    way: Way,
     b: &Belief,
     mv: Move,
     moves: u8,
     units: &mut Units,
 ) -> Result<Option<Remainder>, PartStop>
     requires { 0 < moves }
-    ensures left { IfOk result (IsRemainder d false b.now mv moves) }
-    ensures units { IsPaid result (made (chess d) b.now mv) units.old units.new }
+    ensures left { IfOk result (IsRemainder way.d false b.now mv moves) }
+    ensures units { IsPaid result (made (chess way.d) b.now mv) units.old units.new }
 {
     if moves == 1 {
-        return left_by_last(alloc, d, b, mv, units);
+        return left_by_last(way.alloc, way.d, b, mv, units);
     }
-    match split_unless_stale(alloc, d, b, mv, units)? {
+    match split_unless_stale(way.alloc, way.d, b, mv, units)? {
         Some(parted) => Ok(Some(Remainder {
             classes: parted.classes,
             refused: parted.refused,
@@ -137,7 +136,7 @@ pub(crate) fn left_of(
         units.old units.new }
 {
     match tried {
-        Try::Plain(mv) => left_by(way.alloc, way.d, b, *mv, moves, units),
+        Try::Plain(mv) => left_by(way, b, *mv, moves, units),
         Try::Counted(tally) => left_by_tally(way.alloc, way.d, b, tally, units),
     }
 }

@@ -9,4 +9,6 @@ pub struct Way {
     /// Whether tries may be cut: such a try fails at once where some reply is found to leave a position that is no mate
     /// in time even for a player who sees it.
     pub cut: bool,
+    /// How many notes of what blocks tries are kept at most.
+    pub noted: usize,
 }

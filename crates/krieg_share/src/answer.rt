@@ -80,7 +80,7 @@ pub fn share(
     ensures units { TakesAsPlan way.d who b.now moves way.cut result units.old units.new }
 {
     let mut left = Units::new(units.left());
-    let won = match decide(way, 0, who, b, moves, &mut left)? {
+    let won = match decide(way, who, b, moves, &mut left)? {
         Decision::Over => {
             *units = left;
             return Ok(Answer::None);

@@ -19,7 +19,7 @@
 //!
 //! ```
 //! let mut units = Units::new(5_000_000);
-//! let way = Way { alloc, d: Dialect::Wild16, cut: true };
+//! let way = Way { alloc, d: Dialect::Wild16, cut: true, noted: 0 };
 //! // `list` has White's king on b6, his rook on h1 and Black's king on a8 or c8; White is to move
 //! match share(way, Side::White, &list, 2, &mut units) {
 //!     Ok(Answer::Mates { worst, nodes, roots }) => .., // 2, and two nodes: d1d8, and h1d1 with an edge to it

@@ -177,6 +177,7 @@ pub(crate) fn searched(
         alloc,
         d,
         cut: true,
+        noted: 0,
     };
     let mut units = Units::new(terms.budget);
     let answer = find_keys(way, who, set, terms.moves as u8, &mut units)?;

@@ -78,6 +78,7 @@ pub(crate) fn searched(
         alloc,
         d,
         cut: true,
+        noted: 0,
     };
     let mut units = Units::new(terms.budget);
     let answer = share(way, who, set, terms.moves as u8, &mut units)?;

@@ -127,7 +127,12 @@ pub(crate) fn searched(
     ensures { let found = SearchedBy cut d who set.now terms.moves terms.budget in
         Decides (λ answer. answer.items) result found }
 {
-    let way = Way { alloc, d, cut };
+    let way = Way {
+        alloc,
+        d,
+        cut,
+        noted: 0,
+    };
     let mut units = Units::new(terms.budget);
     let answer = search(way, terms, who, set, &mut units)?;
     Ok(told(alloc, d, who, set, terms.moves, answer)?)

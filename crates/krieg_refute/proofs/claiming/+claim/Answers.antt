@@ -23,7 +23,7 @@ use Rattle.krieg_refute.proofs.claiming.+claim.Goals as goal
 
 pub claim-returns-in-Some : goal.claim-returns-in-Some
 claim-returns-in-Some t c =
-    let d = c.args.setting.now.dialect in
+    let d = c.args.setting.now.way.d in
     let T = c.args.table.now in
     let B = set_at T c.args.asked.set in
     let j = c.args.asked.moves in
@@ -37,7 +37,7 @@ claim-returns-in-Some t c =
 
 pub claim-returns-in_err-reasons : goal.claim-returns-in_err-reasons
 claim-returns-in_err-reasons t c =
-    let d = c.args.setting.now.dialect in
+    let d = c.args.setting.now.way.d in
     let T0 = c.args.table.now in
     let T1 = c.reasons_of.new.table in
     let B = set_at T0 c.args.asked.set in
@@ -47,7 +47,7 @@ claim-returns-in_err-reasons t c =
 
 pub claim-push-requires-clause-next : goal.claim-push-requires-clause-next
 claim-push-requires-clause-next t c =
-    let d = c.args.setting.now.dialect in
+    let d = c.args.setting.now.way.d in
     let T0 = c.args.table.now in
     let T1 = c.reasons_of.new.table in
     let B = set_at T0 c.args.asked.set in
@@ -64,7 +64,7 @@ claim-push-requires-clause-next t c =
 
 pub claim-returns : goal.claim-returns
 claim-returns t c =
-    let d = c.args.setting.now.dialect in
+    let d = c.args.setting.now.way.d in
     let T0 = c.args.table.now in
     let T1 = c.reasons_of.new.table in
     let B = set_at T0 c.args.asked.set in
@@ -81,13 +81,13 @@ claim-returns t c =
 
 pub reasons_of-reasons_for-requires : goal.reasons_of-reasons_for-requires
 reasons_of-reasons_for-requires t c =
-    let d = c.args.setting.now.dialect in
+    let d = c.args.setting.now.way.d in
     let T = c.args.table.now in
     (omega arith, (c.requires.some, (c.requires.within, (c.requires.paid, (c.requires.noted, (c.requires.lost, (c.requires.claimed, rw c.in-Some.is at c.of.ensures.right d false T c.requires.noted)))))))
 
 pub reasons_of-reasons_for-requires-2 : goal.reasons_of-reasons_for-requires-2
 reasons_of-reasons_for-requires-2 t c =
-    let d = c.args.setting.now.dialect in
+    let d = c.args.setting.now.way.d in
     let T0 = c.args.table.now in
     let T1 = c.row_of.new.table in
     let row = c.in_ok-row.ensures in
@@ -112,7 +112,7 @@ reasons_of-reasons_for-requires-2 t c =
 
 pub reasons_of-returns : goal.reasons_of-returns
 reasons_of-returns t c =
-    let d = c.args.setting.now.dialect in
+    let d = c.args.setting.now.way.d in
     let T0 = c.args.table.now in
     let T1 = c.row_of.new.table in
     let row = c.in_ok-row.ensures in
@@ -122,7 +122,7 @@ reasons_of-returns t c =
 
 pub reasons_for-why-requires : goal.reasons_for-why-requires
 reasons_for-why-requires t c =
-    let d = c.args.setting.now.dialect in
+    let d = c.args.setting.now.way.d in
     let T0 = c.args.table.now in
     let T1 = c.loop-note.table in
     let s = c.loop-note.invariant.sets in
@@ -151,7 +151,7 @@ reasons_for-why-requires t c =
 
 pub reasons_for-returns-in_err-why : goal.reasons_for-returns-in_err-why
 reasons_for-returns-in_err-why t c =
-    let d = c.args.setting.now.dialect in
+    let d = c.args.setting.now.way.d in
     let T0 = c.args.table.now in
     let T1 = c.loop-note.table in
     let T2 = c.why.new.table in
@@ -172,7 +172,7 @@ reasons_for-returns-in_err-why t c =
 
 pub reasons_for-loop-note-preserved : goal.reasons_for-loop-note-preserved
 reasons_for-loop-note-preserved t c =
-    let d = c.args.setting.now.dialect in
+    let d = c.args.setting.now.way.d in
     let T0 = c.args.table.now in
     let T1 = c.loop-note.table in
     let T2 = c.why.new.table in
@@ -203,7 +203,7 @@ reasons_for-loop-note-preserved t c =
 
 pub reasons_for-returns : goal.reasons_for-returns
 reasons_for-returns t c =
-    let d = c.args.setting.now.dialect in
+    let d = c.args.setting.now.way.d in
     let T0 = c.args.table.now in
     let B = set_at T0 c.args.asked.set in
     let j = c.args.asked.moves in
@@ -217,7 +217,7 @@ reasons_for-returns t c =
 
 pub why-returns-in-AtOnce : goal.why-returns-in-AtOnce
 why-returns-in-AtOnce t c =
-    let d = c.args.setting.now.dialect in
+    let d = c.args.setting.now.way.d in
     let T = c.args.table.now in
     let B = set_at T c.args.asked.set in
     let none = rw c.in-AtOnce.is at c.requires.blocked in
@@ -225,7 +225,7 @@ why-returns-in-AtOnce t c =
 
 pub why-claim-requires : goal.why-claim-requires
 why-claim-requires t c =
-    let d = c.args.setting.now.dialect in
+    let d = c.args.setting.now.way.d in
     let T = c.args.table.now in
     let B = set_at T c.args.asked.set in
     let h = rw c.in-Class.is at c.requires.blocked in
@@ -236,7 +236,7 @@ why-claim-requires t c =
 
 pub why-claim-requires-in-Refused : goal.why-claim-requires-in-Refused
 why-claim-requires-in-Refused t c =
-    let d = c.args.setting.now.dialect in
+    let d = c.args.setting.now.way.d in
     let T = c.args.table.now in
     let B = set_at T c.args.asked.set in
     let h = rw c.in-Refused.is at c.requires.blocked in
@@ -247,7 +247,7 @@ why-claim-requires-in-Refused t c =
 
 pub why-returns-in_ok-place-in-Class : goal.why-returns-in_ok-place-in-Class
 why-returns-in_ok-place-in-Class t c =
-    let d = c.args.setting.now.dialect in
+    let d = c.args.setting.now.way.d in
     let T = c.args.table.now in
     let B = set_at T c.args.asked.set in
     let h = rw c.in-Class.is at c.requires.blocked in
@@ -257,7 +257,7 @@ why-returns-in_ok-place-in-Class t c =
 
 pub why-returns-in_ok-place-in-Refused : goal.why-returns-in_ok-place-in-Refused
 why-returns-in_ok-place-in-Refused t c =
-    let d = c.args.setting.now.dialect in
+    let d = c.args.setting.now.way.d in
     let T = c.args.table.now in
     let B = set_at T c.args.asked.set in
     let h = rw c.in-Refused.is at c.requires.blocked in

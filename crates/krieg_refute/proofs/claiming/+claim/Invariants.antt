@@ -19,7 +19,7 @@ decreases-why l = 8 * (l.asked.moves * 2 ^ 64 + length (set_at l.table.now l.ask
 abbrev pub invariant-reasons_for-loop-note : goal.invariant-reasons_for-loop-note
 invariant-reasons_for-loop-note l = record {
   sets : AddsSets l.initial.table l.table;
-  claimed : IsClaimList l.setting.dialect l.table l.claimed;
-  walked : WalksTries (chess l.setting.dialect) (pairs_in l.initial.table l.initial.claimed.places.keys) (pairs_in l.table l.claimed.places.keys) (set_at l.initial.table l.asked.set) (l.asked.moves - 1) (take l.note-index (map (λ (n : Note). n.mv) l.row));
-  reasons : map reason_of l.reasons.items ≡ map {B = Move × Reason Key} (λ t. (t, reason_at (chess l.setting.dialect) (pairs_in l.table l.claimed.places.keys) l.asked.moves (set_at l.initial.table l.asked.set) t)) (take l.note-index (map (λ (n : Note). n.mv) l.row));
+  claimed : IsClaimList l.setting.way.d l.table l.claimed;
+  walked : WalksTries (chess l.setting.way.d) (pairs_in l.initial.table l.initial.claimed.places.keys) (pairs_in l.table l.claimed.places.keys) (set_at l.initial.table l.asked.set) (l.asked.moves - 1) (take l.note-index (map (λ (n : Note). n.mv) l.row));
+  reasons : map reason_of l.reasons.items ≡ map {B = Move × Reason Key} (λ t. (t, reason_at (chess l.setting.way.d) (pairs_in l.table l.claimed.places.keys) l.asked.moves (set_at l.initial.table l.asked.set) t)) (take l.note-index (map (λ (n : Note). n.mv) l.row));
 }

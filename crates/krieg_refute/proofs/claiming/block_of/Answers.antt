@@ -8,7 +8,7 @@ use Rattle.krieg_refute.proofs.claiming.block_of.Goals as goal
 
 pub left_again-requires-clause-paid : goal.left_again-requires-clause-paid
 left_again-requires-clause-paid c =
-    let d = c.args.d in
+    let d = c.args.way.d in
     let T = c.args.table.now in
     let B = set_at T c.args.set in
     let j = c.args.moves in
@@ -25,7 +25,7 @@ returns-in_default c = (adds_nothing c.args.table.now c.requires.paid.ready.coun
 
 pub returns-in-Some-2 : goal.returns-in-Some-2
 returns-in-Some-2 c =
-    let d = c.args.d in
+    let d = c.args.way.d in
     let T = c.args.table.now in
     let B = set_at T c.args.set in
     let a = rw (c.in-Some.is, c.of.ensures) at c.in_ok-classes.ensures in
@@ -35,7 +35,7 @@ returns-in-Some-2 c =
 
 pub returns : goal.returns
 returns c =
-    let d = c.args.d in
+    let d = c.args.way.d in
     let T = c.args.table.now in
     let T1 = c.first_lost.new.table in
     let B = set_at T c.args.set in

@@ -8,7 +8,7 @@ use Rattle.krieg_refute.proofs.claiming.left_again.Goals as goal
 
 pub returns-then-lives_in_some : goal.returns-then-lives_in_some
 returns-then-lives_in_some c =
-    let d = c.args.d in
+    let d = c.args.way.d in
     let B = c.args.b.now in
     let t = c.args.mv in
     let lives = some_lives d B t ∙ ap (λ (ps : List Pos). list_any (lives t) ps) (sym c.members.ensures.value) ∙ (sym c.lives_in_some.ensures ∙ c.if-lives_in_some.true) in

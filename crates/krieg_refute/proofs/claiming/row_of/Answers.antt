@@ -13,12 +13,12 @@ loop-mv-init c =
     let T = c.args.table.now in
     record {
       sets = adds_nothing T c.requires.paid.ready.counted;
-      row = no_notes c.args.d false T (set_at T c.args.asked.set) c.args.asked.moves c.deref-mv-items.result.now (Some c.in_ok-row.row.items) c.in_ok-row.ensures.items;
+      row = no_notes c.args.way.d false T (set_at T c.args.asked.set) c.args.asked.moves c.deref-mv-items.result.now (Some c.in_ok-row.row.items) c.in_ok-row.ensures.items;
     }
 
 pub block_of-requires-clause-legal : goal.block_of-requires-clause-legal
 block_of-requires-clause-legal c =
-    let d = c.args.d in
+    let d = c.args.way.d in
     let B = set_at c.args.table.now c.args.asked.set in
     let are = c.deref-mv-items.ensures.value ∙ c.in_ok-tries.ensures d ∙ ap (tries (chess d)) c.of.ensures in
     let same = c.loop-mv.invariant.sets.more.same c.args.asked.set c.requires.within in
@@ -27,7 +27,7 @@ block_of-requires-clause-legal c =
 
 pub loop-mv-preserved : goal.loop-mv-preserved
 loop-mv-preserved c =
-    let d = c.args.d in
+    let d = c.args.way.d in
     let T1 = c.loop-mv.table in
     let T2 = c.block_of.new.table in
     let B = set_at c.args.table.now c.args.asked.set in
@@ -45,7 +45,7 @@ loop-mv-preserved c =
 
 pub returns : goal.returns
 returns c =
-    let d = c.args.d in
+    let d = c.args.way.d in
     let T = c.args.table.now in
     let B = set_at T c.args.asked.set in
     let inv = c.loop-mv.invariant in
