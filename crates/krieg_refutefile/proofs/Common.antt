@@ -67,5 +67,5 @@ pub use Rattle.krieg_refutefile.specs.RefutationFormat.{RefutationGrammar, claim
 pub use Rattle.krieg_refutefile.specs.RefutationLines.{AreSizes, Totals, a_claim, a_claims, a_dialect, a_list, a_moves, a_position, a_reason, a_side, a_tries, a_version, argued, ascending, cites_below, listed, where_not, with_claim}
 unfoldable pub use Rattle.krieg_refutefile.specs.RefutationText.{refutation_text}
 pub use Rattle.krieg_refutefile.specs.RefutationText.{text_bound}
-pub use Rattle.krieg_refutefile.specs.Refutations.{ClaimState, NoneMates, RefutationState, claim_from, claim_state_of, claims_in, file_of, is_refutation, reason_from, refutation_price, state_from, state_of, why_from}
+pub use Rattle.krieg_refutefile.specs.Refutations.{ClaimState, NoneMates, RefutationState, claim_from, claim_state_of, claims_in, file_of, is_refutation, reason_from, refutation_price, state_from, state_of, state_of_denial, why_from}
 pub use Rattle.krieg_refutefile.specs.Writable.{AreToldClaims, CanBeWritten, CitesBelow, IsToldClaim, IsToldReason, IsToldWhy, IsTurnOf, positions_in, reasons_in}

@@ -20,6 +20,7 @@ use Rattle.krieg_refute.specs.declared.refutation.Why.TheVariants.{Lives, Stale,
 use Rattle.krieg_refute.specs.declared.refutation.Reason.{Reason}
 use Rattle.krieg_refute.specs.declared.refutation.Claim.{Claim}
 use Rattle.krieg_refute.specs.declared.refutation.Refutation.{Refutation}
+use Rattle.krieg_refutefile.specs.declared.writing.Denial.{Denial}
 
 -- the number of moves, the set, and the reasons why no try wins all of it within them
 pub record ClaimState : Type 0 where
@@ -46,6 +47,10 @@ state_from d who n L cs = record { dialect = d; side = who; moves = n; list = L;
 -- what a refutation is to contracts
 abbrev pub state_of : Refutation → RefutationState
 state_of f = state_from f.dialect f.side f.moves f.list.items f.claims.items
+
+-- what a refutation that lists the members of a set is to contracts
+abbrev pub state_of_denial : Denial → RefutationState
+state_of_denial f = state_from f.dialect f.side f.moves f.set f.claims.items
 
 -- ---- in the words of the theory
 

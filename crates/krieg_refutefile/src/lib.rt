@@ -22,7 +22,8 @@
 //! let written = write_refutation(alloc, &file)?; // the same bytes, in `written.pieces()`
 //! let set = Belief::from_packed(file.list.clone()?);
 //! if let Denied::Denial(claims) = refute(alloc, file.dialect, &set, file.moves, &mut units)? {
-//!     let found = write_denial(alloc, file.dialect, file.side, file.moves, set, claims)?; // a text of the claims that are found
+//!     let denial = Denial { dialect: file.dialect, side: file.side, moves: file.moves, set, claims };
+//!     let found = write_denial(alloc, denial)?; // a text of the claims that are found
 //! }
 //! let cut = read_refutation(alloc, b"krieg refutation 1\nside w\n".to_vec(alloc)?);
 //! // Err(TextFault::At { line: 2, kind: TextKind::Syntax }): the dialect has a line
@@ -37,4 +38,4 @@ mod writing;
 
 pub use pieces::Pieces;
 pub use reading::read_refutation;
-pub use writing::{write_denial, write_refutation};
+pub use writing::{Denial, write_denial, write_refutation};

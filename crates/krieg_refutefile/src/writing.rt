@@ -9,7 +9,7 @@ ghost use Rattle.krieg_refute.specs.declared.refutation.Why.TheVariants.{Class};
 ghost use Rattle.krieg_refutefile.specs.RefutationFormat.{refutation_at, SpellsRefutation};
 ghost use Rattle.krieg_refutefile.specs.LineForms as line;
 ghost use Rattle.krieg_refutefile.specs.RefutationText as spec;
-ghost use Rattle.krieg_refutefile.specs.Refutations.{state_of, state_from, claim_state_of};
+ghost use Rattle.krieg_refutefile.specs.Refutations.{state_of, state_of_denial, claim_state_of};
 ghost use Rattle.krieg_refutefile.specs.Writable.{IsToldWhy, CanBeWritten};
 ghost use Rattle.krieg_refutefile.specs.Parts as parts;
 ghost use Rattle.krieg_refutefile.specs.Parts.{IsTold, AreTold};
@@ -22,6 +22,17 @@ use krieg_refute::{Claim, PackedKey, Reason, Refutation, Why};
 use krieg_text::{Text, put_number};
 use krieg_words::{Dialect, put_dialect_line, put_words_in};
 use std::alloc::Global;
+
+/// That no plan of the side mates all members of the set within so many own moves, with the claims that show it. It is given away to be
+/// written.
+#[derive(Drop)]
+pub struct Denial {
+    pub dialect: Dialect,
+    pub side: Side,
+    pub moves: u8,
+    pub set: Belief,
+    pub claims: Vec<Claim>,
+}
 
 /// Adds the line of a name and a number.
 fn put_numbered(name: &[u8], n: usize, text: &mut Text) -> Result<(), NoMemory>
@@ -263,23 +274,22 @@ fn refutation_lines(alloc: Global, f: &Refutation) -> Result<Pieces, NoMemory>
 }
 
 /// The lines of the refutation with these claims that lists the members of the set.
-fn denial_lines(
-    alloc: Global,
-    d: Dialect,
-    side: Side,
-    moves: u8,
-    set: Belief,
-    claims: Vec<Claim>,
-) -> Result<Pieces, NoMemory>
-    requires { All (λ c. AreTold d (claim_state_of c)) claims.items }
-    ensures { IfOk result (λ text. text
-        ≡ spec.refutation_text (state_from d side moves set claims.items)) }
+fn denial_lines(alloc: Global, denial: Denial) -> Result<Pieces, NoMemory>
+    requires { All (λ c. AreTold denial.dialect (claim_state_of c)) denial.claims.items }
+    ensures { IfOk result (λ text. text ≡ spec.refutation_text (state_of_denial denial)) }
 {
+    let Denial {
+        dialect,
+        side,
+        moves,
+        set,
+        claims,
+    } = denial;
     let mut text = Pieces::new(alloc);
-    begin(d, side, moves, set.len(), &mut text)?;
+    begin(dialect, side, moves, set.len(), &mut text)?;
     move_set(set, &claims, &mut text)?;
     put_number_line(b"claims ", claims.len(), &mut text)?;
-    move_claims(d, claims, &mut text)?;
+    move_claims(dialect, claims, &mut text)?;
     end(&mut text)?;
     Ok(text)
 }
@@ -307,24 +317,14 @@ pub fn write_refutation(alloc: Global, f: &Refutation) -> Result<Pieces, NoMemor
 /// The text of the refutation with these claims that lists the members of the set: what `write_refutation` gives.
 ///
 /// Each set is let go once its lines stand, and the text takes the memory that comes free: at no time are both there whole.
-pub fn write_denial(
-    alloc: Global,
-    d: Dialect,
-    side: Side,
-    moves: u8,
-    set: Belief,
-    claims: Vec<Claim>,
-) -> Result<Pieces, NoMemory>
-    requires { CanBeWritten (state_from d side moves set claims.items) }
-    ensures value { IfOk result (λ text. text
-        ≡ spec.refutation_text (state_from d side moves set claims.items)) }
+pub fn write_denial(alloc: Global, denial: Denial) -> Result<Pieces, NoMemory>
+    requires { CanBeWritten (state_of_denial denial) }
+    ensures value { IfOk result (λ text. text ≡ spec.refutation_text (state_of_denial denial)) }
     // The text is read as that refutation again.
-    ensures again { whole refutation_at (lines
-        (spec.refutation_text (state_from d side moves set claims.items)))
-        ≡ Ok (state_from d side moves set claims.items) }
+    ensures again { whole refutation_at (lines (spec.refutation_text (state_of_denial denial)))
+        ≡ Ok (state_of_denial denial) }
     // It has fewer than 66,000,000 bytes, so that it fits an input.
-    ensures short { length (spec.refutation_text (state_from d side moves set claims.items))
-        < spec.text_bound }
+    ensures short { length (spec.refutation_text (state_of_denial denial)) < spec.text_bound }
 {
-    denial_lines(alloc, d, side, moves, set, claims)
+    denial_lines(alloc, denial)
 }

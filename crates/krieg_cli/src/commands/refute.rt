@@ -11,7 +11,7 @@ use krieg_board::{MOST_MOVES, Side, Units};
 use krieg_fen::MOST_LISTED;
 use krieg_pack::Belief;
 use krieg_refute::{Denied, refute};
-use krieg_refutefile::{Pieces, write_denial};
+use krieg_refutefile::{Denial, Pieces, write_denial};
 use krieg_sheet::{Sheet, read_sheet};
 use krieg_words::Dialect;
 use std::alloc::Global;
@@ -33,7 +33,16 @@ fn searched(
     let moves = moves as u8;
     let mut units = Units::new(budget);
     match refute(alloc, d, &set, moves, &mut units)? {
-        Denied::Denial(claims) => Ok(write_denial(alloc, d, who, moves, set, claims)?),
+        Denied::Denial(claims) => {
+            let denial = Denial {
+                dialect: d,
+                side: who,
+                moves,
+                set,
+                claims,
+            };
+            Ok(write_denial(alloc, denial)?)
+        }
         Denied::Exists => Err(Ending::Refused(Refusal::PlanExists)),
     }
 }
