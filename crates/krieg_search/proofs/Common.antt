@@ -38,7 +38,7 @@ pub use Rattle.krieg_game.specs.KeyNumbers.{AreSaid}
 pub use Rattle.krieg_game.specs.Keys.{Key, RootKey, key_lt, root_lt}
 unfoldable pub use Rattle.krieg_game.specs.Outset.{starts, waits}
 pub use Rattle.krieg_game.specs.Outset.{outset}
-pub use Rattle.krieg_sight.specs.Seen.{flees, mates_within}
+pub use Rattle.krieg_nets.specs.Seen.{flees, mates_within}
 pub use Rattle.krieg_plan.specs.Nodes.{as_edges, as_other, edge_of, tree_of}
 pub use Rattle.krieg_plan.specs.Order.{are_ordered, are_ordered_roots, is_ascending, is_ordered, is_ordered_other, is_ordered_plan}
 pub use Rattle.krieg_plan.specs.Plans.{plan_of}

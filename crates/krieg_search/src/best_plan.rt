@@ -148,8 +148,8 @@ pub fn solve(
 /// so at most what is fresh. A try that fails at once for such a reply takes nothing. `Spent` comes only where fewer units
 /// are left than are fresh. It takes none, and neither does `NoMemory`.
 ///
-/// To find such replies at most as many positions are looked at as there are units at the call, and these take none. Where
-/// they are used up, or memory for what is found of them is wanting, the search goes on without: so with just the units that
+/// To find such replies at most as many looks are taken as there are units at the call, each at a position or at all squares of a
+/// king who is alone, and these take none. Where they are used up, or memory for what is found of them is wanting, the search goes on without: so with just the units that
 /// an answer took it may come to `Spent`.
 ///
 /// No other moves, positions and sides may be asked for than by `solve`.

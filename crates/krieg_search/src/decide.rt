@@ -148,8 +148,8 @@ fn take_findings(search: &mut Search, alloc: Global, openings: Vec<Opening>) -> 
 /// Whether some plan mates every listed position within `moves`, and by which results.
 ///
 /// Where tries may be cut it looks into no part of a try that is found to fail even for a player who sees the position: the
-/// answer is the same, but of such tries the table has no block. At most as many positions are looked at for it as there are
-/// units.
+/// answer is the same, but of such tries the table has no block. It takes at most as many looks for it as there are units, each at a position
+/// or at all squares of a king who is alone.
 ///
 /// At most as many notes are kept as the way says. An answer takes what its account says, or less where tries may be cut, and after an error
 /// no units are new.

@@ -13,7 +13,7 @@ use krieg_board::{Move, Units};
 use krieg_game::Class;
 use krieg_pack::Belief;
 use krieg_parting::PartStop;
-use krieg_sight::{Sight, some_flees};
+use krieg_sight::{Sight, some_flees, squares_of};
 use krieg_split::{Tally, mate_by_tally, split_to_mate, split_unless_stale};
 use krieg_words::Dialect;
 use std::alloc::Global;
@@ -100,10 +100,22 @@ pub fn left_by(
     }
 }
 
+/// The squares of a king who is alone in each member of a set, where tries may be cut: a shorter way to see that a try is not.
+pub(crate) fn squares_for(way: Way, b: &Belief) -> Option<u64> {
+    if way.cut { squares_of(b) } else { None }
+}
+
 /// Whether the try is found to be cut: tries may be, and in some member a reply leaves a position that is no mate in time even
 /// for a player who sees it. A last move is not.
 #[inline(never)]
-pub(crate) fn is_cut(way: Way, sight: &mut Sight, b: &Belief, tried: &Try, moves: u8) -> bool
+pub(crate) fn is_cut(
+    way: Way,
+    sight: &mut Sight,
+    b: &Belief,
+    squares: Option<u64>,
+    tried: &Try,
+    moves: u8,
+) -> bool
     requires { 0 < moves }
     ensures may { result ≡ true → way.cut ≡ true }
     ensures fails { result ≡ true → FailsAtOnce way.d way.cut b.now (move_of tried.now) moves }
@@ -115,7 +127,7 @@ pub(crate) fn is_cut(way: Way, sight: &mut Sight, b: &Belief, tried: &Try, moves
         return false;
     }
     match tried {
-        Try::Plain(mv) => some_flees(way.alloc, sight, b, mv, moves - 1),
+        Try::Plain(mv) => some_flees(sight, b, squares, mv, moves - 1),
         Try::Counted(_) => false,
     }
 }

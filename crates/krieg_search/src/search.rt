@@ -17,7 +17,7 @@ use crate::lost_sets::LostSets;
 use crate::notes::{Block, Notes, add};
 use crate::number::number_of;
 use crate::packed_key::PackedKey;
-use crate::remainder::{Remainder, is_cut, left_of};
+use crate::remainder::{Remainder, is_cut, left_of, squares_for};
 use crate::stop::SearchStop;
 use crate::try_list::{Try, move_of_try, tries_for};
 use crate::way::Way;
@@ -59,6 +59,8 @@ pub(crate) struct Asked {
     pub set: u32,
     pub moves: u8,
     pub opened: OpenSet,
+    /// What `squares_for` says of the set. Nothing is claimed of it.
+    pub squares: Option<u64>,
 }
 
 impl Search {
@@ -78,7 +80,7 @@ impl Search {
             return false;
         };
         let b = opened.of(&self.table, set);
-        if some_is_no_mate(way.alloc, &mut self.sight, b, moves) {
+        if some_is_no_mate(&mut self.sight, b, moves) {
             return true;
         }
         self.lost_sets.has_part(way.alloc, &self.table, b, moves)
@@ -180,7 +182,13 @@ impl Search {
         let b = opened.of(&self.table, set);
         let tries = tries_for(way.alloc, b, moves, self.units.left())?;
         let mut row = self.notes.row(way.alloc, moves, tries.len())?;
-        let asked = Asked { set, moves, opened };
+        let squares = squares_for(way, b);
+        let asked = Asked {
+            set,
+            moves,
+            opened,
+            squares,
+        };
         for tried in &tries {
             match self.block_of(way, &asked, tried, deep)? {
                 Some(block) => add(&mut row, move_of_try(tried), block)?,
@@ -277,7 +285,7 @@ impl Search {
         ensures most { self.new.notes.most ≡ self.old.notes.most }
     {
         let b = asked.opened.of(&self.table, asked.set);
-        if !uncut && is_cut(way, &mut self.sight, b, tried, asked.moves) {
+        if !uncut && is_cut(way, &mut self.sight, b, asked.squares, tried, asked.moves) {
             return Ok(Some(Block::AtOnce));
         }
         let before = self.units.left();

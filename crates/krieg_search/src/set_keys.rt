@@ -17,6 +17,7 @@ ghost use Rattle.krieg_search.specs.SetKeys.{AreSetKeys, later_price, least_pair
 
 use crate::build::win_of;
 use crate::keys::KeyTry;
+use crate::remainder::squares_for;
 use crate::search::{Asked, MOST_LEVELS, Search};
 use crate::stop::SearchStop;
 use crate::try_list::{is_same, move_of_try, tries_for};
@@ -78,10 +79,12 @@ fn keys_of_set(search: &mut Search, way: Way, set: u32, win: Win) -> Result<Vec<
     let opened = search.table.open(way.alloc, set)?;
     let b = opened.of(&search.table, set);
     let tries = tries_for(way.alloc, b, win.moves, search.units.left())?;
+    let squares = squares_for(way, b);
     let asked = Asked {
         set,
         moves: win.moves,
         opened,
+        squares,
     };
     let mut keys = Vec::new(way.alloc);
     for tried in &tries {

@@ -17,5 +17,5 @@ pub use Rattle.krieg_game.specs.Chess.{chess, outcome}
 pub use Rattle.krieg_game.specs.Keys.{Key}
 pub use Rattle.krieg_sight.specs.Laws.{EscapesIsFlees, SeesIsMates}
 pub use Rattle.krieg_sight.specs.Memo.{AreRight, IsRight, Memo}
-pub use Rattle.krieg_sight.specs.Seen.{flees, is_met, leaves_none, mates_within}
+pub use Rattle.krieg_nets.specs.Seen.{flees, is_met, leaves_none, mates_within}
 pub use Rattle.krieg_sight.specs.declared.told.Told.{Told}

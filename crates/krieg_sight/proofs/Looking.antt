@@ -29,18 +29,6 @@ pub not_met_at_last : (j : ℕ) (q : Pos) → j ≡ 0 → is_mate q ≡ false �
 unfolding is_mate is_stalemate is_ended
 not_met_at_last j q z e = subst (λ n. is_met (mates_within n) q ≡ false) (sym z) (last_end (in_check q) (moves q) e)
 
-none_left : (less : Pos → Bool) (q : Pos) (rs : List Move) → list_any (λ r. not (less (after q r))) rs ≡ true → list_all (λ r. less (after q r)) rs ≡ false
-none_left less q [] e = absurd (both_ways _ refl e)
-none_left less q (r ∷ rs) e = elim (less (after q r)) as (λ b. (not b || list_any (λ x. not (less (after q x))) rs) ≡ true → (b && list_all (λ x. less (after q x)) rs) ≡ false) [ true ↦ none_left less q rs | false ↦ λ h. refl ] e
-
--- nor will a move that leaves no mate
-pub fled_not_met : (j : ℕ) (q : Pos) → leaves_none j q ≡ true → is_met (mates_within j) q ≡ false
-fled_not_met j q e = ap (λ b. not (is_stalemate q) && b) (none_left (mates_within j) q (moves q) e) ∙ and_false (not (is_stalemate q))
-  where
-    and_false : (b : Bool) → (b && false) ≡ false
-    and_false true = refl
-    and_false false = refl
-
 -- no move mates
 pub none_mates : (i j : ℕ) (p key : Pos) (ts : List Move) → suc i ≡ j → key ≡ p → ts ≡ moves p → list_any (λ t. is_met (mates_within i) (after p t)) ts ≡ false → mates_within j key ≡ false
 none_mates i j p key ts n k are e =

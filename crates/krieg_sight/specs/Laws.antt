@@ -6,7 +6,7 @@ use Rattle.krieg_board.specs.declared.men.Move.{Move}
 use Rattle.krieg_words.specs.declared.dialects.Dialect.{Dialect}
 use Rattle.krieg_theory.specs.Seen.{sees, escapes_in_some}
 use Rattle.krieg_game.specs.Chess.{chess}
-use Rattle.krieg_sight.specs.Seen.{mates_within, flees}
+use Rattle.krieg_nets.specs.Seen.{mates_within, flees}
 
 -- mate by a player who sees the position is the same here and in the theory
 abbrev pub SeesIsMates : Type 0

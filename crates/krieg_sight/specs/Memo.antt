@@ -1,9 +1,9 @@
--- What is known of positions, and how many may be looked at yet.
+-- What is known of positions, and how many looks are left.
 use Rattle.std.specs.Prelude.{◌≡◌, ℕ, ◌<◌, true, false, List}
 use Rattle.krieg_board.specs.Pos.{Pos}
 use Rattle.krieg_theory.specs.Sets.{In}
 use Rattle.krieg_sight.specs.declared.told.Told.{Told}
-use Rattle.krieg_sight.specs.Seen.{leaves_none, mates_within}
+use Rattle.krieg_nets.specs.Seen.{leaves_none, mates_within}
 
 -- each position with what is told of it
 abbrev pub Memo : Type 0
@@ -18,7 +18,7 @@ pub record IsRight (p : Pos) (told : Told) : Type 0 where
 abbrev pub AreRight : Memo → Type 0
 AreRight m = (e : Pos × Told) → In e m → IsRight e.0 e.1
 
--- what a sight holds: what is told of positions, and how many may be looked at yet
+-- what a sight holds: what is told of positions, and how many looks are left
 pub record SightState : Type 0 where
   pub told : Memo
   pub left : ℕ

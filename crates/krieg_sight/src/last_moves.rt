@@ -1,7 +1,7 @@
 ghost use Rattle.std.specs.Prelude.{◌≡◌, [], true, false, Some};
 ghost use Rattle.krieg_board.specs.Pos.{Pos};
 ghost use Rattle.krieg_sight.specs.Memo.{IsRight};
-ghost use Rattle.krieg_sight.specs.Seen.{mates_within};
+ghost use Rattle.krieg_nets.specs.Seen.{mates_within};
 
 use crate::told::Told;
 use indexmap::IndexMap;

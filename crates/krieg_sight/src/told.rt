@@ -1,7 +1,7 @@
 ghost use Rattle.std.specs.Prelude.{◌≡◌, true, false, Some};
 ghost use Rattle.krieg_board.specs.Pos.{Pos};
 ghost use Rattle.krieg_sight.specs.Memo.{IsRight};
-ghost use Rattle.krieg_sight.specs.Seen.{leaves_none, mates_within};
+ghost use Rattle.krieg_nets.specs.Seen.{leaves_none, mates_within};
 ghost use Rattle.krieg_sight.specs.Told.{nothing};
 
 /// What is known of a position, each as a number of moves. A 0 says nothing.

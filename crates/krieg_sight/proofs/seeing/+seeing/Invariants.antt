@@ -33,6 +33,6 @@ invariant-each_may_mate-loop-mv l = l.sight.left ≤ l.fn.sight.left
 
 abbrev pub invariant-one_may_mate-loop-mv : goal.invariant-one_may_mate-loop-mv
 invariant-one_may_mate-loop-mv l = record {
-  rest : list_any (λ t. is_met (mates_within l.fewer) (change.after l.spot.position t)) l.tries ≡ list_any (λ t. is_met (mates_within l.fewer) (change.after l.spot.position t)) (drop l.mv-index l.tries);
+  rest : list_any (λ t. is_met (mates_within l.fewer) (change.after l.p t)) l.tries ≡ list_any (λ t. is_met (mates_within l.fewer) (change.after l.p t)) (drop l.mv-index l.tries);
   no_more : l.sight.left ≤ l.fn.sight.left;
 }
