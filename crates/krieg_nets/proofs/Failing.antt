@@ -23,7 +23,7 @@ use Rattle.krieg_nets.specs.Nets.{Against, AllFailBetween, AllFailFrom, AreNone,
 use Rattle.krieg_nets.specs.Others.{lone_of}
 use Rattle.krieg_nets.specs.Seen.{is_met, mates_within}
 use Rattle.krieg_nets.specs.declared.men.Men.{Men}
-use Rattle.krieg_nets.specs.declared.nets.Net.{Net}
+use Rattle.krieg_nets.specs.declared.kept.Net.{Net}
 use Rattle.krieg_nets.proofs.Meeting.{fled_not_met, none_mates, stale_not_met}
 use Rattle.krieg_nets.proofs.OwnMoves.{Goes, officer_goes}
 

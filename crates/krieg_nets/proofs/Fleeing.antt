@@ -20,7 +20,7 @@ use Rattle.krieg_nets.specs.Nets.{Against, AreFled, AreNone, IsNet, against}
 use Rattle.krieg_nets.specs.Others.{lone_of}
 use Rattle.krieg_nets.specs.Seen.{leaves_none}
 use Rattle.krieg_nets.specs.declared.men.Men.{Men}
-use Rattle.krieg_nets.specs.declared.nets.Net.{Net}
+use Rattle.krieg_nets.specs.declared.kept.Net.{Net}
 use Rattle.krieg_nets.proofs.Failing.{are_officers, nobody_at}
 use Rattle.krieg_nets.proofs.HisMoves.{flees_free, flees_there}
 

@@ -20,7 +20,7 @@ use Rattle.krieg_nets.specs.Nets.{IsNet, IsWith, against, against_by}
 use Rattle.krieg_nets.specs.Others.{lone_of}
 use Rattle.krieg_nets.specs.Seen.{leaves_none}
 use Rattle.krieg_nets.specs.declared.men.Men.{Men}
-use Rattle.krieg_nets.specs.declared.nets.Net.{Net}
+use Rattle.krieg_nets.specs.declared.kept.Net.{Net}
 
 same_man : (x : Option Man) (a b : Man) → x ≡ Some a → x ≡ Some b → a ≡ b
 same_man x a b h k = cc

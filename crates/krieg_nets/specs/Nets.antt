@@ -1,5 +1,6 @@
 -- A king who is alone against officers, wherever he stands: sets of his squares, each with all that is so of the positions with him there.
-use Rattle.std.specs.Prelude.{ℕ, ◌≡◌, ◌<◌, ◌⊎◌, true, false, List, [], ◌∷◌, None}
+use Rattle.std.specs.Prelude.{ℕ, ◌≡◌, ◌<◌, ◌⊎◌, true, false, List, None, Option, Some, Vec, slice_get}
+use Rattle.std.specs.declared.alloc.Global.{Global}
 use Rattle.krieg_board.specs.Board.{Board, man_at}
 use Rattle.krieg_board.specs.Men.{other}
 use Rattle.krieg_board.specs.Pos.{Pos}
@@ -14,8 +15,7 @@ use Rattle.krieg_nets.specs.LoneKings.{with_king}
 use Rattle.krieg_nets.specs.Others.{lone_of, men_of}
 use Rattle.krieg_nets.specs.Seen.{is_met, leaves_none, mates_within}
 use Rattle.krieg_nets.specs.declared.men.Men.{Men}
-use Rattle.krieg_nets.specs.declared.nets.Asked.{Asked}
-use Rattle.krieg_nets.specs.declared.nets.Net.{Net}
+use Rattle.krieg_nets.specs.declared.kept.Net.{Net}
 use Rattle.krieg_nets.specs.declared.others.Others.{Others}
 
 -- the men against whom a king is alone, and whose king he is
@@ -69,11 +69,16 @@ pub record IsNet (men : Against) (moves : ℕ) (net : Net) : Type 0 where
   pub fled : AreFled men.board men.lone moves net.fled
   pub stale : AreStale men.board men.lone net.stale
 
--- it is an element of the list
-abbrev pub In : {X : Type 0} → X → List X → Type 0
-In x [] = ⊥
-In x (y ∷ ys) = (y ≡ x) ⊎ In x ys
+-- the net of so many moves stands in the row of men for whom it is right
+pub record IsKept (rows : List Others) (moves row : ℕ) (net : Net) : Type 0 where
+  pub others : Others
+  pub stand : slice_get rows row ≡ Some others
+  pub right : IsNet (against_by others) moves net
 
--- what is kept is right
-abbrev pub AreKept : List (Asked × Net) → Type 0
-AreKept kept = (e : Asked × Net) → In e kept → IsNet (against_by e.0.others) e.0.moves e.1
+-- each net that is kept does: the levels are lists by rows, one for each number of moves
+abbrev pub AreKept : List Others → List (Vec (Option Net) Global) → Type 0
+AreKept rows levels = (moves row : ℕ) (level : Vec (Option Net) Global) (net : Net) → slice_get levels moves ≡ Some level → slice_get level.items row ≡ Some (Some net) → IsKept rows moves row net
+
+-- each net of the new level is the one that was put in that row, or stood in its own before
+abbrev pub IsPut : List (Option Net) → List (Option Net) → ℕ → Net → Type 0
+IsPut old new row net = (n : ℕ) (x : Net) → slice_get new n ≡ Some (Some x) → ((n ≡ row) × (net ≡ x)) ⊎ (slice_get old n ≡ Some (Some x))

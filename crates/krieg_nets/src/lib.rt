@@ -2,7 +2,8 @@
 //!
 //! What officers can do hardly depends on where he stands: he is in the way of some of their moves, and that is all. So a set of squares has
 //! the answer for up to 64 positions, and a move of theirs leads from one set to another. `Men` are the officers and their king, a `LoneKing`
-//! is a position with these men and him, and `Nets` finds the sets, which are kept.
+//! is a position with these men and him, and `Nets` finds the sets. They are kept: a row for each way in which the men stand, and in
+//! it what was found for each number of moves.
 //!
 //! ```
 //! let mut nets = Nets::new(alloc, 1_000_000);
@@ -14,6 +15,7 @@
 #![tactic(auto)]
 
 mod asking;
+mod kept;
 mod lone_king;
 mod men;
 mod near;

@@ -7,100 +7,34 @@ ghost use Rattle.krieg_board.specs.Sets as sets;
 ghost use Rattle.krieg_board.specs.declared.men.Kind.TheVariants.{King};
 ghost use Rattle.krieg_board.specs.declared.men.Side.TheVariants.{White};
 ghost use Rattle.krieg_rays.specs.Rays.{goes};
-ghost use Rattle.krieg_nets.specs.Nets.{AllFailBetween, AllFailFrom, AreFled, AreNone, IsNet, Against, against, against_by};
+ghost use Rattle.krieg_nets.specs.Nets.{AllFailBetween, AllFailFrom, AreFled, AreNone, IsNet, against, against_by};
 ghost use Rattle.krieg_nets.specs.Others.{lone_of};
 
+use crate::kept::{Asked, Kept, Net};
 use crate::men::Men;
 use crate::near::near;
-use crate::others::Others;
 use crate::stale::stalemates;
-use indexmap::IndexMap;
 use krieg_board::{Kind, Man, has, lowest, without_lowest};
 use krieg_rays::{attacked_by, attacked_from, between_at, king_attacks};
 use std::alloc::Global;
 use std::marker::Model;
 
-/// So many nets are kept: some 600 MB.
-const MOST_KEPT: usize = 8_000_000;
-
 /// So many captures in a row may be looked at: there are no more officers.
 const MOST_CAPTURES: u8 = 4;
-
-/// What is found for one number of moves: three sets of squares of the lone king. Of squares that are in none of them nothing is claimed.
-#[derive(Clone, Copy)]
-pub(crate) struct Net {
-    /// With him there, and the others to move, they do not mate within so many moves.
-    pub none: u64,
-    /// With him there and to move, some move of his leaves them no mate within so many.
-    pub fled: u64,
-    /// With him there and to move, he is stalemated.
-    pub stale: u64,
-}
-
-/// What is asked: the men, and the number of moves.
-#[derive(Clone, Copy, PartialEq, Eq, Hash)]
-pub(crate) struct Asked {
-    pub others: Others,
-    pub moves: u8,
-}
 
 /// The nets that were found, and how many may be looked for yet. In contracts it is that number.
 #[derive(Drop)]
 pub struct Nets {
-    kept: IndexMap<Asked, Net>,
-    /// Where what is asked may be kept, which is looked at first: for each number that `hint_of` gives. Nothing is claimed of it.
-    hints: Vec<u32>,
+    kept: Kept,
     left: u64,
 }
 
 impl Model for Nets {
     ghost use Rattle.std.specs.Prelude.{ℕ};
-    ghost use Rattle.krieg_nets.specs.Nets.{AreKept};
 
     ghost Value = { ℕ };
 
     ghost view = { λ n. n.left };
-
-    ghost invariant = { λ n. AreKept n.kept.entries };
-}
-
-impl Net {
-    /// Nothing is claimed.
-    fn nothing() -> Net
-        ensures { (men : Against) (moves : ℕ) → IsNet men moves result }
-    {
-        Net {
-            none: 0,
-            fled: 0,
-            stale: 0,
-        }
-    }
-}
-
-/// There are so many hints: 256 KB.
-const HINTS: usize = 65_536;
-
-/// Which hint is that of what is asked: some number below 65,536, from all squares of the men and the moves.
-#[inline]
-fn hint_of(asked: &Asked) -> usize {
-    let ones = asked.others.ones.wrapping_mul(0x9E37_79B9_7F4A_7C15);
-    let twos = asked.others.twos.wrapping_mul(0xC2B2_AE3D_27D4_EB4F);
-    let fours = asked.others.fours.wrapping_mul(0x1656_67B1_9E37_79F9);
-    let moves = u64::from(asked.moves).wrapping_mul(0x2545_F491_4F6C_DD1D);
-    ((ones ^ twos ^ fours ^ moves) >> 48) as usize
-}
-
-/// Makes that place the hint of what is asked, where there is memory for hints.
-fn set_hint(hints: &mut Vec<u32>, asked: &Asked, at: usize) {
-    if hints.is_empty() && hints.resize(HINTS, 0).is_err() {
-        return;
-    }
-    let Ok(at) = u32::try_from(at) else {
-        return;
-    };
-    if let Some(hint) = hints.get_mut(hint_of(asked)) {
-        *hint = at;
-    }
 }
 
 /// The squares of the lone king with whom the man cannot go from one square to the other: between them, and next to where a king arrives.
@@ -125,8 +59,7 @@ impl Nets {
         ensures { result ≡ nets }
     {
         Nets {
-            kept: IndexMap::new(alloc),
-            hints: Vec::new(alloc),
+            kept: Kept::new(alloc),
             left: nets,
         }
     }
@@ -143,29 +76,28 @@ impl Nets {
         true
     }
 
-    /// The net that is kept where the hint says, where it is that one.
-    #[inline]
-    fn hinted(&self, asked: &Asked) -> Option<Net>
-        ensures { IfSome result (λ net. IsNet (against_by asked.now.others) asked.now.moves net) }
+    /// One look less is left, where some moves are: with none nobody mates, and his steps are looked at alone. `false` where none was left.
+    fn look_for(&mut self, moves: u8) -> bool
+        ensures { self.new ≤ self.old }
     {
-        let at = *self.hints.get(hint_of(asked))? as usize;
-        let (found, net) = self.kept.get_index(at)?;
-        if *found != *asked {
-            return None;
-        }
-        Some(*net)
+        moves == 0 || self.look()
     }
 
     /// The net that is kept, where there is one.
+    #[inline]
     fn kept(&mut self, asked: &Asked) -> Option<Net>
         ensures net { IfSome result (λ net.
             IsNet (against_by asked.now.others) asked.now.moves net) }
         ensures same { self.new ≡ self.old }
     {
-        let (at, _, net) = self.kept.get_full(asked)?;
-        let net = *net;
-        set_hint(&mut self.hints, asked, at);
-        Some(net)
+        self.kept.of(asked)
+    }
+
+    /// Whether what is found for these men can be kept.
+    fn has_room(&mut self, men: &Men) -> bool
+        ensures { self.new ≡ self.old }
+    {
+        self.kept.has_room(men.others())
     }
 
     /// Keeps the net, where there is room and memory for it.
@@ -173,12 +105,7 @@ impl Nets {
         requires { IsNet (against_by asked.now.others) asked.now.moves net.now }
         ensures { self.new ≡ self.old }
     {
-        if self.kept.len() < MOST_KEPT {
-            match self.kept.insert(*asked, *net) {
-                Ok(_) => {}
-                Err(_) => {}
-            }
-        }
+        self.kept.keep(asked, net);
     }
 
     /// What is so of the lone king for that number of moves, on all squares at once.
@@ -189,7 +116,8 @@ impl Nets {
         self.net(men, moves, MOST_CAPTURES)
     }
 
-    /// The same, with so many captures in a row. It is kept, and where none may be looked for any more nothing is claimed.
+    /// The same, with so many captures in a row. It is kept, and where there is no room for it, or none may be looked for any more, nothing is
+    /// claimed: what is not kept would be looked for again and again.
     #[cycle(nets)]
     fn net(&mut self, men: &Men, moves: u8, captures: u8) -> Net
         ensures net { IsNet (against men.now) moves result }
@@ -199,13 +127,13 @@ impl Nets {
             others: *men.others(),
             moves,
         };
-        if let Some(net) = self.hinted(&asked) {
-            return net;
-        }
         if let Some(net) = self.kept(&asked) {
             return net;
         }
-        if !self.look() {
+        if !self.has_room(men) {
+            return Net::nothing();
+        }
+        if !self.look_for(moves) {
             return Net::nothing();
         }
         let net = self.net_anew(men, moves, captures);

@@ -10,8 +10,11 @@ use Rattle.krieg_nets.proofs.Failing.{from_nobody, from_begun, from_step, to_beg
 use Rattle.krieg_nets.proofs.Fleeing.{none_fled, also_fled, caught_fled, near_fled, none_among, loose_safe}
 use Rattle.krieg_nets.proofs.nets.Nets.+nets.Goals as goal
 
-pub net-returns-then-not-look-clause-net : goal.net-returns-then-not-look-clause-net
-net-returns-then-not-look-clause-net t c = c.nothing.ensures (against c.args.men.now) c.args.moves
+pub net-returns-then-not-has_room-clause-net : goal.net-returns-then-not-has_room-clause-net
+net-returns-then-not-has_room-clause-net t c = c.nothing.ensures (against c.args.men.now) c.args.moves
+
+pub net-returns-then-not-look_for-clause-net : goal.net-returns-then-not-look_for-clause-net
+net-returns-then-not-look_for-clause-net t c = c.nothing-then-not-look_for.ensures (against c.args.men.now) c.args.moves
 
 pub none_between-returns-in-Some-clause-none : goal.none_between-returns-in-Some-clause-none
 none_between-returns-in-Some-clause-none t c =

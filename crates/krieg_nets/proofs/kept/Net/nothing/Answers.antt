@@ -1,7 +1,7 @@
 use Rattle.krieg_board.proofs.SetLemmas.{has_zero}
 use Rattle.std.proofs.lemmas.Bool.{both_ways}
 use Rattle.krieg_board.specs.Sets.{has}
-use Rattle.krieg_nets.proofs.nets.Net.nothing.Goals as goal
+use Rattle.krieg_nets.proofs.kept.Net.nothing.Goals as goal
 
 pub returns : goal.returns
 returns c = λ men moves. record {
