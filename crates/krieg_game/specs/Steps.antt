@@ -1,5 +1,5 @@
 -- A king who is alone steps to an empty square: what comes of it is the same wherever he comes from.
-use Rattle.std.specs.Prelude.{◌≡◌, ◌<◌, ℕ, true, false, List, Some, None, IfSome, slice_set}
+use Rattle.std.specs.Prelude.{◌≡◌, ◌<◌, ℕ, true, List, Some, None, IfSome, slice_set}
 use Rattle.krieg_board.specs.Board.{man_at}
 use Rattle.krieg_board.specs.Boards.{board_of}
 use Rattle.krieg_board.specs.Men.{no_rights, other}

@@ -1,8 +1,8 @@
 -- The moves of a position, one after another, and how the opponent's turn ends.
-use Rattle.std.proofs.Common.{◌≡◌, ℕ, zero, suc, ◌<◌, Bool, true, false, not, ◌&&◌, ◌||◌, List, [], ◌∷◌, length, get_or, inl, inr, refl, sym, ap, subst, ◌∙◌, arith}
+use Rattle.std.proofs.Common.{◌≡◌, ℕ, zero, suc, ◌<◌, Bool, true, false, not, ◌&&◌, ◌||◌, List, [], ◌∷◌, length, get_or, inl, inr, refl, sym, subst, ◌∙◌, arith}
 use Rattle.std.specs.List.{list_all, list_any}
 use Rattle.std.proofs.lemmas.Bool.{both_ways}
-use Rattle.krieg_sight.proofs.Common.{Pos, Move, is_legal, after, moves, all_moves, in_check, is_ended, is_mate, is_stalemate, is_nil, In, is_met, leaves_none, mates_within}
+use Rattle.krieg_sight.proofs.Common.{Pos, Move, is_legal, after, moves, all_moves, in_check, is_ended, is_mate, is_stalemate, is_nil, In, is_met, mates_within}
 use Rattle.krieg_theory.proofs.Lists.{filter_in}
 
 item_in : {X : Type 0} (xs : List X) (k : ℕ) (x : X) → k < length xs → x ≡ get_or xs k x → In x xs
