@@ -18,7 +18,7 @@ pub const MOST_FIND_MOVES: u8 = 100;
 pub const MOST_FIND_UNITS: u64 = 4_000_000_000;
 
 /// What a made input is.
-#[derive(Clone, Copy, Debug, PartialEq, Eq)]
+#[derive(Clone, Copy)]
 pub enum MadeInput {
     /// A session.
     Session,
@@ -27,7 +27,7 @@ pub enum MadeInput {
 }
 
 /// What the words after the program's name ask for.
-#[derive(Clone, Copy, Debug, PartialEq, Eq)]
+#[derive(Clone, Copy)]
 pub enum Command {
     /// `solve MOVES BUDGET LIMIT`: a plan for a sheet within so many moves, with so many units of work
     /// and sets of so many positions at most.

@@ -5,7 +5,7 @@ use crate::words::{led_words, played_words};
 use krieg_text::is_name;
 
 /// The files of a live game.
-#[derive(Clone, Copy, Debug, PartialEq, Eq)]
+#[derive(Clone, Copy)]
 pub struct SeatFiles<'a> {
     /// Where White's tries come from.
     pub win: &'a str,

@@ -16,7 +16,7 @@ use krieg_words::{Line, Words};
 use std::alloc::Global;
 
 /// Why the possible positions of a sheet are not listed.
-#[derive(Clone, Copy, Debug, PartialEq, Eq)]
+#[derive(Clone, Copy)]
 pub enum BeliefStop {
     /// More positions were possible than the limit allows, first after this line of the text that
     /// `write_sheet` writes. For the list alone it is the line that says how many positions it has.

@@ -20,7 +20,7 @@ pub(crate) struct Hearing {
 }
 
 /// Why a set was not made.
-#[derive(Clone, Copy, Debug, PartialEq, Eq)]
+#[derive(Clone, Copy)]
 pub(crate) enum StepStop {
     /// It has more members than the limit allows.
     TooMany,

@@ -6,14 +6,14 @@ use crate::square::Square;
 use std::cmp::Ordering;
 
 /// The two players.
-#[derive(Clone, Copy, Debug, PartialEq, Eq)]
+#[derive(Clone, Copy, PartialEq, Eq)]
 pub enum Side {
     White,
     Black,
 }
 
 /// The six kinds of men (FIDE Laws, article 2.2).
-#[derive(Clone, Copy, Debug, PartialEq, Eq)]
+#[derive(Clone, Copy, PartialEq, Eq)]
 pub enum Kind {
     Pawn,
     Knight,
@@ -24,7 +24,7 @@ pub enum Kind {
 }
 
 /// A man: whose it is, and what it is.
-#[derive(Clone, Copy, Debug, PartialEq, Eq)]
+#[derive(Clone, Copy, PartialEq, Eq)]
 pub struct Man {
     pub side: Side,
     pub kind: Kind,
@@ -32,7 +32,7 @@ pub struct Man {
 
 /// What a move makes of the man that moves: `Plain` leaves it as it is, the others name what a pawn
 /// becomes on the last rank (FIDE Laws, article 3.7). The order is that of moves.
-#[derive(Clone, Copy, Debug, PartialEq, Eq, PartialOrd, Ord, Default)]
+#[derive(Clone, Copy, PartialEq, Eq, PartialOrd, Ord, Default)]
 pub enum Promo {
     #[default]
     Plain,
@@ -45,7 +45,7 @@ pub enum Promo {
 /// A move, whether it is legal somewhere or not: from a square to a square, with a promotion.
 ///
 /// Moves are ordered by from-square, then by to-square, then by promotion.
-#[derive(Clone, Copy, Debug, PartialEq, Eq, PartialOrd, Ord, Default)]
+#[derive(Clone, Copy, PartialEq, Eq, PartialOrd, Ord, Default)]
 pub struct Move {
     pub from: Square,
     pub to: Square,
@@ -54,7 +54,7 @@ pub struct Move {
 
 /// The castling rights that are held (FIDE Laws, article 3.8.2): short is castling with the rook of
 /// the h-file, long with that of the a-file.
-#[derive(Clone, Copy, Debug, PartialEq, Eq)]
+#[derive(Clone, Copy, PartialEq, Eq)]
 pub struct Rights {
     pub white_short: bool,
     pub white_long: bool,

@@ -7,7 +7,7 @@ use std::marker::Model;
 /// One of the 64 squares: a1 is 0, b1 is 1, h1 is 7, a2 is 8, up to h8, which is 63.
 ///
 /// In contracts a square is its number.
-#[derive(Clone, Copy, Debug, PartialEq, Eq, PartialOrd, Ord, Default)]
+#[derive(Clone, Copy, PartialEq, Eq, PartialOrd, Ord, Default)]
 pub struct Square {
     number: u8,
 }

@@ -3,13 +3,13 @@ ghost use Rattle.std.specs.Prelude.{◌≡◌, ◌<◌, ◌+◌, ℕ, OnOk, OnEr
 use std::marker::Model;
 
 /// There are fewer units left than were to be taken.
-#[derive(Clone, Copy, Debug, PartialEq, Eq)]
+#[derive(Clone, Copy)]
 pub struct NoUnits;
 
 /// A number of units of work that may still be done.
 ///
 /// In contracts it is the number that is left.
-#[derive(Debug, Drop)]
+#[derive(Drop)]
 pub struct Units {
     left: u64,
 }

@@ -17,7 +17,7 @@ use krieg_words::Dialect;
 use std::alloc::Global;
 
 /// What a check finds.
-#[derive(Clone, Copy, Debug, PartialEq, Eq)]
+#[derive(Clone, Copy)]
 pub enum PlanVerdict {
     /// The plan mates every listed position, and this is its worst case.
     Mates(u16),

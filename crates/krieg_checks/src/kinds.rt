@@ -13,7 +13,7 @@ use krieg_rays::{attackers_at, file_through, rank_through};
 /// Which kinds of check a king is in. A kind is there however many men give it.
 ///
 /// The fields stand highest bit first, so that the derived order is that of the bits.
-#[derive(Clone, Copy, Debug, PartialEq, Eq, PartialOrd, Ord)]
+#[derive(Clone, Copy, PartialEq, Eq, PartialOrd, Ord)]
 pub struct Kinds {
     pub knight: bool,
     pub short: bool,

@@ -9,7 +9,7 @@ use krieg_search::SearchStop;
 use krieg_text::TextFault;
 
 /// How a run ends.
-#[derive(Clone, Copy, Debug, PartialEq, Eq)]
+#[derive(Clone, Copy)]
 pub(crate) enum Ending {
     /// The answer was written.
     Answered,

@@ -5,7 +5,7 @@ use krieg_board::{BadPosition, Side};
 use krieg_text::TextKind;
 
 /// What is refused of an input.
-#[derive(Clone, Copy, Debug, PartialEq, Eq)]
+#[derive(Clone, Copy)]
 pub(crate) enum Refusal {
     /// That line is the first bad one.
     BadText(usize, TextKind),

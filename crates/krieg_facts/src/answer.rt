@@ -1,15 +1,19 @@
 // What comes of a question, as a text.
 
 use crate::stop::LineStop;
-use krieg_board::{BadPosition, Position, lowest, without_lowest};
-use krieg_fen::{put_square, write_position};
+use krieg_board::{BadPosition, Move, NoMemory, Position, Square, lowest, without_lowest};
+use krieg_fen::{put_square, write_move, write_position};
 use krieg_text::{Text, TextFault, TextKind, put_number};
 use std::alloc::Global;
 
 /// A text that grows by words and by parts.
+///
+/// It keeps the first stop that came while it grew, so that none of the calls below has a result: who asked looks at it
+/// once, and then the text counts for nothing.
 #[derive(Drop)]
 pub struct AnswerText {
     pub text: Vec<u8>,
+    pub stopped: Option<LineStop>,
 }
 
 impl AnswerText {
@@ -17,6 +21,7 @@ impl AnswerText {
     pub fn new(alloc: Global) -> AnswerText {
         AnswerText {
             text: Vec::new(alloc),
+            stopped: None,
         }
     }
 
@@ -29,75 +34,178 @@ impl AnswerText {
         }
     }
 
+    /// Notes why there is no answer. The first stop stays.
+    pub fn stop(&mut self, stop: LineStop) {
+        if self.stopped.is_none() {
+            self.stopped = Some(stop);
+        }
+    }
+
+    /// Notes that what is asked for does not stand, or differs from what it must agree with.
+    pub fn unread(&mut self) {
+        self.stop(LineStop::Unread);
+    }
+
+    /// Notes that memory was not found.
+    pub fn lacks_memory(&mut self) {
+        self.stop(LineStop::Memory);
+    }
+
+    /// Notes how a writer of this text ended.
+    pub fn wrote(&mut self, done: Result<(), NoMemory>) {
+        if done.is_err() {
+            self.lacks_memory();
+        }
+    }
+
+    /// Goes on only where this is so.
+    pub fn only_if(&mut self, is_so: bool) {
+        if !is_so {
+            self.unread();
+        }
+    }
+
+    /// Goes on only where this was found to be so.
+    pub fn only_if_found(&mut self, is_so: Result<bool, NoMemory>) {
+        match is_so {
+            Ok(is_so) => self.only_if(is_so),
+            Err(_) => self.lacks_memory(),
+        }
+    }
+
+    /// What stopped the other text stops this one.
+    pub fn stop_as(&mut self, other: &AnswerText) {
+        if let Some(stop) = other.stopped {
+            self.stop(stop);
+        }
+    }
+
+    /// Whether the two texts are the same.
+    fn is_same(&self, other: &AnswerText) -> bool {
+        self.text.as_slice() == other.text.as_slice()
+    }
+
+    /// Goes on only where the same was answered again.
+    pub fn only_if_same(&mut self, again: &AnswerText) {
+        self.stop_as(again);
+        let is_same = self.is_same(again);
+        self.only_if(is_same);
+    }
+
     /// Adds the bytes, right behind what stands there.
-    pub fn put(&mut self, bytes: &[u8]) -> Result<(), LineStop> {
-        Ok(self.text.extend_from_slice(bytes)?)
+    pub fn put(&mut self, bytes: &[u8]) {
+        if self.text.extend_from_slice(bytes).is_err() {
+            self.lacks_memory();
+        }
+    }
+
+    /// Adds the bytes where something stands before them.
+    fn put_behind(&mut self, bytes: &[u8]) {
+        if !self.text.is_empty() {
+            self.put(bytes);
+        }
     }
 
     /// A word: a space stands before each but the first.
-    pub fn word(&mut self, bytes: &[u8]) -> Result<(), LineStop> {
-        if !self.text.is_empty() {
-            self.put(b" ")?;
+    pub fn word(&mut self, bytes: &[u8]) {
+        self.put_behind(b" ");
+        self.put(bytes);
+    }
+
+    /// A word where this is so.
+    pub fn word_if(&mut self, is_so: bool, bytes: &[u8]) {
+        if is_so {
+            self.word(bytes);
         }
-        self.put(bytes)
     }
 
     /// Begins a part: a semicolon and a space stand before each but the first.
-    pub fn part(&mut self, bytes: &[u8]) -> Result<(), LineStop> {
-        if !self.text.is_empty() {
-            self.put(b"; ")?;
-        }
-        self.put(bytes)
+    pub fn part(&mut self, bytes: &[u8]) {
+        self.put_behind(b"; ");
+        self.put(bytes);
     }
 
     /// `yes` or `no` as a word.
-    pub fn yes_or_no(&mut self, is_so: bool) -> Result<(), LineStop> {
-        self.word(if is_so { b"yes" } else { b"no" })
+    pub fn yes_or_no(&mut self, is_so: bool) {
+        self.word(if is_so { b"yes" } else { b"no" });
     }
 
     /// The digits of a number, right behind what stands there.
-    pub fn digits(&mut self, number: u64) -> Result<(), LineStop> {
+    pub fn digits(&mut self, number: u64) {
         let mut text = Text::after(&mut self.text);
         let done = put_number(number, &mut text);
-        Ok(text.end(done, &mut self.text)?)
+        let done = text.end(done, &mut self.text);
+        self.wrote(done);
     }
 
     /// A number as a word.
-    pub fn number(&mut self, number: u64) -> Result<(), LineStop> {
-        self.word(b"")?;
-        self.digits(number)
+    pub fn number(&mut self, number: u64) {
+        self.put_behind(b" ");
+        self.digits(number);
+    }
+
+    /// A number as a word, where it was found.
+    pub fn number_found(&mut self, number: Result<u64, NoMemory>) {
+        match number {
+            Ok(number) => self.number(number),
+            Err(_) => self.lacks_memory(),
+        }
+    }
+
+    /// A square as a word.
+    pub fn square(&mut self, square: Square) {
+        self.put_behind(b" ");
+        let mut text = Text::after(&mut self.text);
+        let done = put_square(square, &mut text);
+        let done = text.end(done, &mut self.text);
+        self.wrote(done);
     }
 
     /// The squares of a set, the lowest first.
-    pub fn squares(&mut self, set: u64) -> Result<(), LineStop> {
+    pub fn squares(&mut self, set: u64) {
         let mut rest = set;
         for _ in 0..64 {
             if rest == 0 {
                 break;
             }
-            self.word(b"")?;
-            let mut text = Text::after(&mut self.text);
-            let done = put_square(lowest(rest), &mut text);
-            text.end(done, &mut self.text)?;
+            self.square(lowest(rest));
             rest = without_lowest(rest);
         }
-        Ok(())
+    }
+
+    /// The squares of a set, where there is one.
+    pub fn squares_found(&mut self, set: Option<u64>) {
+        match set {
+            Some(set) => self.squares(set),
+            None => self.unread(),
+        }
+    }
+
+    /// A move, right behind what stands there.
+    pub fn put_move(&mut self, mv: Move) {
+        let done = write_move(mv, &mut self.text);
+        self.wrote(done);
     }
 
     /// The text of a position, right behind what stands there.
-    pub fn position(&mut self, p: &Position) -> Result<(), LineStop> {
-        Ok(write_position(p, &mut self.text)?)
+    pub fn position(&mut self, p: &Position) {
+        let done = write_position(p, &mut self.text);
+        self.wrote(done);
     }
 
     /// A fault of a text, as `line 3: syntax`.
-    pub fn fault(&mut self, fault: TextFault) -> Result<(), LineStop> {
-        let TextFault::At { line, kind } = fault else {
-            return Err(LineStop::Memory);
-        };
-        self.put(b"line ")?;
-        self.digits(line as u64)?;
-        self.put(b": ")?;
-        self.put(kind_name(kind))
+    pub fn fault(&mut self, fault: TextFault) {
+        match fault {
+            TextFault::At { line, kind } => self.fault_at(line, kind),
+            TextFault::NoMemory => self.lacks_memory(),
+        }
+    }
+
+    fn fault_at(&mut self, line: usize, kind: TextKind) {
+        self.put(b"line ");
+        self.digits(line as u64);
+        self.put(b": ");
+        self.put(kind_name(kind));
     }
 }
 

@@ -1,11 +1,9 @@
 // Facts of boards and of sets of squares.
 
 use crate::answer::AnswerText;
+use crate::given::Given;
 use crate::scene::Scene;
-use crate::stop::LineStop;
-use crate::terms::{
-    halves, letter_of, number_of, placed_of, side_of, sided_of, small_of, square_of, squares_of,
-};
+use crate::terms::{letter_of, placed_of};
 use krieg_board::{
     Bits, Man, Position, Side, Square, apart, attacks, file_of, has, is_of, only, rank_of,
 };
@@ -17,34 +15,34 @@ use krieg_rays::{
 };
 
 /// The set, where it was told twice alike.
-fn agreed(set: u64, again: u64) -> Result<u64, LineStop> {
-    if set == again {
-        Ok(set)
-    } else {
-        Err(LineStop::Unread)
-    }
+fn agreed(set: u64, again: u64) -> Option<u64> {
+    if set == again { Some(set) } else { None }
 }
 
 /// The set of the men of a side or of a kind.
-fn men_of(bits: &Bits, name: &str) -> Result<u64, LineStop> {
+fn men_of(bits: &Bits, name: &str) -> Option<u64> {
+    let sets = bits.sets();
     match name {
-        "white" => Ok(bits.sets().white),
-        "black" => Ok(bits.sets().black),
-        "pawns" => Ok(bits.sets().pawns),
-        "knights" => Ok(bits.sets().knights),
-        "bishops" => Ok(bits.sets().bishops),
-        "rooks" => Ok(bits.sets().rooks),
-        "queens" => Ok(bits.sets().queens),
-        "kings" => Ok(bits.sets().kings),
-        "all" => Ok(bits.occupied()),
-        _ => Err(LineStop::Unread),
+        "white" => Some(sets.white),
+        "black" => Some(sets.black),
+        "pawns" => Some(sets.pawns),
+        "knights" => Some(sets.knights),
+        "bishops" => Some(sets.bishops),
+        "rooks" => Some(sets.rooks),
+        "queens" => Some(sets.queens),
+        "kings" => Some(sets.kings),
+        "all" => Some(bits.occupied()),
+        _ => None,
     }
 }
 
 /// The same of the board by sets and of the board square by square.
-fn men_of_both(bits: &Bits, name: &str) -> Result<u64, LineStop> {
+fn men_of_both(bits: &Bits, name: &str) -> Option<u64> {
     let again = Bits::from_board(&bits.to_board());
-    agreed(men_of(bits, name)?, men_of(&again, name)?)
+    match (men_of(bits, name), men_of(&again, name)) {
+        (Some(set), Some(again)) => agreed(set, again),
+        _ => None,
+    }
 }
 
 /// The men of the side that attack the square, each asked by the rule alone.
@@ -60,32 +58,31 @@ fn attackers_by_rule(bits: &Bits, by: Side, to: Square) -> u64 {
 }
 
 /// The men of a side that attack a square, by lines of squares and by the rule.
-fn attackers_of(bits: &Bits, text: &str) -> Result<u64, LineStop> {
-    let (by, to) = sided_of(text)?;
+fn attackers_of(bits: &Bits, by: Side, to: Square) -> Option<u64> {
     agreed(attackers(bits, to, by), attackers_by_rule(bits, by, to))
 }
 
 /// The squares that the side attacks, where each square is told alike.
-fn attacked_of(bits: &Bits, by: Side) -> Result<u64, LineStop> {
+fn attacked_of(bits: &Bits, by: Side) -> Option<u64> {
     let board = bits.to_board();
     let set = attacked_by(bits, by);
     for s in 0..64u8 {
         let is_attacked = krieg_board::is_attacked(&board, s, by);
         if is_attacked != has(set, s) || is_attacked != krieg_rays::is_attacked(bits, s, by) {
-            return Err(LineStop::Unread);
+            return None;
         }
     }
-    Ok(set)
+    Some(set)
 }
 
 /// The squares between two, also where the two are exchanged.
-fn between_of(text: &str) -> Result<u64, LineStop> {
-    let (first, second) = halves(text, " ")?;
-    let (a, c) = (square_of(first)?, square_of(second)?);
-    agreed(
-        agreed(between(a, c), between(c, a))?,
-        between_at(a.number(), c.number()),
-    )
+fn between_of(a: Square, c: Square) -> Option<u64> {
+    let set = between(a, c);
+    if set == between(c, a) {
+        agreed(set, between_at(a.number(), c.number()))
+    } else {
+        None
+    }
 }
 
 /// The pinned men of the side.
@@ -94,118 +91,97 @@ fn pinned_of(p: &Position, who: Side) -> u64 {
 }
 
 /// The squares that a man on a square attacks.
-fn reach_of(bits: &Bits, text: &str) -> Result<u64, LineStop> {
-    let (man, from) = placed_of(text)?;
-    Ok(attacked_from(bits, man, from.number()))
-}
-
-/// The squares that a pawn attacks or steps to.
-fn of_pawn(mark: &str, given: &str) -> Result<u64, LineStop> {
-    let (side, s) = sided_of(given)?;
-    match mark {
-        "pawn-attacks" => Ok(pawn_attacks(side, s.number())),
-        _ => Ok(pawn_steps(side, s.number())),
+fn reach_of(bits: &Bits, text: &str) -> Option<u64> {
+    match placed_of(text) {
+        Some((man, from)) => Some(attacked_from(bits, man, from.number())),
+        None => None,
     }
 }
 
-/// The squares on the lines from a square, as far as none of these stands before them.
-fn along(mark: &str, given: &str) -> Result<u64, LineStop> {
-    let (s, taken) = halves(given, " ")?;
-    let (s, taken) = (square_of(s)?.number(), squares_of(taken)?);
+/// The squares that are told by a square alone.
+fn about(mark: &str, square: Square) -> Option<u64> {
     match mark {
-        "straight" => Ok(straight_from(s, taken)),
-        _ => Ok(diagonal_from(s, taken)),
+        "knight" => Some(knight_attacks(square.number())),
+        "king" => Some(king_attacks(square.number())),
+        "file" => Some(file_through(square.number())),
+        "rank" => Some(rank_through(square.number())),
+        "rising" => Some(rising_through(square.number())),
+        "falling" => Some(falling_through(square.number())),
+        _ => None,
     }
 }
 
-/// The squares that are told by a square alone, or by words of their own.
-fn around(mark: &str, given: &str) -> Result<u64, LineStop> {
+/// The squares that a pawn attacks or steps to, and those on the lines from a square, as far as none of the squares that
+/// are given stands before them.
+fn around(mark: &str, given: &mut Given) -> Option<u64> {
     match mark {
-        "squares" => number_of(given),
-        "knight" => Ok(knight_attacks(square_of(given)?.number())),
-        "king" => Ok(king_attacks(square_of(given)?.number())),
-        "file" => Ok(file_through(square_of(given)?.number())),
-        "rank" => Ok(rank_through(square_of(given)?.number())),
-        "rising" => Ok(rising_through(square_of(given)?.number())),
-        "falling" => Ok(falling_through(square_of(given)?.number())),
-        "between" => between_of(given),
-        "pawn-attacks" | "pawn-steps" => of_pawn(mark, given),
-        "straight" | "diagonal" => along(mark, given),
-        _ => Err(LineStop::Unread),
+        "squares" => Some(given.number()),
+        "between" => between_of(given.square(), given.square()),
+        "pawn-attacks" => Some(pawn_attacks(given.side(), given.square().number())),
+        "pawn-steps" => Some(pawn_steps(given.side(), given.square().number())),
+        "straight" => Some(straight_from(given.square().number(), given.squares())),
+        "diagonal" => Some(diagonal_from(given.square().number(), given.squares())),
+        _ => about(mark, given.square()),
     }
 }
 
 /// The squares that answer the question.
-fn squares_asked(scene: &Scene, mark: &str, given: &str) -> Result<u64, LineStop> {
+fn squares_asked(scene: &Scene, mark: &str, given: &mut Given) -> Option<u64> {
     match mark {
-        "men" => men_of_both(&scene.bits, given),
-        "attackers" => attackers_of(&scene.bits, given),
-        "attacked" => attacked_of(&scene.bits, side_of(given)?),
-        "reach" => reach_of(&scene.bits, given),
-        "pinned" => Ok(pinned_of(&scene.position, side_of(given)?)),
+        "men" => men_of_both(&scene.bits, given.word()),
+        "attackers" => attackers_of(&scene.bits, given.side(), given.square()),
+        "attacked" => attacked_of(&scene.bits, given.side()),
+        "reach" => reach_of(&scene.bits, given.word()),
+        "pinned" => Some(pinned_of(&scene.position, given.side())),
         _ => around(mark, given),
     }
 }
 
 /// Whether the diagonal through both squares is the longer one through the first.
-fn is_longer(text: &str) -> Result<bool, LineStop> {
-    let (king, other) = halves(text, " ")?;
-    let (king, other) = (square_of(king)?, square_of(other)?);
+fn say_longer(king: Square, other: Square, answer: &mut AnswerText) {
     let files = apart(file_of(king.number()), file_of(other.number()));
     let ranks = apart(rank_of(king.number()), rank_of(other.number()));
     if files == ranks && king.number() != other.number() {
-        Ok(long_diagonal(king, other))
+        answer.yes_or_no(long_diagonal(king, other));
     } else {
-        Err(LineStop::Unread)
+        answer.unread();
     }
 }
 
-fn say_man(man: Option<Man>, answer: &mut AnswerText) -> Result<(), LineStop> {
-    match man {
-        Some(man) => answer.put(letter_of(man).as_bytes()),
-        None => Ok(()),
+fn say_man(man: Option<Man>, answer: &mut AnswerText) {
+    if let Some(man) = man {
+        answer.put(letter_of(man).as_bytes());
     }
 }
 
 /// The names of the kinds of check.
-fn say_kinds(kinds: Kinds, answer: &mut AnswerText) -> Result<(), LineStop> {
-    let named: [(bool, &[u8]); 5] = [
-        (kinds.file, b"file"),
-        (kinds.rank, b"rank"),
-        (kinds.long, b"long"),
-        (kinds.short, b"short"),
-        (kinds.knight, b"knight"),
-    ];
-    for (is_there, name) in named {
-        if is_there {
-            answer.word(name)?;
-        }
-    }
-    Ok(())
+fn say_kinds(kinds: Kinds, answer: &mut AnswerText) {
+    answer.word_if(kinds.file, b"file");
+    answer.word_if(kinds.rank, b"rank");
+    answer.word_if(kinds.long, b"long");
+    answer.word_if(kinds.short, b"short");
+    answer.word_if(kinds.knight, b"knight");
 }
 
 /// The kinds of check of a number.
-fn say_kinds_by(number: u8, answer: &mut AnswerText) -> Result<(), LineStop> {
+fn say_kinds_by(number: u8, answer: &mut AnswerText) {
     match Kinds::new(number) {
-        Some(kinds) if kinds.bits() == number => say_kinds(kinds, answer),
-        Some(_) => Err(LineStop::Unread),
+        Some(kinds) => {
+            answer.only_if(kinds.bits() == number);
+            say_kinds(kinds, answer);
+        }
         None => answer.put(b"no kinds"),
     }
 }
 
 /// Answers a question about the board.
-pub fn ask(
-    scene: &Scene,
-    mark: &str,
-    given: &str,
-    answer: &mut AnswerText,
-) -> Result<(), LineStop> {
+pub fn ask(scene: &Scene, mark: &str, given: &mut Given, answer: &mut AnswerText) {
     match mark {
-        "set" => answer.number(squares_of(given)?),
-        "on" => say_man(scene.bits.man_at(square_of(given)?.number()), answer),
-        "longer" => answer.yes_or_no(is_longer(given)?),
-        "kinds" => say_kinds_by(small_of(given)?, answer),
+        "set" => answer.number(given.squares()),
+        "on" => say_man(scene.bits.man_at(given.square().number()), answer),
+        "longer" => say_longer(given.square(), given.square(), answer),
+        "kinds" => say_kinds_by(given.small(), answer),
         "checks" => say_kinds(kinds_of(&scene.position), answer),
-        _ => answer.squares(squares_asked(scene, mark, given)?),
+        _ => answer.squares_found(squares_asked(scene, mark, given)),
     }
 }

@@ -1,14 +1,16 @@
 // Lines of facts, and whether they hold.
 
 use crate::answer::AnswerText;
+use crate::given::Given;
 use crate::plans::Plans;
-use crate::scene::Scene;
-use crate::stop::LineStop;
+use crate::scene::{START, Scene};
+use crate::stop::judged;
 use crate::strategies::Strategies;
-use crate::terms::{bytes_of, first_word};
 use crate::{
     boards, games, moves, positions, refutations, san, searches, sets, splits, tables, texts, words,
 };
+use krieg_board::NoMemory;
+use krieg_fen::read_position;
 use krieg_table::Table;
 use std::alloc::Global;
 
@@ -37,24 +39,32 @@ enum Layer {
     Strategies,
 }
 
-fn layer_of(name: &str) -> Result<Layer, LineStop> {
-    match name {
-        "boards" => Ok(Layer::Boards),
-        "positions" => Ok(Layer::Positions),
-        "moves" => Ok(Layer::Moves),
-        "words" => Ok(Layer::Words),
-        "texts" => Ok(Layer::Texts),
-        "san" => Ok(Layer::San),
-        "games" => Ok(Layer::Games),
-        "sets" => Ok(Layer::Sets),
-        "tables" => Ok(Layer::Tables),
-        "splits" => Ok(Layer::Splits),
-        "plans" => Ok(Layer::Plans),
-        "searches" => Ok(Layer::Searches),
-        "refutations" => Ok(Layer::Refutations),
-        "strategies" => Ok(Layer::Strategies),
-        _ => Err(LineStop::Unread),
+static LAYERS: [(&str, Layer); 14] = [
+    ("boards", Layer::Boards),
+    ("positions", Layer::Positions),
+    ("moves", Layer::Moves),
+    ("words", Layer::Words),
+    ("texts", Layer::Texts),
+    ("san", Layer::San),
+    ("games", Layer::Games),
+    ("sets", Layer::Sets),
+    ("tables", Layer::Tables),
+    ("splits", Layer::Splits),
+    ("plans", Layer::Plans),
+    ("searches", Layer::Searches),
+    ("refutations", Layer::Refutations),
+    ("strategies", Layer::Strategies),
+];
+
+fn layer_of(given: &mut Given) -> Layer {
+    let asked = given.word();
+    for (name, layer) in &LAYERS {
+        if *name == asked {
+            return *layer;
+        }
     }
+    given.unread();
+    Layer::Boards
 }
 
 /// What stands, and how many facts held.
@@ -70,7 +80,7 @@ struct FactState {
 
 impl FactState {
     /// Answers the question.
-    fn ask(&mut self, mark: &str, given: &str, answer: &mut AnswerText) -> Result<(), LineStop> {
+    fn ask(&mut self, mark: &str, given: &mut Given, answer: &mut AnswerText) {
         let scene = &self.scene;
         match self.layer {
             Layer::Boards => boards::ask(scene, mark, given, answer),
@@ -91,55 +101,103 @@ impl FactState {
     }
 
     /// Answers by how many words the answer of the question has.
-    fn ask_count(&mut self, asked: &str, answer: &mut AnswerText) -> Result<(), LineStop> {
-        let (mark, given) = first_word(asked);
+    fn ask_count(&mut self, given: &mut Given, answer: &mut AnswerText) {
         let mut counted = AnswerText::new(self.scene.alloc);
-        self.ask(mark, given, &mut counted)?;
-        let spaces = counted.told().iter().filter(|byte| **byte == b' ').count();
-        answer.number((spaces as u64).saturating_add(1))
+        self.ask(given.word(), given, &mut counted);
+        answer.stop_as(&counted);
+        answer.number(words_in(counted.told()));
+    }
+
+    /// Asks the question so many times, and answers as it was answered last.
+    fn ask_times(&mut self, given: &mut Given, answer: &mut AnswerText) {
+        let times = given.count();
+        let asked = given.rest();
+        for _ in 0..times {
+            let mut again = Given::new(asked);
+            answer.text.clear();
+            self.ask(again.word(), &mut again, answer);
+            given.stop_at_end_of(&again);
+        }
+    }
+
+    /// Answers what is asked.
+    fn answer(&mut self, given: &mut Given, answer: &mut AnswerText) {
+        match given.word() {
+            "count" => self.ask_count(given, answer),
+            "times" => self.ask_times(given, answer),
+            mark => self.ask(mark, given, answer),
+        }
     }
 
     /// Whether the answer of the question is what is told.
-    fn holds(&mut self, asked: &str, told: &str) -> Result<bool, LineStop> {
-        let (mark, given) = first_word(asked);
+    fn holds(&mut self, asked: &str, told: &str) -> Result<bool, NoMemory> {
+        let mut given = Given::new(asked);
         let mut answer = AnswerText::new(self.scene.alloc);
-        match mark {
-            "count" => self.ask_count(given, &mut answer)?,
-            _ => self.ask(mark, given, &mut answer)?,
-        }
+        self.answer(&mut given, &mut answer);
         self.facts = self.facts.saturating_add(1);
-        Ok(answer.told() == bytes_of(self.scene.alloc, told)?.as_slice())
+        is_told(self.scene.alloc, &given, &answer, told)
+    }
+
+    /// A table without sets.
+    fn set_table(&mut self) {
+        self.table = Table::new(self.scene.alloc);
     }
 
     /// Takes a line that is no fact.
-    fn set(&mut self, line: &str) -> Result<(), LineStop> {
-        let (mark, given) = first_word(line);
+    fn set(&mut self, mark: &str, given: &mut Given) {
         match mark {
-            "" | "case" => {}
-            "about" => self.layer = layer_of(given)?,
-            "table" => self.table = Table::new(self.scene.alloc),
-            "node" | "grid" | "path" | "bush" | "roots" | "plan" => self.plans.set(mark, given)?,
-            "strategy" => self.strategies.set(given)?,
-            _ => self.scene.set(mark, given)?,
+            "" | "case" => {
+                let _title = given.rest();
+            }
+            "about" => self.layer = layer_of(given),
+            "table" => self.set_table(),
+            "node" | "grid" | "path" | "bush" | "roots" | "plan" => self.plans.set(mark, given),
+            "strategy" => self.strategies.set(given),
+            _ => self.scene.set(mark, given),
         }
-        Ok(())
     }
 
     /// Takes a line, and tells whether it holds.
-    fn take(&mut self, line: &str) -> Result<bool, LineStop> {
-        let taken = match line.split_once(" = ") {
+    fn take(&mut self, line: &str) -> Result<bool, NoMemory> {
+        match line.split_once(" = ") {
             Some((asked, told)) => self.holds(asked, told),
-            None => self.set(line).map(|()| true),
-        };
-        match taken {
-            Err(LineStop::Unread | LineStop::Spent) => Ok(false),
-            done => done,
+            None => {
+                let mut given = Given::new(line);
+                self.set(given.word(), &mut given);
+                judged(given.end(), true)
+            }
         }
     }
 }
 
+/// Whether the question was read and answered, and the answer is what is told.
+fn is_told(
+    alloc: Global,
+    given: &Given,
+    answer: &AnswerText,
+    told: &str,
+) -> Result<bool, NoMemory> {
+    let mut wanted = Given::new(told);
+    let told = wanted.bytes(alloc);
+    judged(
+        answer.stopped.or(given.end()).or(wanted.end()),
+        answer.told() == told.as_slice(),
+    )
+}
+
+/// How many words a text has.
+fn words_in(text: &[u8]) -> u64 {
+    let mut count = 1u64;
+    for byte in text {
+        if *byte == b' ' {
+            count = count.saturating_add(1);
+        }
+    }
+    count
+}
+
 /// Goes through the lines, up to the first that does not hold.
-fn judge_by(trial: &mut FactState, text: &str) -> Result<Progress, LineStop> {
+fn judge_by(trial: &mut FactState, text: &str) -> Result<Progress, NoMemory> {
     let mut number = 1u64;
     for line in text.split('\n') {
         if !trial.take(line)? {
@@ -150,15 +208,23 @@ fn judge_by(trial: &mut FactState, text: &str) -> Result<Progress, LineStop> {
     Ok(Progress::Facts(trial.facts))
 }
 
+/// What stands at first, where it can be made.
+fn first_state(alloc: Global) -> Option<FactState> {
+    match (read_position(START), Plans::new(alloc)) {
+        (Ok(start), Some(plans)) => Some(FactState {
+            layer: Layer::Boards,
+            scene: Scene::new(alloc, start),
+            table: Table::new(alloc),
+            plans,
+            strategies: Strategies::new(alloc),
+            facts: 0,
+        }),
+        _ => None,
+    }
+}
+
 /// How far the facts of a text hold.
-pub fn judge(alloc: Global, text: &str) -> Result<Progress, LineStop> {
-    let mut trial = FactState {
-        layer: Layer::Boards,
-        scene: Scene::new(alloc)?,
-        table: Table::new(alloc),
-        plans: Plans::new(alloc)?,
-        strategies: Strategies::new(alloc),
-        facts: 0,
-    };
-    judge_by(&mut trial, text)
+pub fn judge(alloc: Global, text: &str) -> Option<Progress> {
+    let mut trial = first_state(alloc)?;
+    judge_by(&mut trial, text).ok()
 }

@@ -1,124 +1,186 @@
 // Facts of games that the umpire judges, and of one player's sheet.
 
 use crate::answer::AnswerText;
+use crate::given::Given;
 use crate::scene::Scene;
 use crate::stop::LineStop;
-use crate::terms::{bytes_of, count_of, halves, move_of, side_of};
 use krieg_board::{NoMemory, Side};
 use krieg_fen::put_list;
 use krieg_referee::{Event, Game, Judged, line_for};
 use krieg_sheet::{Sheet, SheetFault, put_end, put_head, read_sheet, write_sheet};
 use krieg_text::Text;
-use krieg_why::{least_games, why, write_games, write_games_of};
+use krieg_why::{WhyStop, least_games, why, write_games, write_games_of};
 use krieg_words::{read_line_in, read_words_in, write_line};
+use std::alloc::Global;
 
 /// A try, as `w e2e4`.
-fn event_of(text: &str) -> Result<Event, LineStop> {
-    let (who, mv) = halves(text, " ")?;
-    Ok(Event {
-        who: side_of(who)?,
-        mv: move_of(mv)?,
-    })
+fn event_of(given: &mut Given) -> Event {
+    let who = given.side();
+    let mv = given.until("; ");
+    Event {
+        who,
+        mv: given.move_of(mv),
+    }
+}
+
+/// Judges the try.
+fn step(game: &mut Game, event: Event, answer: &mut AnswerText) {
+    let done = game.reserve(1);
+    answer.wrote(done);
+    if game.spare() > 0 {
+        let _ = game.step(event);
+    }
 }
 
 /// The game of these tries.
-fn game_of(scene: &Scene, tries: &str) -> Result<Game, LineStop> {
+fn game_of(scene: &Scene, given: &mut Given, answer: &mut AnswerText) -> Game {
     let mut game = Game::start(scene.alloc, scene.position);
-    for text in tries.split("; ") {
-        let event = event_of(text)?;
-        game.reserve(1)?;
-        if game.spare() > 0 {
-            let _ = game.step(event);
-        }
+    for _ in 0..given.parts("; ") {
+        step(&mut game, event_of(given), answer);
     }
-    Ok(game)
+    game
 }
 
-fn say_heard(who: Side, judged: &Judged, answer: &mut AnswerText) -> Result<(), LineStop> {
-    answer.part(b"")?;
+fn say_heard(who: Side, judged: &Judged, answer: &mut AnswerText) {
+    answer.part(b"");
     match line_for(who, judged) {
-        Some(line) => Ok(write_line(line, &mut answer.text)?),
+        Some(line) => {
+            let done = write_line(line, &mut answer.text);
+            answer.wrote(done);
+        }
         None => answer.put(b"nothing"),
     }
 }
 
 /// What the player hears of each try.
-fn say_all_heard(scene: &Scene, text: &str, answer: &mut AnswerText) -> Result<(), LineStop> {
-    let (who, tries) = halves(text, ": ")?;
-    let (who, game) = (side_of(who)?, game_of(scene, tries)?);
+fn say_all_heard(scene: &Scene, given: &mut Given, answer: &mut AnswerText) {
+    let who = given.until(": ");
+    let who = given.side_of(who);
+    let game = game_of(scene, given, answer);
     for judged in game.log() {
-        say_heard(who, judged, answer)?;
+        say_heard(who, judged, answer);
     }
-    Ok(())
+}
+
+/// Where the game of these tries stands.
+fn say_stand(scene: &Scene, given: &mut Given, answer: &mut AnswerText) {
+    let game = game_of(scene, given, answer);
+    answer.position(game.position());
 }
 
 /// How many places there are after each of these numbers was asked for.
-fn say_places(scene: &Scene, text: &str, answer: &mut AnswerText) -> Result<(), LineStop> {
+fn say_places(scene: &Scene, given: &mut Given, answer: &mut AnswerText) {
     let mut game = Game::start(scene.alloc, scene.position);
-    for word in text.split(' ') {
-        game.reserve(count_of(word)? as usize)?;
-        answer.number(game.spare() as u64)?;
+    for _ in 0..given.words() {
+        let done = game.reserve(given.count() as usize);
+        answer.wrote(done);
+        answer.number(game.spare() as u64);
     }
-    Ok(())
+}
+
+/// A sheet of the side over the list, with no opening words.
+fn begun_silent(scene: &Scene, who: Side) -> Result<Sheet, SheetFault> {
+    match scene.list.to_vec(scene.alloc) {
+        Ok(list) => Sheet::begin(scene.alloc, scene.dialect, who, list, None),
+        Err(_) => Err(SheetFault::NoMemory),
+    }
+}
+
+/// A sheet of the side over the list, with these opening words. Where they are none, they are out of place.
+fn begun_with(scene: &Scene, who: Side, opens: &[u8]) -> Result<Sheet, SheetFault> {
+    match read_words_in(scene.dialect, opens) {
+        Ok(words) => match scene.list.to_vec(scene.alloc) {
+            Ok(list) => Sheet::begin(scene.alloc, scene.dialect, who, list, Some(words)),
+            Err(_) => Err(SheetFault::NoMemory),
+        },
+        Err(_) => Err(SheetFault::OutOfPlace),
+    }
 }
 
 /// A sheet of the side over the list, with these opening words or with none.
-fn begun(scene: &Scene, who: Side, opens: &str) -> Result<Sheet, LineStop> {
-    let (alloc, d) = (scene.alloc, scene.dialect);
-    let list = scene.list.to_vec(alloc)?;
-    if opens == "none" {
-        return Ok(Sheet::begin(alloc, d, who, list, None)?);
+fn begun(scene: &Scene, who: Side, opens: &str) -> Result<Sheet, SheetFault> {
+    match opens {
+        "none" => begun_silent(scene, who),
+        _ => begun_with(scene, who, opens.as_bytes()),
     }
-    let words = read_words_in(d, opens.as_bytes())?;
-    Ok(Sheet::begin(alloc, d, who, list, Some(words))?)
 }
 
 /// Why a sheet cannot begin, or nothing.
-fn say_begun(scene: &Scene, who: Side, answer: &mut AnswerText) -> Result<(), LineStop> {
-    let list = scene.list.to_vec(scene.alloc)?;
-    match Sheet::begin(scene.alloc, scene.dialect, who, list, None) {
-        Ok(_) => Ok(()),
+fn say_begun(begun: Result<Sheet, SheetFault>, answer: &mut AnswerText) {
+    match begun {
+        Ok(_) => {}
         Err(SheetFault::Count) => answer.put(b"count"),
         Err(SheetFault::Differs(place)) => {
-            answer.put(b"differs ")?;
-            answer.digits(place as u64)
+            answer.put(b"differs ");
+            answer.digits(place as u64);
         }
-        Err(_) => Err(LineStop::Memory),
+        Err(fault) => answer.stop(LineStop::of_sheet(fault)),
     }
 }
 
-/// Adds an entry, and tells whether it is in place and whose turn it is then.
-fn enter(sheet: &mut Sheet, text: &str, turns: &mut AnswerText) -> Result<(), LineStop> {
-    turns.part(b"")?;
-    let line = read_line_in(sheet.dialect(), text.as_bytes())?;
-    match sheet.push(line) {
+/// Whether an entry is in place.
+fn say_pushed(pushed: Result<(), SheetFault>, turns: &mut AnswerText) {
+    match pushed {
         Ok(()) => {}
-        Err(SheetFault::OutOfPlace) => turns.put(b"out of place, ")?,
-        Err(_) => return Err(LineStop::Memory),
+        Err(SheetFault::OutOfPlace) => turns.put(b"out of place, "),
+        Err(_) => turns.lacks_memory(),
     }
-    turns.put(if sheet.is_over() {
+}
+
+/// Whose turn it is.
+fn turn_of(sheet: &Sheet) -> &'static [u8] {
+    if sheet.is_over() {
         b"over"
     } else if sheet.my_turn() {
         b"own"
     } else {
         b"other"
-    })
+    }
+}
+
+/// Adds an entry, and tells whether it is in place and whose turn it is then.
+fn enter(sheet: &mut Sheet, text: &str, turns: &mut AnswerText) {
+    turns.part(b"");
+    match read_line_in(sheet.dialect(), text.as_bytes()) {
+        Ok(line) => say_pushed(sheet.push(line), turns),
+        Err(_) => turns.unread(),
+    }
+    turns.put(turn_of(sheet));
+}
+
+/// Adds these entries, and tells whose turn it is behind each.
+fn enter_all(sheet: &mut Sheet, given: &mut Given, turns: &mut AnswerText) {
+    for _ in 0..given.parts("; ") {
+        enter(sheet, given.until("; "), turns);
+    }
 }
 
 /// The sheet over the list with these opening words and entries, and whose turn it is behind each.
-fn sheet_of(scene: &Scene, text: &str, turns: &mut AnswerText) -> Result<Sheet, LineStop> {
-    let (who, rest) = halves(text, " ")?;
-    let (opens, entries) = halves(rest, "; ")?;
-    let mut sheet = begun(scene, side_of(who)?, opens)?;
-    for entry in entries.split("; ") {
-        enter(&mut sheet, entry, turns)?;
-    }
+fn sheet_of(scene: &Scene, given: &mut Given, turns: &mut AnswerText) -> Result<Sheet, SheetFault> {
+    let mut sheet = begun(scene, given.side(), given.until("; "))?;
+    enter_all(&mut sheet, given, turns);
     Ok(sheet)
 }
 
-fn say_sheet(scene: &Scene, text: &str, answer: &mut AnswerText) -> Result<(), LineStop> {
-    let sheet = sheet_of(scene, text, &mut AnswerText::new(scene.alloc))?;
-    Ok(write_sheet(&sheet, &mut answer.text)?)
+/// Whose turn it is behind each entry.
+fn say_entered(scene: &Scene, given: &mut Given, answer: &mut AnswerText) {
+    match sheet_of(scene, given, answer) {
+        Ok(_) => {}
+        Err(fault) => answer.stop(LineStop::of_sheet(fault)),
+    }
+}
+
+/// The text of the sheet.
+fn say_sheet(scene: &Scene, given: &mut Given, answer: &mut AnswerText) {
+    let mut turns = AnswerText::new(scene.alloc);
+    match sheet_of(scene, given, &mut turns) {
+        Ok(sheet) => {
+            let done = write_sheet(&sheet, &mut answer.text);
+            answer.wrote(done);
+        }
+        Err(fault) => answer.stop(LineStop::of_sheet(fault)),
+    }
+    answer.stop_as(&turns);
 }
 
 /// The lines of a sheet that lists positions and says no more.
@@ -128,53 +190,82 @@ fn put_alone(scene: &Scene, who: Side, text: &mut Text) -> Result<(), NoMemory> 
     put_end(text)
 }
 
-fn say_list(scene: &Scene, who: Side, answer: &mut AnswerText) -> Result<(), LineStop> {
+fn say_list(scene: &Scene, who: Side, answer: &mut AnswerText) {
     let mut text = Text::after(&mut answer.text);
     let done = put_alone(scene, who, &mut text);
-    Ok(text.end(done, &mut answer.text)?)
+    let done = text.end(done, &mut answer.text);
+    answer.wrote(done);
 }
 
-/// The text of the least game behind each possible position of a sheet, made all at once and one by one.
-fn say_games(scene: &Scene, given: &str, answer: &mut AnswerText) -> Result<(), LineStop> {
-    let alloc = scene.alloc;
-    let (limit, text) = halves(given, " ")?;
-    let limit = count_of(limit)? as usize;
-    let sheet = read_sheet(alloc, &bytes_of(alloc, text)?).map_err(|_| LineStop::Unread)?;
-    write_games(
-        sheet.dialect(),
-        &why(alloc, &sheet, limit)?,
-        &mut answer.text,
-    )?;
-    let mut text = Vec::new(alloc);
-    write_games_of(
-        alloc,
-        sheet.dialect(),
-        &least_games(alloc, &sheet, limit)?,
-        &mut text,
-    )?;
-    if text.as_slice() == answer.told() {
-        Ok(())
-    } else {
-        Err(LineStop::Unread)
+/// Notes why there are no games.
+fn no_games(stop: WhyStop, answer: &mut AnswerText) {
+    match stop {
+        WhyStop::NoMemory => answer.lacks_memory(),
+        _ => answer.unread(),
     }
 }
 
-/// Answers a question about a game from the position, or about a sheet over the list.
-pub fn ask(
-    scene: &Scene,
-    mark: &str,
-    given: &str,
-    answer: &mut AnswerText,
-) -> Result<(), LineStop> {
+/// The text of the least games, made all at once.
+fn say_why(alloc: Global, sheet: &Sheet, limit: usize, answer: &mut AnswerText) {
+    match why(alloc, sheet, limit) {
+        Ok(games) => {
+            let done = write_games(sheet.dialect(), &games, &mut answer.text);
+            answer.wrote(done);
+        }
+        Err(stop) => no_games(stop, answer),
+    }
+}
+
+/// The text of the least games, made one by one.
+fn say_least(alloc: Global, sheet: &Sheet, limit: usize, answer: &mut AnswerText) {
+    match least_games(alloc, sheet, limit) {
+        Ok(games) => {
+            let done = write_games_of(alloc, sheet.dialect(), &games, &mut answer.text);
+            answer.wrote(done);
+        }
+        Err(stop) => no_games(stop, answer),
+    }
+}
+
+/// The text of the least game behind each possible position of a sheet, made in both ways alike.
+fn say_both(alloc: Global, sheet: &Sheet, limit: usize, answer: &mut AnswerText) {
+    say_why(alloc, sheet, limit, answer);
+    let mut again = AnswerText::new(alloc);
+    say_least(alloc, sheet, limit, &mut again);
+    answer.only_if_same(&again);
+}
+
+/// The same of the sheet that the text spells.
+fn say_games(alloc: Global, limit: usize, text: &[u8], answer: &mut AnswerText) {
+    match read_sheet(alloc, text) {
+        Ok(sheet) => say_both(alloc, &sheet, limit, answer),
+        Err(_) => answer.unread(),
+    }
+}
+
+/// Answers a question about a sheet over the list, or about one that is given.
+fn ask_sheet(scene: &Scene, mark: &str, given: &mut Given, answer: &mut AnswerText) {
+    match mark {
+        "begins" => say_begun(begun_silent(scene, given.side()), answer),
+        "entered" => say_entered(scene, given, answer),
+        "sheet" => say_sheet(scene, given, answer),
+        "list-alone" => say_list(scene, given.side(), answer),
+        "why" => say_games(
+            scene.alloc,
+            given.count() as usize,
+            &given.bytes(scene.alloc),
+            answer,
+        ),
+        _ => answer.unread(),
+    }
+}
+
+/// Answers a question about a game from the position, or about a sheet.
+pub fn ask(scene: &Scene, mark: &str, given: &mut Given, answer: &mut AnswerText) {
     match mark {
         "heard" => say_all_heard(scene, given, answer),
-        "stands" => answer.position(game_of(scene, given)?.position()),
+        "stands" => say_stand(scene, given, answer),
         "places" => say_places(scene, given, answer),
-        "begins" => say_begun(scene, side_of(given)?, answer),
-        "entered" => sheet_of(scene, given, answer).map(|_| ()),
-        "sheet" => say_sheet(scene, given, answer),
-        "list-alone" => say_list(scene, side_of(given)?, answer),
-        "why" => say_games(scene, given, answer),
-        _ => Err(LineStop::Unread),
+        _ => ask_sheet(scene, mark, given, answer),
     }
 }

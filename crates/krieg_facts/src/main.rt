@@ -12,6 +12,7 @@ mod answer;
 mod boards;
 mod facts;
 mod games;
+mod given;
 mod keys;
 mod moves;
 mod plans;
@@ -35,7 +36,7 @@ use std::process::ExitCode;
 use std::{env, fs, io};
 
 /// How a run ends.
-#[derive(Clone, Copy, PartialEq, Eq)]
+#[derive(Clone, Copy)]
 enum Ending {
     AllHold,
     SomeFail,
@@ -56,7 +57,7 @@ impl Ending {
 /// What the file holds, where it can be read and memory is found.
 fn found_in(rt: &HostRuntime, name: &str) -> Option<Progress> {
     let text = fs::read_to_string(rt, name).ok()?;
-    judge(rt.alloc(), text.as_str()).ok()
+    judge(rt.alloc(), text.as_str())
 }
 
 /// Prints what comes of a file.

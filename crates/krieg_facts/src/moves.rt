@@ -1,11 +1,9 @@
 // Facts of moves: which are legal, what they change, how many games there are, and how one ends.
 
 use crate::answer::AnswerText;
+use crate::given::Given;
 use crate::scene::Scene;
-use crate::stop::LineStop;
-use crate::terms::{move_of, small_of, square_of};
 use krieg_board::{Move, NoMemory, Position, Promo, Square, only};
-use krieg_fen::write_move;
 use krieg_moves::{
     Guard, after, after_if_legal, count_moves, has_move, has_move_by, in_check, is_en_passant,
     is_legal, is_mate, is_stalemate, legal_moves, passed_square, targets,
@@ -32,7 +30,7 @@ fn perft(alloc: Global, p: &Position, depth: u8, is_counted: bool) -> Result<u64
     Ok(total)
 }
 
-const PROMOS: [Promo; 5] = [
+static PROMOS: [Promo; 5] = [
     Promo::Plain,
     Promo::Queen,
     Promo::Rook,
@@ -40,11 +38,16 @@ const PROMOS: [Promo; 5] = [
     Promo::Knight,
 ];
 
+/// The square of that number, which counts on from the last one to the first.
+pub fn nth_square(number: usize) -> Square {
+    Square::new((number % 64) as u8).unwrap_or_default()
+}
+
 /// The move with that number among all 64 times 64 times 5 moves, in their order.
 fn nth_move(number: u16) -> Move {
     Move {
-        from: Square::new((number / 320 % 64) as u8).unwrap_or_default(),
-        to: Square::new((number / 5 % 64) as u8).unwrap_or_default(),
+        from: nth_square((number / 320) as usize),
+        to: nth_square((number / 5) as usize),
         promo: PROMOS[(number % 5) as usize],
     }
 }
@@ -62,36 +65,40 @@ fn has_the_legal_moves(p: &Position, listed: &[Move]) -> bool {
 }
 
 /// Moves as words.
-pub fn say_moves(moves: &[Move], answer: &mut AnswerText) -> Result<(), LineStop> {
+pub fn say_moves(moves: &[Move], answer: &mut AnswerText) {
     for mv in moves {
-        answer.word(b"")?;
-        write_move(*mv, &mut answer.text)?;
+        answer.word(b"");
+        answer.put_move(*mv);
     }
-    Ok(())
 }
 
 /// The legal moves, where they are the legal ones of all moves.
-fn say_listed(alloc: Global, p: &Position, answer: &mut AnswerText) -> Result<(), LineStop> {
-    let moves = legal_moves(alloc, p)?;
-    if !has_the_legal_moves(p, moves.as_slice()) {
-        return Err(LineStop::Unread);
+fn say_listed(alloc: Global, p: &Position, answer: &mut AnswerText) {
+    match legal_moves(alloc, p) {
+        Ok(moves) => {
+            answer.only_if(has_the_legal_moves(p, moves.as_slice()));
+            say_moves(moves.as_slice(), answer);
+        }
+        Err(_) => answer.lacks_memory(),
     }
-    say_moves(moves.as_slice(), answer)
+}
+
+/// Whether the legal move leads there, in each of the other ways to make it.
+fn leads_to(p: &Position, mv: &Move, found: &Position) -> bool {
+    is_legal(p, *mv)
+        && order(&make_move(p, *mv).position, found) == Ordering::Equal
+        && order(&after(p, *mv), found) == Ordering::Equal
 }
 
 /// The position after the move, where each way to make it gives the same.
-fn say_after(p: &Position, mv: &Move, answer: &mut AnswerText) -> Result<(), LineStop> {
-    let Some(found) = after_if_legal(p, *mv) else {
-        return answer.put(b"illegal");
-    };
-    if !is_legal(p, *mv) {
-        return Err(LineStop::Unread);
+fn say_after(p: &Position, mv: &Move, answer: &mut AnswerText) {
+    match after_if_legal(p, *mv) {
+        Some(found) => {
+            answer.only_if(leads_to(p, mv, &found));
+            answer.position(&found);
+        }
+        None => answer.put(b"illegal"),
     }
-    let made = make_move(p, *mv).position;
-    if order(&made, &found) != Ordering::Equal || order(&after(p, *mv), &found) != Ordering::Equal {
-        return Err(LineStop::Unread);
-    }
-    answer.position(&found)
 }
 
 /// The square of the pawn that the move would capture in passing.
@@ -103,58 +110,51 @@ fn passed_by(p: &Position, mv: &Move) -> u64 {
 }
 
 /// What holds of the side to move.
-fn say_state(p: &Position, answer: &mut AnswerText) -> Result<(), LineStop> {
-    let named: [(bool, &[u8]); 4] = [
-        (has_move(p), b"moves"),
-        (in_check(p), b"check"),
-        (is_mate(p), b"mate"),
-        (is_stalemate(p), b"stalemate"),
-    ];
-    for (holds, name) in named {
-        if holds {
-            answer.word(name)?;
-        }
-    }
-    Ok(())
+fn say_state(p: &Position, answer: &mut AnswerText) {
+    answer.word_if(has_move(p), b"moves");
+    answer.word_if(in_check(p), b"check");
+    answer.word_if(is_mate(p), b"mate");
+    answer.word_if(is_stalemate(p), b"stalemate");
 }
 
 /// The king's square and then those of his pinned men.
-fn say_guard(p: &Position, answer: &mut AnswerText) -> Result<(), LineStop> {
+fn say_guard(p: &Position, answer: &mut AnswerText) {
     let guard = Guard::of(p);
-    let king = Square::new(guard.king).ok_or(LineStop::Unread)?;
-    answer.squares(only(king.number()))?;
-    answer.squares(guard.pinned)
+    match Square::new(guard.king) {
+        Some(king) => answer.square(king),
+        None => answer.unread(),
+    }
+    answer.squares(guard.pinned);
 }
 
 /// Where a man may go, where the guard and the list agree about whether there is a move.
-fn targets_of(p: &Position, from: Square) -> Result<u64, LineStop> {
+fn say_targets(p: &Position, from: Square, answer: &mut AnswerText) {
     let guard = Guard::of(p);
-    if has_move_by(p, &guard) == has_move(p) {
-        Ok(targets(p, &guard, from))
-    } else {
-        Err(LineStop::Unread)
+    answer.only_if(has_move_by(p, &guard) == has_move(p));
+    answer.squares(targets(p, &guard, from));
+}
+
+/// Answers a question about the position alone.
+fn ask_position(alloc: Global, p: &Position, mark: &str, answer: &mut AnswerText) {
+    match mark {
+        "moves" => answer.number(count_moves(p) as u64),
+        "listed" => say_listed(alloc, p, answer),
+        "state" => say_state(p, answer),
+        "guard" => say_guard(p, answer),
+        _ => answer.unread(),
     }
 }
 
 /// Answers a question about the moves of the position.
-pub fn ask(
-    scene: &Scene,
-    mark: &str,
-    given: &str,
-    answer: &mut AnswerText,
-) -> Result<(), LineStop> {
+pub fn ask(scene: &Scene, mark: &str, given: &mut Given, answer: &mut AnswerText) {
     let (alloc, p) = (scene.alloc, &scene.position);
     match mark {
-        "moves" => answer.number(count_moves(p) as u64),
-        "listed" => say_listed(alloc, p, answer),
-        "legal" => answer.yes_or_no(is_legal(p, move_of(given)?)),
-        "after" => say_after(p, &move_of(given)?, answer),
-        "passed" => answer.squares(passed_by(p, &move_of(given)?)),
-        "state" => say_state(p, answer),
-        "guard" => say_guard(p, answer),
-        "targets" => answer.squares(targets_of(p, square_of(given)?)?),
-        "perft" => answer.number(perft(alloc, p, small_of(given)?, false)?),
-        "perft-by-count" => answer.number(perft(alloc, p, small_of(given)?, true)?),
-        _ => Err(LineStop::Unread),
+        "legal" => answer.yes_or_no(is_legal(p, given.try_move())),
+        "after" => say_after(p, &given.try_move(), answer),
+        "passed" => answer.squares(passed_by(p, &given.try_move())),
+        "targets" => say_targets(p, given.square(), answer),
+        "perft" => answer.number_found(perft(alloc, p, given.small(), false)),
+        "perft-by-count" => answer.number_found(perft(alloc, p, given.small(), true)),
+        _ => ask_position(alloc, p, mark, answer),
     }
 }

@@ -2,194 +2,230 @@
 // refutation holds.
 
 use crate::answer::AnswerText;
+use crate::given::Given;
 use crate::scene::Scene;
-use crate::sets::say_members;
-use crate::stop::LineStop;
-use crate::terms::{halves, number_of, small_of};
-use krieg_board::{MOST_MOVES, Side, Units};
-use krieg_fen::write_move;
-use krieg_pack::pack;
-use krieg_refute::{Claim, Denied, DenyStop, Reason, Refutation, RefuteStop, Why, deny, refute};
+use crate::sets::{add_packed, say_members};
+use crate::words::say_told;
+use krieg_board::{MOST_MOVES, Position, Side, Units};
+use krieg_pack::Belief;
+use krieg_refute::{
+    Claim, Denied, DenyStop, PackedKey, Reason, Refutation, RefuteStop, Why, deny, refute,
+};
 use krieg_search::has_one_turn;
-use krieg_words::{Words, told, write_words_in};
 
 /// So many units are enough for each claim that is told.
 const ENOUGH: u64 = 50_000_000;
 
-/// What is answered of the set, for so many units at most.
+/// What is answered of the set, for so many units at most, where it can be asked.
 fn refuted(
     scene: &Scene,
+    b: &Belief,
     moves: u8,
     units: &mut Units,
-) -> Result<Result<Denied, RefuteStop>, LineStop> {
-    let b = &scene.belief()?;
+) -> Option<Result<Denied, RefuteStop>> {
     if moves == 0 || moves > MOST_MOVES {
-        return Err(LineStop::Unread);
+        return None;
     }
     if !has_one_turn(b) {
-        return Err(LineStop::Unread);
+        return None;
     }
-    Ok(refute(scene.alloc, scene.dialect, b, moves, units))
+    Some(refute(scene.alloc, scene.dialect, b, moves, units))
 }
 
 /// The claims that no plan mates within so many moves.
-fn claims_of(scene: &Scene, moves: u8) -> Result<Vec<Claim>, LineStop> {
-    match refuted(scene, moves, &mut Units::new(ENOUGH))? {
-        Ok(Denied::Denial(claims)) => Ok(claims),
-        _ => Err(LineStop::Unread),
+fn claims_of(scene: &Scene, b: &Belief, moves: u8, answer: &mut AnswerText) -> Vec<Claim> {
+    match refuted(scene, b, moves, &mut Units::new(ENOUGH)) {
+        Some(Ok(Denied::Denial(claims))) => claims,
+        _ => {
+            answer.unread();
+            Vec::new(scene.alloc)
+        }
+    }
+}
+
+/// The side to move in the first position.
+fn side_of(list: &[Position]) -> Side {
+    match list.first() {
+        Some(p) => p.side(),
+        None => Side::White,
     }
 }
 
 /// The refutation of the list by these claims.
-fn refutation_of(scene: &Scene, moves: u8) -> Result<Refutation, LineStop> {
-    Ok(Refutation {
+fn refutation_of(
+    scene: &Scene,
+    moves: u8,
+    claims: Vec<Claim>,
+    answer: &mut AnswerText,
+) -> Refutation {
+    let mut list = Vec::new(scene.alloc);
+    answer.wrote(add_packed(&scene.list, &mut list));
+    Refutation {
         dialect: scene.dialect,
-        side: scene.list.first().map_or(Side::White, |p| p.side()),
+        side: side_of(&scene.list),
         moves,
-        list: scene.list.iter().map(|p| pack(p)).collect(scene.alloc)?,
-        claims: claims_of(scene, moves)?,
-    })
+        list,
+        claims,
+    }
 }
 
 /// How many claims there are, and how many positions and reasons they have in all.
-fn say_sizes(claims: &[Claim], answer: &mut AnswerText) -> Result<(), LineStop> {
+fn say_sizes(claims: &[Claim], answer: &mut AnswerText) {
     let mut positions = 0u64;
     let mut reasons = 0u64;
     for c in claims {
         positions = positions.saturating_add(c.set.len() as u64);
         reasons = reasons.saturating_add(c.reasons.len() as u64);
     }
-    answer.number(claims.len() as u64)?;
-    answer.number(positions)?;
-    answer.number(reasons)
+    answer.number(claims.len() as u64);
+    answer.number(positions);
+    answer.number(reasons);
 }
 
-fn say_refuted(found: Result<Denied, RefuteStop>, answer: &mut AnswerText) -> Result<(), LineStop> {
-    match found {
-        Ok(Denied::Denial(claims)) => say_sizes(&claims, answer),
-        Ok(Denied::Exists) => answer.put(b"a plan exists"),
-        Err(RefuteStop::Spent) => answer.put(b"spent"),
-        Err(RefuteStop::Large) => answer.put(b"large"),
-        Err(RefuteStop::NoMemory) => Err(LineStop::Memory),
+fn say_denied(denied: &Denied, answer: &mut AnswerText) {
+    match denied {
+        Denied::Denial(claims) => say_sizes(claims, answer),
+        Denied::Exists => answer.put(b"a plan exists"),
     }
 }
 
-/// The units that an answer takes, or an error.
-fn taken(scene: &Scene, moves: u8, most: u64) -> Result<u64, LineStop> {
+fn say_stop(stop: RefuteStop, answer: &mut AnswerText) {
+    match stop {
+        RefuteStop::Spent => answer.put(b"spent"),
+        RefuteStop::Large => answer.put(b"large"),
+        RefuteStop::NoMemory => answer.lacks_memory(),
+    }
+}
+
+/// What is answered of the set, for so many units at most.
+fn say_refuted(scene: &Scene, b: &Belief, moves: u8, most: u64, answer: &mut AnswerText) {
+    match refuted(scene, b, moves, &mut Units::new(most)) {
+        Some(Ok(denied)) => say_denied(&denied, answer),
+        Some(Err(stop)) => say_stop(stop, answer),
+        None => answer.unread(),
+    }
+}
+
+/// The units that an answer takes.
+fn say_taken(scene: &Scene, b: &Belief, moves: u8, most: u64, answer: &mut AnswerText) {
     let mut units = Units::new(most);
-    let _found = refuted(scene, moves, &mut units)?;
-    Ok(most.saturating_sub(units.left()))
+    answer.only_if(refuted(scene, b, moves, &mut units).is_some());
+    answer.number(most.saturating_sub(units.left()));
+}
+
+/// Whether a refutation holds.
+fn say_holds(holds: Result<bool, DenyStop>, answer: &mut AnswerText) {
+    match holds {
+        Ok(true) => answer.put(b"holds"),
+        Ok(false) => answer.put(b"fails"),
+        Err(DenyStop::Spent) => answer.put(b"spent"),
+        Err(DenyStop::NoMemory) => answer.lacks_memory(),
+    }
 }
 
 /// Whether the refutation holds, and the units that it takes to look.
-fn ask_denied(
-    scene: &Scene,
-    f: &Refutation,
-    most: u64,
-    answer: &mut AnswerText,
-) -> Result<(), LineStop> {
+fn say_looked(scene: &Scene, f: &Refutation, most: u64, answer: &mut AnswerText) {
     let mut units = Units::new(most);
-    match deny(scene.alloc, f, &mut units) {
-        Ok(true) => answer.put(b"holds")?,
-        Ok(false) => answer.put(b"fails")?,
-        Err(DenyStop::Spent) => answer.put(b"spent")?,
-        Err(DenyStop::NoMemory) => return Err(LineStop::Memory),
-    }
-    answer.part(b"")?;
-    answer.digits(most.saturating_sub(units.left()))
+    say_holds(deny(scene.alloc, f, &mut units), answer);
+    answer.part(b"");
+    answer.digits(most.saturating_sub(units.left()));
 }
 
-/// What is heard in a class.
-fn say_heard(
-    scene: &Scene,
-    own: Words,
-    reply: Words,
-    answer: &mut AnswerText,
-) -> Result<(), LineStop> {
-    let d = scene.dialect;
-    write_words_in(d, told(d, own), &mut answer.text)?;
-    answer.put(b" / ")?;
-    Ok(write_words_in(d, told(d, reply), &mut answer.text)?)
+/// Whether the refutation by the claims that are written holds.
+fn ask_denied(scene: &Scene, b: &Belief, moves: u8, most: u64, answer: &mut AnswerText) {
+    let claims = claims_of(scene, b, moves, answer);
+    let f = refutation_of(scene, moves, claims, answer);
+    say_looked(scene, &f, most, answer);
 }
 
-fn say_why(scene: &Scene, why: Why, answer: &mut AnswerText) -> Result<(), LineStop> {
+/// The same where the last claim lacks its last reason.
+fn ask_denied_without(scene: &Scene, b: &Belief, moves: u8, most: u64, answer: &mut AnswerText) {
+    let mut claims = claims_of(scene, b, moves, answer);
+    drop_reason(&mut claims);
+    let f = refutation_of(scene, moves, claims, answer);
+    say_looked(scene, &f, most, answer);
+}
+
+/// What is heard in a class, and the number of its claim.
+fn say_class(scene: &Scene, heard: PackedKey, place: u16, answer: &mut AnswerText) {
+    let (own, reply) = heard.words();
+    answer.put(b"class ");
+    say_told(scene.dialect, own, answer);
+    answer.put(b" / ");
+    say_told(scene.dialect, reply, answer);
+    answer.number(u64::from(place));
+}
+
+fn say_why(scene: &Scene, why: Why, answer: &mut AnswerText) {
     match why {
         Why::Lives => answer.put(b"lives"),
         Why::Stale => answer.put(b"stale"),
-        Why::Class(heard, place) => {
-            let (own, reply) = heard.words();
-            answer.put(b"class ")?;
-            say_heard(scene, own, reply, answer)?;
-            answer.number(u64::from(place))
-        }
+        Why::Class(heard, place) => say_class(scene, heard, place, answer),
         Why::Refused(place) => {
-            answer.put(b"refused")?;
-            answer.number(u64::from(place))
+            answer.put(b"refused");
+            answer.number(u64::from(place));
         }
     }
 }
 
-fn say_reasons(scene: &Scene, reasons: &[Reason], answer: &mut AnswerText) -> Result<(), LineStop> {
+fn say_reasons(scene: &Scene, reasons: &[Reason], answer: &mut AnswerText) {
     for r in reasons {
-        answer.part(b"")?;
-        write_move(r.mv, &mut answer.text)?;
-        answer.word(b"")?;
-        say_why(scene, r.why, answer)?;
+        answer.part(b"");
+        answer.put_move(r.mv);
+        answer.word(b"");
+        say_why(scene, r.why, answer);
     }
-    Ok(())
+}
+
+/// The number of moves and the set of a claim.
+fn say_claim(scene: &Scene, c: &Claim, answer: &mut AnswerText) {
+    answer.number(u64::from(c.moves));
+    answer.part(b"");
+    say_members(scene, &c.set, answer);
 }
 
 /// The number of moves and the set of a claim, or its reasons.
-fn ask_claim(
-    scene: &Scene,
-    mark: &str,
-    c: &Claim,
-    answer: &mut AnswerText,
-) -> Result<(), LineStop> {
+fn ask_claim(scene: &Scene, mark: &str, c: &Claim, answer: &mut AnswerText) {
     match mark {
-        "claim" => {
-            answer.number(u64::from(c.moves))?;
-            answer.part(b"")?;
-            say_members(scene, &c.set, answer)
-        }
+        "claim" => say_claim(scene, c, answer),
         "reasons" => say_reasons(scene, &c.reasons, answer),
-        _ => Err(LineStop::Unread),
+        _ => answer.unread(),
+    }
+}
+
+/// The same of the claim with that number, from 1 on.
+fn ask_claims(scene: &Scene, mark: &str, claims: &[Claim], number: u64, answer: &mut AnswerText) {
+    match claims.get(number.saturating_sub(1) as usize) {
+        Some(claim) => ask_claim(scene, mark, claim, answer),
+        None => answer.unread(),
     }
 }
 
 /// Takes the last reason of the last claim away.
-fn drop_reason(f: &mut Refutation) {
-    if let Some(last) = f.claims.last_mut() {
+fn drop_reason(claims: &mut [Claim]) {
+    if let Some(last) = claims.last_mut() {
         last.reasons.pop();
     }
 }
 
-/// Answers a question about claims.
-pub fn ask(
-    scene: &Scene,
-    mark: &str,
-    given: &str,
-    answer: &mut AnswerText,
-) -> Result<(), LineStop> {
-    let (moves, rest) = halves(given, " ")?;
-    let moves = small_of(moves)?;
-    let number = number_of(rest)?;
+/// Answers a question about claims that no plan mates within so many moves, by a number.
+fn ask_set(scene: &Scene, b: &Belief, mark: &str, moves: u8, number: u64, answer: &mut AnswerText) {
     match mark {
-        "refute" => say_refuted(refuted(scene, moves, &mut Units::new(number))?, answer),
-        "refute-took" => answer.number(taken(scene, moves, number)?),
-        "deny" => ask_denied(scene, &refutation_of(scene, moves)?, number, answer),
-        "deny-without-a-reason" => {
-            let mut f = refutation_of(scene, moves)?;
-            drop_reason(&mut f);
-            ask_denied(scene, &f, number, answer)
-        }
+        "refute" => say_refuted(scene, b, moves, number, answer),
+        "refute-took" => say_taken(scene, b, moves, number, answer),
+        "deny" => ask_denied(scene, b, moves, number, answer),
+        "deny-without-a-reason" => ask_denied_without(scene, b, moves, number, answer),
         _ => {
-            let claims = claims_of(scene, moves)?;
-            let place = number.saturating_sub(1) as usize;
-            match claims.get(place) {
-                Some(claim) => ask_claim(scene, mark, claim, answer),
-                None => Err(LineStop::Unread),
-            }
+            let claims = claims_of(scene, b, moves, answer);
+            ask_claims(scene, mark, &claims, number, answer);
         }
+    }
+}
+
+/// Answers a question about claims.
+pub fn ask(scene: &Scene, mark: &str, given: &mut Given, answer: &mut AnswerText) {
+    match scene.belief() {
+        Ok(b) => ask_set(scene, &b, mark, given.small(), given.number(), answer),
+        Err(_) => answer.lacks_memory(),
     }
 }

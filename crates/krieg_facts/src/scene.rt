@@ -1,18 +1,18 @@
 // What the facts are about.
 
-use crate::stop::LineStop;
-use crate::terms::{count_of, first_word, square_of, with_men};
+use crate::given::Given;
+use crate::terms::with_men;
 use krieg_board::{Bits, NoMemory, Position};
 use krieg_fen::read_position;
 use krieg_make::made_sheet;
 use krieg_moves::{after, is_legal, legal_moves};
 use krieg_pack::{Belief, order};
-use krieg_words::{Dialect, Words, read_dialect, read_words_in};
+use krieg_words::{Dialect, read_dialect};
 use std::alloc::Global;
 use std::cmp::Ordering;
 
 /// Where a game begins.
-const START: &[u8] = b"rnbqkbnr/pppppppp/8/8/8/8/PPPPPPPP/RNBQKBNR w KQkq -";
+pub const START: &[u8] = b"rnbqkbnr/pppppppp/8/8/8/8/PPPPPPPP/RNBQKBNR w KQkq -";
 
 /// A position that has a name.
 #[derive(Drop)]
@@ -35,38 +35,63 @@ pub struct Scene {
 }
 
 impl Scene {
-    /// The start of a game, in wild16.
-    pub fn new(alloc: Global) -> Result<Scene, LineStop> {
-        let start = read_position(START)?;
-        Ok(Scene {
+    /// The position alone, in wild16.
+    pub fn new(alloc: Global, position: Position) -> Scene {
+        Scene {
             alloc,
             dialect: Dialect::Wild16,
-            bits: *start.bits(),
-            position: start,
+            bits: *position.bits(),
+            position,
             named: Vec::new(alloc),
             list: Vec::new(alloc),
-        })
+        }
+    }
+
+    /// The position that has the name.
+    fn position_named(&self, name: &str) -> Option<Position> {
+        for named in &self.named {
+            if named.name.as_str() == name {
+                return Some(named.position);
+            }
+        }
+        None
     }
 
     /// The position that has the name, or that the text spells.
-    pub fn position_of(&self, text: &str) -> Result<Position, LineStop> {
-        for named in &self.named {
-            if named.name.as_str() == text {
-                return Ok(named.position);
-            }
+    pub fn position_in(&self, text: &str, given: &mut Given) -> Position {
+        match self.position_named(text) {
+            Some(p) => p,
+            None => self.spelled_in(text, given),
         }
-        Ok(read_position(text.as_bytes())?)
     }
 
-    /// The positions of these names.
-    fn positions_of(&self, names: &str) -> Result<Vec<Position>, LineStop> {
-        let mut list = Vec::new(self.alloc);
-        if names != "none" {
-            for name in names.split(' ') {
-                list.push(self.position_of(name)?)?;
+    /// The position that the text spells.
+    fn spelled_in(&self, text: &str, given: &mut Given) -> Position {
+        match read_position(text.as_bytes()) {
+            Ok(p) => p,
+            Err(_) => {
+                given.unread();
+                self.position
             }
         }
-        Ok(list)
+    }
+
+    /// Adds the positions of these names.
+    fn add_positions(&self, given: &mut Given, to: &mut Vec<Position>) -> Result<(), NoMemory> {
+        for _ in 0..given.words() {
+            to.push(self.position_in(given.word(), given))?;
+        }
+        Ok(())
+    }
+
+    /// The positions that the rest names.
+    fn positions_of(&self, given: &mut Given) -> Vec<Position> {
+        let mut list = Vec::new(self.alloc);
+        if !given.is_none() {
+            let done = self.add_positions(given, &mut list);
+            given.took(done);
+        }
+        list
     }
 
     /// The name of a position that has one.
@@ -79,19 +104,14 @@ impl Scene {
         None
     }
 
-    /// The set of these positions.
-    pub fn set_of(&self, names: &str) -> Result<Belief, LineStop> {
-        Ok(Belief::from_positions(self.alloc, &self.positions_of(names)?)?)
+    /// The set of the positions that the rest names.
+    pub fn set_of(&self, given: &mut Given) -> Result<Belief, NoMemory> {
+        Belief::from_positions(self.alloc, &self.positions_of(given))
     }
 
     /// The set of the positions that are listed.
-    pub fn belief(&self) -> Result<Belief, LineStop> {
-        Ok(Belief::from_positions(self.alloc, &self.list)?)
-    }
-
-    /// The words of a text in the dialect.
-    pub fn words_of(&self, text: &str) -> Result<Words, LineStop> {
-        Ok(read_words_in(self.dialect, text.as_bytes())?)
+    pub fn belief(&self) -> Result<Belief, NoMemory> {
+        Belief::from_positions(self.alloc, &self.list)
     }
 }
 
@@ -106,71 +126,97 @@ fn add_next(alloc: Global, p: &Position, to: &mut Vec<Position>) -> Result<(), N
 }
 
 /// The positions that are one legal move further, one for each game.
-fn next_positions(alloc: Global, list: &[Position]) -> Result<Vec<Position>, NoMemory> {
+fn next_positions(alloc: Global, list: &[Position], given: &mut Given) -> Vec<Position> {
     let mut next = Vec::new(alloc);
     for p in list {
-        add_next(alloc, p, &mut next)?;
+        given.took(add_next(alloc, p, &mut next));
     }
-    Ok(next)
+    next
+}
+
+/// The positions of a made sheet.
+fn made_positions(alloc: Global, number: u32) -> Result<Vec<Position>, NoMemory> {
+    let sheet = made_sheet(alloc, number)?;
+    Ok(sheet.list().to_vec(alloc)?)
+}
+
+fn dialect_of(given: &mut Given) -> Dialect {
+    match read_dialect(given.rest().as_bytes()) {
+        Some(d) => d,
+        None => {
+            given.unread();
+            Dialect::Wild16
+        }
+    }
 }
 
 /// Lines that set what stands.
 impl Scene {
     /// Names a position.
-    fn add_named(&mut self, text: &str) -> Result<(), LineStop> {
-        let (name, fen) = first_word(text);
-        let position = read_position(fen.as_bytes())?;
+    fn add_named(&mut self, name: &str, position: Position) -> Result<(), NoMemory> {
         let name = String::from_str(self.alloc, name)?;
         Ok(self.named.push(NamedPosition { name, position })?)
     }
 
-    fn set_position(&mut self, text: &str) -> Result<(), LineStop> {
-        self.position = self.position_of(text)?;
+    fn set_name(&mut self, given: &mut Given) {
+        let name = given.word();
+        let position = self.spelled_in(given.rest(), given);
+        given.took(self.add_named(name, position));
+    }
+
+    fn set_position(&mut self, given: &mut Given) {
+        self.position = self.position_in(given.rest(), given);
         self.bits = *self.position.bits();
-        Ok(())
     }
 
     /// The board that a line makes of the one that stands.
-    fn board_of(&self, mark: &str, given: &str) -> Result<Bits, LineStop> {
+    fn board_of(&self, mark: &str, given: &mut Given) -> Bits {
         match mark {
             "board" => with_men(&Bits::from_board(&[None; 64]), given),
             "put" => with_men(&self.bits, given),
-            _ => Ok(self.bits.with(square_of(given)?.number(), None)),
+            _ => self.bits.with(given.square().number(), None),
         }
     }
 
-    /// All positions behind games of so many moves.
-    fn behind(&self, plies: u32) -> Result<Vec<Position>, LineStop> {
-        let mut list = vec![in self.alloc; self.position]?;
+    /// Lists all positions behind games of so many moves.
+    fn set_behind(&mut self, plies: u32, given: &mut Given) -> Result<(), NoMemory> {
+        self.list = vec![in self.alloc; self.position]?;
         for _ in 0..plies {
-            list = next_positions(self.alloc, &list)?;
+            self.list = next_positions(self.alloc, &self.list, given);
         }
-        Ok(list)
+        Ok(())
     }
 
-    /// The positions that a line lists.
-    fn list_of(&self, mark: &str, given: &str) -> Result<Vec<Position>, LineStop> {
+    /// Lists the positions of a made sheet.
+    fn set_made(&mut self, number: u32) -> Result<(), NoMemory> {
+        self.list = made_positions(self.alloc, number)?;
+        Ok(())
+    }
+
+    /// Takes a line that lists positions.
+    fn set_list(&mut self, mark: &str, given: &mut Given) {
         match mark {
-            "members" => self.positions_of(given),
-            "behind" => self.behind(count_of(given)?),
-            _ => Ok(
-                made_sheet(self.alloc, count_of(given)?)?
-                    .list()
-                    .to_vec(self.alloc)?,
-            ),
+            "members" => self.list = self.positions_of(given),
+            "behind" => {
+                let done = self.set_behind(given.count(), given);
+                given.took(done);
+            }
+            "made" => {
+                let done = self.set_made(given.count());
+                given.took(done);
+            }
+            _ => given.unread(),
         }
     }
 
     /// Takes a line that sets what stands.
-    pub fn set(&mut self, mark: &str, given: &str) -> Result<(), LineStop> {
+    pub fn set(&mut self, mark: &str, given: &mut Given) {
         match mark {
-            "dialect" => self.dialect = read_dialect(given.as_bytes()).ok_or(LineStop::Unread)?,
-            "position" => self.set_position(given)?,
-            "name" => self.add_named(given)?,
-            "board" | "put" | "take" => self.bits = self.board_of(mark, given)?,
-            "members" | "behind" | "made" => self.list = self.list_of(mark, given)?,
-            _ => return Err(LineStop::Unread),
+            "dialect" => self.dialect = dialect_of(given),
+            "position" => self.set_position(given),
+            "name" => self.set_name(given),
+            "board" | "put" | "take" => self.bits = self.board_of(mark, given),
+            _ => self.set_list(mark, given),
         }
-        Ok(())
     }
 }

@@ -1,12 +1,11 @@
 // Facts of searches of the set of the positions that are listed: what they come to, and the units that they take.
 
 use crate::answer::AnswerText;
+use crate::given::Given;
 use crate::keys::say_keys;
 use crate::scene::Scene;
 use crate::shares::say_share;
-use crate::stop::LineStop;
-use crate::terms::{count_of, halves, number_of, side_of, small_of};
-use krieg_board::{MOST_MOVES, Side, Units};
+use krieg_board::{MOST_MOVES, Position, Side, Units};
 use krieg_checker::has_one_turn as lists_one_turn;
 use krieg_pack::Belief;
 use krieg_plan::{Plan, PlanFile};
@@ -19,6 +18,8 @@ enum SearchResult {
     None,
     Spent,
     Large,
+    /// Memory was not found, or nothing that can be searched was asked for: the answer is stopped.
+    Stopped,
 }
 
 /// What a search comes to, and the units that it takes.
@@ -40,22 +41,31 @@ struct Task {
     nodes: usize,
 }
 
-fn came_of(answer: Result<Solved, SearchStop>) -> Result<SearchResult, LineStop> {
+fn came_of(answer: Result<Solved, SearchStop>, said: &mut AnswerText) -> SearchResult {
     match answer {
-        Ok(Solved::Mates { worst, .. }) => Ok(SearchResult::Mates(worst)),
-        Ok(Solved::None) => Ok(SearchResult::None),
-        Err(SearchStop::Spent) => Ok(SearchResult::Spent),
-        Err(SearchStop::Large) => Ok(SearchResult::Large),
-        Err(SearchStop::NoMemory) => Err(LineStop::Memory),
+        Ok(Solved::Mates { worst, .. }) => SearchResult::Mates(worst),
+        Ok(Solved::None) => SearchResult::None,
+        Err(SearchStop::Spent) => SearchResult::Spent,
+        Err(SearchStop::Large) => SearchResult::Large,
+        Err(SearchStop::NoMemory) => {
+            said.lacks_memory();
+            SearchResult::Stopped
+        }
     }
 }
 
-fn search(scene: &Scene, task: Task, b: &Belief, most: u64) -> Result<Outcome, LineStop> {
+/// What comes of a search that cannot be asked for.
+fn stopped(said: &mut AnswerText) -> Outcome {
+    said.unread();
+    (SearchResult::Stopped, 0)
+}
+
+fn search(scene: &Scene, task: Task, b: &Belief, most: u64, said: &mut AnswerText) -> Outcome {
     if task.moves > MOST_MOVES {
-        return Err(LineStop::Unread);
+        return stopped(said);
     }
     if !has_one_turn(b) {
-        return Err(LineStop::Unread);
+        return stopped(said);
     }
     let Scene { alloc, dialect, .. } = scene;
     let Task {
@@ -69,124 +79,132 @@ fn search(scene: &Scene, task: Task, b: &Belief, most: u64) -> Result<Outcome, L
         SearchCall::Solve => solve(*alloc, *dialect, who, b, moves, nodes, &mut units),
         SearchCall::Find => find(*alloc, *dialect, who, b, moves, nodes, &mut units),
     };
-    Ok((came_of(answer)?, most.saturating_sub(units.left())))
+    (came_of(answer, said), most.saturating_sub(units.left()))
+}
+
+/// Whether a search with so many units is spent, and takes none.
+fn is_spent(scene: &Scene, task: Task, b: &Belief, most: u64, said: &mut AnswerText) -> bool {
+    match search(scene, task, b, most, said) {
+        (SearchResult::Spent, took) => took == 0,
+        _ => false,
+    }
 }
 
 /// What the search comes to with what is fresh, where it takes units from the floor on; with just so many comes to
 /// the same; and with one less, and with less than the floor, is spent and takes none.
-fn came_between(
+fn say_between(
     scene: &Scene,
     task: Task,
+    b: &Belief,
     floor: u64,
     fresh: u64,
-) -> Result<SearchResult, LineStop> {
-    let b = &scene.belief()?;
-    let enough = search(scene, task, b, fresh)?;
+    answer: &mut AnswerText,
+) {
+    let enough = search(scene, task, b, fresh, answer);
     let (came, took) = enough;
-    let is_exact = floor <= took && search(scene, task, b, took)? == enough;
-    let few = search(scene, task, b, took.saturating_sub(1))?;
-    let fewer = search(scene, task, b, floor.saturating_sub(1))?;
-    if is_exact && few == (SearchResult::Spent, 0) && fewer == few {
-        Ok(came)
-    } else {
-        Err(LineStop::Unread)
+    let again = search(scene, task, b, took, answer);
+    let is_spent_short = is_spent(scene, task, b, took.saturating_sub(1), answer);
+    let is_spent_below = is_spent(scene, task, b, floor.saturating_sub(1), answer);
+    answer.only_if(floor <= took && again == enough && is_spent_short && is_spent_below);
+    say_came(came, answer);
+}
+
+/// The side, the moves and the nodes of a search by that call.
+fn task_of(call: SearchCall, given: &mut Given) -> Task {
+    Task {
+        call,
+        who: given.side(),
+        moves: given.small(),
+        nodes: given.count() as usize,
     }
 }
 
-/// The side, the moves and the nodes of a search by that call, and what stands behind them.
-fn task_of(call: SearchCall, text: &str) -> Result<(Task, &str), LineStop> {
-    let (who, rest) = halves(text, " ")?;
-    let (moves, rest) = halves(rest, " ")?;
-    let (nodes, rest) = halves(rest, " ")?;
-    let task = Task {
-        call,
-        who: side_of(who)?,
-        moves: small_of(moves)?,
-        nodes: count_of(nodes)? as usize,
-    };
-    Ok((task, rest))
-}
-
-fn say_came(came: SearchResult, answer: &mut AnswerText) -> Result<(), LineStop> {
+fn say_came(came: SearchResult, answer: &mut AnswerText) {
     match came {
         SearchResult::Mates(worst) => {
-            answer.put(b"mates ")?;
-            answer.digits(u64::from(worst))
+            answer.put(b"mates ");
+            answer.digits(u64::from(worst));
         }
         SearchResult::None => answer.put(b"no plan"),
         SearchResult::Spent => answer.put(b"spent"),
         SearchResult::Large => answer.put(b"large"),
+        SearchResult::Stopped => {}
     }
 }
 
-/// What a search with so many units comes to, and those that it takes.
-fn searched(scene: &Scene, task: Task, most: &str) -> Result<Outcome, LineStop> {
-    search(scene, task, &scene.belief()?, number_of(most)?)
+/// What a search with so many units comes to.
+fn say_searched(scene: &Scene, task: Task, b: &Belief, most: u64, answer: &mut AnswerText) {
+    let (came, _) = search(scene, task, b, most, answer);
+    say_came(came, answer);
 }
 
-/// What a search comes to, where its units are between two numbers.
-fn say_between(
-    scene: &Scene,
-    task: Task,
-    text: &str,
-    answer: &mut AnswerText,
-) -> Result<(), LineStop> {
-    let (floor, fresh) = halves(text, " ")?;
-    say_came(
-        came_between(scene, task, number_of(floor)?, number_of(fresh)?)?,
-        answer,
-    )
+/// The units that a search takes, of so many.
+fn say_took(scene: &Scene, task: Task, b: &Belief, most: u64, answer: &mut AnswerText) {
+    let (_, took) = search(scene, task, b, most, answer);
+    answer.number(took);
 }
 
-/// Whether the same side is to move in all listed positions, asked of their set and of a plan file that lists them.
-fn is_one_turn(scene: &Scene) -> Result<bool, LineStop> {
+/// Whether the same side is to move in all positions, where the set and a plan file that lists them say the same.
+fn say_turn(scene: &Scene, list: Vec<Position>, b: &Belief, answer: &mut AnswerText) {
     let file = PlanFile {
         dialect: scene.dialect,
         side: Side::White,
-        list: scene.list.to_vec(scene.alloc)?,
+        list,
         worst: 1,
         plan: Plan::make(Vec::new(scene.alloc)),
     };
-    let is_one = has_one_turn(&scene.belief()?);
-    if lists_one_turn(&file) == is_one {
-        Ok(is_one)
-    } else {
-        Err(LineStop::Unread)
-    }
+    let is_one = has_one_turn(b);
+    answer.only_if(lists_one_turn(&file) == is_one);
+    answer.yes_or_no(is_one);
 }
 
-/// Answers a question about a search, about keys, about a strategy, or about whose turn it is.
-pub fn ask(
-    scene: &Scene,
-    mark: &str,
-    given: &str,
-    answer: &mut AnswerText,
-) -> Result<(), LineStop> {
-    match mark {
-        "one-turn" => answer.yes_or_no(is_one_turn(scene)?),
-        "keys" => say_keys(scene, given, answer),
-        "share" => say_share(scene, given, answer),
-        _ => ask_search(scene, mark, given, answer),
+/// The same of the positions that are listed.
+fn say_one_turn(scene: &Scene, b: &Belief, answer: &mut AnswerText) {
+    match scene.list.to_vec(scene.alloc) {
+        Ok(list) => say_turn(scene, list, b, answer),
+        Err(_) => answer.lacks_memory(),
     }
 }
 
 /// Answers a question about a search.
 fn ask_search(
     scene: &Scene,
+    b: &Belief,
     mark: &str,
-    given: &str,
+    task: Task,
+    given: &mut Given,
     answer: &mut AnswerText,
-) -> Result<(), LineStop> {
-    let call = if mark == "find" {
-        SearchCall::Find
-    } else {
-        SearchCall::Solve
-    };
-    let (task, rest) = task_of(call, given)?;
+) {
     match mark {
-        "search" | "find" => say_came(searched(scene, task, rest)?.0, answer),
-        "took" => answer.number(searched(scene, task, rest)?.1),
-        "search-between" => say_between(scene, task, rest, answer),
-        _ => Err(LineStop::Unread),
+        "search" | "find" => say_searched(scene, task, b, given.number(), answer),
+        "took" => say_took(scene, task, b, given.number(), answer),
+        "search-between" => say_between(scene, task, b, given.number(), given.number(), answer),
+        _ => answer.unread(),
+    }
+}
+
+/// The call that a question is about.
+fn call_of(mark: &str) -> SearchCall {
+    match mark {
+        "find" => SearchCall::Find,
+        _ => SearchCall::Solve,
+    }
+}
+
+/// Answers a question about a search, about keys, about a strategy, or about whose turn it is.
+fn ask_set(scene: &Scene, b: &Belief, mark: &str, given: &mut Given, answer: &mut AnswerText) {
+    match mark {
+        "one-turn" => say_one_turn(scene, b, answer),
+        "keys" => say_keys(scene, b, given, answer),
+        "share" => say_share(scene, b, given, answer),
+        _ => ask_search(scene, b, mark, task_of(call_of(mark), given), given, answer),
+    }
+}
+
+/// Answers a question about the set of the positions that are listed.
+pub fn ask(scene: &Scene, mark: &str, given: &mut Given, answer: &mut AnswerText) {
+    match scene.belief() {
+        Ok(b) => ask_set(scene, &b, mark, given, answer),
+        Err(_) => answer.lacks_memory(),
     }
 }

@@ -1,15 +1,11 @@
 // Why a line is not answered.
 
 use krieg_board::NoMemory;
-use krieg_fen::{FenFault, MoveFault};
 use krieg_sheet::SheetFault;
 use krieg_split::SplitStop;
-use krieg_why::WhyStop;
-use krieg_words::{LineFault, WordsFault};
-use std::alloc::{AllocError, AllocFailed};
 
 /// Why a line is not answered.
-#[derive(Clone, Copy, Debug, PartialEq, Eq)]
+#[derive(Clone, Copy)]
 pub enum LineStop {
     /// Memory was not found.
     Memory,
@@ -19,71 +15,30 @@ pub enum LineStop {
     Spent,
 }
 
-impl From<NoMemory> for LineStop {
-    fn from(_error: NoMemory) -> LineStop {
-        LineStop::Memory
-    }
-}
-
-impl From<AllocError> for LineStop {
-    fn from(_error: AllocError) -> LineStop {
-        LineStop::Memory
-    }
-}
-
-impl<T: Drop> From<AllocFailed<T>> for LineStop {
-    fn from(_error: AllocFailed<T>) -> LineStop {
-        LineStop::Memory
-    }
-}
-
-impl From<FenFault> for LineStop {
-    fn from(_error: FenFault) -> LineStop {
-        LineStop::Unread
-    }
-}
-
-impl From<MoveFault> for LineStop {
-    fn from(_error: MoveFault) -> LineStop {
-        LineStop::Unread
-    }
-}
-
-impl From<WordsFault> for LineStop {
-    fn from(_error: WordsFault) -> LineStop {
-        LineStop::Unread
-    }
-}
-
-impl From<LineFault> for LineStop {
-    fn from(_error: LineFault) -> LineStop {
-        LineStop::Unread
-    }
-}
-
-impl From<SheetFault> for LineStop {
-    fn from(error: SheetFault) -> LineStop {
-        match error {
+impl LineStop {
+    /// Why there is no sheet or no entry.
+    pub fn of_sheet(fault: SheetFault) -> LineStop {
+        match fault {
             SheetFault::NoMemory => LineStop::Memory,
             _ => LineStop::Unread,
         }
     }
-}
 
-impl From<SplitStop> for LineStop {
-    fn from(error: SplitStop) -> LineStop {
-        match error {
+    /// Why a set was not split.
+    pub fn of_split(stop: SplitStop) -> LineStop {
+        match stop {
             SplitStop::Spent => LineStop::Spent,
             SplitStop::NoMemory => LineStop::Memory,
         }
     }
 }
 
-impl From<WhyStop> for LineStop {
-    fn from(error: WhyStop) -> LineStop {
-        match error {
-            WhyStop::NoMemory => LineStop::Memory,
-            _ => LineStop::Unread,
-        }
+/// Whether a line holds, where nothing stopped it or where it was not that memory was not found: a line that cannot be
+/// read does not hold.
+pub fn judged(stop: Option<LineStop>, holds: bool) -> Result<bool, NoMemory> {
+    match stop {
+        None => Ok(holds),
+        Some(LineStop::Memory) => Err(NoMemory),
+        Some(_) => Ok(false),
     }
 }

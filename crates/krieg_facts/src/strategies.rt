@@ -1,8 +1,7 @@
 // Facts of strategies: their texts, and whether they mate.
 
 use crate::answer::AnswerText;
-use crate::stop::LineStop;
-use crate::terms::{bytes_of, number_of};
+use crate::given::Given;
 use krieg_board::Units;
 use krieg_judge::{JudgeStop, Judgement, judge};
 use krieg_strategy::Strategy;
@@ -16,25 +15,33 @@ pub struct Strategies {
     text: Vec<u8>,
 }
 
+fn say_judgement(judgement: Judgement, answer: &mut AnswerText) {
+    match judgement {
+        Judgement::Mates(worst) => {
+            answer.put(b"mates ");
+            answer.digits(u64::from(worst));
+        }
+        Judgement::Fails => answer.put(b"fails"),
+    }
+}
+
 /// What is found with so many units, and how many that takes.
-fn say_judged(
-    alloc: Global,
-    s: &Strategy,
-    most: u64,
-    answer: &mut AnswerText,
-) -> Result<(), LineStop> {
+fn say_judged(alloc: Global, s: &Strategy, most: u64, answer: &mut AnswerText) {
     let mut units = Units::new(most);
     match judge(alloc, s, &mut units) {
-        Ok(Judgement::Mates(worst)) => {
-            answer.put(b"mates ")?;
-            answer.digits(u64::from(worst))?;
+        Ok(judgement) => {
+            say_judgement(judgement, answer);
+            answer.part(b"");
+            answer.digits(most.saturating_sub(units.left()));
         }
-        Ok(Judgement::Fails) => answer.put(b"fails")?,
-        Err(JudgeStop::Spent) => return answer.put(b"spent"),
-        Err(JudgeStop::NoMemory) => return Err(LineStop::Memory),
+        Err(JudgeStop::Spent) => answer.put(b"spent"),
+        Err(JudgeStop::NoMemory) => answer.lacks_memory(),
     }
-    answer.part(b"")?;
-    answer.digits(most.saturating_sub(units.left()))
+}
+
+/// Whether the bytes are those of the text.
+fn say_same(written: &[u8], text: &[u8], answer: &mut AnswerText) {
+    answer.yes_or_no(written == text);
 }
 
 impl Strategies {
@@ -47,39 +54,44 @@ impl Strategies {
     }
 
     /// Takes a text.
-    pub fn set(&mut self, given: &str) -> Result<(), LineStop> {
-        self.text = bytes_of(self.alloc, given)?;
-        Ok(())
+    pub fn set(&mut self, given: &mut Given) {
+        self.text = given.bytes(self.alloc);
     }
 
     /// Whether the text is that which is written of what is read.
-    fn say_again(&self, answer: &mut AnswerText) -> Result<(), LineStop> {
+    fn say_again(&self, answer: &mut AnswerText) {
         match read_strategy(self.alloc, &self.text) {
-            Ok(s) => {
-                let again = write_strategy(self.alloc, &s)?;
-                answer.yes_or_no(again.as_slice() == self.text.as_slice())
-            }
-            Err(fault) => answer.fault(fault),
-        }
-    }
-
-    /// Answers a question about the strategy that is read.
-    fn ask_read(&self, mark: &str, given: &str, answer: &mut AnswerText) -> Result<(), LineStop> {
-        match read_strategy(self.alloc, &self.text) {
-            Ok(s) => match mark {
-                "nodes" => answer.number(s.nodes.len() as u64),
-                "judge" => say_judged(self.alloc, &s, number_of(given)?, answer),
-                _ => Err(LineStop::Unread),
+            Ok(s) => match write_strategy(self.alloc, &s) {
+                Ok(again) => say_same(again.as_slice(), self.text.as_slice(), answer),
+                Err(_) => answer.lacks_memory(),
             },
             Err(fault) => answer.fault(fault),
         }
     }
 
+    /// How many nodes the strategy has that is read.
+    fn say_nodes(&self, answer: &mut AnswerText) {
+        match read_strategy(self.alloc, &self.text) {
+            Ok(s) => answer.number(s.nodes.len() as u64),
+            Err(fault) => answer.fault(fault),
+        }
+    }
+
+    /// What is found of it with so many units.
+    fn ask_judge(&self, most: u64, answer: &mut AnswerText) {
+        match read_strategy(self.alloc, &self.text) {
+            Ok(s) => say_judged(self.alloc, &s, most, answer),
+            Err(fault) => answer.fault(fault),
+        }
+    }
+
     /// Answers a question about the text, by its first bad line where it spells no strategy.
-    pub fn ask(&self, mark: &str, given: &str, answer: &mut AnswerText) -> Result<(), LineStop> {
+    pub fn ask(&self, mark: &str, given: &mut Given, answer: &mut AnswerText) {
         match mark {
             "again" => self.say_again(answer),
-            _ => self.ask_read(mark, given, answer),
+            "nodes" => self.say_nodes(answer),
+            "judge" => self.ask_judge(given.number(), answer),
+            _ => answer.unread(),
         }
     }
 }

@@ -4,31 +4,51 @@ ghost use Rattle.std.specs.Prelude.{◌≡◌, ◌<◌, true, length};
 ghost use Rattle.krieg_table.specs.Table.{IsNext};
 
 use crate::answer::AnswerText;
-use crate::moves::say_moves;
+use crate::given::Given;
 use crate::scene::Scene;
 use crate::sets::say_members;
-use crate::stop::LineStop;
-use crate::terms::{count_of, halves, move_of, small_of};
+use krieg_board::NoMemory;
 use krieg_pack::Belief;
 use krieg_table::{SetResult, Table};
 
-/// The number of the set, in a table that is not large.
-fn say_interned(table: &mut Table, b: Belief, answer: &mut AnswerText) -> Result<(), LineStop> {
-    if table.len() >= 1_000 {
-        return Err(LineStop::Unread);
+/// Notes the set, and tells its number.
+fn intern(table: &mut Table, b: Belief, answer: &mut AnswerText) {
+    if table.len() < 1_000 {
+        say_number(table.intern(b), answer);
+    } else {
+        answer.unread();
     }
-    answer.number(u64::from(table.intern(b)?))
+}
+
+fn say_number(number: Result<u32, NoMemory>, answer: &mut AnswerText) {
+    match number {
+        Ok(number) => answer.number(u64::from(number)),
+        Err(_) => answer.lacks_memory(),
+    }
+}
+
+/// The number of the set, in a table that is not large.
+fn say_interned(scene: &Scene, table: &mut Table, given: &mut Given, answer: &mut AnswerText) {
+    match scene.set_of(given) {
+        Ok(b) => intern(table, b, answer),
+        Err(_) => answer.lacks_memory(),
+    }
+}
+
+fn say_result(known: Option<SetResult>, answer: &mut AnswerText) {
+    match known {
+        Some(SetResult::Wins(mv)) => answer.put_move(mv),
+        Some(SetResult::Loses) => answer.put(b"loses"),
+        None => {}
+    }
 }
 
 /// What is known of a set for so many own moves.
-fn say_known(table: &Table, id: u32, moves: u8, answer: &mut AnswerText) -> Result<(), LineStop> {
-    if (id as usize) >= table.len() {
-        return Err(LineStop::Unread);
-    }
-    match table.result(id, moves) {
-        Some(SetResult::Wins(mv)) => say_moves(&[mv], answer),
-        Some(SetResult::Loses) => answer.put(b"loses"),
-        None => Ok(()),
+fn say_known(table: &Table, id: u32, moves: u8, answer: &mut AnswerText) {
+    if (id as usize) < table.len() {
+        say_result(table.result(id, moves), answer);
+    } else {
+        answer.unread();
     }
 }
 
@@ -40,48 +60,33 @@ fn is_next(table: &Table, id: u32, moves: u8) -> bool
     moves > 0 && table.lost(id) == moves - 1 && table.win(id).is_none()
 }
 
-/// Notes it.
-fn say_noted(
-    table: &mut Table,
-    id: u32,
-    text: &str,
-    answer: &mut AnswerText,
-) -> Result<(), LineStop> {
-    let (moves, what) = halves(text, " ")?;
-    let known = match what {
+/// The result that the rest tells.
+fn result_of(given: &mut Given) -> SetResult {
+    match given.rest() {
         "loses" => SetResult::Loses,
-        _ => SetResult::Wins(move_of(what)?),
-    };
-    let moves = small_of(moves)?;
-    if (id as usize) >= table.len() || !is_next(table, id, moves) {
-        return Err(LineStop::Unread);
+        text => SetResult::Wins(given.move_of(text)),
     }
-    table.note(id, moves, known);
-    answer.word(b"done")
+}
+
+/// Notes it.
+fn say_noted(table: &mut Table, id: u32, moves: u8, known: SetResult, answer: &mut AnswerText) {
+    if (id as usize) < table.len() && is_next(table, id, moves) {
+        table.note(id, moves, known);
+        answer.word(b"done");
+    } else {
+        answer.unread();
+    }
 }
 
 /// The members of the set with that number.
-fn say_row(scene: &Scene, table: &Table, id: u32, answer: &mut AnswerText) -> Result<(), LineStop> {
+fn say_row(scene: &Scene, table: &Table, id: u32, answer: &mut AnswerText) {
     if (id as usize) < table.len() {
-        let opened = table.open(scene.alloc, id)?;
-        say_members(scene, opened.of(table, id), answer)
+        match table.open(scene.alloc, id) {
+            Ok(opened) => say_members(scene, opened.of(table, id), answer),
+            Err(_) => answer.lacks_memory(),
+        }
     } else {
-        Err(LineStop::Unread)
-    }
-}
-
-/// Answers a question about the set with the number that is given first.
-fn ask_row(
-    table: &mut Table,
-    mark: &str,
-    given: &str,
-    answer: &mut AnswerText,
-) -> Result<(), LineStop> {
-    let (id, rest) = halves(given, " ")?;
-    match mark {
-        "noted" => say_noted(table, count_of(id)?, rest, answer),
-        "known" => say_known(table, count_of(id)?, small_of(rest)?, answer),
-        _ => Err(LineStop::Unread),
+        answer.unread();
     }
 }
 
@@ -90,13 +95,21 @@ pub fn ask(
     scene: &Scene,
     table: &mut Table,
     mark: &str,
-    given: &str,
+    given: &mut Given,
     answer: &mut AnswerText,
-) -> Result<(), LineStop> {
+) {
     match mark {
-        "interned" => say_interned(table, scene.set_of(given)?, answer),
-        "row" => say_row(scene, table, count_of(given)?, answer),
+        "interned" => say_interned(scene, table, given, answer),
+        "row" => say_row(scene, table, given.count(), answer),
         "rows" => answer.number(table.len() as u64),
-        _ => ask_row(table, mark, given, answer),
+        "noted" => say_noted(
+            table,
+            given.count(),
+            given.small(),
+            result_of(given),
+            answer,
+        ),
+        "known" => say_known(table, given.count(), given.small(), answer),
+        _ => answer.unread(),
     }
 }

@@ -1,149 +1,175 @@
 // Facts of texts that are read and written again.
 
 use crate::answer::AnswerText;
+use crate::given::Given;
 use crate::scene::Scene;
-use crate::stop::LineStop;
-use crate::terms::{bytes_of, count_of, halves, number_of, side_of};
-use krieg_board::NoMemory;
-use krieg_fen::{Turn, put_list, put_listing, read_list, read_listing, read_move, write_move};
+use krieg_board::{NoMemory, Position, Side};
+use krieg_fen::{Turn, put_list, put_listing, read_list, read_listing, read_move};
 use krieg_refutefile::{read_refutation, write_refutation};
 use krieg_session::{read_session, read_start, write_session};
-use krieg_text::{Cursor, NumberFault, Text, lines_of, put_number, read_number_between};
+use krieg_text::{Cursor, NumberFault, Text, TextFault, lines_of, put_number, read_number_between};
 use std::alloc::Global;
 
 /// A number between two others.
-fn say_number(text: &str, answer: &mut AnswerText) -> Result<(), LineStop> {
-    let (least, rest) = halves(text, " ")?;
-    let (most, text) = halves(rest, " ")?;
-    match read_number_between(text.as_bytes(), number_of(least)?, number_of(most)?) {
+fn say_number(least: u64, most: u64, text: &[u8], answer: &mut AnswerText) {
+    match read_number_between(text, least, most) {
         Ok(number) => answer.digits(number),
         Err(NumberFault::NotPlain) => answer.put(b"not plain"),
         Err(NumberFault::OutOfRange) => answer.put(b"out of range"),
     }
 }
 
-fn say_move(text: &str, answer: &mut AnswerText) -> Result<(), LineStop> {
-    match read_move(text.as_bytes()) {
-        Ok(mv) => Ok(write_move(mv, &mut answer.text)?),
+fn say_move(text: &[u8], answer: &mut AnswerText) {
+    match read_move(text) {
+        Ok(mv) => answer.put_move(mv),
         Err(_) => answer.put(b"refused"),
     }
 }
 
-/// A line of a number behind a content, where the writing ends so.
-fn say_ended(
-    text: &str,
-    done: Result<(), NoMemory>,
-    answer: &mut AnswerText,
-) -> Result<(), LineStop> {
-    let (content, number) = halves(text, " ")?;
-    answer.put(content.as_bytes())?;
+/// Writes a line of the number.
+fn put_number_line(number: u64, text: &mut Text) -> Result<(), NoMemory> {
+    put_number(number, text)?;
+    text.end_line()
+}
+
+/// A line of a number behind what stands there, where the writing ends so.
+fn say_ended(number: u64, done: Result<(), NoMemory>, answer: &mut AnswerText) {
     let mut all = Text::after(&mut answer.text);
-    put_number(number_of(number)?, &mut all)?;
-    all.end_line()?;
-    if all.end(done, &mut answer.text) == done {
-        Ok(())
-    } else {
-        Err(LineStop::Unread)
+    let written = put_number_line(number, &mut all);
+    let ended = all.end(done, &mut answer.text);
+    answer.wrote(written);
+    answer.only_if(ended == done);
+}
+
+/// The same behind the content that is given.
+fn ask_ended(given: &mut Given, done: Result<(), NoMemory>, answer: &mut AnswerText) {
+    answer.put(given.word().as_bytes());
+    say_ended(given.number(), done, answer);
+}
+
+fn turn_of(given: &mut Given) -> Turn {
+    match given.word() {
+        "either" => Turn::Either,
+        "own" => Turn::Own,
+        _ => {
+            given.unread();
+            Turn::Either
+        }
     }
 }
 
-fn turn_of(text: &str) -> Result<Turn, LineStop> {
-    match text {
-        "either" => Ok(Turn::Either),
-        "own" => Ok(Turn::Own),
-        _ => Err(LineStop::Unread),
-    }
+/// The number of the next line, and a side and positions.
+fn put_read(line: usize, side: Side, list: &[Position], answer: &mut AnswerText) {
+    answer.digits(line as u64);
+    answer.put(b": ");
+    let mut all = Text::after(&mut answer.text);
+    let done = put_listing(side, list, &mut all);
+    let done = all.end(done, &mut answer.text);
+    answer.wrote(done);
 }
 
 /// A side and positions, with the number of the line behind them.
-fn say_listing(alloc: Global, given: &str, answer: &mut AnswerText) -> Result<(), LineStop> {
-    let (turn, text) = halves(given, " ")?;
-    let (turn, text) = (turn_of(turn)?, bytes_of(alloc, text)?);
-    let mut from = Cursor::new(&text);
+fn say_listing(alloc: Global, turn: Turn, text: &[u8], answer: &mut AnswerText) {
+    let mut from = Cursor::new(text);
     match read_listing(alloc, &mut from, turn) {
-        Ok((side, list)) => {
-            answer.digits(from.number() as u64)?;
-            answer.put(b": ")?;
-            let mut all = Text::after(&mut answer.text);
-            let done = put_listing(side, &list, &mut all);
-            Ok(all.end(done, &mut answer.text)?)
-        }
+        Ok((side, list)) => put_read(from.number(), side, &list, answer),
+        Err(fault) => answer.fault(fault),
+    }
+}
+
+/// The lines of positions.
+fn put_positions(list: &[Position], answer: &mut AnswerText) {
+    let mut all = Text::after(&mut answer.text);
+    let done = put_list(list, &mut all);
+    let done = all.end(done, &mut answer.text);
+    answer.wrote(done);
+}
+
+/// Positions that were read, or the fault.
+fn say_positions(read: Result<Vec<Position>, TextFault>, answer: &mut AnswerText) {
+    match read {
+        Ok(list) => put_positions(&list, answer),
         Err(fault) => answer.fault(fault),
     }
 }
 
 /// So many positions, of which the first stands in line 7.
-fn say_list(alloc: Global, given: &str, answer: &mut AnswerText) -> Result<(), LineStop> {
-    let (who, rest) = halves(given, " ")?;
-    let (count, text) = halves(rest, " ")?;
-    let (who, count, text) = (side_of(who)?, count_of(count)?, bytes_of(alloc, text)?);
-    match read_list(alloc, &mut lines_of(&text), count as usize, 7, who) {
-        Ok(list) => {
-            let mut all = Text::after(&mut answer.text);
-            let done = put_list(&list, &mut all);
-            Ok(all.end(done, &mut answer.text)?)
-        }
-        Err(fault) => answer.fault(fault),
-    }
+fn say_list(alloc: Global, who: Side, count: u32, text: &[u8], answer: &mut AnswerText) {
+    let read = read_list(alloc, &mut lines_of(text), count as usize, 7, who);
+    say_positions(read, answer);
 }
 
-fn say_start(text: &[u8], answer: &mut AnswerText) -> Result<(), LineStop> {
+fn say_start(text: &[u8], answer: &mut AnswerText) {
     match read_start(text) {
         Ok(p) => answer.position(&p),
         Err(fault) => answer.fault(fault),
     }
 }
 
-fn say_session(alloc: Global, text: &[u8], answer: &mut AnswerText) -> Result<(), LineStop> {
+fn say_session(alloc: Global, text: &[u8], answer: &mut AnswerText) {
     match read_session(alloc, text) {
-        Ok(session) => Ok(write_session(&session, &mut answer.text)?),
-        Err(fault) => answer.fault(fault),
-    }
-}
-
-fn say_refutation(alloc: Global, text: Vec<u8>, answer: &mut AnswerText) -> Result<(), LineStop> {
-    match read_refutation(alloc, text) {
-        Ok(file) => {
-            for piece in write_refutation(alloc, &file)?.pieces() {
-                answer.put(piece)?;
-            }
-            Ok(())
+        Ok(session) => {
+            let done = write_session(&session, &mut answer.text);
+            answer.wrote(done);
         }
         Err(fault) => answer.fault(fault),
     }
 }
 
+fn put_pieces(pieces: &[Vec<u8>], answer: &mut AnswerText) {
+    for piece in pieces {
+        answer.put(piece);
+    }
+}
+
+fn say_refutation(alloc: Global, text: Vec<u8>, answer: &mut AnswerText) {
+    match read_refutation(alloc, text) {
+        Ok(file) => match write_refutation(alloc, &file) {
+            Ok(pieces) => put_pieces(pieces.pieces(), answer),
+            Err(_) => answer.lacks_memory(),
+        },
+        Err(fault) => answer.fault(fault),
+    }
+}
+
 /// Answers a question about a text of several lines.
-fn ask_lines(
-    alloc: Global,
-    mark: &str,
-    given: &str,
-    answer: &mut AnswerText,
-) -> Result<(), LineStop> {
-    let text = bytes_of(alloc, given)?;
+fn ask_lines(alloc: Global, mark: &str, text: &[u8], answer: &mut AnswerText) {
     match mark {
-        "lines" => answer.number(lines_of(&text).count() as u64),
-        "start" => say_start(&text, answer),
-        "session" => say_session(alloc, &text, answer),
-        "refutation" => say_refutation(alloc, text, answer),
-        _ => Err(LineStop::Unread),
+        "lines" => answer.number(lines_of(text).count() as u64),
+        "start" => say_start(text, answer),
+        "session" => say_session(alloc, text, answer),
+        _ => answer.unread(),
+    }
+}
+
+/// Answers a question about a list of positions, or about a text of several lines.
+fn ask_texts(alloc: Global, mark: &str, given: &mut Given, answer: &mut AnswerText) {
+    match mark {
+        "listing" => say_listing(alloc, turn_of(given), &given.bytes(alloc), answer),
+        "list" => say_list(
+            alloc,
+            given.side(),
+            given.count(),
+            &given.bytes(alloc),
+            answer,
+        ),
+        "refutation" => say_refutation(alloc, given.bytes(alloc), answer),
+        _ => ask_lines(alloc, mark, &given.bytes(alloc), answer),
     }
 }
 
 /// Answers a question about texts.
-pub fn ask(
-    scene: &Scene,
-    mark: &str,
-    given: &str,
-    answer: &mut AnswerText,
-) -> Result<(), LineStop> {
+pub fn ask(scene: &Scene, mark: &str, given: &mut Given, answer: &mut AnswerText) {
     match mark {
-        "number" => say_number(given, answer),
-        "move" => say_move(given, answer),
-        "ended" => say_ended(given, Ok(()), answer),
-        "failed" => say_ended(given, Err(NoMemory), answer),
-        "listing" => say_listing(scene.alloc, given, answer),
-        "list" => say_list(scene.alloc, given, answer),
-        _ => ask_lines(scene.alloc, mark, given, answer),
+        "number" => say_number(
+            given.number(),
+            given.number(),
+            given.rest().as_bytes(),
+            answer,
+        ),
+        "move" => say_move(given.rest().as_bytes(), answer),
+        "ended" => ask_ended(given, Ok(()), answer),
+        "failed" => ask_ended(given, Err(NoMemory), answer),
+        _ => ask_texts(scene.alloc, mark, given, answer),
     }
 }

@@ -1,10 +1,9 @@
 // Facts of what the umpire says, in the dialect that stands.
 
 use crate::answer::AnswerText;
+use crate::given::Given;
 use crate::scene::Scene;
-use crate::stop::LineStop;
-use crate::terms::{bytes_of, halves, move_of};
-use krieg_board::{Move, Position};
+use krieg_board::{Move, NoMemory, Position};
 use krieg_moves::is_legal;
 use krieg_pack::order;
 use krieg_text::{Cursor, Text};
@@ -17,72 +16,87 @@ use krieg_words::{
 use std::cmp::Ordering;
 
 /// Words as the dialect tells them.
-pub fn say_told(d: Dialect, words: Words, answer: &mut AnswerText) -> Result<(), LineStop> {
-    Ok(write_words_in(d, told(d, words), &mut answer.text)?)
+pub fn say_told(d: Dialect, words: Words, answer: &mut AnswerText) {
+    let done = write_words_in(d, told(d, words), &mut answer.text);
+    answer.wrote(done);
+}
+
+/// Whether these are the words of the legal move, in each of the other ways to find them.
+fn are_words_of(p: &Position, mv: &Move, words: Words) -> bool {
+    is_legal(p, *mv) && make_move(p, *mv).words == words && words_of(p, *mv) == words
 }
 
 /// What is heard of the move.
-fn say_move(d: Dialect, p: &Position, mv: &Move, answer: &mut AnswerText) -> Result<(), LineStop> {
-    let Some(made) = make_if_legal(p, *mv) else {
-        return answer.put(b"illegal");
-    };
-    if !is_legal(p, *mv) {
-        return Err(LineStop::Unread);
+fn say_move(d: Dialect, p: &Position, mv: &Move, answer: &mut AnswerText) {
+    match make_if_legal(p, *mv) {
+        Some(made) => {
+            answer.only_if(are_words_of(p, mv, made.words));
+            say_told(d, made.words, answer);
+        }
+        None => answer.put(b"illegal"),
     }
-    if make_move(p, *mv).words != made.words || words_of(p, *mv) != made.words {
-        return Err(LineStop::Unread);
-    }
-    say_told(d, made.words, answer)
 }
 
-/// One position, where it was found in two ways alike.
-fn say_same(next: &Position, again: &Position, answer: &mut AnswerText) -> Result<(), LineStop> {
-    if order(next, again) == Ordering::Equal {
-        answer.position(next)
-    } else {
-        Err(LineStop::Unread)
+/// One position, where it was found in two ways alike, or nothing.
+fn say_same(next: &Option<Position>, again: &Option<Position>, answer: &mut AnswerText) {
+    match (next, again) {
+        (Some(next), Some(again)) => {
+            answer.only_if(order(next, again) == Ordering::Equal);
+            answer.position(next);
+        }
+        (None, None) => {}
+        _ => answer.unread(),
     }
+}
+
+/// Nothing may come of an illegal move.
+fn say_illegal(tried: &Option<Position>, answer: &mut AnswerText) {
+    answer.only_if(tried.is_none());
+    answer.put(b"illegal");
 }
 
 /// The position after the move, where those words are told of it.
-fn say_after_told(scene: &Scene, text: &str, answer: &mut AnswerText) -> Result<(), LineStop> {
-    let (mv, words) = halves(text, " ")?;
-    let (mv, words) = (&move_of(mv)?, &scene.words_of(words)?);
+fn say_after_told(scene: &Scene, mv: &Move, words: &Words, answer: &mut AnswerText) {
     let p = &scene.position;
     let tried = after_told_if_legal(scene.dialect, words, p, *mv);
-    if !is_legal(p, *mv) {
-        return match tried {
-            None => answer.put(b"illegal"),
-            Some(_) => Err(LineStop::Unread),
-        };
-    }
-    match (&after_told(scene.dialect, words, p, *mv), &tried) {
-        (Some(next), Some(again)) => say_same(next, again, answer),
-        (None, None) => Ok(()),
-        _ => Err(LineStop::Unread),
+    if is_legal(p, *mv) {
+        say_same(&after_told(scene.dialect, words, p, *mv), &tried, answer);
+    } else {
+        say_illegal(&tried, answer);
     }
 }
 
 /// The words that the text spells, written again.
-fn say_words(d: Dialect, text: &[u8], answer: &mut AnswerText) -> Result<(), LineStop> {
+fn say_words(d: Dialect, text: &[u8], answer: &mut AnswerText) {
     match read_words_in(d, text) {
-        Ok(words) => Ok(write_words_in(d, words, &mut answer.text)?),
+        Ok(words) => {
+            let done = write_words_in(d, words, &mut answer.text);
+            answer.wrote(done);
+        }
         Err(_) => answer.put(b"refused"),
     }
 }
 
 /// The line that the text spells, written again.
-fn say_line(d: Dialect, text: &[u8], answer: &mut AnswerText) -> Result<(), LineStop> {
+fn say_line(d: Dialect, text: &[u8], answer: &mut AnswerText) {
     match read_line_in(d, text) {
-        Ok(line) => Ok(write_line_in(d, line, &mut answer.text)?),
+        Ok(line) => {
+            let done = write_line_in(d, line, &mut answer.text);
+            answer.wrote(done);
+        }
         Err(_) => answer.put(b"refused"),
     }
 }
 
 /// A line in wild16, as the dialect tells it.
-fn say_told_line(d: Dialect, text: &str, answer: &mut AnswerText) -> Result<(), LineStop> {
-    let line = told_line(d, read_line(text.as_bytes())?);
-    Ok(write_line_in(d, line, &mut answer.text)?)
+fn say_told_line(d: Dialect, text: &[u8], answer: &mut AnswerText) {
+    match read_line(text) {
+        Ok(line) => {
+            let done = write_line_in(d, told_line(d, line), &mut answer.text);
+            answer.wrote(done);
+        }
+        Err(_) => answer.unread(),
+    }
 }
 
 /// Whether the words at the place stand in their order with all of the list.
@@ -105,25 +119,31 @@ fn do_ascend(list: &[Words]) -> bool {
     true
 }
 
-/// Words with semicolons between.
-fn listed(scene: &Scene, text: &str) -> Result<Vec<Words>, LineStop> {
-    let mut list = Vec::new(scene.alloc);
-    for words in text.split("; ") {
-        list.push(scene.words_of(words)?)?;
+/// Adds words with semicolons between.
+fn add_listed(d: Dialect, given: &mut Given, list: &mut Vec<Words>) -> Result<(), NoMemory> {
+    for _ in 0..given.parts("; ") {
+        let words = given.until("; ");
+        list.push(given.words_of(d, words))?;
     }
-    Ok(list)
+    Ok(())
+}
+
+/// Whether words with semicolons between are in their order.
+fn say_ascending(scene: &Scene, given: &mut Given, answer: &mut AnswerText) {
+    let mut list = Vec::new(scene.alloc);
+    answer.wrote(add_listed(scene.dialect, given, &mut list));
+    answer.yes_or_no(do_ascend(&list));
 }
 
 /// The name of the dialect that has this name.
-fn say_dialect_name(name: &[u8], answer: &mut AnswerText) -> Result<(), LineStop> {
-    match read_dialect(name) {
-        Some(d) => answer.put(dialect_name(d)),
-        None => Ok(()),
+fn say_dialect_name(name: &[u8], answer: &mut AnswerText) {
+    if let Some(d) = read_dialect(name) {
+        answer.put(dialect_name(d));
     }
 }
 
 /// The dialect that the first lines of a sheet tell.
-fn say_dialect_of(text: &[u8], answer: &mut AnswerText) -> Result<(), LineStop> {
+fn say_dialect_of(text: &[u8], answer: &mut AnswerText) {
     match read_version_lines(&mut Cursor::new(text), b"krieg sheet ") {
         Ok(d) => answer.put(dialect_name(d)),
         Err(fault) => answer.fault(fault),
@@ -131,43 +151,42 @@ fn say_dialect_of(text: &[u8], answer: &mut AnswerText) -> Result<(), LineStop> 
 }
 
 /// The first lines of a sheet in the dialect.
-fn say_first_lines(d: Dialect, answer: &mut AnswerText) -> Result<(), LineStop> {
+fn say_first_lines(d: Dialect, answer: &mut AnswerText) {
     let mut text = Text::after(&mut answer.text);
     let done = put_version_lines(b"krieg sheet ", d, &mut text);
-    Ok(text.end(done, &mut answer.text)?)
+    let done = text.end(done, &mut answer.text);
+    answer.wrote(done);
 }
 
 /// Answers a question about texts of words.
-fn ask_texts(
-    scene: &Scene,
-    mark: &str,
-    given: &str,
-    answer: &mut AnswerText,
-) -> Result<(), LineStop> {
+fn ask_texts(scene: &Scene, mark: &str, given: &mut Given, answer: &mut AnswerText) {
     match mark {
-        "said" => say_words(scene.dialect, &bytes_of(scene.alloc, given)?, answer),
-        "line" => say_line(scene.dialect, given.as_bytes(), answer),
-        "told-line" => say_told_line(scene.dialect, given, answer),
-        "dialect-name" => say_dialect_name(given.as_bytes(), answer),
-        "dialect-of" => say_dialect_of(&bytes_of(scene.alloc, given)?, answer),
+        "said" => say_words(scene.dialect, &given.bytes(scene.alloc), answer),
+        "line" => say_line(scene.dialect, given.rest().as_bytes(), answer),
+        "told-line" => say_told_line(scene.dialect, given.rest().as_bytes(), answer),
+        "dialect-name" => say_dialect_name(given.rest().as_bytes(), answer),
+        "dialect-of" => say_dialect_of(&given.bytes(scene.alloc), answer),
         "first-lines" => say_first_lines(scene.dialect, answer),
-        _ => Err(LineStop::Unread),
+        _ => answer.unread(),
     }
 }
 
+/// The position after a move, where certain words are told of it.
+fn ask_told(scene: &Scene, given: &mut Given, answer: &mut AnswerText) {
+    let mv = given.try_move();
+    let words = given.rest();
+    let words = given.words_of(scene.dialect, words);
+    say_after_told(scene, &mv, &words, answer);
+}
+
 /// Answers a question about words.
-pub fn ask(
-    scene: &Scene,
-    mark: &str,
-    given: &str,
-    answer: &mut AnswerText,
-) -> Result<(), LineStop> {
+pub fn ask(scene: &Scene, mark: &str, given: &mut Given, answer: &mut AnswerText) {
     match mark {
         "opens" => say_told(scene.dialect, opening(&scene.position), answer),
         "tries" => answer.number(u64::from(tries(&scene.position))),
-        "words" => say_move(scene.dialect, &scene.position, &move_of(given)?, answer),
-        "told" => say_after_told(scene, given, answer),
-        "ascending" => answer.yes_or_no(do_ascend(&listed(scene, given)?)),
+        "words" => say_move(scene.dialect, &scene.position, &given.try_move(), answer),
+        "told" => ask_told(scene, given, answer),
+        "ascending" => say_ascending(scene, given, answer),
         _ => ask_texts(scene, mark, given, answer),
     }
 }

@@ -12,7 +12,7 @@ use krieg_text::{LineSource, TextFault, TextKind, behind, is_name, read_count};
 pub const MOST_LISTED: u64 = 200_000;
 
 /// Who may be to move in the first listed position of a text, and so in each.
-#[derive(Clone, Copy, Debug, PartialEq, Eq)]
+#[derive(Clone, Copy)]
 pub enum Turn {
     /// Either side.
     Either,

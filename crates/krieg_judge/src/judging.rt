@@ -20,7 +20,7 @@ use krieg_strategy::Strategy;
 use std::alloc::Global;
 
 /// What a judge finds.
-#[derive(Clone, Copy, Debug, PartialEq, Eq)]
+#[derive(Clone, Copy)]
 pub enum Judgement {
     /// The strategy mates every listed position, and this is its worst case.
     Mates(u16),

@@ -10,7 +10,7 @@ use krieg_sheet::write_sheet;
 use std::alloc::Global;
 
 /// Which input is made.
-#[derive(Clone, Copy, Debug, PartialEq, Eq)]
+#[derive(Clone, Copy)]
 pub enum MakeKind {
     /// A session.
     Session,

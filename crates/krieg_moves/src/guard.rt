@@ -14,7 +14,7 @@ use krieg_rays::{
 
 /// What keeps the king of the side to move safe. It is made once for a position, and serves all of its
 /// moves.
-#[derive(Clone, Copy, Debug)]
+#[derive(Clone, Copy)]
 pub struct Guard {
     /// The number of the square on which the king stands.
     pub king: u8,

@@ -4,7 +4,7 @@ ghost use Rattle.krieg_moves.specs.Wings as spec;
 use krieg_board::{Side, home_rank, square_at};
 
 /// A wing on which a king may castle (FIDE Laws, article 3.8.2).
-#[derive(Clone, Copy, Debug, PartialEq, Eq)]
+#[derive(Clone, Copy, PartialEq, Eq)]
 pub enum Wing {
     /// With the rook of the h-file: the king goes to the g-file.
     Short,

@@ -4,7 +4,7 @@ ghost use Rattle.krieg_pack.specs.Members.{set_of, trimmed};
 use crate::packed::Packed;
 
 /// There are more different positions than a limit allows.
-#[derive(Clone, Copy, Debug, PartialEq, Eq)]
+#[derive(Clone, Copy)]
 pub struct TooMany;
 
 /// Sorts in place and drops repeats. It takes no memory.

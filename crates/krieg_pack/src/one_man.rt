@@ -10,7 +10,7 @@ use std::alloc::Global;
 const MOST_PLACES: usize = 64;
 
 /// Positions that differ in the square of one man alone, in the room of a few words.
-#[derive(Clone, Copy, Debug, PartialEq, Eq)]
+#[derive(Clone, Copy, PartialEq, Eq)]
 pub(crate) struct OneMan {
     /// All other men, as four sets, and the rest of the position: as a `Packed` has them.
     pub ones: u64,

@@ -6,7 +6,7 @@ use krieg_board::{NoMemory, Units};
 use std::alloc::{AllocError, AllocFailed};
 
 /// Why a set was not parted.
-#[derive(Clone, Copy, Debug, PartialEq, Eq)]
+#[derive(Clone, Copy)]
 pub enum PartStop {
     /// There are fewer units than it takes.
     Spent,

@@ -15,7 +15,7 @@ use krieg_words::{Dialect, Words, compare, read_words_in};
 
 /// What the line of a node says: its try, whether there is a node for the illegal case, and how many edges
 /// there are.
-#[derive(Clone, Copy, Debug)]
+#[derive(Clone, Copy)]
 pub(crate) struct Play {
     pub mv: Move,
     pub no: bool,

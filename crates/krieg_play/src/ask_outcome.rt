@@ -6,7 +6,7 @@ use krieg_board::Move;
 use krieg_seats::SeatFault;
 
 /// What came of asking a side.
-#[derive(Clone, Copy, Debug, PartialEq, Eq)]
+#[derive(Clone, Copy)]
 pub enum AskOutcome {
     /// It tries a move.
     Tried(Move),

@@ -6,7 +6,7 @@ use krieg_board::Side;
 use krieg_seats::SeatFault;
 
 /// Why no game was played to a stop.
-#[derive(Clone, Copy, Debug, PartialEq, Eq)]
+#[derive(Clone, Copy)]
 pub enum PlayFault {
     /// The side has no seat.
     Vacant(Side),

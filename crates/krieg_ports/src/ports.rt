@@ -7,7 +7,7 @@ ghost use Rattle.krieg_ports.specs.Faults.{one_more, Rose};
 
 /// A call of a source or of a sink failed. The count of its faults rose in that call, or stands at
 /// its last value.
-#[derive(Clone, Copy, Debug, PartialEq, Eq)]
+#[derive(Clone, Copy)]
 pub struct Failed;
 
 /// Where bytes come from: the bytes that are left, where it tells them, and a count of faults, which

@@ -10,7 +10,7 @@ use crate::ports::{Failed, Sink, Source};
 use std::alloc::Global;
 
 /// Why a source was not read to its end.
-#[derive(Clone, Copy, Debug, PartialEq, Eq)]
+#[derive(Clone, Copy)]
 pub enum ReadEnd {
     /// A read failed. No more bytes than are allowed had come.
     ReadFault,
@@ -21,7 +21,7 @@ pub enum ReadEnd {
 }
 
 /// A sink failed before it had got all bytes.
-#[derive(Clone, Copy, Debug, PartialEq, Eq)]
+#[derive(Clone, Copy)]
 pub struct WriteFault;
 
 /// The most bytes that one read asks for.

@@ -15,7 +15,7 @@ use crate::segment::between_at;
 use krieg_board::{Bits, Man, Side, king_of, lowest, only, only_if, without_lowest};
 
 /// Who gives check to a king, and who is pinned to him.
-#[derive(Clone, Copy, Debug)]
+#[derive(Clone, Copy)]
 pub struct KingLines {
     /// The enemy men who attack him.
     pub checkers: u64,

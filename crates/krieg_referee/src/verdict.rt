@@ -2,14 +2,14 @@ use krieg_board::{Move, Side};
 use krieg_words::Words;
 
 /// One try by one player, which is judged whole.
-#[derive(Clone, Copy, Debug, PartialEq, Eq)]
+#[derive(Clone, Copy)]
 pub struct Event {
     pub who: Side,
     pub mv: Move,
 }
 
 /// How a try is judged.
-#[derive(Clone, Copy, Debug, PartialEq, Eq)]
+#[derive(Clone, Copy)]
 pub enum Verdict {
     /// The game has ended.
     Over,
@@ -22,7 +22,7 @@ pub enum Verdict {
 }
 
 /// A try with its verdict.
-#[derive(Clone, Copy, Debug, PartialEq, Eq)]
+#[derive(Clone, Copy)]
 pub struct Judged {
     pub event: Event,
     pub verdict: Verdict,
@@ -32,7 +32,7 @@ pub struct Judged {
 const _: () = prove!(size_of::<Judged>() <= 16);
 
 /// Why a game that was played stopped.
-#[derive(Clone, Copy, Debug, PartialEq, Eq)]
+#[derive(Clone, Copy)]
 pub enum Stop {
     /// It ended by mate or stalemate.
     Ended,

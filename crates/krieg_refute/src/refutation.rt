@@ -10,7 +10,7 @@ pub const MOST_CLAIMS: usize = 20_000;
 pub const MOST_CLAIMED: usize = 200_000;
 
 /// Why a try does not win all of a set within a number of moves. A claim is cited by its place, counted from 1.
-#[derive(Clone, Copy, Debug, PartialEq, Eq)]
+#[derive(Clone, Copy)]
 pub enum Why {
     /// One move is left, and in some member the try is legal and does not mate.
     Lives,
@@ -23,7 +23,7 @@ pub enum Why {
 }
 
 /// A try with the reason why it does not win. 12 bytes in memory.
-#[derive(Clone, Copy, Debug, PartialEq, Eq)]
+#[derive(Clone, Copy)]
 pub struct Reason {
     pub mv: Move,
     pub why: Why,

@@ -12,7 +12,7 @@ pub struct Led {
 }
 
 /// Why no game was played to a stop.
-#[derive(Clone, Copy, Debug, PartialEq, Eq)]
+#[derive(Clone, Copy)]
 pub enum LeadFault {
     /// A call of the opponent failed.
     Seat,

@@ -2,7 +2,7 @@
 use krieg_board::Move;
 
 /// What a player does next who follows a guide.
-#[derive(Clone, Copy, Debug, PartialEq, Eq)]
+#[derive(Clone, Copy)]
 pub enum Next {
     /// He tries a move.
     Try(Move),

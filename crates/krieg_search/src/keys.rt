@@ -21,7 +21,7 @@ use krieg_words::Words;
 use std::alloc::Global;
 
 /// A key: a try with which as few moves are enough as with any.
-#[derive(Clone, Copy, Debug, PartialEq, Eq)]
+#[derive(Clone, Copy)]
 pub struct KeyTry {
     pub mv: Move,
     /// Whether it is refused in some position that is possible.

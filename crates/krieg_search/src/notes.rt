@@ -10,7 +10,7 @@ use std::alloc::Global;
 use std::marker::Model;
 
 /// What blocks a try of a set: why it begins no win within a number of moves.
-#[derive(Clone, Copy, Debug, PartialEq, Eq)]
+#[derive(Clone, Copy)]
 pub enum Block {
     /// Nothing that is left to be won: the try fails at once, since it stalemates in some member or, with one move left,
     /// lives in some.
@@ -22,7 +22,7 @@ pub enum Block {
 }
 
 /// A try of a set with what blocks it. 16 bytes in memory.
-#[derive(Clone, Copy, Debug, PartialEq, Eq)]
+#[derive(Clone, Copy)]
 pub struct Note {
     pub mv: Move,
     pub block: Block,
@@ -32,7 +32,7 @@ pub struct Note {
 const _: () = prove!(size_of::<Note>() <= 16);
 
 /// A set by its number, with a number of own moves.
-#[derive(Clone, Copy, Debug, PartialEq, Eq, Hash)]
+#[derive(Clone, Copy, PartialEq, Eq, Hash)]
 pub struct Question {
     pub set: u32,
     pub moves: u8,

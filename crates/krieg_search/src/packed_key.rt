@@ -6,7 +6,7 @@ use std::marker::Model;
 /// The words that may be heard of a try, and those of a reply. 5 bytes in memory.
 ///
 /// In contracts a `PackedKey` is the pair of these words. The bytes are the number of the pair to the base 256, the highest first.
-#[derive(Clone, Copy, Debug, PartialEq, Eq)]
+#[derive(Clone, Copy)]
 pub struct PackedKey {
     first: u8,
     second: u8,

@@ -7,7 +7,7 @@ use krieg_parting::PartStop;
 use std::alloc::{AllocError, AllocFailed};
 
 /// Why a search gives no answer.
-#[derive(Clone, Copy, Debug, PartialEq, Eq)]
+#[derive(Clone, Copy)]
 pub enum SearchStop {
     /// There are fewer units than the search takes.
     Spent,

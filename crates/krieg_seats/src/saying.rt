@@ -16,7 +16,7 @@ use krieg_ports::{Failed, Source};
 const MOST_BYTES: usize = 5;
 
 /// How a line was read.
-#[derive(Clone, Copy, Debug, PartialEq, Eq)]
+#[derive(Clone, Copy)]
 enum LineRead {
     /// All of it, which is so many bytes of the buffer.
     Whole(usize),

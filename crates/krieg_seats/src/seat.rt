@@ -6,7 +6,7 @@ use krieg_board::Move;
 use krieg_words::Line;
 
 /// What a player says when he is asked.
-#[derive(Clone, Copy, Debug, PartialEq, Eq)]
+#[derive(Clone, Copy)]
 pub enum Say {
     /// He tries a move.
     Try(Move),
@@ -15,7 +15,7 @@ pub enum Say {
 }
 
 /// Why a call of a seat gave no answer.
-#[derive(Clone, Copy, Debug, PartialEq, Eq)]
+#[derive(Clone, Copy)]
 pub enum SeatFault {
     /// The seat failed: its count of faults rose in that call, or stands at its last value.
     Failed,

@@ -17,7 +17,7 @@ use std::alloc::Global;
 pub const MOST_TALLIED: usize = 4_096;
 
 /// What a try does in a set where one move is left.
-#[derive(Clone, Copy, Debug, PartialEq, Eq)]
+#[derive(Clone, Copy)]
 pub struct Tally {
     pub mv: Move,
     /// How many replies there are to it, in all members in which it is legal.

@@ -1,6 +1,7 @@
-// Parts of plan files that are too long to be written out: nodes behind words that ascend.
+// Parts of plan files that are too long to be written out: nodes behind words that ascend. What adds a part tells whether there was
+// memory.
 
-use krieg_board::{NoMemory, Square};
+use krieg_board::Square;
 use krieg_checks::Kinds;
 use krieg_words::{End, Took, Words, write_words};
 
@@ -35,43 +36,56 @@ fn words_at(number: usize) -> Words {
     }
 }
 
+/// Adds the line, with a line feed.
+pub fn add_line(line: &str, text: &mut Vec<u8>) -> bool {
+    text.extend_from_slice(line.as_bytes()).is_ok() && text.push(b'\n').is_ok()
+}
+
+/// Adds the line so many times, each with a line feed.
+pub fn add_lines(times: usize, line: &str, text: &mut Vec<u8>) -> bool {
+    for _ in 0..times {
+        if !add_line(line, text) {
+            return false;
+        }
+    }
+    true
+}
+
 /// Adds the line that leads to a node: these front words, and those of the number.
-fn add_key(front: &str, number: usize, text: &mut Vec<u8>) -> Result<(), NoMemory> {
-    text.extend_from_slice(front.as_bytes())?;
-    text.push(b' ')?;
-    write_words(words_at(number), text)?;
-    text.push(b'\n')?;
-    Ok(())
+fn add_key(front: &str, number: usize, text: &mut Vec<u8>) -> bool {
+    text.extend_from_slice(front.as_bytes()).is_ok()
+        && text.push(b' ').is_ok()
+        && write_words(words_at(number), text).is_ok()
+        && text.push(b'\n').is_ok()
+}
+
+/// Adds a node without edges, which has this try.
+fn add_leaf(tried: &str, text: &mut Vec<u8>) -> bool {
+    text.extend_from_slice(b"play ").is_ok()
+        && text.extend_from_slice(tried.as_bytes()).is_ok()
+        && text.extend_from_slice(b" 0\n").is_ok()
 }
 
 /// Adds so many nodes without edges, each with this try, and the line that leads to it.
-pub fn add_leaves(
-    count: usize,
-    tried: &str,
-    front: &str,
-    text: &mut Vec<u8>,
-) -> Result<(), NoMemory> {
+pub fn add_leaves(count: usize, tried: &str, front: &str, text: &mut Vec<u8>) -> bool {
     for number in 0..count {
-        add_key(front, number, text)?;
-        text.extend_from_slice(b"play ")?;
-        text.extend_from_slice(tried.as_bytes())?;
-        text.extend_from_slice(b" 0\n")?;
+        if !add_key(front, number, text) || !add_leaf(tried, text) {
+            return false;
+        }
     }
-    Ok(())
+    true
 }
 
 /// Adds so many nodes with this line, each with so many edges to nodes without edges.
-pub fn add_bushes(
-    count: usize,
-    edges: usize,
-    line: &str,
-    text: &mut Vec<u8>,
-) -> Result<(), NoMemory> {
+pub fn add_bushes(count: usize, edges: usize, line: &str, text: &mut Vec<u8>) -> bool {
+    let front = "on silent /";
     for number in 0..count {
-        add_key("on silent /", number, text)?;
-        text.extend_from_slice(line.as_bytes())?;
-        text.push(b'\n')?;
-        add_leaves(edges, "a1a1", "on silent /", text)?;
+        let is_added = add_key(front, number, text)
+            && add_line(line, text)
+            && add_leaves(edges, "a1a1", front, text);
+        if !is_added {
+            return false;
+        }
     }
-    Ok(())
+    true
 }

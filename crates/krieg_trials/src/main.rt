@@ -2,9 +2,10 @@
 //! hold.
 //!
 //! A case says line by line what a run is given and what must come of it. `docs/CASES.md` has the marks with which
-//! these lines begin. `run_input` gathers what the next run gets: its text, how its streams behave (`stream`), who plays
-//! (`player`), and plans that are too long to be written out (`made`). `running` makes the run, and `run_result` compares
-//! what it came to, page by page (`page`). `trial` goes through the lines of a file.
+//! these lines begin, and `mark` their table. `run_input` gathers what the next run gets: its text, how its streams behave
+//! (`stream`), who plays (`player`), and plans that are too long to be written out (`made`). `running` makes the run, and
+//! `run_result` compares what it came to, page by page (`page`). `trial` goes through the lines of a file, of each of which
+//! `line_result` says what comes.
 //!
 //! ```
 //! case a rook mates in one
@@ -19,7 +20,9 @@
 //! ```
 #![tactic(auto)]
 
+mod line_result;
 mod made;
+mod mark;
 mod page;
 mod player;
 mod run_input;
@@ -28,72 +31,54 @@ mod running;
 mod stream;
 mod trial;
 
-use krieg_ports::{Adapter, read_all};
-use std::env::Env;
-use std::fs::{File, Files};
 use std::process::ExitCode;
 use std::{env, fs};
 use trial::{Progress, judge};
 
-/// The most bytes of a file.
-const MOST_BYTES: usize = 20_000_000;
+/// The status with which the program ends where a file, or the names of the files, could not be read, or memory was not found.
+const UNREAD: u8 = 2;
 
-/// Why the files were not gone through to the end.
-#[derive(Clone, Copy)]
-enum FilesStop {
-    /// A file, or the names of the files, could not be read, or memory was not found.
-    Unread,
-    /// A line could not be printed.
-    Unprinted,
-}
+/// The status where a line could not be printed.
+const UNPRINTED: u8 = 3;
 
-/// The text of the file.
-fn text_of<R: Files<File = File> + AllocGlobal>(rt: &R, name: &str) -> Result<String, FilesStop> {
-    let Ok(file) = fs::open(rt, name) else {
-        return Err(FilesStop::Unread);
-    };
-    let Ok(bytes) = read_all(rt.alloc(), &mut Adapter::new(file), MOST_BYTES) else {
-        return Err(FilesStop::Unread);
-    };
-    String::from_utf8(bytes).map_err(|_| FilesStop::Unread)
-}
-
-/// Goes through the file, and prints what it finds. It tells whether all holds.
-fn judge_file<R: Files<File = File> + Print + AllocGlobal>(
-    rt: &R,
-    name: &str,
-) -> Result<bool, FilesStop> {
-    let text = text_of(rt, name)?;
-    let (printed, holds) = match judge(rt.alloc(), text.as_str()) {
-        Ok(Progress::Runs(runs)) => (println!(rt; "{name}: {runs} runs hold"), true),
-        Ok(Progress::Wrong(line)) => (println!(rt; "{name}: line {line} does not hold"), false),
-        Err(_) => return Err(FilesStop::Unread),
-    };
-    if printed.is_err() {
-        return Err(FilesStop::Unprinted);
+/// How far the lines of the file hold, as if memory was short where it could not be read.
+fn progress_of(rt: &HostRuntime, name: &str) -> Progress {
+    match fs::read_to_string(rt, name) {
+        Ok(text) => judge(rt.alloc(), text.as_str()),
+        Err(_) => Progress::Short,
     }
-    Ok(holds)
 }
 
-/// Goes through all files that the words name. It tells whether all holds.
-fn judge_files<R: Env + Files<File = File> + Print + AllocGlobal>(
-    rt: &R,
-) -> Result<bool, FilesStop> {
-    let Ok(words) = env::args(rt) else {
-        return Err(FilesStop::Unread);
-    };
-    let mut all_hold = true;
-    for name in words.skip(1) {
-        all_hold &= judge_file(rt, name.as_str())?;
+/// Prints the line, and is this status where it could.
+fn printed(rt: &HostRuntime, name: &str, front: &str, number: u64, end: &str, status: u8) -> u8 {
+    match println!(rt; "{name}: {front}{number} {end}") {
+        Ok(()) => status,
+        Err(_) => UNPRINTED,
     }
-    Ok(all_hold)
+}
+
+/// Goes through the file, prints what it finds, and is the status: 0 where all holds, and 1 where a line does not.
+fn judge_file(rt: &HostRuntime, name: &str) -> u8 {
+    match progress_of(rt, name) {
+        Progress::Runs(runs) => printed(rt, name, "", runs, "runs hold", 0),
+        Progress::Wrong(line) => printed(rt, name, "line ", line, "does not hold", 1),
+        Progress::Short => UNREAD,
+    }
+}
+
+/// Goes through all files that the words name, and is the greatest status.
+fn judge_files(rt: &HostRuntime) -> u8 {
+    let Ok(mut words) = env::args(rt) else {
+        return UNREAD;
+    };
+    let mut status = 0;
+    let _program = words.next();
+    for name in words {
+        status = status.max(judge_file(rt, name.as_str()));
+    }
+    status
 }
 
 fn main(rt: HostRuntime) -> ExitCode {
-    ExitCode::from(match judge_files(&rt) {
-        Ok(true) => 0,
-        Ok(false) => 1,
-        Err(FilesStop::Unread) => 2,
-        Err(FilesStop::Unprinted) => 3,
-    })
+    ExitCode::from(judge_files(&rt))
 }

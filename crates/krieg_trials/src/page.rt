@@ -1,11 +1,13 @@
 // A text that a run wrote, which a case tells part by part.
 
+use crate::mark::CountMark;
 use krieg_text::lines_of;
+use std::alloc::Global;
 
 /// A text, and how much of it was told.
 #[derive(Drop)]
 pub struct Page {
-    text: Vec<u8>,
+    pub text: Vec<u8>,
     told: usize,
 }
 
@@ -21,15 +23,58 @@ fn end_of(text: &[u8], line: &str) -> Option<usize> {
     None
 }
 
+/// Where so many lines end.
+fn end_of_lines(text: &[u8], count: usize) -> usize {
+    let mut end = 0usize;
+    for line in lines_of(text).take(count) {
+        end = end.saturating_add(line.len()).saturating_add(1);
+    }
+    end
+}
+
+/// How many line feeds the text has.
+fn line_count(text: &[u8]) -> usize {
+    let mut count = 0usize;
+    for byte in text {
+        if *byte == b'\n' {
+            count = count.saturating_add(1);
+        }
+    }
+    count
+}
+
+/// How many lines of the text end so.
+fn ending_count(text: &[u8], end: &str) -> usize {
+    let mut count = 0usize;
+    for line in lines_of(text) {
+        if line.ends_with(end.as_bytes()) {
+            count = count.saturating_add(1);
+        }
+    }
+    count
+}
+
+/// The sum of the text, as `bench/made-text sums` prints it.
+fn sum(text: &[u8]) -> u32 {
+    let mut sum = 0u32;
+    for byte in text {
+        sum = sum.wrapping_mul(31).wrapping_add(u32::from(*byte));
+    }
+    sum
+}
+
 impl Page {
-    /// The text, of which nothing was told.
-    pub fn new(text: Vec<u8>) -> Page {
-        Page { text, told: 0 }
+    /// A text without bytes.
+    pub fn new(alloc: Global) -> Page {
+        Page {
+            text: Vec::new(alloc),
+            told: 0,
+        }
     }
 
-    /// All of the text.
-    pub fn text(&self) -> &[u8] {
-        &self.text
+    /// Adds these bytes. It tells whether there was memory.
+    pub fn add(&mut self, bytes: &[u8]) -> bool {
+        self.text.extend_from_slice(bytes).is_ok()
     }
 
     /// Whether nothing was told.
@@ -46,21 +91,24 @@ impl Page {
         self.text.get(self.told..).unwrap_or_default()
     }
 
-    /// Passes over all that is left.
-    pub fn pass(&mut self) {
+    /// Tells all that is left, whatever it is.
+    pub fn pass(&mut self) -> bool {
         self.told = self.text.len();
+        true
     }
 
     /// Tells the next line, and whether it is this one.
     pub fn goes_on(&mut self, line: &str) -> bool {
-        let rest = self.rest().strip_prefix(line.as_bytes());
-        let holds = rest.is_some_and(|rest| rest.starts_with(b"\n"));
+        let holds = match self.rest().strip_prefix(line.as_bytes()) {
+            Some(rest) => rest.starts_with(b"\n"),
+            None => false,
+        };
         self.told = self.told.saturating_add(line.len()).saturating_add(1);
         holds
     }
 
     /// Tells the next lines, and whether they are so many times this one.
-    pub fn goes_on_many(&mut self, times: usize, line: &str) -> bool {
+    fn goes_on_many(&mut self, times: usize, line: &str) -> bool {
         for _ in 0..times {
             if !self.goes_on(line) {
                 return false;
@@ -81,40 +129,28 @@ impl Page {
     }
 
     /// Tells all but so many lines of the end, and whether there are as many.
-    pub fn pass_to_last(&mut self, lines: usize) -> bool {
-        let count = self.line_count();
-        let front = lines_of(&self.text).take(count.saturating_sub(lines));
-        self.told = front.fold(0usize, |end, line| {
-            end.saturating_add(line.len()).saturating_add(1)
-        });
+    fn pass_to_last(&mut self, lines: usize) -> bool {
+        let count = line_count(&self.text);
+        self.told = end_of_lines(&self.text, count.saturating_sub(lines));
         lines <= count
     }
 
     /// Tells what is left, and whether it is this.
     pub fn ends(&mut self, text: &[u8]) -> bool {
         let holds = self.rest() == text;
-        self.pass();
-        holds
+        self.pass() && holds
     }
 
-    /// How many line feeds the whole text has.
-    pub fn line_count(&self) -> usize {
-        self.text.iter().filter(|byte| **byte == b'\n').count()
-    }
-
-    /// How many lines of the whole text end so.
-    pub fn ending_count(&self, end: &str) -> usize {
-        lines_of(&self.text)
-            .filter(|line| line.ends_with(end.as_bytes()))
-            .count()
-    }
-
-    /// The sum of the whole text, as `bench/made-text sums` prints it.
-    pub fn sum(&self) -> u32 {
-        let mut sum = 0u32;
-        for byte in &self.text {
-            sum = sum.wrapping_mul(31).wrapping_add(u32::from(*byte));
+    /// Tells what a line of this mark and number says of the text, and whether it is so.
+    pub fn counts(&mut self, mark: CountMark, number: usize, rest: &str) -> bool {
+        match mark {
+            CountMark::Many => self.goes_on_many(number, rest),
+            CountMark::Last => self.pass_to_last(number),
+            CountMark::Lines => line_count(&self.text) == number,
+            CountMark::Bytes => self.text.len() == number,
+            CountMark::Over => self.text.len() > number,
+            CountMark::Sum => sum(&self.text) as usize == number,
+            CountMark::Ending => ending_count(&self.text, rest) == number,
         }
-        sum
     }
 }

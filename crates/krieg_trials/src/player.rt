@@ -1,5 +1,6 @@
 // Who plays a game, and a player who finds no memory.
 
+use crate::line_result::{LineResult, counted, parted};
 use krieg_board::{Move, NoMemory, Side};
 use krieg_fen::read_move;
 use krieg_plan::PlanFile;
@@ -10,18 +11,30 @@ use krieg_text::TextFault;
 use krieg_words::Line;
 use std::alloc::Global;
 use std::io::Cursor;
+use std::mem;
 
 /// What a player does when he is asked.
-#[derive(Drop)]
+#[derive(Clone, Copy)]
 pub enum Manner {
-    /// He tries these moves one after another, and leaves. His calls of these numbers fail.
-    Tries { moves: Vec<Move>, fails: Vec<u64> },
-    /// He sends this text, a line each time.
-    Sends(Vec<u8>),
-    /// He follows the plan file of this text.
-    Follows(Vec<u8>),
+    /// He tries moves one after another, and leaves.
+    Tries,
+    /// He sends a text, a line each time.
+    Sends,
+    /// He follows a plan file.
+    Follows,
     /// He finds no memory.
     Forgets,
+}
+
+/// What a player does of `tries MOVES`, `sends`, `follows` or `forgets`, or none for other words.
+pub fn manner_of(words: &str) -> Option<Manner> {
+    Some(match parted(words).0 {
+        "tries" => Manner::Tries,
+        "sends" => Manner::Sends,
+        "follows" => Manner::Follows,
+        "forgets" => Manner::Forgets,
+        _ => return None,
+    })
 }
 
 /// A player who is to sit down, behind those of his side who were named before.
@@ -29,92 +42,99 @@ pub enum Manner {
 pub struct NamedPlayer {
     pub who: Side,
     pub manner: Manner,
-}
-
-/// The moves behind the first of the words, or none where one of them is no move.
-fn moves_of(alloc: Global, words: &str) -> Result<Option<Vec<Move>>, NoMemory> {
-    let mut moves = Vec::new(alloc);
-    for word in words.split(' ').skip(1) {
-        match read_move(word.as_bytes()) {
-            Ok(mv) => moves.push(mv)?,
-            Err(_) => return Ok(None),
-        }
-    }
-    Ok(Some(moves))
+    /// What he tries.
+    moves: Vec<Move>,
+    /// Which of his calls fail, where he tries.
+    fails: Vec<u64>,
+    /// What he sends, or his plan file.
+    text: Vec<u8>,
 }
 
 impl NamedPlayer {
-    /// The player of `tries MOVES`, `sends`, `follows` or `forgets`, or none for other words.
-    pub fn new(alloc: Global, who: Side, words: &str) -> Result<Option<NamedPlayer>, NoMemory> {
-        let manner = match words.split(' ').next() {
-            Some("tries") => match moves_of(alloc, words)? {
-                Some(moves) => Manner::Tries {
-                    moves,
-                    fails: Vec::new(alloc),
-                },
-                None => return Ok(None),
-            },
-            Some("sends") => Manner::Sends(Vec::new(alloc)),
-            Some("follows") => Manner::Follows(Vec::new(alloc)),
-            Some("forgets") => Manner::Forgets,
-            _ => return Ok(None),
-        };
-        Ok(Some(NamedPlayer { who, manner }))
-    }
-
-    /// Adds a text, and how it ends, to what he sends or to his plan file. It tells whether he is one who has a text.
-    pub fn send(&mut self, text: &str, end: &str) -> Result<bool, NoMemory> {
-        match &mut self.manner {
-            Manner::Sends(sent) | Manner::Follows(sent) => {
-                sent.extend_from_slice(text.as_bytes())?;
-                sent.extend_from_slice(end.as_bytes())?;
-                Ok(true)
-            }
-            _ => Ok(false),
+    /// A player without moves and without a text, whose calls do not fail.
+    pub fn new(alloc: Global, who: Side, manner: Manner) -> NamedPlayer {
+        NamedPlayer {
+            who,
+            manner,
+            moves: Vec::new(alloc),
+            fails: Vec::new(alloc),
+            text: Vec::new(alloc),
         }
     }
 
-    /// Has his call of this number fail. It tells whether he is one who tries.
-    pub fn fail(&mut self, call: usize) -> Result<bool, NoMemory> {
-        match &mut self.manner {
-            Manner::Tries { fails, .. } => {
-                fails.push(call as u64)?;
-                Ok(true)
+    /// Adds the moves behind the first of the words, where he is one who tries.
+    pub fn add_moves(&mut self, words: &str) -> LineResult {
+        if !matches!(self.manner, Manner::Tries) {
+            return LineResult::Holds;
+        }
+        let mut all = words.split(' ');
+        let _manner = all.next();
+        for word in all {
+            match read_move(word.as_bytes()) {
+                Ok(mv) => {
+                    if self.moves.push(mv).is_err() {
+                        return LineResult::Short;
+                    }
+                }
+                Err(_) => return LineResult::Fails,
             }
-            _ => Ok(false),
+        }
+        LineResult::Holds
+    }
+
+    /// Adds a text, and how it ends, to what he sends or to his plan file, where he is one who has a text.
+    pub fn send(&mut self, text: &str, end: &[u8]) -> LineResult {
+        if !matches!(self.manner, Manner::Sends | Manner::Follows) {
+            return LineResult::Fails;
+        }
+        let is_kept = self.text.extend_from_slice(text.as_bytes()).is_ok()
+            && self.text.extend_from_slice(end).is_ok();
+        LineResult::kept(is_kept)
+    }
+
+    /// Has his call of the number that stands first in the text fail, where he is one who tries.
+    pub fn fail(&mut self, text: &str) -> LineResult {
+        match (self.manner, counted(text)) {
+            (Manner::Tries, Some((call, _))) => {
+                LineResult::kept(self.fails.push(call as u64).is_ok())
+            }
+            _ => LineResult::Fails,
+        }
+    }
+
+    /// A seat that says his moves and fails at his calls, or none where there is no memory. He has none of them then.
+    pub fn scripted(&mut self, alloc: Global) -> Option<Box<ScriptSeat>> {
+        let moves = mem::replace(&mut self.moves, Vec::new(alloc));
+        let fails = mem::replace(&mut self.fails, Vec::new(alloc));
+        Box::new(alloc, ScriptSeat::new(alloc, moves, fails)).ok()
+    }
+
+    /// A seat behind his text, which is told into memory, or none where there is no memory. He has no text then.
+    pub fn sending(&mut self, alloc: Global) -> Option<Box<StreamSeat<Cursor<Vec<u8>>, Vec<u8>>>> {
+        let from = Cursor::new(mem::replace(&mut self.text, Vec::new(alloc)));
+        let told = Vec::new(alloc);
+        Box::new(alloc, StreamSeat::new(alloc, Some(from), Some(told))).ok()
+    }
+
+    /// A seat that follows the plan file of his text, or none where it spells none.
+    ///
+    /// # Errors
+    ///
+    /// Memory was not found.
+    pub fn guided(&self, alloc: Global) -> Result<Option<Box<GuidedSeat<PlanFile>>>, NoMemory> {
+        match read_plan(alloc, &self.text) {
+            Ok(file) => boxed(alloc, file),
+            Err(TextFault::At { .. }) => Ok(None),
+            Err(TextFault::NoMemory) => Err(NoMemory),
         }
     }
 }
 
-/// A seat that says these moves and fails at these calls.
-pub fn scripted(
-    alloc: Global,
-    moves: &Vec<Move>,
-    fails: &Vec<u64>,
-) -> Result<Box<ScriptSeat>, NoMemory> {
-    let seat = ScriptSeat::new(alloc, moves.clone()?, fails.clone()?);
-    Ok(Box::new(alloc, seat)?)
-}
-
-/// A seat behind this text, which is told into memory.
-pub fn sending(
-    alloc: Global,
-    text: &Vec<u8>,
-) -> Result<Box<StreamSeat<Cursor<Vec<u8>>, Vec<u8>>>, NoMemory> {
-    let from = Cursor::new(text.clone()?);
-    let seat = StreamSeat::new(alloc, Some(from), Some(Vec::new(alloc)));
-    Ok(Box::new(alloc, seat)?)
-}
-
-/// A seat that follows the plan file of this text, or none where it spells none.
-pub fn following(
-    alloc: Global,
-    text: &Vec<u8>,
-) -> Result<Option<Box<GuidedSeat<PlanFile>>>, NoMemory> {
-    match read_plan(alloc, text) {
-        Ok(file) => Ok(Some(Box::new(alloc, GuidedSeat::new(alloc, file))?)),
-        Err(TextFault::At { .. }) => Ok(None),
-        Err(TextFault::NoMemory) => Err(NoMemory),
+/// A seat that follows the plan file.
+fn boxed(alloc: Global, file: PlanFile) -> Result<Option<Box<GuidedSeat<PlanFile>>>, NoMemory> {
+    match Box::new(alloc, GuidedSeat::new(alloc, file)) {
+        Ok(seat) => Ok(Some(seat)),
+        Err(_) => Err(NoMemory),
     }
 }
 
@@ -126,14 +146,14 @@ pub struct ForgetfulSeat {
     asks: u64,
 }
 
-/// Such a seat, which has heard nothing.
-pub fn forgetful(alloc: Global) -> Result<Box<ForgetfulSeat>, NoMemory> {
+/// Such a seat, which has heard nothing, or none where there is no memory.
+pub fn forgetful(alloc: Global) -> Option<Box<ForgetfulSeat>> {
     let seat = ForgetfulSeat {
         said: Vec::new(alloc),
         heard: Vec::new(alloc),
         asks: 0,
     };
-    Ok(Box::new(alloc, seat)?)
+    Box::new(alloc, seat).ok()
 }
 
 impl Seat for ForgetfulSeat {

@@ -1,31 +1,14 @@
 // What the next run is given: its text, how its streams behave, and who plays.
 
-use crate::made::{add_bushes, add_leaves};
-use crate::player::NamedPlayer;
-use crate::stream::StreamSetting;
-use krieg_board::{NoMemory, Side};
+use crate::line_result::{LineResult, counted, parted};
+use crate::made::{add_bushes, add_leaves, add_lines};
+use crate::mark::{GivenMark, ManyMark};
+use crate::player::{NamedPlayer, manner_of};
+use crate::stream::{Stream, StreamSetting, Streams};
+use krieg_board::Side;
+use krieg_ports::{MemSink, MemSource};
 use std::alloc::Global;
-
-/// What comes of a line of a case.
-#[derive(Clone, Copy, PartialEq, Eq)]
-pub enum LineResult {
-    /// It holds.
-    Holds,
-    /// It does not hold, or has not the form of its mark.
-    Fails,
-    /// Its mark is another one.
-    Other,
-}
-
-impl From<bool> for LineResult {
-    fn from(holds: bool) -> LineResult {
-        if holds {
-            LineResult::Holds
-        } else {
-            LineResult::Fails
-        }
-    }
-}
+use std::mem;
 
 /// What a run gets.
 #[derive(Drop)]
@@ -37,21 +20,6 @@ pub struct RunInput {
     pub players: Vec<NamedPlayer>,
     /// Whether the seats that were relieved are dismissed behind the run.
     pub dismisses: bool,
-}
-
-/// Adds the line so many times, each with a line feed.
-pub fn add_lines(times: usize, line: &str, text: &mut Vec<u8>) -> Result<(), NoMemory> {
-    for _ in 0..times {
-        text.extend_from_slice(line.as_bytes())?;
-        text.push(b'\n')?;
-    }
-    Ok(())
-}
-
-/// The number with which the text begins, and what stands behind the space after it.
-pub fn counted(text: &str) -> Option<(usize, &str)> {
-    let (number, rest) = text.split_once(' ').unwrap_or((text, ""));
-    Some((number.parse::<usize>().ok()?, rest))
 }
 
 impl RunInput {
@@ -72,87 +40,109 @@ impl RunInput {
         self.text.is_empty() && self.players.is_empty()
     }
 
-    /// Adds a line with a carriage return before its line feed.
-    fn add_return(&mut self, line: &str) -> Result<(), NoMemory> {
-        self.text.extend_from_slice(line.as_bytes())?;
-        self.text.extend_from_slice(b"\r\n")?;
-        Ok(())
+    /// The streams of the run, which has its text and its settings then.
+    pub fn streams(&mut self, alloc: Global) -> Streams<Stream<MemSource>, Stream<MemSink>> {
+        let text = mem::replace(&mut self.text, Vec::new(alloc));
+        Streams {
+            input: self.input.source(alloc, text),
+            out: self.out.sink(alloc),
+            err: self.err.sink(alloc),
+        }
     }
 
-    /// Adds what stands behind a number: the line so many times, or so many nodes.
-    fn add_many(&mut self, mark: &str, count: usize, rest: &str) -> Result<bool, NoMemory> {
-        let (first, behind) = rest.split_once(' ').unwrap_or(("", ""));
-        match (mark, first.parse::<usize>()) {
-            ("in-many", _) => add_lines(count, rest, &mut self.text)?,
-            ("in-leaves", _) => add_leaves(count, first, behind, &mut self.text)?,
-            ("in-bushes", Ok(edges)) => add_bushes(count, edges, behind, &mut self.text)?,
-            _ => return Ok(false),
+    /// Adds these bytes. It tells whether there was memory.
+    pub fn add(&mut self, bytes: &[u8]) -> bool {
+        self.text.extend_from_slice(bytes).is_ok()
+    }
+
+    /// Adds a text, and how it ends.
+    fn add_ended(&mut self, text: &str, end: &[u8]) -> LineResult {
+        LineResult::kept(self.add(text.as_bytes()) && self.add(end))
+    }
+
+    /// Adds so many nodes with the line behind a number, each with so many edges.
+    fn add_bushes(&mut self, count: usize, rest: &str) -> LineResult {
+        match counted(rest) {
+            Some((edges, line)) => LineResult::kept(add_bushes(count, edges, line, &mut self.text)),
+            None => LineResult::Fails,
         }
-        Ok(true)
+    }
+
+    /// Adds so many nodes without edges, with the try and the front words of the text.
+    fn add_leaves(&mut self, count: usize, rest: &str) -> bool {
+        let (tried, front) = parted(rest);
+        add_leaves(count, tried, front, &mut self.text)
+    }
+
+    /// Takes a line with a number that gives something to the next run.
+    pub fn take_many(&mut self, mark: ManyMark, text: &str) -> LineResult {
+        let Some((count, rest)) = counted(text) else {
+            return LineResult::Fails;
+        };
+        match mark {
+            ManyMark::Lines => LineResult::kept(add_lines(count, rest, &mut self.text)),
+            ManyMark::Leaves => LineResult::kept(self.add_leaves(count, rest)),
+            ManyMark::Bushes => self.add_bushes(count, rest),
+        }
     }
 
     /// Sets how the stream that is named first behaves.
-    fn set(&mut self, words: &str) -> Result<bool, NoMemory> {
-        match words.split_once(' ') {
-            Some(("in", words)) => self.input.set(words),
-            Some(("out", words)) => self.out.set(words),
-            Some(("err", words)) => self.err.set(words),
-            _ => Ok(false),
+    fn set(&mut self, words: &str) -> LineResult {
+        match parted(words) {
+            ("in", words) => self.input.set(words),
+            ("out", words) => self.out.set(words),
+            ("err", words) => self.err.set(words),
+            _ => LineResult::Fails,
         }
     }
 
-    fn add_player(&mut self, alloc: Global, who: Side, words: &str) -> Result<bool, NoMemory> {
-        match NamedPlayer::new(alloc, who, words)? {
-            Some(player) => self.players.push(player)?,
-            None => return Ok(false),
-        }
-        Ok(true)
-    }
-
-    /// Adds something to the player who was named last.
-    fn add_to_player(&mut self, mark: &str, text: &str) -> Result<bool, NoMemory> {
-        match (self.players.last_mut(), mark, counted(text)) {
-            (Some(player), "send", _) => player.send(text, "\n"),
-            (Some(player), "send-part", _) => player.send(text, ""),
-            (Some(player), "seat-fails", Some((call, _))) => player.fail(call),
-            _ => Ok(false),
+    fn add_player(&mut self, alloc: Global, who: Side, words: &str) -> LineResult {
+        let Some(manner) = manner_of(words) else {
+            return LineResult::Fails;
+        };
+        let mut player = NamedPlayer::new(alloc, who, manner);
+        let taken = player.add_moves(words);
+        if self.players.push(player).is_ok() {
+            taken
+        } else {
+            LineResult::Short
         }
     }
 
-    /// Takes a line that says who plays.
-    fn take_player(
-        &mut self,
-        alloc: Global,
-        mark: &str,
-        text: &str,
-    ) -> Result<LineResult, NoMemory> {
-        Ok(LineResult::from(match mark {
-            "white" => self.add_player(alloc, Side::White, text)?,
-            "black" => self.add_player(alloc, Side::Black, text)?,
-            "send" | "send-part" | "seat-fails" => self.add_to_player(mark, text)?,
-            "dismiss" => {
-                self.dismisses = true;
-                true
-            }
-            _ => return Ok(LineResult::Other),
-        }))
+    /// Adds a text, and how it ends, to what the player has who was named last.
+    fn send(&mut self, text: &str, end: &[u8]) -> LineResult {
+        match self.players.last_mut() {
+            Some(player) => player.send(text, end),
+            None => LineResult::Fails,
+        }
+    }
+
+    /// Has a call of the player fail who was named last.
+    fn fail(&mut self, text: &str) -> LineResult {
+        match self.players.last_mut() {
+            Some(player) => player.fail(text),
+            None => LineResult::Fails,
+        }
+    }
+
+    fn dismiss(&mut self) -> LineResult {
+        self.dismisses = true;
+        LineResult::Holds
     }
 
     /// Takes a line that gives something to the next run.
-    pub fn take(&mut self, alloc: Global, mark: &str, text: &str) -> Result<LineResult, NoMemory> {
+    pub fn take(&mut self, alloc: Global, mark: GivenMark, text: &str) -> LineResult {
         match mark {
-            "in" => add_lines(1, text, &mut self.text)?,
-            "in-part" => self.text.extend_from_slice(text.as_bytes())?,
-            "in-return" => self.add_return(text)?,
-            "in-many" | "in-leaves" | "in-bushes" => {
-                return Ok(LineResult::from(match counted(text) {
-                    Some((count, rest)) => self.add_many(mark, count, rest)?,
-                    None => false,
-                }));
-            }
-            "set" => return Ok(LineResult::from(self.set(text)?)),
-            _ => return self.take_player(alloc, mark, text),
+            GivenMark::Line => self.add_ended(text, b"\n"),
+            GivenMark::Part => self.add_ended(text, b""),
+            GivenMark::Return => self.add_ended(text, b"\r\n"),
+            GivenMark::Setting => self.set(text),
+            GivenMark::White => self.add_player(alloc, Side::White, text),
+            GivenMark::Black => self.add_player(alloc, Side::Black, text),
+            GivenMark::Send => self.send(text, b"\n"),
+            GivenMark::SendPart => self.send(text, b""),
+            GivenMark::SeatFails => self.fail(text),
+            GivenMark::Dismiss => self.dismiss(),
         }
-        Ok(LineResult::Holds)
     }
 }

@@ -1,49 +1,35 @@
 // What a run came to, as a case tells it.
 
+use crate::line_result::{LineResult, counted};
+use crate::mark::{CountMark, ToldMark};
 use crate::page::Page;
-use crate::run_input::{LineResult, counted};
 use std::alloc::Global;
 
 /// What a run came to, and how much of it was told.
 #[derive(Drop)]
 pub struct RunResult {
-    status: u8,
+    pub status: u8,
     /// Whether the status was told. One that is not is 0.
     is_status_told: bool,
-    input: Vec<u8>,
-    out: Page,
-    err: Page,
+    /// What the run was given to read.
+    pub input: Vec<u8>,
+    pub out: Page,
+    pub err: Page,
     /// Each seat that sits, waits or was relieved, with what it said and heard. Where a line of it is told, all are.
-    seats: Page,
+    pub seats: Page,
 }
 
 impl RunResult {
     /// No run was made.
     pub fn new(alloc: Global) -> RunResult {
-        let none = Vec::new(alloc);
-        RunResult::of(0, none, Vec::new(alloc), Vec::new(alloc), Vec::new(alloc))
-    }
-
-    /// A run that ended so.
-    pub fn of(status: u8, input: Vec<u8>, out: Vec<u8>, err: Vec<u8>, seats: Vec<u8>) -> RunResult {
         RunResult {
-            status,
+            status: 0,
             is_status_told: false,
-            input,
-            out: Page::new(out),
-            err: Page::new(err),
-            seats: Page::new(seats),
+            input: Vec::new(alloc),
+            out: Page::new(alloc),
+            err: Page::new(alloc),
+            seats: Page::new(alloc),
         }
-    }
-
-    /// All of the answer.
-    pub fn answer(&self) -> &[u8] {
-        self.out.text()
-    }
-
-    /// What the run was given to read.
-    pub fn input(&self) -> &[u8] {
-        &self.input
     }
 
     /// Whether all that must be told was told.
@@ -62,47 +48,26 @@ impl RunResult {
         }
     }
 
-    /// Whether the answer is as a line with a number says.
-    fn has(&mut self, mark: &str, text: &str) -> bool {
-        let Some((number, rest)) = counted(text) else {
-            return false;
-        };
-        match mark {
-            "out-many" => self.out.goes_on_many(number, rest),
-            "out-last" => self.out.pass_to_last(number),
-            "out-lines" => self.out.line_count() == number,
-            "out-bytes" => self.answer().len() == number,
-            "out-over" => self.answer().len() > number,
-            "out-sum" => self.out.sum() as usize == number,
-            "out-ending" => self.out.ending_count(rest) == number,
-            _ => false,
-        }
+    /// Takes a line that tells what the run came to.
+    pub fn take(&mut self, mark: ToldMark, text: &str, line: &str) -> LineResult {
+        LineResult::of(match mark {
+            ToldMark::Status => self.tell_status(text),
+            ToldMark::Out => self.out.goes_on(text),
+            ToldMark::OutThen => self.out.comes(text),
+            ToldMark::OutCut => self.out.ends(text.as_bytes()),
+            ToldMark::OutInput => self.out.ends(&self.input),
+            ToldMark::OutMore => self.out.pass(),
+            ToldMark::Err => self.err.goes_on(text),
+            ToldMark::ErrCut => self.err.ends(text.as_bytes()),
+            ToldMark::Seats => self.seats.goes_on(line),
+        })
     }
 
-    /// Takes a line that says what the run came to.
-    pub fn take(&mut self, line: &str) -> LineResult {
-        let (mark, text) = line.split_once(' ').unwrap_or((line, ""));
-        LineResult::from(match mark {
-            "status" => self.tell_status(text),
-            "out" => self.out.goes_on(text),
-            "out-then" => self.out.comes(text),
-            "out-cut" => self.out.ends(text.as_bytes()),
-            "out-input" => self.out.ends(&self.input),
-            "out-more" => {
-                self.out.pass();
-                true
-            }
-            "out-many"
-            | "out-last"
-            | "out-lines"
-            | "out-bytes"
-            | "out-over"
-            | "out-sum"
-            | "out-ending" => self.has(mark, text),
-            "err" => self.err.goes_on(text),
-            "err-cut" => self.err.ends(text.as_bytes()),
-            "sits" | "waits" | "relieved" | "heard" => self.seats.goes_on(line),
-            _ => return LineResult::Other,
-        })
+    /// Takes a line with a number that tells something of the answer.
+    pub fn take_count(&mut self, mark: CountMark, text: &str) -> LineResult {
+        match counted(text) {
+            Some((number, rest)) => LineResult::of(self.out.counts(mark, number, rest)),
+            None => LineResult::Fails,
+        }
     }
 }

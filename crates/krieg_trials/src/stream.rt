@@ -2,9 +2,10 @@
 
 ghost use Rattle.std.specs.Prelude.{None};
 
-use krieg_board::NoMemory;
+use crate::line_result::LineResult;
 use krieg_ports::{Failed, MemSink, MemSource, Sink, Source};
 use std::alloc::Global;
+use std::mem;
 
 /// How a stream behaves.
 #[derive(Drop)]
@@ -17,6 +18,8 @@ pub struct StreamSetting {
     piece: usize,
     /// The most bytes in all, of a sink.
     room: usize,
+    /// The places of a sink, once they were made.
+    space: Vec<u8>,
 }
 
 impl StreamSetting {
@@ -27,40 +30,48 @@ impl StreamSetting {
             faults: 0,
             piece,
             room,
+            space: Vec::new(alloc),
         }
     }
 
-    /// Takes `fails NUMBER`, `piece NUMBER`, `room NUMBER` or `worn`, and tells whether the words are one of these.
-    pub fn set(&mut self, words: &str) -> Result<bool, NoMemory> {
+    /// Takes `fails NUMBER`, `piece NUMBER`, `room NUMBER` or `worn`.
+    pub fn set(&mut self, words: &str) -> LineResult {
         let (what, number) = words.split_once(' ').unwrap_or((words, "1"));
         let Ok(number) = number.parse::<usize>() else {
-            return Ok(false);
+            return LineResult::Fails;
         };
         match what {
-            "fails" => self.fails.push(number as u64)?,
+            "fails" => return LineResult::kept(self.fails.push(number as u64).is_ok()),
             "worn" => self.faults = u64::MAX,
             "piece" if number > 0 => self.piece = number,
             "room" => self.room = number,
-            _ => return Ok(false),
+            _ => return LineResult::Fails,
         }
-        Ok(true)
+        LineResult::Holds
     }
 
-    /// A source of this text.
-    pub fn source(self, text: Vec<u8>) -> Stream<MemSource> {
+    /// A source of this text. The calls that fail are its own from now on.
+    pub fn source(&mut self, alloc: Global, text: Vec<u8>) -> Stream<MemSource> {
+        let fails = mem::replace(&mut self.fails, Vec::new(alloc));
         Stream {
-            inner: MemSource::new(text, self.piece.max(1), self.fails),
+            inner: MemSource::new(text, self.piece.max(1), fails),
             faults: self.faults,
         }
     }
 
-    /// A sink without bytes.
-    pub fn sink(self, alloc: Global) -> Result<Stream<MemSink>, NoMemory> {
-        let space = vec![in alloc; 0u8; self.room]?;
-        Ok(Stream {
-            inner: MemSink::new(space, self.piece.max(1), self.fails),
+    /// Makes the places of a sink. It tells whether there was memory.
+    pub fn make_room(&mut self) -> bool {
+        self.space.resize(self.room, 0u8).is_ok()
+    }
+
+    /// A sink with the places that were made. They, and the calls that fail, are its own from now on.
+    pub fn sink(&mut self, alloc: Global) -> Stream<MemSink> {
+        let space = mem::replace(&mut self.space, Vec::new(alloc));
+        let fails = mem::replace(&mut self.fails, Vec::new(alloc));
+        Stream {
+            inner: MemSink::new(space, self.piece.max(1), fails),
             faults: self.faults,
-        })
+        }
     }
 }
 
@@ -68,8 +79,15 @@ impl StreamSetting {
 /// call fails.
 #[derive(Drop)]
 pub struct Stream<S> {
-    pub inner: S,
+    inner: S,
     faults: u64,
+}
+
+impl Stream<MemSink> {
+    /// What the sink got.
+    pub fn bytes(&self) -> &[u8] {
+        self.inner.bytes()
+    }
 }
 
 impl<S: Source> Source for Stream<S> {
@@ -104,4 +122,12 @@ impl<S: Sink> Sink for Stream<S> {
         self.faults = self.faults.saturating_add(1);
         Err(Failed)
     }
+}
+
+/// The streams of a run.
+#[derive(Drop)]
+pub struct Streams<S, O> {
+    pub input: S,
+    pub out: O,
+    pub err: O,
 }

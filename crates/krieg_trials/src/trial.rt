@@ -1,11 +1,12 @@
 // A file of cases, whose lines are taken one after another.
 
-use crate::run_input::{LineResult, RunInput, add_lines, counted};
+use crate::line_result::{LineResult, counted, parted};
+use crate::made::add_line;
+use crate::mark::{Mark, mark_of};
+use crate::run_input::RunInput;
 use crate::run_result::RunResult;
 use crate::running::come;
-use krieg_board::NoMemory;
 use std::alloc::Global;
-use std::mem;
 
 /// How far the lines hold.
 #[derive(Clone, Copy)]
@@ -14,6 +15,8 @@ pub enum Progress {
     Runs(u64),
     /// The line of this number is the first that does not hold.
     Wrong(u64),
+    /// There was no memory for one of them.
+    Short,
 }
 
 /// A case as far as it was taken.
@@ -25,13 +28,24 @@ struct Trial {
     came: RunResult,
 }
 
-/// The words behind the mark of a line: single spaces part them, so that a word may be empty.
-fn words_of(alloc: Global, line: &str) -> Result<Vec<String>, NoMemory> {
-    let mut words = Vec::new(alloc);
-    for word in line.split(' ').skip(1) {
-        words.push(String::from_str(alloc, word)?)?;
+/// Adds the word. It tells whether there was memory.
+fn add_word(alloc: Global, word: &str, words: &mut Vec<String>) -> bool {
+    match String::from_str(alloc, word) {
+        Ok(word) => words.push(word).is_ok(),
+        Err(_) => false,
     }
-    Ok(words)
+}
+
+/// Adds the words behind the mark of a line: single spaces part them, so that a word may be empty. It tells whether there was memory.
+fn add_words(alloc: Global, line: &str, words: &mut Vec<String>) -> bool {
+    let mut all = line.split(' ');
+    let _mark = all.next();
+    for word in all {
+        if !add_word(alloc, word, words) {
+            return false;
+        }
+    }
+    true
 }
 
 impl Trial {
@@ -48,74 +62,96 @@ impl Trial {
         self.came.is_told() && self.given.is_empty()
     }
 
-    /// Begins another case. It tells whether the last one was done.
-    fn begin(&mut self, alloc: Global) -> bool {
+    /// Begins another case. It holds where the last one was done.
+    fn begin(&mut self, alloc: Global) -> LineResult {
         let is_done = self.is_done();
         *self = Trial::new(alloc);
-        is_done
+        LineResult::of(is_done)
     }
 
-    /// Runs the words of the line, where the last run was told.
-    fn run(&mut self, alloc: Global, line: &str) -> Result<bool, NoMemory> {
+    /// Runs these words, and tells whether there was memory. Nothing is given to the next run.
+    fn run_words(&mut self, alloc: Global, words: &[String]) -> bool {
+        self.came = RunResult::new(alloc);
+        let is_kept = come(alloc, words, &mut self.given, &mut self.came);
+        self.given = RunInput::new(alloc);
+        is_kept
+    }
+
+    /// Runs the words of the line. It holds where the last run was told.
+    fn run(&mut self, alloc: Global, line: &str) -> LineResult {
         let is_told = self.came.is_told();
-        let words = words_of(alloc, line)?;
-        let given = mem::replace(&mut self.given, RunInput::new(alloc));
-        self.came = come(alloc, &words, given)?;
-        Ok(is_told)
-    }
-
-    /// Gives the next run the kept lines so many times.
-    fn give_kept(&mut self, text: &str) -> Result<bool, NoMemory> {
-        let Some((times, _)) = counted(if text.is_empty() { "1" } else { text }) else {
-            return Ok(false);
-        };
-        for _ in 0..times {
-            self.given.text.extend_from_slice(&self.kept)?;
+        let mut words = Vec::new(alloc);
+        if add_words(alloc, line, &mut words) && self.run_words(alloc, &words) {
+            LineResult::of(is_told)
+        } else {
+            LineResult::Short
         }
-        Ok(true)
     }
 
-    /// Takes the next line, and tells whether it holds.
-    fn take(&mut self, alloc: Global, line: &str) -> Result<bool, NoMemory> {
-        let (mark, text) = line.split_once(' ').unwrap_or((line, ""));
-        match mark {
-            "" | "#" => return Ok(true),
-            "case" => return Ok(self.begin(alloc)),
-            "run" => return self.run(alloc, line),
-            "keep" => add_lines(1, text, &mut self.kept)?,
-            "in-kept" => return self.give_kept(text),
-            "in-answer" => self.given.text.extend_from_slice(self.came.answer())?,
-            "in-again" => self.given.text.extend_from_slice(self.came.input())?,
-            _ => {
-                let taken = match self.came.take(line) {
-                    LineResult::Other => self.given.take(alloc, mark, text)?,
-                    taken => taken,
-                };
-                return Ok(taken == LineResult::Holds);
+    /// Gives the next run the kept lines so many times. It tells whether there was memory.
+    fn add_kept(&mut self, times: usize) -> bool {
+        for _ in 0..times {
+            if self.given.text.extend_from_slice(&self.kept).is_err() {
+                return false;
             }
         }
-        Ok(true)
+        true
+    }
+
+    /// Gives the next run the kept lines as often as the text says, or once.
+    fn give_kept(&mut self, text: &str) -> LineResult {
+        match counted(if text.is_empty() { "1" } else { text }) {
+            Some((times, _)) => LineResult::kept(self.add_kept(times)),
+            None => LineResult::Fails,
+        }
+    }
+
+    /// Takes the next line.
+    fn take(&mut self, alloc: Global, line: &str) -> LineResult {
+        let (word, text) = parted(line);
+        let Some(mark) = mark_of(word) else {
+            return LineResult::Fails;
+        };
+        match mark {
+            Mark::Nothing => LineResult::Holds,
+            Mark::Case => self.begin(alloc),
+            Mark::Run => self.run(alloc, line),
+            Mark::Keep => LineResult::kept(add_line(text, &mut self.kept)),
+            Mark::GiveKept => self.give_kept(text),
+            Mark::GiveAnswer => LineResult::kept(self.given.add(&self.came.out.text)),
+            Mark::GiveAgain => LineResult::kept(self.given.add(&self.came.input)),
+            Mark::Given(mark) => self.given.take(alloc, mark, text),
+            Mark::GivenMany(mark) => self.given.take_many(mark, text),
+            Mark::Told(mark) => self.came.take(mark, text, line),
+            Mark::ToldCount(mark) => self.came.take_count(mark, text),
+        }
+    }
+
+    /// Takes the lines of the text, up to the first that does not hold. A last case that is not done does not hold behind the last line.
+    fn take_lines(&mut self, alloc: Global, text: &str) -> Progress {
+        let mut runs = 0u64;
+        let mut number = 1u64;
+        for line in text.split('\n') {
+            match self.take(alloc, line) {
+                LineResult::Holds => {}
+                LineResult::Short => return Progress::Short,
+                LineResult::Fails => return Progress::Wrong(number),
+            }
+            if line.starts_with("run") {
+                runs = runs.saturating_add(1);
+            }
+            number = number.saturating_add(1);
+        }
+        if self.is_done() {
+            Progress::Runs(runs)
+        } else {
+            Progress::Wrong(number)
+        }
     }
 }
 
-/// Takes the lines of the text, up to the first that does not hold. A last case that is not done does not hold behind
-/// the last line.
-pub fn judge(alloc: Global, text: &str) -> Result<Progress, NoMemory> {
+/// Takes the lines of the text, and tells how far they hold.
+pub fn judge(alloc: Global, text: &str) -> Progress {
     let mut trial = Trial::new(alloc);
-    let mut runs = 0u64;
-    let mut number = 1u64;
-    for line in text.split('\n') {
-        if !trial.take(alloc, line)? {
-            return Ok(Progress::Wrong(number));
-        }
-        if line.starts_with("run") {
-            runs = runs.saturating_add(1);
-        }
-        number = number.saturating_add(1);
-    }
-    Ok(if trial.is_done() {
-        Progress::Runs(runs)
-    } else {
-        Progress::Wrong(number)
-    })
+    trial.take_lines(alloc, text)
 }

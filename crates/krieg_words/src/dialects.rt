@@ -5,7 +5,7 @@ ghost use Rattle.krieg_words.specs.declared.dialects.Dialect.{Dialect as SomeDia
 use krieg_text::is_name;
 
 /// How much the umpire tells.
-#[derive(Clone, Copy, Debug, PartialEq, Eq)]
+#[derive(Clone, Copy)]
 pub enum Dialect {
     /// All of the words.
     Wild16,
@@ -16,7 +16,7 @@ pub enum Dialect {
 }
 
 /// How the man that was captured is told.
-#[derive(Clone, Copy, Debug, PartialEq, Eq)]
+#[derive(Clone, Copy)]
 pub enum MenTold {
     /// A pawn is told apart from a piece.
     Apart,
@@ -25,7 +25,7 @@ pub enum MenTold {
 }
 
 /// How checks are told.
-#[derive(Clone, Copy, Debug, PartialEq, Eq)]
+#[derive(Clone, Copy)]
 pub enum ChecksTold {
     /// With their kinds.
     ByKind,
@@ -34,7 +34,7 @@ pub enum ChecksTold {
 }
 
 /// What is told of pawn tries.
-#[derive(Clone, Copy, Debug, PartialEq, Eq)]
+#[derive(Clone, Copy)]
 pub enum TriesTold {
     /// Their number.
     Number,
@@ -45,7 +45,7 @@ pub enum TriesTold {
 }
 
 /// The version of the texts in a dialect.
-#[derive(Clone, Copy, Debug, PartialEq, Eq)]
+#[derive(Clone, Copy)]
 pub enum TextVersion {
     /// Version 1, which names no dialect.
     First,
@@ -54,7 +54,7 @@ pub enum TextVersion {
 }
 
 /// What a dialect tells, and how it is written.
-#[derive(Clone, Copy, Debug, PartialEq, Eq)]
+#[derive(Clone, Copy)]
 pub struct DialectRules {
     pub men: MenTold,
     pub checks: ChecksTold,

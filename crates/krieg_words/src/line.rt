@@ -15,7 +15,7 @@ use krieg_fen::put_move;
 use krieg_text::Text;
 
 /// One line of what a player hears.
-#[derive(Clone, Copy, Debug, PartialEq, Eq)]
+#[derive(Clone, Copy)]
 pub enum Line {
     /// The opening words.
     Opens(Words),

@@ -10,7 +10,7 @@ use std::marker::Model;
 pub const MOST_TRIES: u8 = 16;
 
 /// Whether the game goes on, and how it has ended otherwise.
-#[derive(Clone, Copy, Debug, PartialEq, Eq, PartialOrd, Ord)]
+#[derive(Clone, Copy, PartialEq, Eq, PartialOrd, Ord)]
 pub enum End {
     /// The side to move has a legal move.
     Goes,
@@ -21,7 +21,7 @@ pub enum End {
 }
 
 /// What a move captured, and the square where it stood.
-#[derive(Clone, Copy, Debug, PartialEq, Eq, PartialOrd, Ord)]
+#[derive(Clone, Copy, PartialEq, Eq, PartialOrd, Ord)]
 pub enum Took {
     /// Nothing was captured.
     Nothing,
@@ -35,7 +35,7 @@ pub enum Took {
 ///
 /// Words are ordered by their end, then by what was taken, then by the kinds of check as a number, then by
 /// the pawn tries. In contracts they are a `Said`.
-#[derive(Clone, Copy, Debug, PartialEq, Eq, PartialOrd, Ord)]
+#[derive(Clone, Copy, PartialEq, Eq, PartialOrd, Ord)]
 pub struct Words {
     pub end: End,
     pub took: Took,

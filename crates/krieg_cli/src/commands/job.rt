@@ -36,7 +36,7 @@ use std::alloc::Global;
 pub(crate) const JOB_MOVES: u8 = 1;
 
 /// What a search and a check find.
-#[derive(Clone, Copy, Debug, PartialEq, Eq)]
+#[derive(Clone, Copy)]
 pub(crate) enum Finding {
     /// The best plan: its worst case, how many nodes it has, and its worst case as the check finds it.
     Plan {

@@ -12,7 +12,7 @@ use krieg_text::Text;
 use std::alloc::Global;
 
 /// How many tries there are, and of each verdict.
-#[derive(Clone, Copy, Debug, PartialEq, Eq)]
+#[derive(Clone, Copy)]
 pub(crate) struct VerdictCounts {
     tries: usize,
     done: usize,
