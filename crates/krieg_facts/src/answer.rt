@@ -1,6 +1,6 @@
 // What comes of a question, as a text.
 
-use crate::stop::LineStop;
+use crate::stop::FirstStop;
 use krieg_board::{BadPosition, Move, NoMemory, Position, Square, lowest, without_lowest};
 use krieg_fen::{put_square, write_move, write_position};
 use krieg_text::{Text, TextFault, TextKind, put_number};
@@ -13,7 +13,7 @@ use std::alloc::Global;
 #[derive(Drop)]
 pub struct AnswerText {
     pub text: Vec<u8>,
-    pub stopped: Option<LineStop>,
+    pub stop: FirstStop,
 }
 
 impl AnswerText {
@@ -21,7 +21,7 @@ impl AnswerText {
     pub fn new(alloc: Global) -> AnswerText {
         AnswerText {
             text: Vec::new(alloc),
-            stopped: None,
+            stop: FirstStop::none(),
         }
     }
 
@@ -34,34 +34,10 @@ impl AnswerText {
         }
     }
 
-    /// Notes why there is no answer. The first stop stays.
-    pub fn stop(&mut self, stop: LineStop) {
-        if self.stopped.is_none() {
-            self.stopped = Some(stop);
-        }
-    }
-
-    /// Notes that what is asked for does not stand, or differs from what it must agree with.
-    pub fn unread(&mut self) {
-        self.stop(LineStop::Unread);
-    }
-
-    /// Notes that memory was not found.
-    pub fn lacks_memory(&mut self) {
-        self.stop(LineStop::Memory);
-    }
-
-    /// Notes how a writer of this text ended.
-    pub fn wrote(&mut self, done: Result<(), NoMemory>) {
-        if done.is_err() {
-            self.lacks_memory();
-        }
-    }
-
     /// Goes on only where this is so.
     pub fn only_if(&mut self, is_so: bool) {
         if !is_so {
-            self.unread();
+            self.stop.unread();
         }
     }
 
@@ -69,14 +45,14 @@ impl AnswerText {
     pub fn only_if_found(&mut self, is_so: Result<bool, NoMemory>) {
         match is_so {
             Ok(is_so) => self.only_if(is_so),
-            Err(_) => self.lacks_memory(),
+            Err(_) => self.stop.lacks_memory(),
         }
     }
 
     /// What stopped the other text stops this one.
     pub fn stop_as(&mut self, other: &AnswerText) {
-        if let Some(stop) = other.stopped {
-            self.stop(stop);
+        if let Some(stop) = other.stop.first {
+            self.stop.note(stop);
         }
     }
 
@@ -95,7 +71,7 @@ impl AnswerText {
     /// Adds the bytes, right behind what stands there.
     pub fn put(&mut self, bytes: &[u8]) {
         if self.text.extend_from_slice(bytes).is_err() {
-            self.lacks_memory();
+            self.stop.lacks_memory();
         }
     }
 
@@ -135,7 +111,7 @@ impl AnswerText {
         let mut text = Text::after(&mut self.text);
         let done = put_number(number, &mut text);
         let done = text.end(done, &mut self.text);
-        self.wrote(done);
+        self.stop.took(done);
     }
 
     /// A number as a word.
@@ -148,7 +124,7 @@ impl AnswerText {
     pub fn number_found(&mut self, number: Result<u64, NoMemory>) {
         match number {
             Ok(number) => self.number(number),
-            Err(_) => self.lacks_memory(),
+            Err(_) => self.stop.lacks_memory(),
         }
     }
 
@@ -158,7 +134,7 @@ impl AnswerText {
         let mut text = Text::after(&mut self.text);
         let done = put_square(square, &mut text);
         let done = text.end(done, &mut self.text);
-        self.wrote(done);
+        self.stop.took(done);
     }
 
     /// The squares of a set, the lowest first.
@@ -177,27 +153,27 @@ impl AnswerText {
     pub fn squares_found(&mut self, set: Option<u64>) {
         match set {
             Some(set) => self.squares(set),
-            None => self.unread(),
+            None => self.stop.unread(),
         }
     }
 
     /// A move, right behind what stands there.
     pub fn put_move(&mut self, mv: Move) {
         let done = write_move(mv, &mut self.text);
-        self.wrote(done);
+        self.stop.took(done);
     }
 
     /// The text of a position, right behind what stands there.
     pub fn position(&mut self, p: &Position) {
         let done = write_position(p, &mut self.text);
-        self.wrote(done);
+        self.stop.took(done);
     }
 
     /// A fault of a text, as `line 3: syntax`.
     pub fn fault(&mut self, fault: TextFault) {
         match fault {
             TextFault::At { line, kind } => self.fault_at(line, kind),
-            TextFault::NoMemory => self.lacks_memory(),
+            TextFault::NoMemory => self.stop.lacks_memory(),
         }
     }
 

@@ -144,7 +144,7 @@ fn say_longer(king: Square, other: Square, answer: &mut AnswerText) {
     if files == ranks && king.number() != other.number() {
         answer.yes_or_no(long_diagonal(king, other));
     } else {
-        answer.unread();
+        answer.stop.unread();
     }
 }
 

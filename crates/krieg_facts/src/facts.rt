@@ -63,7 +63,7 @@ fn layer_of(given: &mut Given) -> Layer {
             return *layer;
         }
     }
-    given.unread();
+    given.stop.unread();
     Layer::Boards
 }
 
@@ -180,7 +180,7 @@ fn is_told(
     let mut wanted = Given::new(told);
     let told = wanted.bytes(alloc);
     judged(
-        answer.stopped.or(given.end()).or(wanted.end()),
+        answer.stop.first.or(given.end()).or(wanted.end()),
         answer.told() == told.as_slice(),
     )
 }

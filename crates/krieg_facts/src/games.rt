@@ -26,7 +26,7 @@ fn event_of(given: &mut Given) -> Event {
 /// Judges the try.
 fn step(game: &mut Game, event: Event, answer: &mut AnswerText) {
     let done = game.reserve(1);
-    answer.wrote(done);
+    answer.stop.took(done);
     if game.spare() > 0 {
         let _ = game.step(event);
     }
@@ -46,7 +46,7 @@ fn say_heard(who: Side, judged: &Judged, answer: &mut AnswerText) {
     match line_for(who, judged) {
         Some(line) => {
             let done = write_line(line, &mut answer.text);
-            answer.wrote(done);
+            answer.stop.took(done);
         }
         None => answer.put(b"nothing"),
     }
@@ -73,7 +73,7 @@ fn say_places(scene: &Scene, given: &mut Given, answer: &mut AnswerText) {
     let mut game = Game::start(scene.alloc, scene.position);
     for _ in 0..given.words() {
         let done = game.reserve(given.count() as usize);
-        answer.wrote(done);
+        answer.stop.took(done);
         answer.number(game.spare() as u64);
     }
 }
@@ -114,7 +114,7 @@ fn say_begun(begun: Result<Sheet, SheetFault>, answer: &mut AnswerText) {
             answer.put(b"differs ");
             answer.digits(place as u64);
         }
-        Err(fault) => answer.stop(LineStop::of_sheet(fault)),
+        Err(fault) => answer.stop.note(LineStop::of_sheet(fault)),
     }
 }
 
@@ -123,7 +123,7 @@ fn say_pushed(pushed: Result<(), SheetFault>, turns: &mut AnswerText) {
     match pushed {
         Ok(()) => {}
         Err(SheetFault::OutOfPlace) => turns.put(b"out of place, "),
-        Err(_) => turns.lacks_memory(),
+        Err(_) => turns.stop.lacks_memory(),
     }
 }
 
@@ -143,7 +143,7 @@ fn enter(sheet: &mut Sheet, text: &str, turns: &mut AnswerText) {
     turns.part(b"");
     match read_line_in(sheet.dialect(), text.as_bytes()) {
         Ok(line) => say_pushed(sheet.push(line), turns),
-        Err(_) => turns.unread(),
+        Err(_) => turns.stop.unread(),
     }
     turns.put(turn_of(sheet));
 }
@@ -166,7 +166,7 @@ fn sheet_of(scene: &Scene, given: &mut Given, turns: &mut AnswerText) -> Result<
 fn say_entered(scene: &Scene, given: &mut Given, answer: &mut AnswerText) {
     match sheet_of(scene, given, answer) {
         Ok(_) => {}
-        Err(fault) => answer.stop(LineStop::of_sheet(fault)),
+        Err(fault) => answer.stop.note(LineStop::of_sheet(fault)),
     }
 }
 
@@ -176,9 +176,9 @@ fn say_sheet(scene: &Scene, given: &mut Given, answer: &mut AnswerText) {
     match sheet_of(scene, given, &mut turns) {
         Ok(sheet) => {
             let done = write_sheet(&sheet, &mut answer.text);
-            answer.wrote(done);
+            answer.stop.took(done);
         }
-        Err(fault) => answer.stop(LineStop::of_sheet(fault)),
+        Err(fault) => answer.stop.note(LineStop::of_sheet(fault)),
     }
     answer.stop_as(&turns);
 }
@@ -194,14 +194,14 @@ fn say_list(scene: &Scene, who: Side, answer: &mut AnswerText) {
     let mut text = Text::after(&mut answer.text);
     let done = put_alone(scene, who, &mut text);
     let done = text.end(done, &mut answer.text);
-    answer.wrote(done);
+    answer.stop.took(done);
 }
 
 /// Notes why there are no games.
 fn no_games(stop: WhyStop, answer: &mut AnswerText) {
     match stop {
-        WhyStop::NoMemory => answer.lacks_memory(),
-        _ => answer.unread(),
+        WhyStop::NoMemory => answer.stop.lacks_memory(),
+        _ => answer.stop.unread(),
     }
 }
 
@@ -210,7 +210,7 @@ fn say_why(alloc: Global, sheet: &Sheet, limit: usize, answer: &mut AnswerText) 
     match why(alloc, sheet, limit) {
         Ok(games) => {
             let done = write_games(sheet.dialect(), &games, &mut answer.text);
-            answer.wrote(done);
+            answer.stop.took(done);
         }
         Err(stop) => no_games(stop, answer),
     }
@@ -221,7 +221,7 @@ fn say_least(alloc: Global, sheet: &Sheet, limit: usize, answer: &mut AnswerText
     match least_games(alloc, sheet, limit) {
         Ok(games) => {
             let done = write_games_of(alloc, sheet.dialect(), &games, &mut answer.text);
-            answer.wrote(done);
+            answer.stop.took(done);
         }
         Err(stop) => no_games(stop, answer),
     }
@@ -239,7 +239,7 @@ fn say_both(alloc: Global, sheet: &Sheet, limit: usize, answer: &mut AnswerText)
 fn say_games(alloc: Global, limit: usize, text: &[u8], answer: &mut AnswerText) {
     match read_sheet(alloc, text) {
         Ok(sheet) => say_both(alloc, &sheet, limit, answer),
-        Err(_) => answer.unread(),
+        Err(_) => answer.stop.unread(),
     }
 }
 
@@ -256,7 +256,7 @@ fn ask_sheet(scene: &Scene, mark: &str, given: &mut Given, answer: &mut AnswerTe
             &given.bytes(scene.alloc),
             answer,
         ),
-        _ => answer.unread(),
+        _ => answer.stop.unread(),
     }
 }
 

@@ -1,7 +1,7 @@
 // What a line gives, as it is read.
 
-use crate::stop::LineStop;
-use krieg_board::{Move, NoMemory, Side, Square, only};
+use crate::stop::{FirstStop, LineStop};
+use krieg_board::{Move, Side, Square, only};
 use krieg_fen::{read_move, read_square};
 use krieg_text::read_number;
 use krieg_words::{Dialect, SILENT, Words, read_words_in};
@@ -23,7 +23,7 @@ fn meant_by(byte: u8, is_behind: bool) -> u8 {
 #[derive(Drop)]
 pub struct Given<'a> {
     rest: &'a str,
-    stopped: Option<LineStop>,
+    pub stop: FirstStop,
 }
 
 impl<'a> Given<'a> {
@@ -31,47 +31,23 @@ impl<'a> Given<'a> {
     pub fn new(text: &'a str) -> Given<'a> {
         Given {
             rest: text,
-            stopped: None,
-        }
-    }
-
-    /// Notes why the line is not taken. The first stop stays.
-    pub fn stop(&mut self, stop: LineStop) {
-        if self.stopped.is_none() {
-            self.stopped = Some(stop);
-        }
-    }
-
-    /// Notes that something has none of the forms of its place.
-    pub fn unread(&mut self) {
-        self.stop(LineStop::Unread);
-    }
-
-    /// Notes that memory was not found.
-    pub fn lacks_memory(&mut self) {
-        self.stop(LineStop::Memory);
-    }
-
-    /// Notes whether memory was found.
-    pub fn took(&mut self, done: Result<(), NoMemory>) {
-        if done.is_err() {
-            self.lacks_memory();
+            stop: FirstStop::none(),
         }
     }
 
     /// Why the text was not read whole, where it was not.
     pub fn end(&self) -> Option<LineStop> {
-        if self.stopped.is_none() && !self.rest.is_empty() {
+        if self.stop.first.is_none() && !self.rest.is_empty() {
             Some(LineStop::Unread)
         } else {
-            self.stopped
+            self.stop.first
         }
     }
 
     /// What stopped the other text, or what was left of it, stops this one.
     pub fn stop_at_end_of(&mut self, other: &Given) {
         if let Some(stop) = other.end() {
-            self.stop(stop);
+            self.stop.note(stop);
         }
     }
 
@@ -131,7 +107,7 @@ impl<'a> Given<'a> {
     /// Adds the byte that this one stands for, where the one before it may be a backslash: such a one stands for none.
     fn add_meant(&mut self, byte: u8, is_behind: bool, bytes: &mut Vec<u8>) {
         if byte != b'\\' && bytes.push(meant_by(byte, is_behind)).is_err() {
-            self.lacks_memory();
+            self.stop.lacks_memory();
         }
     }
 
@@ -140,7 +116,7 @@ impl<'a> Given<'a> {
         match read_number(self.word().as_bytes(), u64::MAX) {
             Some(number) => number,
             None => {
-                self.unread();
+                self.stop.unread();
                 0
             }
         }
@@ -151,7 +127,7 @@ impl<'a> Given<'a> {
         match u32::try_from(self.number()) {
             Ok(count) => count,
             Err(_) => {
-                self.unread();
+                self.stop.unread();
                 0
             }
         }
@@ -162,7 +138,7 @@ impl<'a> Given<'a> {
         match u8::try_from(self.number()) {
             Ok(small) => small,
             Err(_) => {
-                self.unread();
+                self.stop.unread();
                 0
             }
         }
@@ -174,7 +150,7 @@ impl<'a> Given<'a> {
             "w" => Side::White,
             "b" => Side::Black,
             _ => {
-                self.unread();
+                self.stop.unread();
                 Side::White
             }
         }
@@ -191,7 +167,7 @@ impl<'a> Given<'a> {
         match read_square(self.word().as_bytes()) {
             Some(square) => square,
             None => {
-                self.unread();
+                self.stop.unread();
                 Square::default()
             }
         }
@@ -211,7 +187,7 @@ impl<'a> Given<'a> {
         match read_move(text.as_bytes()) {
             Ok(mv) => mv,
             Err(_) => {
-                self.unread();
+                self.stop.unread();
                 Move::default()
             }
         }
@@ -228,7 +204,7 @@ impl<'a> Given<'a> {
         match read_words_in(d, text.as_bytes()) {
             Ok(words) => words,
             Err(_) => {
-                self.unread();
+                self.stop.unread();
                 SILENT
             }
         }

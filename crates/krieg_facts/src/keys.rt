@@ -5,7 +5,7 @@ use crate::given::Given;
 use crate::scene::Scene;
 use krieg_board::{Side, Units};
 use krieg_pack::Belief;
-use krieg_search::{KeyAnswer, KeyTry, Keys, KeysAt, SearchStop, Way, find_keys, has_one_turn};
+use krieg_search::{KeyAnswer, KeyTry, Keys, KeysAt, SearchStop, find_keys, has_one_turn};
 
 /// What a search for keys comes to, where the same side is to move in all members.
 fn search(
@@ -19,13 +19,7 @@ fn search(
         return None;
     }
     let mut units = Units::new(most);
-    let way = Way {
-        alloc: scene.alloc,
-        d: scene.dialect,
-        cut: true,
-        noted: 0,
-    };
-    let found = find_keys(way, who, b, moves, &mut units);
+    let found = find_keys(scene.way(), who, b, moves, &mut units);
     Some(found)
 }
 
@@ -65,7 +59,7 @@ pub fn say_keys(scene: &Scene, b: &Belief, given: &mut Given, answer: &mut Answe
     match search(scene, b, given.side(), given.small(), given.number()) {
         Some(Ok(found)) => say_found(&found, answer),
         Some(Err(stop)) => say_stop(stop, answer),
-        None => answer.unread(),
+        None => answer.stop.unread(),
     }
 }
 
@@ -73,7 +67,7 @@ pub fn say_keys(scene: &Scene, b: &Belief, given: &mut Given, answer: &mut Answe
 pub fn say_stop(stop: SearchStop, answer: &mut AnswerText) {
     match stop {
         SearchStop::Spent => answer.put(b"spent"),
-        SearchStop::Large => answer.unread(),
-        SearchStop::NoMemory => answer.lacks_memory(),
+        SearchStop::Large => answer.stop.unread(),
+        SearchStop::NoMemory => answer.stop.lacks_memory(),
     }
 }

@@ -79,7 +79,7 @@ fn say_listed(alloc: Global, p: &Position, answer: &mut AnswerText) {
             answer.only_if(has_the_legal_moves(p, moves.as_slice()));
             say_moves(moves.as_slice(), answer);
         }
-        Err(_) => answer.lacks_memory(),
+        Err(_) => answer.stop.lacks_memory(),
     }
 }
 
@@ -122,7 +122,7 @@ fn say_guard(p: &Position, answer: &mut AnswerText) {
     let guard = Guard::of(p);
     match Square::new(guard.king) {
         Some(king) => answer.square(king),
-        None => answer.unread(),
+        None => answer.stop.unread(),
     }
     answer.squares(guard.pinned);
 }
@@ -141,7 +141,7 @@ fn ask_position(alloc: Global, p: &Position, mark: &str, answer: &mut AnswerText
         "listed" => say_listed(alloc, p, answer),
         "state" => say_state(p, answer),
         "guard" => say_guard(p, answer),
-        _ => answer.unread(),
+        _ => answer.stop.unread(),
     }
 }
 

@@ -45,7 +45,7 @@ fn words_of(text: &str, given: &mut Given) -> Words {
     match read_words(text.as_bytes()) {
         Ok(words) => words,
         Err(_) => {
-            given.unread();
+            given.stop.unread();
             SILENT
         }
     }
@@ -90,7 +90,9 @@ fn node_of(alloc: Global, given: &mut Given) -> Result<Box<Node>, NoMemory> {
     for _ in 0..given.parts("; ") {
         let (own, reply) = pair_of(given);
         let place = edges.len().saturating_add(1);
-        given.took(add_edge(alloc, own, reply, place, &mut edges));
+        given
+            .stop
+            .took(add_edge(alloc, own, reply, place, &mut edges));
     }
     with_edges(alloc, edges)
 }
@@ -111,7 +113,7 @@ fn roots_of(alloc: Global, given: &mut Given) -> Vec<Root> {
     let mut roots = Vec::new(alloc);
     for _ in 0..given.parts("; ") {
         let (opens, heard) = root_key_of(given);
-        given.took(add_root(alloc, opens, heard, &mut roots));
+        given.stop.took(add_root(alloc, opens, heard, &mut roots));
     }
     roots
 }
@@ -211,7 +213,9 @@ fn add_edges(alloc: Global, own: Words, count: u32, edges: &mut Vec<Edge>) -> Re
 fn grid(alloc: Global, count: u32, given: &mut Given) -> Result<Box<Node>, NoMemory> {
     let mut edges = Vec::new(alloc);
     for number in 0..count {
-        given.took(add_edges(alloc, nth_words(number), count, &mut edges));
+        given
+            .stop
+            .took(add_edges(alloc, nth_words(number), count, &mut edges));
     }
     with_edges(alloc, edges)
 }
@@ -237,7 +241,7 @@ fn say_size(p: &Plan, mark: &str, most: usize, answer: &mut AnswerText) {
         "size-within" => answer.yes_or_no(size_within(p, most)),
         "depth-within" => answer.yes_or_no(depth_within(p, most)),
         "size-up-to" => say_found_size(size_up_to(p, most), answer),
-        _ => answer.unread(),
+        _ => answer.stop.unread(),
     }
 }
 
@@ -277,8 +281,8 @@ impl Plans {
     fn set_plan(&mut self, plan: Result<Option<Plan>, NoMemory>, given: &mut Given) {
         match plan {
             Ok(Some(plan)) => self.plan = plan,
-            Ok(None) => given.unread(),
-            Err(_) => given.lacks_memory(),
+            Ok(None) => given.stop.unread(),
+            Err(_) => given.stop.lacks_memory(),
         }
     }
 
@@ -286,7 +290,7 @@ impl Plans {
     fn set_node(&mut self, node: Result<Box<Node>, NoMemory>, given: &mut Given) {
         match node {
             Ok(node) => self.node = node,
-            Err(_) => given.lacks_memory(),
+            Err(_) => given.stop.lacks_memory(),
         }
     }
 

@@ -23,7 +23,7 @@ fn say_fault(text: &[u8], answer: &mut AnswerText) {
 fn say_written(text: &[u8], answer: &mut AnswerText) {
     match read_position(text) {
         Ok(p) => answer.position(&p),
-        Err(_) => answer.unread(),
+        Err(_) => answer.stop.unread(),
     }
 }
 
@@ -64,6 +64,6 @@ pub fn ask(scene: &Scene, mark: &str, given: &mut Given, answer: &mut AnswerText
         "written" => say_written(given.rest().as_bytes(), answer),
         "same-hand" => ask_hand(scene, given, answer),
         "units" => say_units(given, answer),
-        _ => answer.unread(),
+        _ => answer.stop.unread(),
     }
 }

@@ -37,7 +37,7 @@ fn claims_of(scene: &Scene, b: &Belief, moves: u8, answer: &mut AnswerText) -> V
     match refuted(scene, b, moves, &mut Units::new(ENOUGH)) {
         Some(Ok(Denied::Denial(claims))) => claims,
         _ => {
-            answer.unread();
+            answer.stop.unread();
             Vec::new(scene.alloc)
         }
     }
@@ -59,7 +59,7 @@ fn refutation_of(
     answer: &mut AnswerText,
 ) -> Refutation {
     let mut list = Vec::new(scene.alloc);
-    answer.wrote(add_packed(&scene.list, &mut list));
+    answer.stop.took(add_packed(&scene.list, &mut list));
     Refutation {
         dialect: scene.dialect,
         side: side_of(&scene.list),
@@ -93,7 +93,7 @@ fn say_stop(stop: RefuteStop, answer: &mut AnswerText) {
     match stop {
         RefuteStop::Spent => answer.put(b"spent"),
         RefuteStop::Large => answer.put(b"large"),
-        RefuteStop::NoMemory => answer.lacks_memory(),
+        RefuteStop::NoMemory => answer.stop.lacks_memory(),
     }
 }
 
@@ -102,7 +102,7 @@ fn say_refuted(scene: &Scene, b: &Belief, moves: u8, most: u64, answer: &mut Ans
     match refuted(scene, b, moves, &mut Units::new(most)) {
         Some(Ok(denied)) => say_denied(&denied, answer),
         Some(Err(stop)) => say_stop(stop, answer),
-        None => answer.unread(),
+        None => answer.stop.unread(),
     }
 }
 
@@ -119,7 +119,7 @@ fn say_holds(holds: Result<bool, DenyStop>, answer: &mut AnswerText) {
         Ok(true) => answer.put(b"holds"),
         Ok(false) => answer.put(b"fails"),
         Err(DenyStop::Spent) => answer.put(b"spent"),
-        Err(DenyStop::NoMemory) => answer.lacks_memory(),
+        Err(DenyStop::NoMemory) => answer.stop.lacks_memory(),
     }
 }
 
@@ -189,7 +189,7 @@ fn ask_claim(scene: &Scene, mark: &str, c: &Claim, answer: &mut AnswerText) {
     match mark {
         "claim" => say_claim(scene, c, answer),
         "reasons" => say_reasons(scene, &c.reasons, answer),
-        _ => answer.unread(),
+        _ => answer.stop.unread(),
     }
 }
 
@@ -197,7 +197,7 @@ fn ask_claim(scene: &Scene, mark: &str, c: &Claim, answer: &mut AnswerText) {
 fn ask_claims(scene: &Scene, mark: &str, claims: &[Claim], number: u64, answer: &mut AnswerText) {
     match claims.get(number.saturating_sub(1) as usize) {
         Some(claim) => ask_claim(scene, mark, claim, answer),
-        None => answer.unread(),
+        None => answer.stop.unread(),
     }
 }
 
@@ -226,6 +226,6 @@ fn ask_set(scene: &Scene, b: &Belief, mark: &str, moves: u8, number: u64, answer
 pub fn ask(scene: &Scene, mark: &str, given: &mut Given, answer: &mut AnswerText) {
     match scene.belief() {
         Ok(b) => ask_set(scene, &b, mark, given.small(), given.number(), answer),
-        Err(_) => answer.lacks_memory(),
+        Err(_) => answer.stop.lacks_memory(),
     }
 }

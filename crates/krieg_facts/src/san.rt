@@ -14,7 +14,7 @@ use std::alloc::Global;
 fn say_san(p: &Position, mv: &Move, answer: &mut AnswerText) {
     if is_legal(p, *mv) {
         let done = write_san(p, *mv, &mut answer.text);
-        answer.wrote(done);
+        answer.stop.took(done);
     } else {
         answer.put(b"illegal");
     }
@@ -27,7 +27,7 @@ fn say_unsan(p: &Position, text: &[u8], answer: &mut AnswerText) {
         Err(SanFault::Syntax) => answer.put(b"syntax"),
         Err(SanFault::Unknown) => answer.put(b"unknown"),
         Err(SanFault::Several) => answer.put(b"several"),
-        Err(SanFault::NoMemory) => answer.lacks_memory(),
+        Err(SanFault::NoMemory) => answer.stop.lacks_memory(),
     }
 }
 
@@ -36,7 +36,7 @@ fn say_record(alloc: Global, text: &[u8], answer: &mut AnswerText) {
     match read_record(alloc, text) {
         Ok(record) => {
             let done = write_record(&record, &mut answer.text);
-            answer.wrote(done);
+            answer.stop.took(done);
         }
         Err(fault) => answer.fault(fault),
     }
@@ -52,7 +52,7 @@ fn say_record_of(alloc: Global, text: &[u8], answer: &mut AnswerText) {
     match read_session(alloc, text) {
         Ok(session) => {
             let done = write_record_of(alloc, &session, &mut answer.text);
-            answer.wrote(done);
+            answer.stop.took(done);
         }
         Err(fault) => answer.fault(fault),
     }
@@ -63,9 +63,9 @@ fn put_session(session: Result<Session, NoMemory>, answer: &mut AnswerText) {
     match session {
         Ok(session) => {
             let done = write_session(&session, &mut answer.text);
-            answer.wrote(done);
+            answer.stop.took(done);
         }
-        Err(_) => answer.lacks_memory(),
+        Err(_) => answer.stop.lacks_memory(),
     }
 }
 
@@ -83,7 +83,7 @@ fn ask_lines(alloc: Global, mark: &str, text: &[u8], answer: &mut AnswerText) {
         "record" => say_record(alloc, text, answer),
         "record-of" => say_record_of(alloc, text, answer),
         "session-of" => say_session_of(alloc, text, answer),
-        _ => answer.unread(),
+        _ => answer.stop.unread(),
     }
 }
 

@@ -7,6 +7,7 @@ use krieg_fen::read_position;
 use krieg_make::made_sheet;
 use krieg_moves::{after, is_legal, legal_moves};
 use krieg_pack::{Belief, order};
+use krieg_search::Way;
 use krieg_words::{Dialect, read_dialect};
 use std::alloc::Global;
 use std::cmp::Ordering;
@@ -35,6 +36,16 @@ pub struct Scene {
 }
 
 impl Scene {
+    /// A search for first tries or for a strategy: it cuts tries, and notes none.
+    pub fn way(&self) -> Way {
+        Way {
+            alloc: self.alloc,
+            d: self.dialect,
+            cut: true,
+            noted: 0,
+        }
+    }
+
     /// The position alone, in wild16.
     pub fn new(alloc: Global, position: Position) -> Scene {
         Scene {
@@ -70,7 +81,7 @@ impl Scene {
         match read_position(text.as_bytes()) {
             Ok(p) => p,
             Err(_) => {
-                given.unread();
+                given.stop.unread();
                 self.position
             }
         }
@@ -89,7 +100,7 @@ impl Scene {
         let mut list = Vec::new(self.alloc);
         if !given.is_none() {
             let done = self.add_positions(given, &mut list);
-            given.took(done);
+            given.stop.took(done);
         }
         list
     }
@@ -129,7 +140,7 @@ fn add_next(alloc: Global, p: &Position, to: &mut Vec<Position>) -> Result<(), N
 fn next_positions(alloc: Global, list: &[Position], given: &mut Given) -> Vec<Position> {
     let mut next = Vec::new(alloc);
     for p in list {
-        given.took(add_next(alloc, p, &mut next));
+        given.stop.took(add_next(alloc, p, &mut next));
     }
     next
 }
@@ -144,7 +155,7 @@ fn dialect_of(given: &mut Given) -> Dialect {
     match read_dialect(given.rest().as_bytes()) {
         Some(d) => d,
         None => {
-            given.unread();
+            given.stop.unread();
             Dialect::Wild16
         }
     }
@@ -161,7 +172,7 @@ impl Scene {
     fn set_name(&mut self, given: &mut Given) {
         let name = given.word();
         let position = self.spelled_in(given.rest(), given);
-        given.took(self.add_named(name, position));
+        given.stop.took(self.add_named(name, position));
     }
 
     fn set_position(&mut self, given: &mut Given) {
@@ -199,13 +210,13 @@ impl Scene {
             "members" => self.list = self.positions_of(given),
             "behind" => {
                 let done = self.set_behind(given.count(), given);
-                given.took(done);
+                given.stop.took(done);
             }
             "made" => {
                 let done = self.set_made(given.count());
-                given.took(done);
+                given.stop.took(done);
             }
-            _ => given.unread(),
+            _ => given.stop.unread(),
         }
     }
 

@@ -48,7 +48,7 @@ fn came_of(answer: Result<Solved, SearchStop>, said: &mut AnswerText) -> SearchR
         Err(SearchStop::Spent) => SearchResult::Spent,
         Err(SearchStop::Large) => SearchResult::Large,
         Err(SearchStop::NoMemory) => {
-            said.lacks_memory();
+            said.stop.lacks_memory();
             SearchResult::Stopped
         }
     }
@@ -56,7 +56,7 @@ fn came_of(answer: Result<Solved, SearchStop>, said: &mut AnswerText) -> SearchR
 
 /// What comes of a search that cannot be asked for.
 fn stopped(said: &mut AnswerText) -> Outcome {
-    said.unread();
+    said.stop.unread();
     (SearchResult::Stopped, 0)
 }
 
@@ -162,7 +162,7 @@ fn say_turn(scene: &Scene, list: Vec<Position>, b: &Belief, answer: &mut AnswerT
 fn say_one_turn(scene: &Scene, b: &Belief, answer: &mut AnswerText) {
     match scene.list.to_vec(scene.alloc) {
         Ok(list) => say_turn(scene, list, b, answer),
-        Err(_) => answer.lacks_memory(),
+        Err(_) => answer.stop.lacks_memory(),
     }
 }
 
@@ -179,7 +179,7 @@ fn ask_search(
         "search" | "find" => say_searched(scene, task, b, given.number(), answer),
         "took" => say_took(scene, task, b, given.number(), answer),
         "search-between" => say_between(scene, task, b, given.number(), given.number(), answer),
-        _ => answer.unread(),
+        _ => answer.stop.unread(),
     }
 }
 
@@ -205,6 +205,6 @@ fn ask_set(scene: &Scene, b: &Belief, mark: &str, given: &mut Given, answer: &mu
 pub fn ask(scene: &Scene, mark: &str, given: &mut Given, answer: &mut AnswerText) {
     match scene.belief() {
         Ok(b) => ask_set(scene, &b, mark, given, answer),
-        Err(_) => answer.lacks_memory(),
+        Err(_) => answer.stop.lacks_memory(),
     }
 }

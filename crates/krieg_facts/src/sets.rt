@@ -21,7 +21,7 @@ fn say_order(a: &Position, c: &Position, answer: &mut AnswerText) {
         (Ordering::Less, Ordering::Greater) => answer.put(b"less"),
         (Ordering::Equal, Ordering::Equal) => answer.put(b"equal"),
         (Ordering::Greater, Ordering::Less) => answer.put(b"greater"),
-        _ => answer.unread(),
+        _ => answer.stop.unread(),
     }
 }
 
@@ -93,7 +93,7 @@ fn form_of(kept: &KeptSet) -> &'static [u8] {
 fn say_opened(scene: &Scene, kept: KeptSet, answer: &mut AnswerText) {
     match kept.open(scene.alloc) {
         Ok(b) => say_members(scene, &b, answer),
-        Err(_) => answer.lacks_memory(),
+        Err(_) => answer.stop.lacks_memory(),
     }
 }
 
@@ -106,7 +106,7 @@ fn say_kept(scene: &Scene, b: &Belief, answer: &mut AnswerText) {
             say_opened(scene, kept, answer);
             answer.word(form);
         }
-        Err(_) => answer.lacks_memory(),
+        Err(_) => answer.stop.lacks_memory(),
     }
 }
 
@@ -121,7 +121,7 @@ pub fn add_packed(list: &[Position], buffer: &mut Vec<Packed>) -> Result<(), NoM
 /// Adds the list to the buffer so many times.
 fn add_times(list: &[Position], times: u32, buffer: &mut Vec<Packed>, answer: &mut AnswerText) {
     for _ in 0..times {
-        answer.wrote(add_packed(list, buffer));
+        answer.stop.took(add_packed(list, buffer));
     }
 }
 
@@ -147,7 +147,7 @@ fn say_trims(scene: &Scene, given: &mut Given, answer: &mut AnswerText) {
 fn say_same(scene: &Scene, b: &Belief, given: &mut Given, answer: &mut AnswerText) {
     match scene.set_of(given) {
         Ok(other) => answer.yes_or_no(b.same(&other)),
-        Err(_) => answer.lacks_memory(),
+        Err(_) => answer.stop.lacks_memory(),
     }
 }
 
@@ -158,7 +158,7 @@ fn ask_set(scene: &Scene, b: &Belief, mark: &str, given: &mut Given, answer: &mu
         "holds" => answer.yes_or_no(b.holds(&scene.position_in(given.rest(), given))),
         "same-set" => say_same(scene, b, given, answer),
         "kept" => say_kept(scene, b, answer),
-        _ => answer.unread(),
+        _ => answer.stop.unread(),
     }
 }
 
@@ -166,7 +166,7 @@ fn ask_set(scene: &Scene, b: &Belief, mark: &str, given: &mut Given, answer: &mu
 fn ask_belief(scene: &Scene, mark: &str, given: &mut Given, answer: &mut AnswerText) {
     match scene.belief() {
         Ok(b) => ask_set(scene, &b, mark, given, answer),
-        Err(_) => answer.lacks_memory(),
+        Err(_) => answer.stop.lacks_memory(),
     }
 }
 

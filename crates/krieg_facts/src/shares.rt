@@ -6,7 +6,7 @@ use crate::keys::say_stop;
 use crate::scene::Scene;
 use krieg_board::{Side, Units};
 use krieg_pack::Belief;
-use krieg_search::{SearchStop, Way, has_one_turn};
+use krieg_search::{SearchStop, has_one_turn};
 use krieg_share::{Answer as Shared, share};
 
 /// What a search for a strategy comes to, where the same side is to move in all members.
@@ -21,13 +21,7 @@ fn search(
         return None;
     }
     let mut units = Units::new(most);
-    let way = Way {
-        alloc: scene.alloc,
-        d: scene.dialect,
-        cut: true,
-        noted: 0,
-    };
-    let found = share(way, who, b, moves, &mut units);
+    let found = share(scene.way(), who, b, moves, &mut units);
     Some(found)
 }
 
@@ -56,6 +50,6 @@ pub fn say_share(scene: &Scene, b: &Belief, given: &mut Given, answer: &mut Answ
     match search(scene, b, given.side(), given.small(), given.number()) {
         Some(Ok(found)) => say_found(&found, answer),
         Some(Err(stop)) => say_stop(stop, answer),
-        None => answer.unread(),
+        None => answer.stop.unread(),
     }
 }

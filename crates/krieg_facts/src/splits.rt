@@ -90,7 +90,7 @@ enum Work {
 fn do_split(scene: &Scene, mv: Move, b: &Belief, units: &mut Units, answer: &mut AnswerText) {
     match split(scene.alloc, scene.dialect, b, mv, units) {
         Ok(parted) => say_parted(scene, &parted, answer),
-        Err(stop) => answer.stop(LineStop::of_split(stop)),
+        Err(stop) => answer.stop.note(LineStop::of_split(stop)),
     }
 }
 
@@ -105,7 +105,7 @@ fn do_split_to_mate(
     match split_to_mate(scene.alloc, scene.dialect, b, mv, units) {
         Ok(Some(left)) => say_left(scene, &left, answer),
         Ok(None) => answer.part(b"none"),
-        Err(stop) => answer.stop(LineStop::of_split(stop)),
+        Err(stop) => answer.stop.note(LineStop::of_split(stop)),
     }
 }
 
@@ -120,7 +120,7 @@ fn do_split_unless_stale(
     match split_unless_stale(scene.alloc, scene.dialect, b, mv, units) {
         Ok(Some(parted)) => say_parted(scene, &parted, answer),
         Ok(None) => answer.part(b"none"),
-        Err(stop) => answer.stop(LineStop::of_split(stop)),
+        Err(stop) => answer.stop.note(LineStop::of_split(stop)),
     }
 }
 
@@ -128,7 +128,7 @@ fn do_split_unless_stale(
 fn do_firsts(scene: &Scene, b: &Belief, units: &mut Units, answer: &mut AnswerText) {
     match first_replies(scene.alloc, scene.dialect, b, units) {
         Ok(firsts) => say_firsts(scene, &firsts, answer),
-        Err(stop) => answer.stop(LineStop::of_split(stop)),
+        Err(stop) => answer.stop.note(LineStop::of_split(stop)),
     }
 }
 
@@ -161,7 +161,7 @@ fn say_again(scene: &Scene, work: &Work, b: &Belief, cost: u64, answer: &mut Ans
 fn is_spent(scene: &Scene, work: &Work, b: &Belief, most: u64) -> bool {
     let mut few = AnswerText::new(scene.alloc);
     let _left = left_of(scene, work, b, most, &mut few);
-    matches!(few.stopped, Some(LineStop::Spent))
+    matches!(few.stop.first, Some(LineStop::Spent))
 }
 
 /// What comes of the work, and the units that it takes: with just these it comes to the same, and with one less it is
@@ -179,7 +179,7 @@ fn say_work(scene: &Scene, work: &Work, b: &Belief, answer: &mut AnswerText) {
 fn noted<T: Drop>(done: Result<T, SplitStop>, answer: &mut AnswerText) {
     match done {
         Ok(_) => {}
-        Err(stop) => answer.stop(LineStop::of_split(stop)),
+        Err(stop) => answer.stop.note(LineStop::of_split(stop)),
     }
 }
 
@@ -217,7 +217,7 @@ fn say_opened(scene: &Scene, opened: &[OpeningSet], answer: &mut AnswerText) {
 fn say_openings(scene: &Scene, b: &Belief, answer: &mut AnswerText) {
     match openings(scene.alloc, scene.dialect, b) {
         Ok(opened) => say_opened(scene, &opened, answer),
-        Err(_) => answer.lacks_memory(),
+        Err(_) => answer.stop.lacks_memory(),
     }
 }
 
@@ -227,7 +227,7 @@ fn ask_tries(scene: &Scene, b: &Belief, mark: &str, tries: &[Move], answer: &mut
         "set-tries" => say_moves(tries, answer),
         "all-splits" => say_price(scene, b, tries, answer),
         "all-splits-to-mate" => say_price_to_mate(scene, b, tries, answer),
-        _ => answer.unread(),
+        _ => answer.stop.unread(),
     }
 }
 
@@ -235,7 +235,7 @@ fn ask_tries(scene: &Scene, b: &Belief, mark: &str, tries: &[Move], answer: &mut
 fn ask_all(scene: &Scene, b: &Belief, mark: &str, answer: &mut AnswerText) {
     match tries(scene.alloc, b) {
         Ok(tries) => ask_tries(scene, b, mark, &tries, answer),
-        Err(_) => answer.lacks_memory(),
+        Err(_) => answer.stop.lacks_memory(),
     }
 }
 
@@ -260,6 +260,6 @@ fn ask_set(scene: &Scene, b: &Belief, mark: &str, given: &mut Given, answer: &mu
 pub fn ask(scene: &Scene, mark: &str, given: &mut Given, answer: &mut AnswerText) {
     match scene.belief() {
         Ok(b) => ask_set(scene, &b, mark, given, answer),
-        Err(_) => answer.lacks_memory(),
+        Err(_) => answer.stop.lacks_memory(),
     }
 }

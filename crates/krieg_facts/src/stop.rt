@@ -33,6 +33,43 @@ impl LineStop {
     }
 }
 
+/// The first stop that came, where one came, so that calls which may be stopped need no result.
+#[derive(Clone, Copy)]
+pub struct FirstStop {
+    pub first: Option<LineStop>,
+}
+
+impl FirstStop {
+    /// Nothing was stopped yet.
+    pub fn none() -> FirstStop {
+        FirstStop { first: None }
+    }
+
+    /// Notes a stop. The first one stays.
+    pub fn note(&mut self, stop: LineStop) {
+        if self.first.is_none() {
+            self.first = Some(stop);
+        }
+    }
+
+    /// Notes that something has none of the forms of its place, does not stand, or differs from what it must agree with.
+    pub fn unread(&mut self) {
+        self.note(LineStop::Unread);
+    }
+
+    /// Notes that memory was not found.
+    pub fn lacks_memory(&mut self) {
+        self.note(LineStop::Memory);
+    }
+
+    /// Notes whether memory was found.
+    pub fn took(&mut self, done: Result<(), NoMemory>) {
+        if done.is_err() {
+            self.lacks_memory();
+        }
+    }
+}
+
 /// Whether a line holds, where nothing stopped it or where it was not that memory was not found: a line that cannot be
 /// read does not hold.
 pub fn judged(stop: Option<LineStop>, holds: bool) -> Result<bool, NoMemory> {

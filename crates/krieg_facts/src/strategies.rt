@@ -35,7 +35,7 @@ fn say_judged(alloc: Global, s: &Strategy, most: u64, answer: &mut AnswerText) {
             answer.digits(most.saturating_sub(units.left()));
         }
         Err(JudgeStop::Spent) => answer.put(b"spent"),
-        Err(JudgeStop::NoMemory) => answer.lacks_memory(),
+        Err(JudgeStop::NoMemory) => answer.stop.lacks_memory(),
     }
 }
 
@@ -63,7 +63,7 @@ impl Strategies {
         match read_strategy(self.alloc, &self.text) {
             Ok(s) => match write_strategy(self.alloc, &s) {
                 Ok(again) => say_same(again.as_slice(), self.text.as_slice(), answer),
-                Err(_) => answer.lacks_memory(),
+                Err(_) => answer.stop.lacks_memory(),
             },
             Err(fault) => answer.fault(fault),
         }
@@ -91,7 +91,7 @@ impl Strategies {
             "again" => self.say_again(answer),
             "nodes" => self.say_nodes(answer),
             "judge" => self.ask_judge(given.number(), answer),
-            _ => answer.unread(),
+            _ => answer.stop.unread(),
         }
     }
 }

@@ -16,14 +16,14 @@ fn intern(table: &mut Table, b: Belief, answer: &mut AnswerText) {
     if table.len() < 1_000 {
         say_number(table.intern(b), answer);
     } else {
-        answer.unread();
+        answer.stop.unread();
     }
 }
 
 fn say_number(number: Result<u32, NoMemory>, answer: &mut AnswerText) {
     match number {
         Ok(number) => answer.number(u64::from(number)),
-        Err(_) => answer.lacks_memory(),
+        Err(_) => answer.stop.lacks_memory(),
     }
 }
 
@@ -31,7 +31,7 @@ fn say_number(number: Result<u32, NoMemory>, answer: &mut AnswerText) {
 fn say_interned(scene: &Scene, table: &mut Table, given: &mut Given, answer: &mut AnswerText) {
     match scene.set_of(given) {
         Ok(b) => intern(table, b, answer),
-        Err(_) => answer.lacks_memory(),
+        Err(_) => answer.stop.lacks_memory(),
     }
 }
 
@@ -48,7 +48,7 @@ fn say_known(table: &Table, id: u32, moves: u8, answer: &mut AnswerText) {
     if (id as usize) < table.len() {
         say_result(table.result(id, moves), answer);
     } else {
-        answer.unread();
+        answer.stop.unread();
     }
 }
 
@@ -74,7 +74,7 @@ fn say_noted(table: &mut Table, id: u32, moves: u8, known: SetResult, answer: &m
         table.note(id, moves, known);
         answer.word(b"done");
     } else {
-        answer.unread();
+        answer.stop.unread();
     }
 }
 
@@ -83,10 +83,10 @@ fn say_row(scene: &Scene, table: &Table, id: u32, answer: &mut AnswerText) {
     if (id as usize) < table.len() {
         match table.open(scene.alloc, id) {
             Ok(opened) => say_members(scene, opened.of(table, id), answer),
-            Err(_) => answer.lacks_memory(),
+            Err(_) => answer.stop.lacks_memory(),
         }
     } else {
-        answer.unread();
+        answer.stop.unread();
     }
 }
 
@@ -110,6 +110,6 @@ pub fn ask(
             answer,
         ),
         "known" => say_known(table, given.count(), given.small(), answer),
-        _ => answer.unread(),
+        _ => answer.stop.unread(),
     }
 }

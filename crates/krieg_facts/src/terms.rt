@@ -56,7 +56,7 @@ fn with_man(bits: &Bits, given: &mut Given) -> Bits {
     match placed_of(given.word()) {
         Some((man, square)) => bits.with(square.number(), Some(man)),
         None => {
-            given.unread();
+            given.stop.unread();
             *bits
         }
     }

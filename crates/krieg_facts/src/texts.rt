@@ -37,7 +37,7 @@ fn say_ended(number: u64, done: Result<(), NoMemory>, answer: &mut AnswerText) {
     let mut all = Text::after(&mut answer.text);
     let written = put_number_line(number, &mut all);
     let ended = all.end(done, &mut answer.text);
-    answer.wrote(written);
+    answer.stop.took(written);
     answer.only_if(ended == done);
 }
 
@@ -52,7 +52,7 @@ fn turn_of(given: &mut Given) -> Turn {
         "either" => Turn::Either,
         "own" => Turn::Own,
         _ => {
-            given.unread();
+            given.stop.unread();
             Turn::Either
         }
     }
@@ -65,7 +65,7 @@ fn put_read(line: usize, side: Side, list: &[Position], answer: &mut AnswerText)
     let mut all = Text::after(&mut answer.text);
     let done = put_listing(side, list, &mut all);
     let done = all.end(done, &mut answer.text);
-    answer.wrote(done);
+    answer.stop.took(done);
 }
 
 /// A side and positions, with the number of the line behind them.
@@ -82,7 +82,7 @@ fn put_positions(list: &[Position], answer: &mut AnswerText) {
     let mut all = Text::after(&mut answer.text);
     let done = put_list(list, &mut all);
     let done = all.end(done, &mut answer.text);
-    answer.wrote(done);
+    answer.stop.took(done);
 }
 
 /// Positions that were read, or the fault.
@@ -110,7 +110,7 @@ fn say_session(alloc: Global, text: &[u8], answer: &mut AnswerText) {
     match read_session(alloc, text) {
         Ok(session) => {
             let done = write_session(&session, &mut answer.text);
-            answer.wrote(done);
+            answer.stop.took(done);
         }
         Err(fault) => answer.fault(fault),
     }
@@ -126,7 +126,7 @@ fn say_refutation(alloc: Global, text: Vec<u8>, answer: &mut AnswerText) {
     match read_refutation(alloc, text) {
         Ok(file) => match write_refutation(alloc, &file) {
             Ok(pieces) => put_pieces(pieces.pieces(), answer),
-            Err(_) => answer.lacks_memory(),
+            Err(_) => answer.stop.lacks_memory(),
         },
         Err(fault) => answer.fault(fault),
     }
@@ -138,7 +138,7 @@ fn ask_lines(alloc: Global, mark: &str, text: &[u8], answer: &mut AnswerText) {
         "lines" => answer.number(lines_of(text).count() as u64),
         "start" => say_start(text, answer),
         "session" => say_session(alloc, text, answer),
-        _ => answer.unread(),
+        _ => answer.stop.unread(),
     }
 }
 

@@ -18,7 +18,7 @@ use std::cmp::Ordering;
 /// Words as the dialect tells them.
 pub fn say_told(d: Dialect, words: Words, answer: &mut AnswerText) {
     let done = write_words_in(d, told(d, words), &mut answer.text);
-    answer.wrote(done);
+    answer.stop.took(done);
 }
 
 /// Whether these are the words of the legal move, in each of the other ways to find them.
@@ -45,7 +45,7 @@ fn say_same(next: &Option<Position>, again: &Option<Position>, answer: &mut Answ
             answer.position(next);
         }
         (None, None) => {}
-        _ => answer.unread(),
+        _ => answer.stop.unread(),
     }
 }
 
@@ -71,7 +71,7 @@ fn say_words(d: Dialect, text: &[u8], answer: &mut AnswerText) {
     match read_words_in(d, text) {
         Ok(words) => {
             let done = write_words_in(d, words, &mut answer.text);
-            answer.wrote(done);
+            answer.stop.took(done);
         }
         Err(_) => answer.put(b"refused"),
     }
@@ -82,7 +82,7 @@ fn say_line(d: Dialect, text: &[u8], answer: &mut AnswerText) {
     match read_line_in(d, text) {
         Ok(line) => {
             let done = write_line_in(d, line, &mut answer.text);
-            answer.wrote(done);
+            answer.stop.took(done);
         }
         Err(_) => answer.put(b"refused"),
     }
@@ -93,9 +93,9 @@ fn say_told_line(d: Dialect, text: &[u8], answer: &mut AnswerText) {
     match read_line(text) {
         Ok(line) => {
             let done = write_line_in(d, told_line(d, line), &mut answer.text);
-            answer.wrote(done);
+            answer.stop.took(done);
         }
-        Err(_) => answer.unread(),
+        Err(_) => answer.stop.unread(),
     }
 }
 
@@ -131,7 +131,9 @@ fn add_listed(d: Dialect, given: &mut Given, list: &mut Vec<Words>) -> Result<()
 /// Whether words with semicolons between are in their order.
 fn say_ascending(scene: &Scene, given: &mut Given, answer: &mut AnswerText) {
     let mut list = Vec::new(scene.alloc);
-    answer.wrote(add_listed(scene.dialect, given, &mut list));
+    answer
+        .stop
+        .took(add_listed(scene.dialect, given, &mut list));
     answer.yes_or_no(do_ascend(&list));
 }
 
@@ -155,7 +157,7 @@ fn say_first_lines(d: Dialect, answer: &mut AnswerText) {
     let mut text = Text::after(&mut answer.text);
     let done = put_version_lines(b"krieg sheet ", d, &mut text);
     let done = text.end(done, &mut answer.text);
-    answer.wrote(done);
+    answer.stop.took(done);
 }
 
 /// Answers a question about texts of words.
@@ -167,7 +169,7 @@ fn ask_texts(scene: &Scene, mark: &str, given: &mut Given, answer: &mut AnswerTe
         "dialect-name" => say_dialect_name(given.rest().as_bytes(), answer),
         "dialect-of" => say_dialect_of(&given.bytes(scene.alloc), answer),
         "first-lines" => say_first_lines(scene.dialect, answer),
-        _ => answer.unread(),
+        _ => answer.stop.unread(),
     }
 }
 
