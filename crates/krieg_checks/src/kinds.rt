@@ -12,8 +12,8 @@ use krieg_rays::{attackers_at, file_through, rank_through};
 
 /// Which kinds of check a king is in. A kind is there however many men give it.
 ///
-/// The fields stand highest bit first, so that the derived order is that of the bits.
-#[derive(Clone, Copy, PartialEq, Eq, PartialOrd, Ord)]
+/// The fields stand highest bit first.
+#[derive(Clone, Copy)]
 pub struct Kinds {
     pub knight: bool,
     pub short: bool,

@@ -1,7 +1,8 @@
 -- Reading listed positions line by line, and that this reading is local.
-use Rattle.std.proofs.Common.{◌≡◌, ℕ, zero, suc, ◌+◌, ◌-◌, ◌<◌, ◌≤◌, List, [], ◌∷◌, ◌++◌, Option, Some, Result, Ok, Err, refl, sym, ap, ◌∙◌, append_assoc, arith}
+use Rattle.std.proofs.Common.{◌≡◌, ℕ, zero, suc, ◌+◌, ◌-◌, ◌<◌, ◌≤◌, List, [], ◌∷◌, ◌++◌, Option, None, Some, Result, Ok, Err, refl, sym, ap, ◌∙◌, append_assoc, arith}
 use Rattle.std.proofs.lemmas.List.{append-nil}
 use Rattle.std.specs.Prelude.{slice_get, unwrap_or}
+use Rattle.std.specs.Result.{IsErrAnd}
 use Rattle.krieg_fen.proofs.Common.{Pos, Side, TextFault, At, NoMemory, ◌>>=◌, Place, taken, GivesOn, Turn, listed_form, positions_at}
 use Rattle.krieg_text.proofs.Locality.{IsLocal, local_pure, local_taken, local_bind}
 
@@ -54,7 +55,22 @@ listed_end turn who list n i from all past so =
     let none : n - i ≡ 0 = omega arith in
     sym so ∙ ap (λ (k : ℕ). with_front list (positions_at turn who (slice_get list 0) k from)) none ∙ ap (λ (ps : List Pos). Ok (ps, from)) (append-nil list)
 
-pub ruleset listing = (listed_ok, listed_gives, listed_end)
+-- nothing was read yet
+pub listed_start : (turn : Turn) (who : Side) (list : List Pos) (n : ℕ) (from : Place) → list ≡ [] →
+    with_front list (positions_at turn who (slice_get list 0) (n - 0) from) ≡ positions_at turn who None n from
+listed_start turn who list n from none =
+    let all : n - 0 ≡ n = omega arith in
+    rw (none, all) (whole (positions_at turn who None n from))
+  where
+    whole : (r : Result (List Pos × Place) TextFault) → with_front [] r ≡ r
+    whole (Ok x) = refl
+    whole (Err e) = refl
+
+-- want of memory may be answered whatever is read
+pub memory_gives : {X Y : Type 0} (view : X → Y) (r : Result X TextFault) (new : Place) (read : Result (Y × Place) TextFault) → IsErrAnd r (λ e. e ≡ NoMemory) → GivesOn view r new read
+memory_gives view (Ok x) new read is = absurd is
+memory_gives view (Err NoMemory) new read is = tt
+memory_gives view (Err (At line kind)) new read is = absurd cc
 
 pub local_positions : (n : ℕ) (turn : Turn) (who : Side) (first : Option Pos) → IsLocal (positions_at turn who first n)
 local_positions zero turn who first = local_pure []

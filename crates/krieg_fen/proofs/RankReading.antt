@@ -56,8 +56,6 @@ rank_put b file r board man free t room is =
     let e = rank_set board r file (Some man) room in
     (ap (drop (file + 1)) e ∙ p.0, subst (λ (x : Row). AddsSquares (squares_at b) (take file (rank_at board r)) (take (file + 1) x)) (sym e) p.1)
 
-pub ruleset puts = (digit_put, rank_put, kept_same, kept_set, free_square)
-
 onto_assoc : (a b : Row) (r : Option Row) → onto_row (Some a) (onto_row (Some b) r) ≡ onto_row (Some (a ++ b)) r
 onto_assoc a b None = refl
 onto_assoc a b (Some r) = ap Some (sym (append_assoc a b r))

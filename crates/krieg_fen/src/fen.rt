@@ -15,7 +15,7 @@ use std::marker::Model;
 use thiserror::Error;
 
 /// Why a text is no position: the first of these faults that it has.
-#[derive(Clone, Copy, Debug, PartialEq, Eq, Error)]
+#[derive(Clone, Copy, Debug, Error)]
 pub enum FenFault {
     /// It has neither four nor six fields.
     #[error("neither four nor six fields")]

@@ -32,7 +32,6 @@ pub fn read_listed<S: LineSource>(
 }
 
 /// The next `n` lines as positions with one hand.
-#[tactic(auto, using(crate::proofs::Listing::listing, krieg_text::proofs::ReadingLemmas::passed))]
 fn list_at<S: LineSource>(
     alloc: Global,
     from: &mut S,
@@ -94,7 +93,6 @@ pub fn read_list(
 ///
 /// The kinds of its faults are `Syntax`, also where a line is missing, `Count`, `Position`, `Differs` and,
 /// where the turn must be the side's own, `OutOfPlace`.
-#[tactic(auto, using(krieg_text::proofs::ReadingLemmas::passed), unfolding(crate::specs::Forms::listing_at))]
 pub fn read_listing<S: LineSource>(
     alloc: Global,
     from: &mut S,

@@ -10,7 +10,7 @@ use krieg_text::Text;
 use thiserror::Error;
 
 /// The text is no move text.
-#[derive(Clone, Copy, Debug, PartialEq, Eq, Error)]
+#[derive(Clone, Copy, Debug, Error)]
 #[error("no move")]
 pub struct MoveFault;
 

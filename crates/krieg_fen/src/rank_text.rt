@@ -120,7 +120,6 @@ fn men_on(bits: &Bits, rank: u8) -> u64
 }
 
 /// The text of a rank, where 0 is the first rank. Only its men are looked at.
-#[tactic(auto, using(crate::proofs::RankWriting::rows))]
 pub(crate) fn rank_text(bits: &Bits, rank: u8) -> RankText
     requires rank { rank < 8 }
     requires squares { length bits.now ≡ 64 }

@@ -35,7 +35,6 @@ fn man_of(letter: u8) -> Option<Man>
 
 /// Puts what the byte stands for after the first `file` squares of the rank, where there is room, and says
 /// how many squares are filled then.
-#[tactic(auto, using(crate::proofs::RankReading::puts))]
 fn put(bits: &mut Bits, rank: u8, file: u8, b: u8) -> Option<u8>
     requires rank { rank < 8 }
     requires file { file ≤ 8 }

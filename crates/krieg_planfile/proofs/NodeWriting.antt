@@ -3,8 +3,9 @@ use Rattle.std.proofs.Common.{Box, Global, Bool, Option, Some, None, ◌≡◌, 
 use Rattle.std.specs.Prelude.{is_some, option_map}
 use Rattle.std.proofs.lemmas.List.{append-nil, length-map, map-append, take_all}
 use Rattle.std.proofs.lemmas.Grind.{take_at_read}
-use Rattle.krieg_planfile.proofs.Common.{Pieces, Written, PutsLines, HasLines, put_lines, Try, size, size_edges, Dialect, Key, tree_of, edge_of, as_other, as_edges, edge_step, node_step, NodeTree, edges_in, Node, Node-F, out-Node, map-Node, fold_out-Node, edge_count, is_just, other_in, play_line, on_line, node_lines, other_lines, edges_lines, branches_lines, IsTold, AreTold, IsToldKey, AreToldBranches}
+use Rattle.krieg_planfile.proofs.Common.{Pieces, Written, Just, PutsLines, HasLines, put_lines, Try, size, size_edges, Dialect, Key, tree_of, edge_of, as_other, as_edges, edge_step, node_step, NodeTree, edges_in, Node, Node-F, out-Node, map-Node, fold_out-Node, out-Edge, fold_out-Edge, edge_count, is_just, other_in, play_line, on_line, node_lines, other_lines, edges_lines, branches_lines, IsTold, AreTold, IsToldKey, AreToldBranches}
 use Rattle.krieg_text.proofs.Writings.{lines_then}
+use Rattle.krieg_theory.specs.Tree.{Nothing}
 use Rattle.krieg_plan.specs.declared.node.Edge.{Edge as EdgeValue}
 use Rattle.krieg_planfile.proofs.Edges.{count_of_edges, lines_of_edges}
 
@@ -71,6 +72,20 @@ lines_of_node d n b k there count =
     ∙ sym (ap (node_lines d) (tree_out n)
     ∙ ap (λ (t : Bool). play_line (out-Node n).mv t (edge_count (as_edges bs)) ∷ (other_lines d o ++ edges_lines d (as_edges bs))) (just_some (out-Node n).no ∙ sym there)
     ∙ ap (λ (t : ℕ). play_line (out-Node n).mv b t ∷ (other_lines d o ++ edges_lines d (as_edges bs))) edges)
+
+-- its node for the illegal case, where there is none and where there is one
+pub no_other : (n : Node) → (out-Node n).no ≡ None → other_in (tree_of n) ≡ Nothing
+no_other n is = ap other_in (tree_out n) ∙ ap (λ (o : Option (Box Node Global)). as_other (option_map (λ b. tree_of b.value) o)) is
+
+pub other_is : (n : Node) (b : Box Node Global) (m : Node) → (out-Node n).no ≡ Some b → m ≡ b.value → other_in (tree_of n) ≡ Just (tree_of m)
+other_is n b m is same =
+    ap other_in (tree_out n) ∙ ap (λ (o : Option (Box Node Global)). as_other (option_map (λ b. tree_of b.value) o)) is ∙ ap (λ (x : Node). Just (tree_of x)) (sym same)
+
+-- the parts of an edge
+pub edge_is : (e : EdgeValue) (n : Node) → n ≡ (out-Edge e).node.value → (((out-Edge e).own, (out-Edge e).reply), tree_of n) ≡ edge_of e
+edge_is e n is =
+    let key : Key = ((out-Edge e).own, (out-Edge e).reply) in
+    ap (λ (m : Node). (key, tree_of m)) is ∙ sym (fold_out-Edge (Key × NodeTree) NodeTree edge_step node_step e)
 
 -- what is below it can be told
 pub told_edges_of : (d : Dialect) (n : Node) → IsTold d (tree_of n) → AreToldBranches (IsToldKey d) d (map edge_of (out-Node n).edges.items)

@@ -49,7 +49,7 @@ unfoldable pub use Rattle.krieg_record.specs.Matching.{is_matched}
 pub use Rattle.krieg_record.specs.Matching.{IsOnly, Matches, Means, is_ending, is_movement, is_same_promo, is_wing}
 pub use Rattle.krieg_record.specs.MoveTraits.{captures, captures_by, castling, castling_by, is_own, kind_of, officer_at, officer_by, officer_of}
 unfoldable pub use Rattle.krieg_record.specs.NotationReading.{notation_of}
-pub use Rattle.krieg_record.specs.NotationReading.{both_told, castling_movement, coordinate_told, ending_of, file_named, front_of, movement_from, movement_of, notation_by, officer_movement, officer_with, one_told, pawn_movement, pawn_taking, pawn_with, promo_named, rank_named, square_told, with_ending}
+pub use Rattle.krieg_record.specs.NotationReading.{both_told, castling_movement, coordinate_told, ending_of, file_named, front_of, movement_from, movement_of, notation_by, officer_movement, officer_named, officer_with, one_told, pawn_movement, pawn_taking, pawn_with, promo_named, rank_named, square_told, with_ending}
 unfoldable pub use Rattle.krieg_record.specs.NotationText.{notation_text}
 pub use Rattle.krieg_record.specs.NotationText.{IsCoordinate, IsMovement, Says, capture_text, ending_text, file_text, letter, movement_text, officer_text, pawn_capture_text, pawn_text, promotion_text, rank_text, told}
 unfoldable pub use Rattle.krieg_record.specs.RecordReading.{line_form, marked, move_form, record_at, record_version}

@@ -1,7 +1,8 @@
 -- A text that is read as an officer's move spells it, and the other way round.
-use Rattle.std.proofs.Common.{◌≡◌, ℕ, ◌+◌, ◌<◌, Bool, true, false, cond, eqb, List, [], ◌∷◌, ◌++◌, Option, Some, None, refl, sym, ap, ◌∙◌, subst, arith, append_assoc}
-use Rattle.std.proofs.lemmas.Bool.{eqb-true, ne_eqb}
-use Rattle.krieg_record.proofs.Common.{square_text, square_of, Officer, Origin, Movement, ByOfficer, told, letter, file_text, rank_text, capture_text, officer_text, movement_text, IsCoordinate, IsMovement, one_told, both_told, officer_with, officer_movement}
+use Rattle.std.proofs.Common.{◌≡◌, ◌≢◌, ℕ, ◌+◌, ◌<◌, Bool, true, false, cond, eqb, List, [], ◌∷◌, ◌++◌, Option, Some, None, refl, sym, ap, ◌∙◌, subst, arith, append_assoc, ◌≤◌, length, get_or, take, drop}
+use Rattle.std.proofs.lemmas.Bool.{eq-eqb, eqb-true, ne_eqb}
+use Rattle.std.proofs.lemmas.List.{take_all}
+use Rattle.krieg_record.proofs.Common.{square_text, square_of, Officer, Origin, Movement, ByOfficer, told, letter, file_text, rank_text, capture_text, officer_text, movement_text, IsCoordinate, IsMovement, one_told, both_told, officer_with, officer_movement, officer_named, movement_from, movement_of, castling_movement, pawn_movement, King, Queen, Rook, Bishop, Knight}
 use Rattle.krieg_fen.proofs.MoveTexts.{square_again, square_spells}
 use Rattle.krieg_record.proofs.OriginTexts.{file_again, rank_again, no_file, Tells, none_tells, one_tells, both_tell}
 
@@ -63,3 +64,44 @@ officer_again officer None (Some b) false to f r t = rw (no_x_rank b r, no_file 
 officer_again officer None (Some b) true to f r t = rw (no_file b r, rank_again b r, square_again to t) refl
 officer_again officer (Some a) (Some b) false to f r t = rw (no_x_rank b r, file_again a f, rank_again b r, square_again to t) refl
 officer_again officer (Some a) (Some b) true to f r t = rw (file_again a f, rank_again b r, square_again to t) refl
+
+-- the movement behind the letter of an officer, and behind another byte
+by_officer : (a : ℕ) (rest : List ℕ) (o : Officer) → Some o ≡ officer_named a → movement_from a rest ≡ officer_movement o rest
+by_officer a rest o h = go (eqb a 75) (eqb a 81) (eqb a 82) (eqb a 66) (eqb a 78) h
+  where
+    go : (k q r b n : Bool) → Some o ≡ cond k (Some King) (cond q (Some Queen) (cond r (Some Rook) (cond b (Some Bishop) (cond n (Some Knight) None)))) →
+        cond k (officer_movement King rest) (cond q (officer_movement Queen rest) (cond r (officer_movement Rook rest) (cond b (officer_movement Bishop rest) (cond n (officer_movement Knight rest) (cond (eqb a 79) (castling_movement rest) (pawn_movement (a ∷ rest)))))))
+        ≡ officer_movement o rest
+    go true q r b n e = cc
+    go false true r b n e = cc
+    go false false true b n e = cc
+    go false false false true n e = cc
+    go false false false false true e = cc
+    go false false false false false e = absurd cc
+
+by_other : (a : ℕ) (rest : List ℕ) → None ≡ officer_named a → movement_from a rest ≡ cond (eqb a 79) (castling_movement rest) (pawn_movement (a ∷ rest))
+by_other a rest h = go (eqb a 75) (eqb a 81) (eqb a 82) (eqb a 66) (eqb a 78) h
+  where
+    go : (k q r b n : Bool) → None ≡ cond k (Some King) (cond q (Some Queen) (cond r (Some Rook) (cond b (Some Bishop) (cond n (Some Knight) None)))) →
+        cond k (officer_movement King rest) (cond q (officer_movement Queen rest) (cond r (officer_movement Rook rest) (cond b (officer_movement Bishop rest) (cond n (officer_movement Knight rest) (cond (eqb a 79) (castling_movement rest) (pawn_movement (a ∷ rest)))))))
+        ≡ cond (eqb a 79) (castling_movement rest) (pawn_movement (a ∷ rest))
+    go true q r b n e = absurd cc
+    go false true r b n e = absurd cc
+    go false false true b n e = absurd cc
+    go false false false true n e = absurd cc
+    go false false false false true e = absurd cc
+    go false false false false false e = refl
+
+-- the same of a text
+pub of_officer : (text : List ℕ) (n : ℕ) (o : Officer) → 1 ≤ length text → length text ≤ n + 1 → Some o ≡ officer_named (get_or text 0 0) → officer_movement o (take n (drop 1 text)) ≡ movement_of text
+of_officer [] n o some all h = absurd (omega arith)
+of_officer (a ∷ rest) n o some all h = ap (officer_movement o) (take_all n rest (omega arith)) ∙ sym (by_officer a rest o h)
+
+pub of_castling : (text : List ℕ) (n : ℕ) → 1 ≤ length text → length text ≤ n + 1 → None ≡ officer_named (get_or text 0 0) → get_or text 0 0 ≡ 79 → castling_movement (take n (drop 1 text)) ≡ movement_of text
+of_castling [] n some all h is = absurd (omega arith)
+of_castling (a ∷ rest) n some all h is =
+    ap castling_movement (take_all n rest (omega arith)) ∙ sym (by_other a rest h ∙ ap (λ (t : Bool). cond t (castling_movement rest) (pawn_movement (a ∷ rest))) (eq-eqb a 79 is))
+
+pub of_pawn : (text : List ℕ) → 1 ≤ length text → None ≡ officer_named (get_or text 0 0) → get_or text 0 0 ≢ 79 → pawn_movement text ≡ movement_of text
+of_pawn [] some h other = absurd (omega arith)
+of_pawn (a ∷ rest) some h other = sym (by_other a rest h ∙ ap (λ (t : Bool). cond t (castling_movement rest) (pawn_movement (a ∷ rest))) (ne_eqb a 79 other))

@@ -87,6 +87,16 @@ castling_movement rest =
     if bytes_eq rest (45 ∷ 79 ∷ []) then Some (Castles Short)
     else if bytes_eq rest (45 ∷ 79 ∷ 45 ∷ 79 ∷ []) then Some (Castles Long) else None
 
+-- the officer of that letter
+abbrev pub officer_named : ℕ → Option Officer
+officer_named a =
+    if a == 75 then Some King
+    else if a == 81 then Some Queen
+    else if a == 82 then Some Rook
+    else if a == 66 then Some Bishop
+    else if a == 78 then Some Knight
+    else None
+
 -- the movement of a text that begins with that byte, behind which these stand
 abbrev pub movement_from : ℕ → List ℕ → Option Movement
 movement_from a rest =

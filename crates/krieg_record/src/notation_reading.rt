@@ -179,18 +179,30 @@ fn castling_movement(rest: &[u8]) -> Option<Movement>
     }
 }
 
+/// The officer of that letter.
+fn officer_named(letter: u8) -> Option<Officer>
+    ensures { result ≡ spec.officer_named letter }
+{
+    match letter {
+        b'K' => Some(Officer::King),
+        b'Q' => Some(Officer::Queen),
+        b'R' => Some(Officer::Rook),
+        b'B' => Some(Officer::Bishop),
+        b'N' => Some(Officer::Knight),
+        _ => None,
+    }
+}
+
 fn movement_of(text: &[u8]) -> Option<Movement>
     ensures { result ≡ spec.movement_of text.now }
 {
     match text {
         [] => None,
-        [b'K', rest @ ..] => officer_movement(Officer::King, rest),
-        [b'Q', rest @ ..] => officer_movement(Officer::Queen, rest),
-        [b'R', rest @ ..] => officer_movement(Officer::Rook, rest),
-        [b'B', rest @ ..] => officer_movement(Officer::Bishop, rest),
-        [b'N', rest @ ..] => officer_movement(Officer::Knight, rest),
-        [b'O', rest @ ..] => castling_movement(rest),
-        _ => pawn_movement(text),
+        [first, rest @ ..] => match officer_named(*first) {
+            Some(officer) => officer_movement(officer, rest),
+            None if *first == b'O' => castling_movement(rest),
+            None => pawn_movement(text),
+        },
     }
 }
 

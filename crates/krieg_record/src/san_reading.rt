@@ -12,7 +12,7 @@ use krieg_moves::{Wing, after_if_legal, arrival};
 use thiserror::Error;
 
 /// Why a text means no move.
-#[derive(Clone, Copy, Debug, PartialEq, Eq, Error)]
+#[derive(Clone, Copy, Debug, Error)]
 pub enum SanFault {
     /// It is not of the form.
     #[error("not of the form of a move")]

@@ -18,7 +18,7 @@ unfoldable pub use Rattle.krieg_text.specs.Names.{behind, cut_last}
 pub use Rattle.krieg_text.specs.Names.{cut}
 pub use Rattle.krieg_text.specs.Outcomes.{◌>>=◌}
 pub use Rattle.krieg_text.specs.Reading.{Gives, GivesOn, Place, taken, whole}
-pub use Rattle.krieg_text.specs.Writing.{Pieces, Written, Wrote, alone, joined, put_lines}
+pub use Rattle.krieg_text.specs.Writing.{HasLines, Pieces, PutsLines, Written, Wrote, alone, joined, put_lines}
 pub use Rattle.krieg_text.specs.declared.fault.TextFault.{TextFault}
 pub use Rattle.krieg_text.specs.declared.fault.TextKind.{TextKind}
 pub use Rattle.krieg_text.specs.declared.fault.TextKind.TheVariants.{Count, Differs, Large, OutOfPlace, Version}

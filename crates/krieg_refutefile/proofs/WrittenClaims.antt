@@ -1,9 +1,9 @@
 -- The lines of claims, one claim after another, and that their words can be told.
-use Rattle.std.proofs.Common.{◌≡◌, ℕ, ◌+◌, List, [], ◌∷◌, ◌++◌, map, length, codes, refl, sym, ap, ◌∙◌, append_assoc}
+use Rattle.std.proofs.Common.{◌≡◌, ℕ, ◌+◌, List, [], ◌∷◌, ◌++◌, map, length, Result, Ok, Err, codes, refl, sym, ap, ◌∙◌, append_assoc}
 use Rattle.std.specs.List.{All, flat_map}
 use Rattle.std.proofs.lemmas.List.{append-nil, length-map}
 use Rattle.std.proofs.lemmas.List.Elements.{All-nil, All-cons, All-weaker}
-use Rattle.krieg_refutefile.proofs.Common.{Pos, Side, alone, put_lines, position_line, Dialect, Claim, IsTold, AreTold, numbered, claim_lines, head_lines, refutation_text, claim_state_of, state_from, IsToldReason, AreToldClaims}
+use Rattle.krieg_refutefile.proofs.Common.{Pos, Side, Pieces, Written, HasLines, PutsLines, alone, put_lines, position_line, Dialect, Claim, IsTold, AreTold, numbered, claim_lines, head_lines, refutation_text, claim_state_of, state_from, IsToldReason, AreToldClaims}
 use Rattle.krieg_text.proofs.Writings.{lines_then}
 use Rattle.krieg_refutefile.proofs.WrittenLines.{lines_are}
 
@@ -39,3 +39,8 @@ all_lines d who n k m L cs o a b c e f listed claimed none head list count claim
     ∙ sym (lines_then (put_lines (put_lines (put_lines [] hs) ps) one) ks last) ∙ sym (lines_then (put_lines (put_lines [] hs) ps) one (ks ++ last))
     ∙ sym (lines_then (put_lines [] hs) ps (one ++ (ks ++ last))) ∙ sym (lines_then [] hs (ps ++ (one ++ (ks ++ last))))
     ∙ (λ i. put_lines [] (hs ++ (ps ++ (count' i ++ (claims' i ++ last))))) ∙ ap (put_lines []) (sym (lines_are (state_from d who n L cs)))
+
+-- a line, and those after it
+pub one_then : {E : Type 0} (r : Result (Unit {0}) E) (old mid new : Written) (l : Pieces) (ls : List Pieces) → HasLines old mid (l ∷ []) → PutsLines r mid new ls → PutsLines r old new (l ∷ ls)
+one_then (Ok u) old mid new l ls a b = (b.0 ∙ a.0, b.1 ∙ ap (λ (t : List ℕ). put_lines t ls) a.1)
+one_then (Err e) old mid new l ls a b = (b.0 ∙ a.0, tt)

@@ -1,5 +1,4 @@
 ghost use Rattle.std.specs.Prelude.{◌≡◌, ◌++◌, [], IfOk};
-ghost use Rattle.krieg_text.specs.Writing.{Wrote};
 ghost use Rattle.krieg_refutefile.specs.InPieces.{all_of, IsTaken};
 
 use krieg_board::NoMemory;
@@ -63,12 +62,17 @@ impl Pieces {
         Ok(Text::after(&mut next))
     }
 
-    /// Puts the last piece back, with what was written after it.
-    pub(crate) fn put_back(&mut self, text: Text) -> Result<(), NoMemory>
-        ensures { Wrote result self.new (self.old ++ (text.before ++ text.written)) }
+    /// Puts the last piece back, with what was written after it. The result is that of the writing, where memory is found.
+    pub(crate) fn put_back(
+        &mut self,
+        text: Text,
+        done: Result<(), NoMemory>,
+    ) -> Result<(), NoMemory>
+        ensures { IfOk result (λ u. (done ≡ Ok tt)
+            × (self.new ≡ self.old ++ (text.before ++ text.written))) }
     {
         let mut piece = Vec::new(*self.pieces.allocator());
-        text.end(Ok(()), &mut piece)?;
+        text.end(done, &mut piece)?;
         self.pieces.push(piece)?;
         Ok(())
     }

@@ -115,23 +115,21 @@ fn put_head(
 // ---- claims
 
 /// Adds the line of a name and a number.
-#[tactic(auto, using(crate::proofs::InPieces::added))]
 fn put_number_line(name: &[u8], n: usize, text: &mut Pieces) -> Result<(), NoMemory>
     ensures { Wrote result text.new (put_lines text.old (line.numbered name.now n ∷ [])) }
 {
     let mut last = text.take_last()?;
-    put_numbered(name, n, &mut last)?;
-    text.put_back(last)
+    let done = put_numbered(name, n, &mut last);
+    text.put_back(last, done)
 }
 
 /// Adds the line of a position, after that of another board.
-#[tactic(auto, using(crate::proofs::InPieces::added))]
 fn put_member(member: &Packed, ranks: &mut Ranks, text: &mut Pieces) -> Result<(), NoMemory>
     ensures { Wrote result text.new (put_lines text.old (position_line member.now ∷ [])) }
 {
     let mut last = text.take_last()?;
-    put_next(&unpack(member), ranks, &mut last)?;
-    text.put_back(last)
+    let done = put_next(&unpack(member), ranks, &mut last);
+    text.put_back(last, done)
 }
 
 /// Adds the lines of positions.
@@ -152,8 +150,8 @@ fn put_reason_line(d: Dialect, reason: &Reason, text: &mut Pieces) -> Result<(),
     ensures { Wrote result text.new (put_lines text.old (line.reason_line d reason.now ∷ [])) }
 {
     let mut last = text.take_last()?;
-    put_reason(d, reason, &mut last)?;
-    text.put_back(last)
+    let done = put_reason(d, reason, &mut last);
+    text.put_back(last, done)
 }
 
 /// Adds the lines of reasons.
@@ -169,14 +167,13 @@ fn put_reasons(d: Dialect, reasons: &[Reason], text: &mut Pieces) -> Result<(), 
 }
 
 /// Adds the line before the positions of a claim.
-#[tactic(auto, using(crate::proofs::InPieces::added))]
 fn put_claim_line(claim: &Claim, text: &mut Pieces) -> Result<(), NoMemory>
     ensures { Wrote result text.new
         (put_lines text.old (line.claim_line claim.now.moves (length claim.now.set) ∷ [])) }
 {
     let mut last = text.take_last()?;
-    put_sizes(claim.moves, claim.set.len(), &mut last)?;
-    text.put_back(last)
+    let done = put_sizes(claim.moves, claim.set.len(), &mut last);
+    text.put_back(last, done)
 }
 
 /// Adds the lines of the claim.
@@ -231,18 +228,17 @@ fn begin(
     ensures { Wrote result text.new (put_lines text.old (parts.head_lines d side moves listed)) }
 {
     let mut last = text.take_last()?;
-    put_head(d, side, moves, listed, &mut last)?;
-    text.put_back(last)
+    let done = put_head(d, side, moves, listed, &mut last);
+    text.put_back(last, done)
 }
 
 /// Adds the last line.
-#[tactic(auto, using(crate::proofs::InPieces::added))]
 fn end(text: &mut Pieces) -> Result<(), NoMemory>
     ensures { Wrote result text.new (put_lines text.old (alone (codes "end") ∷ [])) }
 {
     let mut last = text.take_last()?;
-    last.line(b"end")?;
-    text.put_back(last)
+    let done = last.line(b"end");
+    text.put_back(last, done)
 }
 
 /// Adds the lines of the members of the set, which is let go. Where the last claim is of the same set, as at an own turn whose

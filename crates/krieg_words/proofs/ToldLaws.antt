@@ -34,8 +34,6 @@ told_line_fits d (Done m w) = ap (Done m) (told_fits d w)
 told_line_fits d (Heard w) = ap Heard (told_fits d w)
 told_line_fits d _ = refl
 
-pub ruleset fitting = (told_fits, told_line_fits)
-
 told_taken : (men : MenTold) (t : Took) → IsTaken t → IsTaken (took_told men t)
 told_taken Apart t h = h
 told_taken Alike Nothing h = tt

@@ -31,18 +31,18 @@ bit_most false w = omega arith
 bits_below : (k : Kinds) → bits_of k < 32
 bits_below k = let a = bit_most k.knight 16 in let b = bit_most k.short 8 in let c = bit_most k.long 4 in let d = bit_most k.rank 2 in let e = bit_most k.file 1 in omega (arith, a, b, c, d, e)
 
-end_back : (e : End) → end_at (end_rank e) ≡ e
+pub end_back : (e : End) → end_at (end_rank e) ≡ e
 end_back Goes = refl
 end_back Mate = refl
 end_back Stalemate = refl
 
-took_back : (t : Took) → took_at (took_rank t) (took_square t) ≡ t
+pub took_back : (t : Took) → took_at (took_rank t) (took_square t) ≡ t
 took_back Nothing = refl
 took_back (Pawn s) = refl
 took_back (Piece s) = refl
 
 -- each of the 32 sets of kinds
-kinds_back : (a b c d e : Bool) → kinds_at (bits_of (record { knight = a; short = b; long = c; rank = d; file = e })) ≡ record { knight = a; short = b; long = c; rank = d; file = e }
+pub kinds_back : (a b c d e : Bool) → kinds_at (bits_of (record { knight = a; short = b; long = c; rank = d; file = e })) ≡ record { knight = a; short = b; long = c; rank = d; file = e }
 kinds_back true true true true true = refl
 kinds_back true true true true false = refl
 kinds_back true true true false true = refl

@@ -1,8 +1,8 @@
 -- The text of words as it is written: part by part, each after a separator where another part stands before.
-use Rattle.std.proofs.Common.{◌≡◌, ℕ, Bool, true, false, ◌||◌, cond, List, [], ◌∷◌, ◌++◌, refl, sym, ap, ◌∙◌, append_assoc}
+use Rattle.std.proofs.Common.{◌≡◌, ℕ, ◌+◌, ◌<◌, Bool, true, false, ◌||◌, cond, List, [], ◌∷◌, ◌++◌, length, get_or, drop, map, refl, sym, ap, ◌∙◌, append_assoc}
 use Rattle.std.specs.Prelude.{codes}
-use Rattle.std.proofs.lemmas.List.{append-nil}
-use Rattle.krieg_words.proofs.Common.{Kinds, End, Took, Piece, Dialect, MenTold, dialect_rules, Part, text_if, texts, joined_by, piece, kind_names, took_text, is_capture, checks_text, is_check, tries_text, are_tries, end_text, has_ended, words_parts, spelled, words_text}
+use Rattle.std.proofs.lemmas.List.{append-nil, drop_more}
+use Rattle.krieg_words.proofs.Common.{Kinds, End, Took, Piece, Dialect, MenTold, dialect_rules, Part, text_if, texts, joined_by, piece, took_text, is_capture, checks_text, is_check, tries_text, are_tries, end_text, has_ended, words_parts, spelled, words_text}
 use Rattle.krieg_words.specs.declared.words.Took.TheVariants.{Nothing, Pawn}
 
 -- texts, each after a separator
@@ -15,7 +15,7 @@ joined_first separator t [] = sym (append-nil t)
 joined_first separator t (u ∷ ts) = ap (λ (x : List ℕ). t ++ (separator ++ x)) (joined_first separator u ts)
 
 -- parts, each as a piece after an old text
-abbrev put_parts : List ℕ → List ℕ → Bool → List Part → List ℕ
+abbrev pub put_parts : List ℕ → List ℕ → Bool → List Part → List ℕ
 put_parts separator old before [] = old
 put_parts separator old before (p ∷ ps) = put_parts separator (old ++ piece separator before p.0 p.1) (before || p.0) ps
 
@@ -32,7 +32,7 @@ more_put separator old (p ∷ ps) = more_put separator (old ++ piece separator t
     by_test true = simp append_assoc refl
     by_test false = ap (λ (x : List ℕ). x ++ following separator (texts ps)) (append-nil old)
 
-all_put : (separator old : List ℕ) (ps : List Part) → put_parts separator old false ps ≡ old ++ joined_by separator (texts ps)
+pub all_put : (separator old : List ℕ) (ps : List Part) → put_parts separator old false ps ≡ old ++ joined_by separator (texts ps)
 all_put separator old [] = sym (append-nil old)
 all_put separator old (p ∷ ps) = by_test p.0 (all_put separator (old ++ []) ps)
   where
@@ -57,16 +57,13 @@ or_silent (p ∷ ps) = by_test p.0 (or_silent ps)
     by_test true rest = rw any_more (append-nil (joined_by (codes ", ") (p.1 ∷ texts ps)))
     by_test false rest = rest
 
--- the names of the kinds of check after an old text
-pub names_after : (old : List ℕ) (k : Kinds) (b2 b3 b4 : Bool) → b2 ≡ (k.file || k.rank) → b3 ≡ (b2 || k.long) → b4 ≡ (b3 || k.short) →
-    ((((old ++ piece (codes "+") false k.file (codes "file"))
-    ++ piece (codes "+") k.file k.rank (codes "rank"))
-    ++ piece (codes "+") b2 k.long (codes "long"))
-    ++ piece (codes "+") b3 k.short (codes "short"))
-    ++ piece (codes "+") b4 k.knight (codes "knight")
-    ≡ old ++ joined_by (codes "+") (kind_names k)
-names_after old k b2 b3 b4 h2 h3 h4 =
-    rw (h4, h3, h2) (all_put (codes "+") old ((k.file, codes "file") ∷ (k.rank, codes "rank") ∷ (k.long, codes "long") ∷ (k.short, codes "short") ∷ (k.knight, codes "knight") ∷ []))
+-- one part more of those that a list shows
+pub one_put : {A : Type 0} (view : A → Part) (separator old new : List ℕ) (before after : Bool) (ps : List A) (i : ℕ) (d : A) → i < length ps →
+    new ≡ old ++ piece separator before (view (get_or ps i d)).0 (view (get_or ps i d)).1 → after ≡ (before || (view (get_or ps i d)).0) →
+    put_parts separator new after (map view (drop (i + 1) ps)) ≡ put_parts separator old before (map view (drop i ps))
+one_put view separator old new before after ps i d lt new_is after_is =
+    (λ j. put_parts separator (new_is j) (after_is j) (map view (drop (i + 1) ps)))
+    ∙ sym (ap (λ qs. put_parts separator old before (map view qs)) (drop_more ps i d lt))
 
 first_took : (men : MenTold) (t : Took) → took_text men t ≡ piece (codes ", ") false (is_capture t) (took_text men t)
 first_took men Nothing = refl

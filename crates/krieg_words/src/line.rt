@@ -65,7 +65,6 @@ fn line_told(d: Dialect, l: Line) -> Line
 }
 
 /// The line with its words as the dialect tells them.
-#[tactic(auto, using(crate::proofs::ToldLaws::fitting))]
 pub fn told_line(d: Dialect, l: Line) -> Line
     ensures value { result ≡ spec.told_line d l }
     ensures fits { LineFits d result }

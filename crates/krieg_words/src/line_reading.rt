@@ -16,7 +16,7 @@ use krieg_text::{behind, cut, is_name};
 use thiserror::Error;
 
 /// The text is no line of the dialect.
-#[derive(Clone, Copy, Debug, PartialEq, Eq, Error)]
+#[derive(Clone, Copy, Debug, Error)]
 #[error("no line of the dialect")]
 pub struct LineFault;
 

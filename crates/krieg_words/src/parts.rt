@@ -1,14 +1,15 @@
-ghost use Rattle.std.specs.Prelude.{◌≡◌, is_none};
+ghost use Rattle.std.specs.Prelude.{◌≡◌, [], is_none};
+ghost use Rattle.std.specs.Str.{bytes_eq};
 ghost use Rattle.std.specs.Option.{option_copied};
 ghost use Rattle.krieg_text.specs.Writing.{PutsText};
 ghost use Rattle.krieg_words.specs.Parts as spec;
 
 use krieg_board::NoMemory;
-use krieg_text::{Text, behind, cut};
+use krieg_text::{Text, behind, cut, is_name};
 use std::marker::Model;
 
 /// The separator, where another part stands before.
-pub(crate) fn put_separator(separator: &[u8], before: bool, text: &mut Text) -> Result<(), NoMemory>
+fn put_separator(separator: &[u8], before: bool, text: &mut Text) -> Result<(), NoMemory>
     ensures { PutsText result text.old text.new (spec.separator_after separator.now before) }
 {
     if before {
@@ -113,5 +114,17 @@ impl<'a> Rest<'a> {
         if taken {
             *self = Rest::of(self.mark, after_gap(gap, self.behind));
         }
+    }
+
+    /// Whether the part at the front has this name. It goes past it then, and its mark.
+    #[inline]
+    pub(crate) fn takes(&mut self, name: &[u8]) -> bool
+        ensures taken { result ≡ bytes_eq (spec.front self.old.mark self.old.text) name.now }
+        ensures mark { self.new.mark ≡ self.old.mark }
+        ensures text { self.new.text ≡ spec.left_by self.old.mark [] result self.old.text }
+    {
+        let is_there = is_name(name, self.front());
+        self.pass(b"", is_there);
+        is_there
     }
 }

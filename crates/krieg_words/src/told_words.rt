@@ -64,7 +64,6 @@ fn words_told(d: Dialect, w: Words) -> Words
 }
 
 /// The words as the dialect tells them. Words fit a dialect where this leaves them as they are.
-#[tactic(auto, using(crate::proofs::ToldLaws::fitting))]
 pub fn told(d: Dialect, w: Words) -> Words
     ensures value { result ≡ spec.told d w }
     ensures fits { spec.Fits d result }

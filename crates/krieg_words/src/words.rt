@@ -1,6 +1,11 @@
-ghost use Rattle.std.specs.Prelude.{◌≡◌};
+ghost use Rattle.std.specs.Prelude.{◌≡◌, ◌==◌};
+ghost use Rattle.std.proofs.Common.{rules};
+ghost use Rattle.std.specs.Cmp.Rules.{comparing};
+ghost use Rattle.std.specs.Ordering.{on};
+ghost use Rattle.krieg_words.specs.WordNumbers.{words_number};
 ghost use Rattle.krieg_words.specs.Words.{IsSaid, IsTaken, words_cmp};
 
+use crate::word_numbers::words_number;
 use krieg_board::Square;
 use krieg_checks::{Kinds, NO_KINDS};
 use std::cmp::Ordering;
@@ -10,7 +15,7 @@ use std::marker::Model;
 pub const MOST_TRIES: u8 = 16;
 
 /// Whether the game goes on, and how it has ended otherwise.
-#[derive(Clone, Copy, PartialEq, Eq, PartialOrd, Ord)]
+#[derive(Clone, Copy)]
 pub enum End {
     /// The side to move has a legal move.
     Goes,
@@ -21,7 +26,7 @@ pub enum End {
 }
 
 /// What a move captured, and the square where it stood.
-#[derive(Clone, Copy, PartialEq, Eq, PartialOrd, Ord)]
+#[derive(Clone, Copy)]
 pub enum Took {
     /// Nothing was captured.
     Nothing,
@@ -34,8 +39,8 @@ pub enum Took {
 /// What both players hear after a legal move, and at the start of a game.
 ///
 /// Words are ordered by their end, then by what was taken, then by the kinds of check as a number, then by
-/// the pawn tries. In contracts they are a `Said`.
-#[derive(Clone, Copy, PartialEq, Eq, PartialOrd, Ord)]
+/// the pawn tries, as `compare` says. In contracts they are a `Said`.
+#[derive(Clone, Copy)]
 pub struct Words {
     pub end: End,
     pub took: Took,
@@ -66,11 +71,26 @@ impl Model for Words {
     ghost inverse = { λ s. record { end = s.end; took = s.took; checks = s.checks; tries = s.tries } };
 }
 
-/// The order of words, as `cmp` gives it too.
+impl PartialEq for Words {
+    ghost eq = { on words_number ◌==◌ };
+
+    ghost laws = { Prim.search (comparing, rules) };
+
+    fn eq(&self, other: &Words) -> bool {
+        words_number(self) == words_number(other)
+    }
+}
+
+impl Eq for Words {
+    ghost laws = { Prim.search (comparing, rules) };
+}
+
+/// The order of words, which is that of their numbers.
+#[tactic(auto, using(crate::proofs::WordNumbers::number_cmp))]
 pub fn compare(a: &Words, b: &Words) -> Ordering
     ensures { result ≡ words_cmp a.now b.now }
 {
-    a.cmp(b)
+    words_number(a).cmp(&words_number(b))
 }
 
 fn know_took(took: &Took)

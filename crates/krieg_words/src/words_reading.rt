@@ -20,7 +20,7 @@ use krieg_text::{behind, is_name, read_number_between};
 use thiserror::Error;
 
 /// The text is no words of the dialect.
-#[derive(Clone, Copy, Debug, PartialEq, Eq, Error)]
+#[derive(Clone, Copy, Debug, Error)]
 #[error("no words of the dialect")]
 pub struct WordsFault;
 
@@ -62,16 +62,11 @@ fn names_in(names: Option<&[u8]>) -> Option<Kinds>
     ensures { result ≡ spec.names_in (option_copied names.entry) }
 {
     let mut rest = Rest::of(b'+', names);
-    let file = is_name(b"file", rest.front());
-    rest.pass(b"", file);
-    let rank = is_name(b"rank", rest.front());
-    rest.pass(b"", rank);
-    let long = is_name(b"long", rest.front());
-    rest.pass(b"", long);
-    let short = is_name(b"short", rest.front());
-    rest.pass(b"", short);
-    let knight = is_name(b"knight", rest.front());
-    rest.pass(b"", knight);
+    let file = rest.takes(b"file");
+    let rank = rest.takes(b"rank");
+    let long = rest.takes(b"long");
+    let short = rest.takes(b"short");
+    let knight = rest.takes(b"knight");
     if rest.is_none() {
         Some(Kinds {
             knight,

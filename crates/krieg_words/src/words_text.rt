@@ -7,7 +7,7 @@ ghost use Rattle.krieg_words.specs.Parts.{piece, joined_by};
 ghost use Rattle.krieg_words.specs.declared.dialects.Dialect.TheVariants.{Wild16};
 
 use crate::dialects::{ChecksTold, Dialect, MenTold, TriesTold, dialect_rules};
-use crate::parts::{put_piece, put_separator};
+use crate::parts::put_piece;
 use crate::words::{End, Took, Words};
 use krieg_board::NoMemory;
 use krieg_checks::Kinds;
@@ -69,19 +69,22 @@ fn either(a: bool, b: bool) -> bool
     a || b
 }
 
-#[tactic(auto, using(crate::proofs::WordsWritten::names_after))]
 fn put_names(kinds: Kinds, text: &mut Text) -> Result<(), NoMemory>
     ensures { PutsText result text.old text.new (joined_by (codes "+") (spec.kind_names kinds)) }
 {
-    put_piece(b"+", false, kinds.file, b"file", text)?;
-    let before = kinds.file;
-    put_piece(b"+", before, kinds.rank, b"rank", text)?;
-    let before = either(before, kinds.rank);
-    put_piece(b"+", before, kinds.long, b"long", text)?;
-    let before = either(before, kinds.long);
-    put_piece(b"+", before, kinds.short, b"short", text)?;
-    let before = either(before, kinds.short);
-    put_piece(b"+", before, kinds.knight, b"knight", text)
+    let names: [(bool, &[u8]); 5] = [
+        (kinds.file, b"file"),
+        (kinds.rank, b"rank"),
+        (kinds.long, b"long"),
+        (kinds.short, b"short"),
+        (kinds.knight, b"knight"),
+    ];
+    let mut before = false;
+    for (there, name) in names {
+        put_piece(b"+", before, there, name, text)?;
+        before = either(before, there);
+    }
+    Ok(())
 }
 
 fn put_checks(
@@ -93,16 +96,13 @@ fn put_checks(
     ensures { PutsText result text.old text.new
         (piece (codes ", ") before (spec.is_check kinds) (spec.checks_text checks kinds)) }
 {
-    if !is_check(kinds) {
-        return Ok(());
-    }
-    put_separator(b", ", before, text)?;
     match checks {
-        ChecksTold::ByKind => {
-            text.put(b"check ")?;
+        ChecksTold::ByKind if is_check(kinds) => {
+            put_piece(b", ", before, true, b"check ", text)?;
             put_names(kinds, text)
         }
-        ChecksTold::Bare => text.put(b"check"),
+        ChecksTold::ByKind => Ok(()),
+        ChecksTold::Bare => put_piece(b", ", before, is_check(kinds), b"check", text),
     }
 }
 
@@ -119,17 +119,13 @@ fn put_tries(tries: TriesTold, before: bool, n: u8, text: &mut Text) -> Result<(
     ensures { PutsText result text.old text.new
         (piece (codes ", ") before (spec.are_tries tries n) (spec.tries_text tries n)) }
 {
-    if !are_tries(tries, n) {
-        return Ok(());
-    }
-    put_separator(b", ", before, text)?;
     match tries {
-        TriesTold::Number => {
-            text.put(b"tries ")?;
+        TriesTold::Number if n != 0 => {
+            put_piece(b", ", before, true, b"tries ", text)?;
             put_number(u64::from(n), text)
         }
-        TriesTold::Any => text.put(b"tries some"),
-        TriesTold::Untold => Ok(()),
+        TriesTold::Any => put_piece(b", ", before, n != 0, b"tries some", text),
+        TriesTold::Number | TriesTold::Untold => Ok(()),
     }
 }
 

@@ -1,8 +1,8 @@
 use Rattle.std.proofs.Common.{rules, ◌≡◌, ◌∷◌, [], ◌++◌, None, Ok, Err, arith, Vec, Global}
 use Rattle.std.specs.Prelude.{slice_get}
 use Rattle.krieg_fen.proofs.Common.{Pos, Position, taken, GivesOn, listed_form, positions_at}
-use Rattle.krieg_fen.proofs.Listing.{listed_ok, listed_gives}
-use Rattle.krieg_text.proofs.ReadingLemmas.{passed_then}
+use Rattle.krieg_fen.proofs.Listing.{listed_ok, listed_gives, listed_start, listed_end, memory_gives}
+use Rattle.krieg_text.proofs.ReadingLemmas.{passed_none, passed_then}
 use Rattle.krieg_fen.proofs.list.list_at.Goals as goal
 
 pub returns-in-Err-clause-value : goal.returns-in-Err-clause-value
@@ -22,3 +22,28 @@ loop-i-preserved g c =
       read = rw pushed (listed_ok c.args.turn c.args.who c.loop-i.list.items c.args.n c.loop-i.i (at c.loop-i.from) new c.in-Ok.position (positions_at c.args.turn c.args.who None c.args.n (g.S.LineSource.place c.args.from.now)) (omega arith) read c.loop-i.invariant.read);
       rest = passed_then (at c.args.from.now) (at c.loop-i.from) new c.loop-i.invariant.rest c.read_listed.ensures.rest;
     }
+
+pub loop-i-init : goal.loop-i-init
+loop-i-init g c =
+    let from = g.S.LineSource.place c.args.from.now in
+    record { read = listed_start c.args.turn c.args.who c.new-list.result.items c.args.n from c.new-list.ensures.items; rest = passed_none from }
+
+pub returns-in-Err-clause-rest : goal.returns-in-Err-clause-rest
+returns-in-Err-clause-rest g c =
+    let at = g.S.LineSource.place in
+    passed_then (at c.args.from.now) (at c.loop-i.from) (at c.read_listed.new.from) c.loop-i.invariant.rest c.read_listed.ensures.rest
+
+pub returns-in_err-push-in-Ok-clause-value : goal.returns-in_err-push-in-Ok-clause-value
+returns-in_err-push-in-Ok-clause-value g c = memory_gives _ _ _ _ c.from_residual.ensures.1
+
+pub returns-in_err-push-in-Ok-clause-rest : goal.returns-in_err-push-in-Ok-clause-rest
+returns-in_err-push-in-Ok-clause-rest g c =
+    let at = g.S.LineSource.place in
+    passed_then (at c.args.from.now) (at c.loop-i.from) (at c.read_listed.new.from) c.loop-i.invariant.rest c.read_listed.ensures.rest
+
+pub returns-clause-value : goal.returns-clause-value
+returns-clause-value g c =
+    listed_end c.args.turn c.args.who c.loop-i.list.items c.args.n c.loop-i.i (g.S.LineSource.place c.loop-i.from) _ c.loop-i-test.false c.loop-i.invariant.read
+
+pub returns-clause-rest : goal.returns-clause-rest
+returns-clause-rest g c = c.loop-i.invariant.rest

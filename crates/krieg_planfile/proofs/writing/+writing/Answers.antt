@@ -1,7 +1,8 @@
-use Rattle.std.proofs.Common.{rules, ◌≡◌, ◌+◌, ◌<◌, ◌∷◌, [], ◌++◌, map, take, get_or, length, List, sym, ap, subst, ◌∙◌, arith}
+use Rattle.std.proofs.Common.{rules, ◌≡◌, ◌+◌, ◌<◌, ◌∷◌, [], ◌++◌, refl, map, take, get_or, length, List, sym, ap, subst, ◌∙◌, arith}
 use Rattle.std.proofs.lemmas.Grind.{take_at_read}
-use Rattle.krieg_planfile.proofs.Common.{Pieces, HasLines, PutsLines, tree_of, edge_of, edges_in, out-Node, IsToldKey, other_in, play_line, on_line, node_lines, other_lines, edges_lines, branches_lines}
-use Rattle.krieg_planfile.proofs.NodeWriting.{told_at, told_edges_of, size_of_edge, puts_then, has_then, next_lines, edges_are, lines_of_node, all_taken}
+use Rattle.krieg_planfile.proofs.Common.{Pieces, Maybe, Move, Key, NodeTree, out-Edge, put_lines, HasLines, PutsLines, tree_of, edge_of, edges_in, out-Node, IsToldKey, other_in, play_line, on_line, node_lines, other_lines, edges_lines, branches_lines}
+use Rattle.krieg_words.specs.ToldWords.{Fits}
+use Rattle.krieg_planfile.proofs.NodeWriting.{no_other, other_is, edge_is, told_at, told_edges_of, size_of_edge, puts_then, has_then, next_lines, edges_are, lines_of_node, all_taken}
 use Rattle.krieg_planfile.proofs.writing.+writing.Goals as goal
 
 pub put_edges-put_edge-requires : goal.put_edges-put_edge-requires
@@ -38,3 +39,23 @@ put_node-returns t c =
     puts_then c.put_edges.result c.put_play.new.text c.put_other.new.text c.put_edges.new.text (other_lines d (other_in (tree_of n))) (edges_lines d (edges_in (tree_of n))) c.in_ok-put_other.ensures c.put_edges.ensures in
     subst (λ (ls : List Pieces). PutsLines c.put_edges.result c.args.text.now c.put_edges.new.text ls) (lines_of_node d n c.is_some.result c.len.result (search rules) (search rules))
     (puts_then c.put_edges.result c.args.text.now c.put_play.new.text c.put_edges.new.text (play_line (out-Node n).mv c.is_some.result c.len.result ∷ []) (other_lines d (other_in (tree_of n)) ++ edges_lines d (edges_in (tree_of n))) c.in_ok-put_play.ensures below)
+
+pub put_edge-put_on-requires-clause-own : goal.put_edge-put_on-requires-clause-own
+put_edge-put_on-requires-clause-own t c = subst (λ (b : Key × NodeTree). Fits c.args.d b.0.0) (sym (edge_is c.args.e.now _ refl)) c.requires.key.0.1
+
+pub put_edge-put_on-requires-clause-reply : goal.put_edge-put_on-requires-clause-reply
+put_edge-put_on-requires-clause-reply t c = subst (λ (b : Key × NodeTree). Fits c.args.d b.0.1) (sym (edge_is c.args.e.now _ refl)) c.requires.key.1.1
+
+pub put_edge-returns : goal.put_edge-returns
+put_edge-returns t c =
+    let e = out-Edge c.args.e.now in
+    subst (λ (b : Key × NodeTree). PutsLines c.put_node.result c.args.text.now c.put_node.new.text (on_line c.args.d b.0 ∷ node_lines c.args.d b.1)) (edge_is c.args.e.now c.deref.result.now c.deref.ensures)
+    (puts_then c.put_node.result c.args.text.now c.put_on.new.text c.put_node.new.text (on_line c.args.d (e.own, e.reply) ∷ []) (node_lines c.args.d (tree_of c.deref.result.now)) c.in_ok-put_on.ensures c.put_node.ensures)
+
+pub put_other-returns-in-None : goal.put_other-returns-in-None
+put_other-returns-in-None t c = (refl, ap (λ (o : Maybe Move Key). put_lines c.args.text.now.written (other_lines c.args.d o)) (sym (no_other c.args.n.now c.in-None.is)))
+
+pub put_other-returns-in-Some : goal.put_other-returns-in-Some
+put_other-returns-in-Some t c =
+    subst (λ (o : Maybe Move Key). PutsLines c.put_node.result c.args.text.now c.put_node.new.text (other_lines c.args.d o))
+    (sym (other_is c.args.n.now c.in-Some.other c.deref.result.now c.in-Some.is c.deref.ensures)) c.put_node.ensures

@@ -12,5 +12,5 @@ returns-in-Err c =
 pub loop-i-preserved : goal.loop-i-preserved
 loop-i-preserved c =
     let read : member_at (last_in c.loop-i.set.items) c.loop-i.from ≡ Ok (c.in-Ok.member, c.next_member.new.from) = search rules in
-    let pushed : c.push.new.self.items ≡ c.loop-i.set.items ++ c.in-Ok.member ∷ [] = search rules in
+    let pushed : c.push.new.self.items ≡ c.loop-i.set.items ++ c.in-Ok.member ∷ [] = c.in_ok-push-in-Ok.ensures.items in
     record { read = rw pushed (set_ok c.loop-i.set.items c.args.n c.loop-i.i c.loop-i.from c.next_member.new.from c.in-Ok.member _ (omega arith) read c.loop-i.invariant.read) }

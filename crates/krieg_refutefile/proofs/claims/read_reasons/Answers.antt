@@ -13,5 +13,5 @@ returns-in-Err c =
 pub loop-i-preserved : goal.loop-i-preserved
 loop-i-preserved c =
     let read : reason_at c.args.d c.args.own (last_move c.loop-i.reasons.items) c.loop-i.from ≡ Ok (c.in-Ok.reason, c.next_reason.new.from) = search rules in
-    let pushed : c.push.new.self.items ≡ c.loop-i.reasons.items ++ c.in-Ok.reason ∷ [] = search rules in
+    let pushed : c.push.new.self.items ≡ c.loop-i.reasons.items ++ c.in-Ok.reason ∷ [] = c.in_ok-push-in-Ok.ensures.items in
     record { read = rw pushed (reason_ok c.args.d c.args.own c.loop-i.reasons.items c.args.n c.loop-i.i c.loop-i.from c.next_reason.new.from c.in-Ok.reason _ (omega arith) read c.loop-i.invariant.read) }

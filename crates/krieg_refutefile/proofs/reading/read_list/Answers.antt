@@ -13,5 +13,5 @@ pub loop-i-preserved : goal.loop-i-preserved
 loop-i-preserved c =
     let read : listed_at c.args.who c.loop-i.first c.loop-i.from ≡ Ok (c.in-Ok.position, c.next_listed.new.from) = search rules in
     let pushed : c.push.new.self.items ≡ c.loop-i.list.items ++ c.in-Ok.position ∷ [] = search rules in
-    let first : c.unwrap_or.result ≡ unwrap_or c.loop-i.first c.in-Ok.position = search rules in
+    let first : c.unwrap_or.result ≡ unwrap_or c.loop-i.first c.in-Ok.position = c.unwrap_or.ensures in
     record { read = rw (pushed, first) (item_ok (listed_at c.args.who) (λ first x. Some (unwrap_or first x)) c.loop-i.list.items c.args.n c.loop-i.i c.loop-i.first c.loop-i.from c.next_listed.new.from c.in-Ok.position _ (omega arith) read c.loop-i.invariant.read) }

@@ -9,7 +9,7 @@ pub returns-in-Err : goal.returns-in-Err
 returns-in-Err c =
     let s = counts_of c.loop-i.nodes in
     let view = λ (p : Play). node_with p c.read_node.new.edges.items in
-    let met : GivesOn {X = Play} view (Err c.in-Err.fault) c.read_node.new.from (node_at c.args.d (record { nodes = c.loop-i.i; edges = c.loop-i.before }) c.loop-i.from) = search rules in
+    let met : GivesOn {X = Play} view (Err c.in-Err.fault) c.read_node.new.from (node_at c.args.d (record { nodes = c.loop-i.i; edges = c.loop-i.before }) c.loop-i.from) = c.in-Err.ensures in
     let given = subst (λ (t : Counts). GivesOn {X = Play} view (Err c.in-Err.fault) c.read_node.new.from (node_at c.args.d t c.loop-i.from)) (sym c.loop-i.invariant.counted) met in
     record {
       value = item_gives (node_at c.args.d) with_node {X = Play} {Y = List (Node Move Key)} view (λ ns. ns) c.loop-i.nodes c.args.n c.loop-i.i s c.loop-i.from c.read_node.new.from c.in-Err.fault _ (omega arith) given c.loop-i.invariant.read;

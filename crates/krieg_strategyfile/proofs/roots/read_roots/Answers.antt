@@ -9,7 +9,7 @@ use Rattle.krieg_strategyfile.proofs.roots.read_roots.Goals as goal
 pub returns-in-Err : goal.returns-in-Err
 returns-in-Err c =
     let item = root_at c.args.rules.dialect c.args.rules.waiting c.args.rules.nodes in
-    let given : GivesOn {X = StrategyRoot} (λ x. root_of x) (Err c.in-Err.fault) c.read_root.new.from (item c.loop-i.last c.loop-i.from) = search rules in
+    let given : GivesOn {X = StrategyRoot} (λ x. root_of x) (Err c.in-Err.fault) c.read_root.new.from (item c.loop-i.last c.loop-i.from) = c.in-Err.ensures in
     let value = item_gives item (λ last x. Some x.0) {X = StrategyRoot} {Y = Vec _ Global} (λ x. root_of x) (λ v. map root_of v.items) (map root_of c.loop-i.roots.items) c.args.n c.loop-i.i c.loop-i.last c.loop-i.from c.read_root.new.from c.in-Err.fault _ (omega arith) given c.loop-i.invariant.read in
     record { value = value; formed = tt }
 
@@ -17,8 +17,8 @@ pub loop-i-preserved : goal.loop-i-preserved
 loop-i-preserved c =
     let item = root_at c.args.rules.dialect c.args.rules.waiting c.args.rules.nodes in
     let x = c.in-Ok.root in
-    let read : item c.loop-i.last c.loop-i.from ≡ Ok (root_of x, c.read_root.new.from) = search rules in
-    let pushed : c.push.new.self.items ≡ c.loop-i.roots.items ++ x ∷ [] = search rules in
+    let read : item c.loop-i.last c.loop-i.from ≡ Ok (root_of x, c.read_root.new.from) = c.in-Ok.ensures in
+    let pushed : c.push.new.self.items ≡ c.loop-i.roots.items ++ x ∷ [] = c.in_ok-push.ensures.items in
     let all : map root_of c.push.new.self.items ≡ map root_of c.loop-i.roots.items ++ root_of x ∷ [] = ap (map root_of) pushed ∙ map_last root_of c.loop-i.roots.items x in
     record { read = rw all (item_ok item (λ last x. Some x.0) (map root_of c.loop-i.roots.items) c.args.n c.loop-i.i c.loop-i.last c.loop-i.from c.read_root.new.from (root_of x) _ (omega arith) read c.loop-i.invariant.read) }
 

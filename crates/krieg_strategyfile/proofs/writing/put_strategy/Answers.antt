@@ -15,10 +15,10 @@ returns c =
     let end = alone (codes "end") ∷ [] in
     let r = c.line.result in
     let new = c.line.new.self in
-    let a : HasLines c.args.text.now c.put_heading.new.text head = search rules in
+    let a : HasLines c.args.text.now c.put_heading.new.text head = c.in_ok-put_heading.ensures in
     let b : HasLines c.put_heading.new.text c.put_listing.new.text list = search rules in
     let d : HasLines c.put_listing.new.text c.put_numbered.new.text worst = search rules in
-    let e : HasLines c.put_numbered.new.text c.put_nodes.new.text nodes = search rules in
+    let e : HasLines c.put_numbered.new.text c.put_nodes.new.text nodes = c.in_ok-put_nodes.ensures in
     let f : HasLines c.put_nodes.new.text c.put_roots.new.text roots = search rules in
     puts_then r c.args.text.now c.put_heading.new.text new head (list ++ (worst ++ (nodes ++ (roots ++ end)))) a
     (puts_then r c.put_heading.new.text c.put_listing.new.text new list (worst ++ (nodes ++ (roots ++ end))) b
