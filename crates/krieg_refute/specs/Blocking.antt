@@ -1,5 +1,5 @@
 -- What blocks a try, as stored results tell it.
-use Rattle.std.specs.Prelude.{◌≡◌, ℕ, ◌<◌, false, List, Some}
+use Rattle.std.specs.Prelude.{◌≡◌, ℕ, ◌<◌, false, List, [], ◌∷◌, ◌++◌, Some}
 use Rattle.krieg_board.specs.Pos.{Pos}
 use Rattle.krieg_board.specs.declared.men.Move.{Move}
 use Rattle.krieg_words.specs.declared.dialects.Dialect.{Dialect}
@@ -34,6 +34,12 @@ module _ (d : Dialect) where
   abbrev pub HasBlock : SetRows → SetRows → List Pos → Move → ℕ → Block → Type 0
   HasBlock T T' B t j b = AddsSets T T' × IsBlock d false T' B j t b
 
-  -- the same of each try that makes sense in the set
+  -- the same, and the try is noted with it behind others
+  pub record IsNoted (T T' : SetRows) (B : List Pos) (t : Move) (j : ℕ) (ns ns' : List Note) : Type 0 where
+    pub block : Block
+    pub has : HasBlock T T' B t j block
+    pub noted : ns' ≡ ns ++ record { mv = t; block = block } ∷ []
+
+  -- what blocks it, of each try that makes sense in the set
   abbrev pub HasRow : SetRows → SetRows → Question → List Note → Type 0
   HasRow T T' a ns = AddsSets T T' × IsRow d false T' a ns

@@ -1,5 +1,6 @@
 ghost use Rattle.std.specs.Prelude.{◌≡◌, ◌<◌, ◌≤◌, ◌^◌, ◌↔◌, ◌++◌, ◌∷◌, [], false, true, IfOk, OnOk, IsTrue, map, length};
 ghost use Rattle.std.specs.List.{list_any};
+ghost use Rattle.krieg_words.specs.declared.dialects.Dialect.{Dialect as Umpire};
 ghost use Rattle.krieg_parting.specs.Mating.{lives};
 ghost use Rattle.krieg_theory.specs.Sets.{In, is_nil};
 ghost use Rattle.krieg_theory.specs.Split as theory;
@@ -15,7 +16,7 @@ ghost use Rattle.krieg_claims.specs.Losses.{is_loss};
 ghost use Rattle.krieg_search.specs.Building.{IsPaidFor};
 ghost use Rattle.krieg_search.specs.Remainders.{IsRemainder};
 ghost use Rattle.krieg_search.specs.Notes.{IsBlock, IsRow, AreNotes};
-ghost use Rattle.krieg_refute.specs.Blocking.{HasBlock, HasRow};
+ghost use Rattle.krieg_refute.specs.Blocking.{HasBlock, HasRow, IsNoted};
 ghost use Rattle.krieg_refute.specs.Claiming.{at_once_reason, IsLost, IsFirstLost, IsClaimList, IsNext, IsPushed, Claims, Reasons, Blocks};
 ghost use Rattle.krieg_refute.specs.Refutations.{why_of, reason_of, most_claims, most_claimed};
 ghost use Rattle.krieg_search.specs.Stretches.{AreCounted};
@@ -84,11 +85,20 @@ fn lives_in_some(members: &[Packed], mv: &Move) -> bool
 
 /// What the try leaves to be won, by units that are made for this split alone, since the search has paid for it. Where one
 /// move is left, no reply is counted once a member lives.
-fn left_again(way: Way, b: &Belief, mv: Move, moves: u8) -> Result<Option<Remainder>, NoMemory>
+fn left_again(
+    way: Way,
+    table: &Table,
+    set: u32,
+    mv: Move,
+    moves: u8,
+) -> Result<Option<Remainder>, NoMemory>
     requires some { 0 < moves }
-    requires paid { made (chess way.d) b.now mv < 2 ^ 64 }
-    ensures { IfOk result (IsRemainder way.d false b.now mv moves) }
+    requires within { set < length table.now }
+    requires paid { made (chess way.d) (set_at table.now set) mv < 2 ^ 64 }
+    ensures { IfOk result (IsRemainder way.d false (set_at table.now set) mv moves) }
 {
+    let opened = table.open(way.alloc, set)?;
+    let b = opened.of(table, set);
     if moves == 1 && lives_in_some(b.members(), &mv) {
         return Ok(None);
     }
@@ -110,15 +120,44 @@ fn block_of(way: Way, table: &mut Table, set: u32, mv: Move, moves: u8) -> Resul
     requires legal { legal_in_some (chess way.d) (set_at table.old set) mv ≡ true }
     ensures { IfOk result (HasBlock way.d table.old table.new (set_at table.old set) mv moves) }
 {
-    let opened = table.open(way.alloc, set)?;
-    let Some(Remainder { classes, refused }) = left_again(way, opened.of(table, set), mv, moves)?
-    else {
+    let Some(Remainder { classes, refused }) = left_again(way, table, set, mv, moves)? else {
         return Ok(Block::AtOnce);
     };
     if let Some(class) = first_lost(table, classes, moves - 1)? {
         return Ok(Block::Class(class.0, class.1));
     }
     Ok(Block::Refused(number_of(table, refused)?))
+}
+
+/// The tries that make sense in the set with that number.
+fn tries_in(alloc: Global, table: &Table, set: u32) -> Result<Vec<Move>, NoMemory>
+    requires { set < length table.now }
+    ensures { IfOk result (λ moves. (d : Umpire)
+        → moves.items ≡ theory.tries (chess d) (set_at table.now set)) }
+{
+    let opened = table.open(alloc, set)?;
+    tries(alloc, opened.of(table, set))
+}
+
+/// Adds the next try of the set, with what blocks it.
+fn add_note(
+    way: Way,
+    table: &mut Table,
+    asked: Question,
+    mv: &Move,
+    row: &mut Vec<Note>,
+) -> Result<(), NoMemory>
+    requires some { 0 < asked.moves }
+    requires within { asked.set < length table.old }
+    requires paid { IsPaidFor way.d false table.old }
+    requires lost { IsLost table.old (set_at table.old asked.set) asked.moves }
+    requires legal { legal_in_some (chess way.d) (set_at table.old asked.set) mv.now ≡ true }
+    ensures { OnOk result (IsNoted way.d table.old table.new (set_at table.old asked.set)
+        mv.now asked.moves row.old.items row.new.items) }
+{
+    let block = block_of(way, table, asked.set, *mv, asked.moves)?;
+    row.push(Note { mv: *mv, block })?;
+    Ok(())
 }
 
 /// Each try that makes sense in the set, in order, with what blocks it.
@@ -129,12 +168,10 @@ fn row_of(way: Way, table: &mut Table, asked: Question) -> Result<Vec<Note>, NoM
     requires lost { IsLost table.old (set_at table.old asked.set) asked.moves }
     ensures { IfOk result (λ row. HasRow way.d table.old table.new asked row.items) }
 {
-    let opened = table.open(way.alloc, asked.set)?;
-    let tries = tries(way.alloc, opened.of(table, asked.set))?;
+    let tries = tries_in(way.alloc, table, asked.set)?;
     let mut row = Vec::with_capacity(way.alloc, tries.len())?;
     for mv in &tries {
-        let block = block_of(way, table, asked.set, *mv, asked.moves)?;
-        row.push(Note { mv: *mv, block })?;
+        add_note(way, table, asked, mv, &mut row)?;
     }
     Ok(row)
 }
@@ -177,12 +214,29 @@ fn are_few(claims: usize, positions: usize, reasons: usize) -> bool
     claims <= MOST_CLAIMS && positions <= MOST_CLAIMED && reasons <= MOST_CLAIMED
 }
 
-/// Adds what a claim speaks of, which is new.
-fn add_place(places: &mut IndexSet<Question>, asked: Question) -> Result<(), NoMemory>
-    requires { In asked places.old.keys → ⊥ }
-    ensures { OnOk result (places.new.keys ≡ places.old.keys ++ asked ∷ []) }
+/// How many members the set with that number has.
+fn size_of_set(alloc: Global, table: &Table, set: u32) -> Result<usize, NoMemory>
+    requires { set < length table.now }
+    ensures { IfOk result (λ size. size ≡ length (set_at table.now set)) }
 {
-    places.insert(asked)?;
+    let opened = table.open(alloc, set)?;
+    Ok(opened.of(table, set).len())
+}
+
+/// Adds a claim and what it speaks of, which is new. Nothing is counted.
+fn add(claimed: &mut ClaimList, asked: Question, reasons: Vec<Reason>) -> Result<(), NoMemory>
+    requires { In asked claimed.old.places.keys → ⊥ }
+    ensures claims { OnOk result (claimed.new.claims.items ≡ claimed.old.claims.items
+        ++ record { moves = asked.moves; set = asked.set; reasons = reasons } ∷ []) }
+    ensures places { OnOk result (claimed.new.places.keys ≡ claimed.old.places.keys
+        ++ asked ∷ []) }
+{
+    claimed.claims.push(Draft {
+        moves: asked.moves,
+        set: asked.set,
+        reasons,
+    })?;
+    claimed.places.insert(asked)?;
     Ok(())
 }
 
@@ -202,19 +256,13 @@ fn push(
     ensures { IsPushed d table.now (set_at table.now asked.set) asked.moves
         claimed.old claimed.new result }
 {
-    let opened = table.open(alloc, asked.set)?;
-    let members = opened.of(table, asked.set).len();
+    let members = size_of_set(alloc, table, asked.set)?;
     let positions = claimed.positions.saturating_add(members);
     let count = claimed.reasons.saturating_add(reasons.len());
     if !are_few(claimed.claims.len() + 1, positions, count) {
         return Err(SearchStop::Large);
     }
-    claimed.claims.push(Draft {
-        moves: asked.moves,
-        set: asked.set,
-        reasons,
-    })?;
-    add_place(&mut claimed.places, asked)?;
+    add(claimed, asked, reasons)?;
     claimed.positions = positions;
     claimed.reasons = count;
     Ok(claimed.claims.len() as u16)

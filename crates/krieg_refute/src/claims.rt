@@ -1,6 +1,6 @@
-ghost use Rattle.std.specs.Prelude.{◌≡◌, true, Some, IfOk, length, map, is_some};
-ghost use Rattle.krieg_table.specs.SetRows.{sets};
-ghost use Rattle.krieg_refute.specs.Drafts.{claims_over, AreWithin, set_in};
+ghost use Rattle.std.specs.Prelude.{◌≡◌, ◌<◌, ◌++◌, ◌∷◌, [], true, Some, IfOk, OnOk, length, map, is_some};
+ghost use Rattle.krieg_table.specs.SetRows.{SetRows, sets};
+ghost use Rattle.krieg_refute.specs.Drafts.{claim_over, claims_over, AreWithin, HaveSets, set_in};
 ghost use Rattle.krieg_refute.specs.declared.claims.SetPlace.TheVariants as SetPlace;
 
 use crate::refutation::{Claim, Reason};
@@ -51,6 +51,32 @@ fn take_set(slot: &mut SetPlace, claims: &[Claim]) -> Result<Belief, NoMemory>
     }
 }
 
+/// Adds the claim with a set of its own, which comes from its slot.
+fn add_claim(
+    slots: &mut Vec<SetPlace>,
+    claims: &mut Vec<Claim>,
+    draft: Draft,
+) -> Result<(), NoMemory>
+    requires { (T : SetRows) × HaveSets claims.old.items slots.old.items T
+        × (draft.set < length T) }
+    ensures { OnOk result ((T : SetRows) → HaveSets claims.old.items slots.old.items T
+        → draft.set < length T → (claims.new.items ≡ claims.old.items ++ claim_over T draft ∷ [])
+        × HaveSets claims.new.items slots.new.items T) }
+{
+    let Draft {
+        moves,
+        set,
+        reasons,
+    } = draft;
+    let set = take_set(&mut slots[set as usize], claims)?;
+    claims.push(Claim {
+        moves,
+        set,
+        reasons,
+    })?;
+    Ok(())
+}
+
 /// The claims with sets of their own, which are moved out of the table.
 pub(crate) fn claims_of(
     alloc: Global,
@@ -62,17 +88,8 @@ pub(crate) fn claims_of(
 {
     let mut slots = slots_of(alloc, table)?;
     let mut claims = Vec::with_capacity(alloc, drafts.len())?;
-    for Draft {
-        moves,
-        set,
-        reasons,
-    } in drafts {
-        let set = take_set(&mut slots[set as usize], &claims)?;
-        claims.push(Claim {
-            moves,
-            set,
-            reasons,
-        })?;
+    for draft in drafts {
+        add_claim(&mut slots, &mut claims, draft)?;
     }
     Ok(claims)
 }

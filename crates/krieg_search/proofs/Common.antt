@@ -77,7 +77,7 @@ pub use Rattle.krieg_search.specs.Openings.{AddsSets, AreAdded, AreNumbered, IsA
 pub use Rattle.krieg_search.specs.PackedKey.{IsPacked, bytes_of, number_of, unpacked}
 pub use Rattle.krieg_search.specs.BuiltPlan.{IsPlan, IsPlanned, IsUnfit}
 pub use Rattle.krieg_search.specs.KeyTries.{AreKeys, IsKeyAnswer, IsTaken, IsWithinFresh, key_tries, key_try, keys_of, told_of}
-pub use Rattle.krieg_search.specs.SetKeys.{AreKeysAt, AreSetKeys, behind, later_price, least_pair, numbers_of, set_keys, told_set}
+pub use Rattle.krieg_search.specs.SetKeys.{AreKeysAt, AreSetKeys, behind, later_price, look_price, least_pair, numbers_of, set_keys, told_set}
 pub use Rattle.krieg_search.specs.Stretches.{AreCounted, IsAtWork, IsNumbered, IsReady, IsSearched, Stretches, TellsSet, TellsSets, TellsTry, sets_of}
 pub use Rattle.krieg_search.specs.Solutions.{HasAccount, IsAnswer, IsBest, IsCharged, IsChargedAtMost, IsLarge, NoneMates, Takes}
 pub use Rattle.krieg_search.specs.Stops.{stop_of}

@@ -9,7 +9,7 @@ use Rattle.std.proofs.lemmas.Bool.{cases_Bool, cond-true, cond-false, both_ways,
 use Rattle.std.proofs.lemmas.List.{append-nil, append_assoc}
 use Rattle.krieg_moves.specs.Legal.{is_legal}
 use Rattle.krieg_board.specs.Order.{move_cmp}
-use Rattle.krieg_search.proofs.Common.{Pos, Move, Dialect, is_nil, refused, legal_in_some, begins, tries, total, made, CoversTry, CoversTries, known, chess, SetRows, entries, IsReady, IsSearched, KeyTry, key_try, key_tries, behind, later_price}
+use Rattle.krieg_search.proofs.Common.{Pos, Move, Dialect, is_nil, refused, legal_in_some, begins, tries, total, made, CoversTry, CoversTries, known, chess, SetRows, entries, IsReady, IsSearched, KeyTry, key_try, key_tries, behind, look_price, later_price}
 use Rattle.krieg_accounts.proofs.Covering.{covers_try}
 use Rattle.krieg_accounts.proofs.TryOrder.{first_is}
 use Rattle.krieg_board.specs.contracts.men.MovePartialEq.TheImpl as derived_eq
@@ -49,9 +49,17 @@ find_passes {X = X} f (y ∷ ys) x e = go (cases_Bool (f y)) (find_passes f ys x
     go (inl t) ih = let q : ◌≡◌ {A = Option X} (Some y) (Some x) = sym (cond-true (f y) (Some y) (find f ys) t) ∙ e in subst (λ z. f z ≡ true) (let s : y ≡ x = cc in s) t
     go (inr n) ih = ih (sym (cond-false (f y) (Some y) (find f ys) n) ∙ e)
 
--- what is found first and is not found here does not pass here
-find_skips : {X : Type 0} (f : X → Bool) (y : X) (ys : List X) (x : X) → (y ≡ x → ⊥) → find f (y ∷ ys) ≡ Some x → f y ≡ false
-find_skips {X = X} f y ys x n e = false_from_ne_true (f y) (λ t. (let q : ◌≡◌ {A = Option X} (Some y) (Some x) = sym (cond-true (f y) (Some y) (find f ys) t) ∙ e in n (cc)))
+-- two tests of the same thing
+same_truth : (b c : Bool) {P : Type 0} → (b ≡ true) ↔ P → (c ≡ true) ↔ P → b ≡ c
+same_truth b c p q = go (cases_Bool b)
+  where
+    go : (b ≡ true) ⊎ (b ≡ false) → b ≡ c
+    go (inl t) = t ∙ sym (q.1 (p.0 t))
+    go (inr f) = f ∙ sym (false_from_ne_true c (λ t. both_ways b f (p.1 (q.0 t))))
+
+pub twice : (b : Bool) → not (not b) ≡ b
+twice true = refl
+twice false = refl
 
 module _ (d : Dialect) (cut : Bool) (B : List Pos) (j : ℕ) (m : Move) where
   -- How far the tries are through, with what their splits took. Up to the stored one, which is the first that wins, there is no key and
@@ -96,66 +104,60 @@ module _ (d : Dialect) (cut : Bool) (B : List Pos) (j : ℕ) (m : Move) where
   pub stored_found : (T : SetRows) (ts : List Move) → IsReady d cut T → ts ≡ tries (chess d) B → known (chess d) (entries T) (B, j) ≡ Some (Some m) → find (begins (chess d) j B) ts ≡ Some m
   stored_found T ts r are k = ap (find (begins (chess d) j B)) are ∙ first_is (chess d) (chess_is_game d) j B ∙ sym (r.sound.right B j (Some m) k)
 
-  module _ {T0 T : SetRows} {ts : List Move} {t : Move} {rest : List Move} {u0 u : ℕ} where
-    -- the stored try comes
-    pub first_key : (keys : List KeyTry) → keys ≡ [] → t ≡ m → IsKeying T0 T ts (t ∷ rest) keys u0 u → IsKeying T0 T ts rest (keys ++ key_try d B t ∷ []) u0 u
-    first_key (k ∷ ks) n e a = absurd (cc)
-    first_key [] n e a =
-        let f = subst (λ x. begins (chess d) j B x ≡ true) (sym e) (find_passes (begins (chess d) j B) (t ∷ rest) m a.through.1) in
-        let same : rest ≡ behind (begins (chess d) j B) ts = sym (cond-true (begins (chess d) j B t) rest (behind (begins (chess d) j B) rest) f) ∙ a.through.2 in
-        record {
-          joined = one_more ts t rest [] f a.joined;
-          cost = a.cost;
-          through = (let c = a.through.0 in let s = ap (total (made (chess d) B)) same in omega arith);
-          searched = a.searched;
-        }
+  -- before there is a key, the next try is one exactly where it is the stored one
+  pub first_is_key : {T0 T : SetRows} {ts : List Move} {t : Move} {rest : List Move} {u0 u : ℕ} (keys : List KeyTry) → IsKeying T0 T ts (t ∷ rest) keys u0 u → keys ≡ [] → (begins (chess d) j B t ≡ true) ↔ (t ≡ m)
+  first_is_key (k ∷ ks) a n = absurd (cc)
+  first_is_key {t = t} {rest = rest} [] a n = (
+    (λ b. let q : ◌≡◌ {A = Option Move} (Some t) (Some m) = sym (cond-true (begins (chess d) j B t) (Some t) (find (begins (chess d) j B) rest) b) ∙ a.through.1 in cc),
+    (λ e. subst (λ x. begins (chess d) j B x ≡ true) (sym e) (find_passes (begins (chess d) j B) (t ∷ rest) m a.through.1)),
+  )
 
-    -- a try before it
-    pub no_key_yet : (keys : List KeyTry) → keys ≡ [] → (t ≡ m → ⊥) → IsKeying T0 T ts (t ∷ rest) keys u0 u → IsKeying T0 T ts rest keys u0 u
-    no_key_yet (k ∷ ks) n e a = absurd (cc)
-    no_key_yet [] n e a =
-        let f = find_skips (begins (chess d) j B) t rest m e a.through.1 in
-        record {
-          joined = none_more ts t rest [] f a.joined;
-          cost = a.cost;
-          through = (
-            a.through.0,
-            sym (cond-false (begins (chess d) j B t) (Some t) (find (begins (chess d) j B) rest) f) ∙ a.through.1,
-            sym (cond-false (begins (chess d) j B t) rest (behind (begins (chess d) j B) rest) f) ∙ a.through.2,
-          );
-          searched = a.searched;
-        }
+  -- so it is looked at without a split
+  pub first_looked : {T : SetRows} {u : ℕ} (t : Move) (told : Bool) (keys : List KeyTry) → keys ≡ [] → (keys ≡ [] → (begins (chess d) j B t ≡ true) ↔ (t ≡ m)) → (told ≡ true) ↔ (t ≡ m) → IsReady d cut T
+      → (told ≡ begins (chess d) j B t) × IsSearched d cut (CoversTry (chess d) B j t) (look_price d keys B t) T T u u
+  first_looked t told (k ∷ ks) n f s r = absurd (cc)
+  first_looked {T = T} {u = u} t told [] n f s r = (same_truth told (begins (chess d) j B t) s (f refl), searched_nothing d cut (CoversTry (chess d) B j t) T u r)
 
-    -- a try behind it is split
-    module _ (keys : List KeyTry) (some : keys ≡ [] → ⊥) (legal : legal_in_some (chess d) B t ≡ true) (a : IsKeying T0 T ts (t ∷ rest) keys u0 u) where
-      left : (ks : List KeyTry) (cost : ℕ) → (ks ≡ [] → ⊥) → IsThrough ks cost (t ∷ rest) ts → cost + (made (chess d) B t + total (made (chess d) B) rest) ≡ total (made (chess d) B) (behind (begins (chess d) j B) ts)
-      left [] cost n h = absurd (n refl)
-      left (k ∷ ks) cost n h = h
+  -- and behind a key it is split
+  pub later_look : (t : Move) (keys : List KeyTry) → (keys ≡ [] → ⊥) → look_price d keys B t ≡ made (chess d) B t
+  later_look t [] some = absurd (some refl)
+  later_look t (k ∷ ks) some = refl
 
-      further : (ks more : List KeyTry) (cost : ℕ) → (ks ≡ [] → ⊥) → IsThrough ks cost (t ∷ rest) ts → IsThrough (ks ++ more) (cost + made (chess d) B t) rest ts
-      further [] more cost n h = absurd (n refl)
-      further (k ∷ ks) more cost n h = let w = h in omega arith
+  module _ {T0 T : SetRows} {ts : List Move} {t : Move} {rest : List Move} {u0 u : ℕ} (keys : List KeyTry) (legal : legal_in_some (chess d) B t ≡ true) (a : IsKeying T0 T ts (t ∷ rest) keys u0 u) where
+    through_key : (ks : List KeyTry) (cost : ℕ) → begins (chess d) j B t ≡ true → IsThrough ks cost (t ∷ rest) ts → IsThrough (ks ++ key_try d B t ∷ []) (cost + look_price d ks B t) rest ts
+    through_key [] cost f h =
+        let same : rest ≡ behind (begins (chess d) j B) ts = sym (cond-true (begins (chess d) j B t) rest (behind (begins (chess d) j B) rest) f) ∙ h.2 in
+        let z = h.0 in
+        let s = ap (total (made (chess d) B)) same in omega arith
+    through_key (k ∷ ks) cost f h = let w = h in omega arith
 
-      pub later_covers : (R : List (List Pos × ℕ)) → CoversTries (chess d) B j R → CoversTry (chess d) B j t R
-      later_covers = covers_try (chess d) B j t legal
+    through_none : (ks : List KeyTry) (cost : ℕ) → begins (chess d) j B t ≡ false → IsThrough ks cost (t ∷ rest) ts → IsThrough ks (cost + look_price d ks B t) rest ts
+    through_none [] cost f h = (
+      (let z = h.0 in omega arith),
+      sym (cond-false (begins (chess d) j B t) (Some t) (find (begins (chess d) j B) rest) f) ∙ h.1,
+      sym (cond-false (begins (chess d) j B t) rest (behind (begins (chess d) j B) rest) f) ∙ h.2,
+    )
+    through_none (k ∷ ks) cost f h = let w = h in omega arith
 
-      pub later_within : ts ≡ tries (chess d) B → a.cost + made (chess d) B t ≤ later_price d (B, j)
-      later_within are = let l = left keys a.cost some a.through in let s = ap (λ xs. total (made (chess d) B) (behind (begins (chess d) j B) xs)) are in omega arith
+    price_within : (ks : List KeyTry) (cost : ℕ) → ts ≡ tries (chess d) B → IsThrough ks cost (t ∷ rest) ts → cost + look_price d ks B t ≤ later_price d (B, j)
+    price_within [] cost are h = let z = h.0 in omega arith
+    price_within (k ∷ ks) cost are h = let l = h in let s = ap (λ xs. total (made (chess d) B) (behind (begins (chess d) j B) xs)) are in omega arith
 
-      module _ {T1 : SetRows} {u1 : ℕ} (s : IsSearched d cut (CoversTry (chess d) B j t) (made (chess d) B t) T T1 u u1) where
-        after : IsSearched d cut (CoversTries (chess d) B j) (a.cost + made (chess d) B t) T0 T1 u0 u1
-        after = searched_then d cut (CoversTries (chess d) B j) (CoversTry (chess d) B j t) a.cost (made (chess d) B t) (a.cost + made (chess d) B t) T0 T T1 u0 u u1 later_covers a.searched refl s
+    pub look_covers : (R : List (List Pos × ℕ)) → CoversTries (chess d) B j R → CoversTry (chess d) B j t R
+    look_covers = covers_try (chess d) B j t legal
 
-        pub later_key : begins (chess d) j B t ≡ true → IsKeying T0 T1 ts rest (keys ++ key_try d B t ∷ []) u0 u1
-        later_key e = record { joined = one_more ts t rest keys e a.joined; cost = a.cost + made (chess d) B t; through = further keys (key_try d B t ∷ []) a.cost some a.through; searched = after }
+    pub look_within : ts ≡ tries (chess d) B → a.cost + look_price d keys B t ≤ later_price d (B, j)
+    look_within are = price_within keys a.cost are a.through
 
-        pub no_later_key : begins (chess d) j B t ≡ false → IsKeying T0 T1 ts rest keys u0 u1
-        no_later_key e = record {
-          joined = none_more ts t rest keys e a.joined;
-          cost = a.cost + made (chess d) B t;
-          through = subst (λ ks. IsThrough ks (a.cost + made (chess d) B t) rest ts) (append-nil keys) (further keys [] a.cost some a.through);
-          searched = after;
-        }
+    module _ {T1 : SetRows} {u1 : ℕ} (s : IsSearched d cut (CoversTry (chess d) B j t) (look_price d keys B t) T T1 u u1) where
+      after : IsSearched d cut (CoversTries (chess d) B j) (a.cost + look_price d keys B t) T0 T1 u0 u1
+      after = searched_then d cut (CoversTries (chess d) B j) (CoversTry (chess d) B j t) a.cost (look_price d keys B t) (a.cost + look_price d keys B t) T0 T T1 u0 u u1 look_covers a.searched refl s
+
+      pub next_key : begins (chess d) j B t ≡ true → IsKeying T0 T1 ts rest (keys ++ key_try d B t ∷ []) u0 u1
+      next_key e = record { joined = one_more ts t rest keys e a.joined; cost = a.cost + look_price d keys B t; through = through_key keys a.cost e a.through; searched = after }
+
+      pub no_next_key : begins (chess d) j B t ≡ false → IsKeying T0 T1 ts rest keys u0 u1
+      no_next_key e = record { joined = none_more ts t rest keys e a.joined; cost = a.cost + look_price d keys B t; through = through_none keys a.cost e a.through; searched = after }
 
   -- none is left
   pub all_keyed : {T0 T : SetRows} {ts rest : List Move} {u0 u : ℕ} (keys : List KeyTry) → rest ≡ [] → ts ≡ tries (chess d) B → IsKeying T0 T ts rest keys u0 u

@@ -1,7 +1,7 @@
 -- What is known of a set once its result is stored.
 use Rattle.std.proofs.Common.{Bool, ◌≡◌, ℕ, zero, suc, ◌+◌, ◌<◌, ◌≤◌, ◌^◌, true, false, List, [], ◌∷◌, length, slice_index_or, Option, Some, None, Result, Ok, Err, is_some, refl, sym, ap, subst, ◌∙◌, arith}
 use Rattle.std.specs.Prelude.{IfSome, option_map}
-use Rattle.std.specs.Result.{IsErrAnd}
+use Rattle.std.specs.Result.{IsErr}
 use Rattle.std.proofs.lemmas.Bool.{both_ways}
 use Rattle.krieg_search.proofs.Common.{Pos, Move, Dialect, first_try, made, price, floor_price, position_lt, stored, AddsResult, known, IsBacked, CoversPair, CoversTries, chess, SetResult, SetRows, sets, set_at, try_of, entries, IsMore, IsNoted, SearchStop, Large, AreCounted, IsReady, IsSearched, Stretches, TellsSet}
 use Rattle.krieg_accounts.proofs.Tables.{result_can}
@@ -58,12 +58,12 @@ module _ (d : Dialect) (cut : Bool) where
   none_found T q e h = sym h ∙ ap (option_map try_of) e
 
   -- a search of the pair was stopped at one of its tries
-  pub pair_stopped : {A : Type 0} (P : SearchStop → Type 0) (r : Result A SearchStop) (wanted : A → Type 0) (B : List Pos) (j : ℕ) (T0 T : SetRows) (u0 u : ℕ) → IsErrAnd r P → known (chess d) (entries T0) (B, j) ≡ None
+  pub pair_stopped : {A : Type 0} (r : Result A SearchStop) (wanted : A → Type 0) (B : List Pos) (j : ℕ) (T0 T : SetRows) (u0 u : ℕ) → IsErr r → known (chess d) (entries T0) (B, j) ≡ None
       → Stretches d cut r wanted (CoversTries (chess d) B j) (price (chess d) B) T0 T u0 u → Stretches d cut r wanted (CoversPair (chess d) B j) 0 T0 T u0 u
-  pair_stopped P (Ok x) wanted B j T0 T u0 u fails none k = absurd fails
-  pair_stopped P (Err Spent) wanted B j T0 T u0 u fails none k = (short_noted (chess d) (chess_is_game d) (entries T0) B j u0 none k.0, k.1)
-  pair_stopped P (Err Large) wanted B j T0 T u0 u fails none k = absurd k
-  pair_stopped P (Err NoMemory) wanted B j T0 T u0 u fails none k = k
+  pair_stopped (Ok x) wanted B j T0 T u0 u fails none k = absurd (both_ways _ refl fails)
+  pair_stopped (Err Spent) wanted B j T0 T u0 u fails none k = (short_noted (chess d) (chess_is_game d) (entries T0) B j u0 none k.0, k.1)
+  pair_stopped (Err Large) wanted B j T0 T u0 u fails none k = absurd k
+  pair_stopped (Err NoMemory) wanted B j T0 T u0 u fails none k = k
 
   -- the tries are through, and the result is noted
   pub noted : (T0 T1 T2 : SetRows) (set j : ℕ) (k : SetResult) (o : Option Move) (u0 u1 : ℕ) → 0 < j → set < length T0

@@ -1,5 +1,5 @@
 -- The roots of a plan, one after another.
-use Rattle.std.proofs.Common.{true, ◌≡◌, ℕ, ◌+◌, ◌≤◌, ◌<◌, ◌⊎◌, inl, inr, cond, List, [], ◌∷◌, ◌++◌, max, refl, sym, ap, ◌∙◌, arith, Some, length, subst, eq-or-lt_of_le}
+use Rattle.std.proofs.Common.{true, ◌≡◌, ℕ, ◌+◌, ◌≤◌, ◌<◌, ◌⊎◌, inl, inr, cond, List, [], ◌∷◌, ◌++◌, max, refl, sym, ap, ◌∙◌, arith, Some, length, get_or, eq-or-lt_of_le}
 use Rattle.std.specs.Ordering.{is_lt, nat_cmp, ord_max}
 use Rattle.std.proofs.lemmas.Bool.{cases_lt}
 use Rattle.std.proofs.lemmas.List.{append-nil, append_assoc}
@@ -10,6 +10,7 @@ use Rattle.krieg_accounts.proofs.Tables.{wins_least}
 use Rattle.krieg_game.proofs.ChessLaws.{chess_is_game}
 use Rattle.krieg_pack.proofs.PackedOrder.{cmp_less, cmp_same, cmp_greater}
 use Rattle.krieg_search.proofs.Building.{adds_then, still_paid, still_won, won_at, won_can, won_node}
+use Rattle.krieg_search.proofs.Checking.{item_in}
 
 -- the greater of two numbers
 pub greater_is : (a b : ℕ) → ord_max nat_cmp a b ≡ max a b
@@ -73,9 +74,9 @@ module _ (d : Dialect) (j : ℕ) where
     }
 
 -- the opening whose root comes next
-module _ (d : Dialect) (j : ℕ) (T0 T1 : SetRows) (os ahead rest : List Opening) (x : Opening) (e : ahead ≡ x ∷ rest) (inside : (o : Opening) → In o ahead → In o os) (s : AddsSets T0 T1) (paid : IsPaidFor d true T0) (n : AreNumbered T0 os) (won : (C : List Pos) → In C (sets_in T0 os) → WonBy T0 C j) where
+module _ (d : Dialect) (j : ℕ) (T0 T1 : SetRows) (os : List Opening) (k : ℕ) (x : Opening) (l : k < length os) (is : x ≡ get_or os k x) (s : AddsSets T0 T1) (paid : IsPaidFor d true T0) (n : AreNumbered T0 os) (won : (C : List Pos) → In C (sets_in T0 os) → WonBy T0 C j) where
   here : In x os
-  here = inside x (subst (λ (ys : List Opening). In x ys) (sym e) (inl refl))
+  here = item_in os k x l is
 
   pub root_within : x.set < length T1
   root_within = let m = n x here in let longer = s.more.longer in omega arith
@@ -91,6 +92,6 @@ module _ (d : Dialect) (j : ℕ) (T0 T1 : SetRows) (os ahead rest : List Opening
 
   -- the number at which it is found to be won is the least
   pub root_least : (w : Win) → stored position_lt (entries T1) (set_at T1 x.set, w.moves) ≡ Some (Some w.mv) → least (chess d) j (set_at T0 x.set) ≡ w.moves
-  root_least w k =
+  root_least w e =
       let ready = (still_paid d T0 T1 s paid).ready in
-      ap (least (chess d) j) (sym root_same) ∙ wins_least (chess d) (chess_is_game d) true (entries T1) ready.sound j (set_at T1 x.set) (w.moves, w.mv, k) (won_can d T1 (set_at T1 x.set) j ready root_won)
+      ap (least (chess d) j) (sym root_same) ∙ wins_least (chess d) (chess_is_game d) true (entries T1) ready.sound j (set_at T1 x.set) (w.moves, w.mv, e) (won_can d T1 (set_at T1 x.set) j ready root_won)

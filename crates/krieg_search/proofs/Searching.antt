@@ -47,10 +47,10 @@ module _ (d : Dialect) (cut : Bool) where
   short_behind Q Q' a b all T0 T1 u0 u1 f s h v = short_cost (chess d) Q (a + b) all (entries T0) u0 h (short_then (chess d) cut Q Q' a b (entries T0) (entries T1) u0 u1 f s.stretch v)
 
   -- a step was stopped, behind others
-  pub stopped : {A B : Type 0} {P : SearchStop → Type 0} (r : Result B SearchStop) (e : SearchStop) (holds : A → Type 0) (wanted : B → Type 0) {Q Q' : List (List Pos × ℕ) → Type 0} {a : ℕ} (b : ℕ) {all : ℕ} {T0 T1 : SetRows} (T2 T3 : SetRows) {u0 u1 : ℕ} (u2 : ℕ)
-      → ((x : SearchStop) → P x → e ≡ x) → IsErrAnd r P → ((R : List (List Pos × ℕ)) → Q R → Q' R) → IsSearched d cut Q a T0 T1 u0 u1 → a + b ≤ all → Stretches d cut (Err e) holds Q' b T1 T2 u1 u2 → Stretches d cut r wanted Q all T0 T3 u0 u2
-  stopped (Ok x) e holds wanted b T2 T3 u2 same fails f s h k = absurd fails
-  stopped {A = A} {B = B} (Err x) e holds wanted {Q = Q} {Q' = Q'} {a = a} b {all = all} {T0 = T0} {T1 = T1} T2 T3 {u0 = u0} {u1 = u1} u2 same fails f s h k =
+  pub stopped : {A B : Type 0} {P : SearchStop → Type 0} (r : Result B SearchStop) (e : SearchStop) (holds : A → Type 0) (wanted : B → Type 0) {Q Q' : List (List Pos × ℕ) → Type 0} {a : ℕ} (b : ℕ)
+      → ((x : SearchStop) → P x → e ≡ x) → IsErrAnd r P → {all : ℕ} {T0 T1 : SetRows} (T2 T3 : SetRows) {u0 u1 : ℕ} (u2 : ℕ) → ((R : List (List Pos × ℕ)) → Q R → Q' R) → IsSearched d cut Q a T0 T1 u0 u1 → a + b ≤ all → Stretches d cut (Err e) holds Q' b T1 T2 u1 u2 → Stretches d cut r wanted Q all T0 T3 u0 u2
+  stopped (Ok x) e holds wanted b same fails T2 T3 u2 f s h k = absurd fails
+  stopped {A = A} {B = B} (Err x) e holds wanted {Q = Q} {Q' = Q'} {a = a} b same fails {all = all} {T0 = T0} {T1 = T1} T2 T3 {u0 = u0} {u1 = u1} u2 f s h k =
       go x (subst (λ (y : SearchStop). Stretches d cut {A = A} (Err y) holds Q' b T1 T2 u1 u2) (same x fails) k)
     where
       go : (y : SearchStop) → Stretches d cut {A = A} (Err y) holds Q' b T1 T2 u1 u2 → Stretches d cut {A = B} (Err y) wanted Q all T0 T3 u0 u2

@@ -1,9 +1,9 @@
 -- What blocked a try of a set before is asked again.
-use Rattle.std.proofs.Common.{◌≡◌, ℕ, suc, ◌+◌, ◌*◌, ◌^◌, ◌-◌, ◌<◌, ◌⊎◌, inl, inr, Bool, true, false, not, ◌||◌, List, [], ◌∷◌, ◌++◌, length, Option, Some, Result, Ok, Err, sym, ap, subst, ◌∙◌, arith}
+use Rattle.std.proofs.Common.{◌≡◌, ℕ, suc, ◌+◌, ◌*◌, ◌^◌, ◌-◌, ◌<◌, ◌≤◌, ◌⊎◌, inl, inr, Bool, true, false, not, ◌||◌, List, [], ◌∷◌, ◌++◌, length, Option, Some, None, Result, Ok, Err, refl, sym, ap, subst, ◌∙◌, arith}
 use Rattle.std.specs.Prelude.{IfSome}
 use Rattle.std.specs.List.{list_all}
 use Rattle.std.proofs.lemmas.Bool.{both_ways, and_parts, or_cases, not-true, false_from_ne_true}
-use Rattle.krieg_search.proofs.Common.{Pos, Move, Dialect, In, is_nil, refused, legal_in_some, stale_in_some, keys, class, can, begins, made, LostRefused, block, CoversSet, CoversTry, classes, Key, chess, SetRows, set_at, IsMore, Block, Refused, IsReady, IsSearched, IsBlock, Stretches, SearchStop, Large, TellsSet, TellsBlock}
+use Rattle.krieg_search.proofs.Common.{Pos, Move, Dialect, In, is_nil, refused, legal_in_some, stale_in_some, keys, class, can, begins, made, LostRefused, block, CoversSet, CoversTry, FallsShort, entries, classes, Key, chess, SetRows, set_at, IsMore, Block, AtOnce, Refused, IsReady, IsSearched, IsBlock, Stretches, SearchStop, Large, TellsSet, TellsBlock}
 use Rattle.krieg_costs.specs.Block as theory
 use Rattle.krieg_costs.proofs.Blocks.{BlockSays, block_says}
 use Rattle.krieg_theory.proofs.Lists.{all_at, append_in, in_map}
@@ -14,7 +14,7 @@ use Rattle.krieg_search.specs.Blockers.{moves_for, IsPart, IsBlocker, AreBlocker
 use Rattle.krieg_search.specs.declared.blockers.Blocker.{Blocker}
 use Rattle.krieg_search.specs.declared.notes.Block.TheVariants.{Class}
 use Rattle.krieg_search.specs.declared.stop.SearchStop.TheVariants.{Spent, NoMemory}
-use Rattle.krieg_search.proofs.Searching.{searched_nothing, searched_then, short_behind, still_within}
+use Rattle.krieg_search.proofs.Searching.{ready_from, searched_nothing, searched_split, searched_then, short_behind, still_within}
 
 -- there are none yet
 pub no_blockers : (d : Dialect) (cut : Bool) (T : SetRows) (bs : List Blocker) → bs ≡ [] → AreBlockers d cut T bs
@@ -57,7 +57,7 @@ module _ (d : Dialect) (cut : Bool) (B : List Pos) (t : Move) where
     one_less = omega arith
 
     -- the lists that cover the try cover the part
-    part_covers : (r : Bool) (X : List Pos) → IsPart d B t r X → (R : List (List Pos × ℕ)) → CoversTry (chess d) B j t R → CoversSet (chess d) X (moves_for r j) R
+    pub part_covers : (r : Bool) (X : List Pos) → IsPart d B t r X → (R : List (List Pos × ℕ)) → CoversTry (chess d) B j t R → CoversSet (chess d) X (moves_for r j) R
     part_covers true X p R h = subst (λ (Y : List Pos). CoversSet (chess d) Y j R) (sym p.0) (covering.covers_refused (chess d) B j t (ap is_nil (sym p.0) ∙ p.1) R h)
     part_covers false X p R h =
         covering.covers_set (chess d) (classes (chess d) B t) X (j - 1) (subst (λ (Y : List Pos). In Y (classes (chess d) B t)) (sym p.2) (in_map (class (chess d) B t) (keys (chess d) B t) p.0 p.1)) R
@@ -119,6 +119,24 @@ module _ (d : Dialect) (cut : Bool) {B : List Pos} {t : Move} {j : ℕ} {T0 T1 :
   )
   split_again T2 u2 (Err Large) x = absurd x
   split_again T2 u2 (Err NoMemory) x = let f = s.stretch.fewer in omega arith
+
+  -- or it is not, and takes what the split takes
+  pub still_paid : (u2 : ℕ) → cut ≡ true → begins (chess d) j B t ≡ false → u2 + made (chess d) B t ≡ u1 → TellsBlock d cut T1 B j t u0 u2 (Some AtOnce) × IsSearched d cut (CoversTry (chess d) B j t) (made (chess d) B t) T0 T1 u0 u2
+  still_paid u2 may fails e = (
+    record {
+      tells = record { right = sym fails; stored = record { classes = λ y k i. absurd (both_ways _ refl y); refused_part = λ y n. absurd (both_ways _ refl y); blocked = λ no y. absurd (both_ways cut no may) } };
+      blocked = record { fails = fails; no_pair = λ no. absurd (both_ways cut no may) };
+      paid = λ n. absurd (let q : ◌≡◌ {A = Option Block} (Some AtOnce) None = n in cc);
+    },
+    searched_then d cut (CoversTry (chess d) B j t) (CoversTry (chess d) B j t) 0 (made (chess d) B t) (made (chess d) B t) T0 T1 T1 u0 u1 u2 (λ R h. h) s (omega arith) (searched_split d cut (CoversTry (chess d) B j t) T1 (made (chess d) B t) u1 u2 (ready_from d cut s) e),
+  )
+
+  -- for which there may be too few units
+  pub still_short : (u2 : ℕ) → u2 ≡ u1 → u1 < made (chess d) B t → FallsShort (chess d) (CoversTry (chess d) B j t) (made (chess d) B t) (entries T0) u0 × (u2 ≤ u0)
+  still_short u2 same few = (
+    short_behind d cut (CoversTry (chess d) B j t) (CoversTry (chess d) B j t) 0 (made (chess d) B t) (made (chess d) B t) T0 T1 u0 u1 (λ R h. h) s (omega arith) (λ R h. omega arith),
+    (let f = s.stretch.fewer in omega arith),
+  )
 
 -- what blocked a try that was split is kept
 module _ (d : Dialect) (cut : Bool) {T0 T1 : SetRows} {set : ℕ} {t : Move} {j : ℕ} (u0 u1 : ℕ) (may : cut ≡ true) (w : set < length T0) (m : IsMore T0 T1) (some : 0 < j) (part : ℕ) (taken : u1 + made (chess d) (set_at T0 set) t ≡ u0) where

@@ -1,10 +1,11 @@
 -- What blocks a try, as a stretch of the search finds it.
-use Rattle.std.specs.Prelude.{◌≡◌, ℕ, ◌+◌, ◌<◌, ◌≤◌, Bool, true, not, List, length, map, option_map, Option, None, IfSome, Result, find}
+use Rattle.std.specs.Prelude.{◌≡◌, ℕ, ◌+◌, ◌<◌, ◌≤◌, Bool, true, not, List, length, map, option_map, Option, None, IfSome, Result, find, All}
 use Rattle.std.specs.Option.{is_none}
 use Rattle.krieg_board.specs.Pos.{Pos}
 use Rattle.krieg_board.specs.declared.men.Move.{Move}
 use Rattle.krieg_words.specs.declared.dialects.Dialect.{Dialect}
 use Rattle.krieg_theory.specs.Split.{legal_in_some}
+use Rattle.krieg_theory.specs.Split as theory
 use Rattle.krieg_theory.specs.Can.{can}
 use Rattle.krieg_costs.specs.Cost.{made}
 use Rattle.krieg_accounts.specs.Stretch.{CoversTry}
@@ -16,6 +17,7 @@ use Rattle.krieg_table.specs.SetRows.{SetRows, set_at}
 use Rattle.krieg_table.specs.Opened.{IsOpened}
 use Rattle.krieg_search.specs.declared.notes.Block.{Block}
 use Rattle.krieg_search.specs.declared.search.Asked.{Asked}
+use Rattle.krieg_search.specs.declared.search.AtHand.{AtHand}
 use Rattle.krieg_search.specs.declared.search.Search.{Search}
 use Rattle.krieg_search.specs.declared.stop.SearchStop.{SearchStop}
 use Rattle.krieg_search.specs.declared.try_list.Try.{Try}
@@ -24,11 +26,17 @@ use Rattle.krieg_search.specs.Notes.{IsBlock}
 use Rattle.krieg_search.specs.Stretches.{Searches, TellsSets, TellsTry, sets_of}
 use Rattle.krieg_search.specs.Tries.{IsTold, move_of}
 
+-- the set is open, and these are its tries, with what is told of them where j moves are left
+pub record IsAtHand (B : List Pos) (j : ℕ) (h : AtHand) : Type 0 where
+  pub opened : IsOpened h.opened B
+  pub tries : (d : Dialect) → map move_of h.tries.items ≡ theory.tries (chess d) B
+  pub told : All (IsTold B j) h.tries.items
+
 -- the set that is asked has its number in the table and is open, and some move is left to it
 pub record IsAskedIn (T : SetRows) (a : Asked) : Type 0 where
   pub some : 0 < a.moves
   pub within : a.set < length T
-  pub opened : IsOpened a.opened (set_at T a.set)
+  pub opened : IsOpened a.at_hand.opened (set_at T a.set)
 
 module _ (d : Dialect) where
   -- the try is legal in some member of the set that is asked, and what is told of it is so there

@@ -1,12 +1,14 @@
 -- The keys of sets by their numbers, and what they take.
-use Rattle.std.specs.Prelude.{◌≡◌, ℕ, Bool, List, [], ◌∷◌, map, if◌then◌else◌}
+use Rattle.std.specs.Prelude.{◌≡◌, ℕ, Bool, List, [], ◌∷◌, map, if◌then◌else◌, Result}
 use Rattle.krieg_board.specs.Pos.{Pos}
+use Rattle.krieg_board.specs.declared.men.Move.{Move}
 use Rattle.krieg_words.specs.declared.dialects.Dialect.{Dialect}
 use Rattle.krieg_theory.specs.Split.{tries}
 use Rattle.krieg_theory.specs.Can.{begins, least}
 use Rattle.krieg_theory.specs.Plans.{greatest}
 use Rattle.krieg_costs.specs.Sums.{total}
 use Rattle.krieg_costs.specs.Cost.{made}
+use Rattle.krieg_accounts.specs.Stretch.{CoversTry}
 use Rattle.krieg_game.specs.Keys.{RootKey}
 use Rattle.krieg_game.specs.Chess.{chess}
 use Rattle.krieg_table.specs.SetRows.{SetRows, set_at}
@@ -14,7 +16,12 @@ use Rattle.krieg_search.specs.declared.keys.KeyTry.{KeyTry}
 use Rattle.krieg_search.specs.declared.keys.Keys.{Keys}
 use Rattle.krieg_search.specs.declared.openings.Opening.{Opening}
 use Rattle.krieg_search.specs.declared.set_keys.SetKeys.{SetKeys}
+use Rattle.krieg_search.specs.declared.search.Asked.{Asked}
+use Rattle.krieg_search.specs.declared.search.Search.{Search}
+use Rattle.krieg_search.specs.declared.stop.SearchStop.{SearchStop}
+use Rattle.krieg_search.specs.declared.way.Way.{Way}
 use Rattle.krieg_search.specs.KeyTries.{told_of, key_tries, keys_of}
+use Rattle.krieg_search.specs.Stretches.{Searches}
 
 -- the numbers of the sets of openings
 abbrev pub numbers_of : List Opening → List ℕ
@@ -34,6 +41,11 @@ module _ (d : Dialect) where
   abbrev pub later_price : List Pos × ℕ → ℕ
   later_price q = total (made (chess d) q.0) (behind (begins (chess d) q.1 q.0) (tries (chess d) q.0))
 
+  -- what the look at the next try of a set takes, behind the keys that are found: nothing before there is one
+  abbrev pub look_price : List KeyTry → List Pos → Move → ℕ
+  look_price [] B t = 0
+  look_price (k ∷ ks) B t = made (chess d) B t
+
   module _ (n : ℕ) where
     -- the set with a number, and its least number of moves
     abbrev pub least_pair : SetRows → ℕ → List Pos × ℕ
@@ -51,3 +63,9 @@ module _ (d : Dialect) where
     pub record AreKeysAt (cs : List (RootKey × List Pos)) (keys : Keys) : Type 0 where
       pub roots : map told_of keys.roots.items ≡ map (keys_of d n) cs
       pub worst : keys.worst ≡ greatest (λ (c : RootKey × List Pos). least (chess d) n c.1) cs
+
+-- whether the next try begins to win the set that is asked, behind the keys that are found, by a stretch of the search
+abbrev pub LooksAt : Way → Asked → Move → List KeyTry → Result Bool SearchStop → Search → Search → Type 0
+LooksAt way a t keys r s s' =
+    Searches way r (λ yes. yes ≡ begins (chess way.d) a.moves (set_at s.table a.set) t)
+    (CoversTry (chess way.d) (set_at s.table a.set) a.moves t) (look_price way.d keys (set_at s.table a.set) t) s s'

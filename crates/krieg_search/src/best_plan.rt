@@ -53,10 +53,11 @@ fn build_plan(
     let Findings {
         table,
         openings,
-        ..
+        notes,
     } = won;
+    drop(notes);
     let mut builder = Builder { table, left: nodes };
-    let Roots { worst, roots } = build_roots(alloc, d, &mut builder, openings, moves)?;
+    let Roots { worst, roots } = build_roots(alloc, d, &mut builder, &openings, moves)?;
     Ok(Answer::Mates {
         worst,
         plan: Plan::make(roots),

@@ -57,26 +57,34 @@ impl Blocker {
     }
 }
 
+/// One that is kept. 20 bytes in memory.
+#[derive(Clone, Copy)]
+struct Link {
+    blocker: Blocker,
+    /// The number of the one before it of the same set: one more than its place, and 0 where there is none.
+    before: u32,
+}
+
+const _: () = prove!(size_of::<Link>() <= 20);
+
 /// For sets by their numbers, what blocked their tries last, where tries may be cut.
 ///
 /// With more moves the same part mostly blocks the try again. So it is asked first, and the try is split again only where that part is
 /// won meanwhile.
 #[derive(Drop)]
 pub(crate) struct Blockers {
-    found: Vec<Blocker>,
-    /// For each of these the one before it of the same set. Here and below, a number is one more than its place, and 0 is none.
-    before: Vec<u32>,
-    /// The last one of each set. Nothing is claimed of these numbers: whatever they lead to is compared.
+    found: Vec<Link>,
+    /// The number of the last one of each set. Nothing is claimed of these numbers: whatever they lead to is compared.
     last: Vec<u32>,
 }
 
 impl Model for Blockers {
-    ghost use Rattle.std.specs.Prelude.{List};
+    ghost use Rattle.std.specs.Prelude.{List, map};
     ghost use Rattle.krieg_search.specs.declared.blockers.Blocker.{Blocker};
 
     ghost Value = { List Blocker };
 
-    ghost view = { λ b. b.found.items };
+    ghost view = { λ b. map (λ l. l.blocker) b.found.items };
 }
 
 impl Blockers {
@@ -86,25 +94,19 @@ impl Blockers {
     {
         Blockers {
             found: Vec::new(alloc),
-            before: Vec::new(alloc),
             last: Vec::new(alloc),
         }
     }
 
     /// The one with that number.
-    fn numbered(&self, number: u32) -> Option<Blocker>
-        ensures { IfSome result (λ b. In b self.now) }
+    fn numbered(&self, number: u32) -> Option<Link>
+        ensures { IfSome result (λ l. In l.blocker self.now) }
     {
         let place = (number as usize).checked_sub(1)?;
         if place < self.found.len() {
             return Some(self.found[place]);
         }
         None
-    }
-
-    /// The number of the one before it.
-    fn number_before(&self, number: u32) -> Option<u32> {
-        Some(*self.before.get((number as usize).checked_sub(1)?)?)
     }
 
     /// What blocked the try of the set with that number last.
@@ -116,11 +118,11 @@ impl Blockers {
     {
         let mut number = *self.last.get(set as usize)?;
         for _ in 0..MOST_OF_SET {
-            let blocker = self.numbered(number)?;
+            let Link { blocker, before } = self.numbered(number)?;
             if blocker.set == set && is_same(&blocker.mv, mv) {
                 return Some(blocker);
             }
-            number = self.number_before(number)?;
+            number = before;
         }
         None
     }
@@ -130,10 +132,7 @@ impl Blockers {
         ensures ok { result ≡ true → self.new ≡ self.old ++ blocker ∷ [] }
         ensures err { result ≡ false → self.new ≡ self.old }
     {
-        if self.before.push(before).is_err() {
-            return false;
-        }
-        self.found.push(blocker).is_ok()
+        self.found.push(Link { blocker, before }).is_ok()
     }
 
     /// Makes the one that came last the last of the set with that number.

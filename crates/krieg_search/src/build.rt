@@ -45,12 +45,20 @@ pub(crate) fn win_of(table: &Table, set: u32, moves: u8) -> Win
 
 /// Parts the set once more by a try whose split the search has paid for, by units that are made for it alone.
 #[inline(never)]
-fn split_again(alloc: Global, d: Dialect, b: &Belief, mv: Move) -> Result<Parted, NoMemory>
-    requires { made (chess d) b.now mv < 2 ^ 64 }
-    ensures { IfOk result (IsParted d b.now mv) }
+fn split_again(
+    alloc: Global,
+    d: Dialect,
+    table: &Table,
+    set: u32,
+    mv: Move,
+) -> Result<Parted, NoMemory>
+    requires within { set < length table.now }
+    requires paid { made (chess d) (set_at table.now set) mv < 2 ^ 64 }
+    ensures { IfOk result (IsParted d (set_at table.now set) mv) }
 {
+    let opened = table.open(alloc, set)?;
     let mut units = Units::new(u64::MAX);
-    match split(alloc, d, b, mv, &mut units) {
+    match split(alloc, d, opened.of(table, set), mv, &mut units) {
         Ok(parts) => Ok(parts),
         Err(PartStop::Spent) => unreachable!(),
         Err(PartStop::NoMemory) => Err(NoMemory),
@@ -94,12 +102,11 @@ impl Builder {
         }
         self.left -= 1;
         let win = win_of(&self.table, set, moves);
-        let opened = self.table.open(alloc, set)?;
         let Parted {
             refused,
             classes,
             ..
-        } = split_again(alloc, d, opened.of(&self.table, set), win.mv)?;
+        } = split_again(alloc, d, &self.table, set, win.mv)?;
         let edges = self.build_edges(alloc, d, classes, win.moves - 1, deep - 1)?;
         let no = self.build_other(alloc, d, refused, win.moves, deep - 1)?;
         Ok(Node::make(alloc, win.mv, no, edges)?)

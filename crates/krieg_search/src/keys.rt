@@ -97,13 +97,13 @@ fn copy_of(tries: &Vec<KeyTry>) -> Result<Vec<KeyTry>, NoMemory>
 /// The keys of each opening, by those of its set.
 fn keys_at_openings(
     alloc: Global,
-    openings: Vec<Opening>,
+    openings: &[Opening],
     found: &[SetKeys],
 ) -> Result<Keys, NoMemory>
-    requires { (s : ℕ) → In s (numbers_of openings.items) → In s (map (λ k. k.set) found.now) }
+    requires { (s : ℕ) → In s (numbers_of openings.now) → In s (map (λ k. k.set) found.now) }
     ensures { IfOk result (λ keys. (d : Umpire) (n : ℕ) (T : SetRows)
         → AreSetKeys d n T (map (λ k. k.set) found.now) found.now
-        → AreKeysAt d n (map (opening_in T) openings.items) keys) }
+        → AreKeysAt d n (map (opening_in T) openings.now) keys) }
 {
     let mut worst = 0;
     let mut roots = Vec::new(alloc);
@@ -147,7 +147,7 @@ fn keys_by(
     let sets = sets_once(way.alloc, &openings)?;
     let found = keys_of_sets(search, way, &sets, moves)?;
     search.table.know_once();
-    Ok(KeyAnswer::Found(keys_at_openings(way.alloc, openings, &found)?))
+    Ok(KeyAnswer::Found(keys_at_openings(way.alloc, &openings, &found)?))
 }
 
 /// All keys: for each thing that may be heard before the first own turn, the least number of own moves within which the side `who` mates,

@@ -67,7 +67,7 @@ fn own_openings(
     ensures { IfOk result (λ os. AreAdded table.old table.new os.items
         (map opened_set opened.items)) }
 {
-    let mut found = Vec::with_capacity(alloc, opened.len())?;
+    let mut found = Vec::new(alloc);
     for o in opened {
         add(table, &mut found, o.opens, None, o.belief)?;
     }
@@ -84,7 +84,7 @@ fn first_openings(
     ensures { IfOk result (λ os. AreAdded table.old table.new os.items
         (map first_set classes.items)) }
 {
-    let mut found = Vec::with_capacity(alloc, classes.len())?;
+    let mut found = Vec::new(alloc);
     for class in classes {
         add(
             table,

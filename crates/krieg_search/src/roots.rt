@@ -28,17 +28,17 @@ pub(crate) fn build_roots(
     alloc: Global,
     d: Dialect,
     builder: &mut Builder,
-    openings: Vec<Opening>,
+    openings: &[Opening],
     moves: u8,
 ) -> Result<Roots, SearchStop>
     requires paid { IsPaidFor d true builder.old.table }
-    requires numbered { AreNumbered builder.old.table openings.items }
-    requires won { (C : List Pos) → In C (sets_in builder.old.table openings.items)
+    requires numbered { AreNumbered builder.old.table openings.now }
+    requires won { (C : List Pos) → In C (sets_in builder.old.table openings.now)
         → WonBy builder.old.table C moves }
     ensures { Builds result
-        (AreRoots d moves (map (opening_in builder.old.table) openings.items))
-        (plan_size (roots_for d moves (map (opening_in builder.old.table) openings.items)))
-        (plan_depth (roots_for d moves (map (opening_in builder.old.table) openings.items)))
+        (AreRoots d moves (map (opening_in builder.old.table) openings.now))
+        (plan_size (roots_for d moves (map (opening_in builder.old.table) openings.now)))
+        (plan_depth (roots_for d moves (map (opening_in builder.old.table) openings.now)))
         builder.old.table builder.new.table builder.old.left builder.new.left MOST_ON_PATH }
 {
     let mut worst = 0;

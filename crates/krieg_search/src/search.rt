@@ -1,4 +1,4 @@
-ghost use Rattle.std.specs.Prelude.{◌≡◌, ◌<◌, ◌≤◌, true, false, Ok, OnOk, is_some, length, map, not};
+ghost use Rattle.std.specs.Prelude.{◌≡◌, ◌<◌, ◌≤◌, true, false, Ok, IfOk, OnOk, is_some, length, map, not};
 ghost use Rattle.krieg_theory.specs.Can.{begins, can};
 ghost use Rattle.krieg_theory.specs.Split.{legal_in_some};
 ghost use Rattle.krieg_accounts.specs.Answers.{LostBelow};
@@ -9,8 +9,7 @@ ghost use Rattle.krieg_table.specs.Entries.{entries};
 ghost use Rattle.krieg_table.specs.Table.{IsNext};
 ghost use Rattle.krieg_search.specs.Tries.{move_of};
 ghost use Rattle.krieg_search.specs.Stretches.{IsAtWork, Searches, TellsSet, sets_of};
-ghost use Rattle.krieg_search.specs.Blocks.{FindsBlock, IsAskedIn, IsTryOf, TellsFirst};
-ghost use Rattle.krieg_search.specs.Blockers.{IsBlocker};
+ghost use Rattle.krieg_search.specs.Blocks.{FindsBlock, IsAskedIn, IsAtHand, IsTryOf, TellsFirst};
 
 use crate::blockers::{Blocker, Blockers};
 use crate::lost_sets::LostSets;
@@ -21,7 +20,7 @@ use crate::remainder::{Remainder, is_cut, left_of, squares_for};
 use crate::stop::SearchStop;
 use crate::try_list::{Try, move_of_try, tries_for};
 use crate::way::Way;
-use krieg_board::Units;
+use krieg_board::{NoMemory, Units};
 use krieg_game::Class;
 use krieg_sight::{Sight, some_is_no_mate};
 use krieg_table::{OpenSet, SetResult, Table};
@@ -53,17 +52,51 @@ impl Drop for Search {
     }
 }
 
-/// What is asked of a set: whether it can be won within a number of moves. It is open meanwhile.
+/// A set while its tries are tried: it is open, and these are its tries in their order.
+pub(crate) struct AtHand {
+    pub opened: OpenSet,
+    /// What `squares_for` says of the set. Nothing is claimed of it.
+    pub squares: Option<u64>,
+    pub tries: Vec<Try>,
+}
+
+/// Written out, so that each owner lets it go by one call.
+impl Drop for AtHand {
+    fn drop(self) {
+        let AtHand {
+            opened: _,
+            squares: _,
+            tries: _,
+        } = self;
+    }
+}
+
+/// What is asked of a set: whether it can be won within a number of moves. It is at hand meanwhile.
 #[derive(Drop)]
 pub(crate) struct Asked {
     pub set: u32,
     pub moves: u8,
-    pub opened: OpenSet,
-    /// What `squares_for` says of the set. Nothing is claimed of it.
-    pub squares: Option<u64>,
+    pub at_hand: AtHand,
 }
 
 impl Search {
+    /// The set at hand, for its tries to be tried with so many moves.
+    #[inline(always)]
+    pub(crate) fn take_up(&self, way: Way, set: u32, moves: u8) -> Result<AtHand, NoMemory>
+        requires { set < length self.now.table }
+        ensures { IfOk result (IsAtHand (set_at self.now.table set) moves) }
+    {
+        let opened = self.table.open(way.alloc, set)?;
+        let b = opened.of(&self.table, set);
+        let tries = tries_for(way.alloc, b, moves, self.units.left())?;
+        let squares = squares_for(way, b);
+        Ok(AtHand {
+            opened,
+            squares,
+            tries,
+        })
+    }
+
     /// Whether the set is found to be lost with so many moves: some member is no mate within them even for a player who sees the
     /// position, or a part of the set is known to be lost.
     fn is_found_lost(&mut self, way: Way, set: u32, moves: u8) -> bool
@@ -178,18 +211,14 @@ impl Search {
         ensures ready { OnOk result (IsAtWork way self.new) }
         ensures most { self.new.notes.most ≡ self.old.notes.most }
     {
-        let opened = self.table.open(way.alloc, set)?;
-        let b = opened.of(&self.table, set);
-        let tries = tries_for(way.alloc, b, moves, self.units.left())?;
-        let mut row = self.notes.row(way.alloc, moves, tries.len())?;
-        let squares = squares_for(way, b);
+        let at_hand = self.take_up(way, set, moves)?;
+        let mut row = self.notes.row(way.alloc, moves, at_hand.tries.len())?;
         let asked = Asked {
             set,
             moves,
-            opened,
-            squares,
+            at_hand,
         };
-        for tried in &tries {
+        for tried in &asked.at_hand.tries {
             match self.block_of(way, &asked, tried, deep)? {
                 Some(block) => add(&mut row, move_of_try(tried), block)?,
                 None => {
@@ -200,7 +229,7 @@ impl Search {
             }
         }
         self.lost_sets
-            .add(way, set, asked.opened.of(&self.table, set));
+            .add(way, set, asked.at_hand.opened.of(&self.table, set));
         self.table.note(set, moves, SetResult::Loses);
         self.notes.keep(set, moves, row)?;
         Ok(false)
@@ -226,40 +255,14 @@ impl Search {
         let Some(blocker) = self.blockers.of(asked.set, &move_of_try(tried)) else {
             return self.block_anew(way, asked, tried, false, deep);
         };
-        if !self.still_blocks(way, asked, &blocker, deep)? {
+        let moves = blocker.moves_for(asked.moves);
+        if self.can_win(way, blocker.part, moves, deep)? {
             return self.block_anew(way, asked, tried, true, deep);
         }
-        if self.units.take(blocker.made as u64).is_err() {
-            return Err(SearchStop::Spent);
+        match self.units.take(blocker.made as u64) {
+            Ok(()) => Ok(Some(Block::AtOnce)),
+            Err(_too_few) => Err(SearchStop::Spent),
         }
-        Ok(Some(Block::AtOnce))
-    }
-
-    /// Whether a part of the set that is asked still blocks its try: with the moves that are left to it then, it cannot be won.
-    #[cycle(search)]
-    fn still_blocks(
-        &mut self,
-        way: Way,
-        asked: &Asked,
-        blocker: &Blocker,
-        deep: u16,
-    ) -> Result<bool, SearchStop>
-        requires asked { IsAskedIn self.old.table asked.now }
-        requires ready { IsAtWork way self.old }
-        requires blocker { IsBlocker way.d way.cut self.old.table blocker.now }
-        requires set { blocker.now.set ≡ asked.now.set }
-        requires legal { legal_in_some (chess way.d) (set_at self.old.table asked.now.set)
-            blocker.now.mv ≡ true }
-        ensures searched { Searches way result (λ yes. yes ≡ true → begins (chess way.d)
-            asked.now.moves (set_at self.old.table asked.now.set) blocker.now.mv ≡ false)
-            (CoversTry (chess way.d) (set_at self.old.table asked.now.set) asked.now.moves
-            blocker.now.mv) 0 self.old self.new }
-        ensures ready { OnOk result (IsAtWork way self.new) }
-        ensures most { self.new.notes.most ≡ self.old.notes.most }
-    {
-        let moves = blocker.moves_for(asked.moves);
-        let won = self.can_win(way, blocker.part, moves, deep)?;
-        Ok(!won)
     }
 
     /// What blocks the try in the set that is asked, or nothing where it begins to win all of it: it does not fail at once,
@@ -284,8 +287,9 @@ impl Search {
         ensures ready { OnOk result (IsAtWork way self.new) }
         ensures most { self.new.notes.most ≡ self.old.notes.most }
     {
-        let b = asked.opened.of(&self.table, asked.set);
-        if !uncut && is_cut(way, &mut self.sight, b, asked.squares, tried, asked.moves) {
+        let b = asked.at_hand.opened.of(&self.table, asked.set);
+        let squares = asked.at_hand.squares;
+        if !uncut && is_cut(way, &mut self.sight, b, squares, tried, asked.moves) {
             return Ok(Some(Block::AtOnce));
         }
         let before = self.units.left();

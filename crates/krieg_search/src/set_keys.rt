@@ -1,7 +1,8 @@
-ghost use Rattle.std.specs.Prelude.{◌≡◌, ℕ, ◌<◌, ◌++◌, ◌∷◌, [], IfOk, OnOk, Some, not, length, map};
+ghost use Rattle.std.specs.Prelude.{◌≡◌, ◌↔◌, ℕ, ◌<◌, ◌++◌, ◌∷◌, [], true, IfOk, OnOk, Some, not, length, map};
 ghost use Rattle.krieg_words.specs.declared.dialects.Dialect.{Dialect};
 ghost use Rattle.krieg_pack.specs.Order.{position_lt};
 ghost use Rattle.krieg_theory.specs.Sets.{In, is_nil};
+ghost use Rattle.krieg_theory.specs.Can.{begins};
 ghost use Rattle.krieg_theory.specs.Split.{refused};
 ghost use Rattle.krieg_costs.specs.Sums.{total};
 ghost use Rattle.krieg_accounts.specs.Stored.{stored};
@@ -10,17 +11,18 @@ ghost use Rattle.krieg_game.specs.Chess.{chess};
 ghost use Rattle.krieg_table.specs.SetRows.{set_at};
 ghost use Rattle.krieg_table.specs.Entries.{entries};
 ghost use Rattle.krieg_table.specs.Opened.{IsOpened};
+ghost use Rattle.krieg_search.specs.Blocks.{IsAskedIn, IsTryOf};
 ghost use Rattle.krieg_search.specs.Stretches.{IsAtWork, Searches};
 ghost use Rattle.krieg_search.specs.Building.{WonBy};
 ghost use Rattle.krieg_search.specs.KeyTries.{key_try, key_tries};
-ghost use Rattle.krieg_search.specs.SetKeys.{AreSetKeys, later_price, least_pair};
+ghost use Rattle.krieg_search.specs.SetKeys.{AreSetKeys, LooksAt, later_price, least_pair};
+ghost use Rattle.krieg_search.specs.Tries.{move_of};
 
 use crate::build::win_of;
 use crate::keys::KeyTry;
-use crate::remainder::squares_for;
 use crate::search::{Asked, MOST_LEVELS, Search};
 use crate::stop::SearchStop;
-use crate::try_list::{is_same, move_of_try, tries_for};
+use crate::try_list::{Try, is_same, move_of_try};
 use crate::way::Way;
 use krieg_board::{Move, NoMemory};
 use krieg_moves::is_legal;
@@ -50,16 +52,42 @@ fn some_refuses(members: &[Packed], mv: &Move) -> bool
 /// Adds a key of the set that is asked.
 fn add_key(table: &Table, asked: &Asked, mv: &Move, keys: &mut Vec<KeyTry>) -> Result<(), NoMemory>
     requires within { asked.now.set < length table.now }
-    requires opened { IsOpened asked.now.opened (set_at table.now asked.now.set) }
+    requires opened { IsOpened asked.now.at_hand.opened (set_at table.now asked.now.set) }
     ensures { OnOk result ((d : Dialect) → keys.new.items
         ≡ keys.old.items ++ key_try d (set_at table.now asked.now.set) mv.now ∷ []) }
 {
-    let may_be_refused = some_refuses(asked.opened.of(table, asked.set).members(), mv);
+    let may_be_refused = some_refuses(asked.at_hand.opened.of(table, asked.set).members(), mv);
     keys.push(KeyTry {
         mv: *mv,
         may_be_refused,
     })?;
     Ok(())
+}
+
+/// Whether the next try of the set that is asked is a key, behind those that are found: before there is one the first alone, whose move is
+/// known, and behind that each that nothing blocks with as many moves.
+fn is_key(
+    search: &mut Search,
+    way: Way,
+    asked: &Asked,
+    tried: &Try,
+    first: &Move,
+    found: &Vec<KeyTry>,
+) -> Result<bool, SearchStop>
+    requires asked { IsAskedIn search.old.table asked.now }
+    requires ready { IsAtWork way search.old }
+    requires tried { IsTryOf way.d search.old.table asked.now tried.now }
+    requires first { found.now.items ≡ [] → (begins (chess way.d) asked.now.moves
+        (set_at search.old.table asked.now.set) (move_of tried.now) ≡ true)
+        ↔ (move_of tried.now ≡ first.now) }
+    ensures searched { LooksAt way asked.now (move_of tried.now) found.now.items result
+        search.old search.new }
+    ensures ready { OnOk result (IsAtWork way search.new) }
+{
+    if found.is_empty() {
+        return Ok(is_same(&move_of_try(tried), first));
+    }
+    Ok(search.block_of(way, asked, tried, MOST_LEVELS)?.is_none())
 }
 
 /// The keys of the set that is stored as won in this way: the try that is stored, which is the first, and of those behind it each that
@@ -76,25 +104,16 @@ fn keys_of_set(search: &mut Search, way: Way, set: u32, win: Win) -> Result<Vec<
         (later_price way.d (set_at search.old.table set, win.moves)) search.old search.new }
     ensures ready { OnOk result (IsAtWork way search.new) }
 {
-    let opened = search.table.open(way.alloc, set)?;
-    let b = opened.of(&search.table, set);
-    let tries = tries_for(way.alloc, b, win.moves, search.units.left())?;
-    let squares = squares_for(way, b);
+    let at_hand = search.take_up(way, set, win.moves)?;
     let asked = Asked {
         set,
         moves: win.moves,
-        opened,
-        squares,
+        at_hand,
     };
     let mut keys = Vec::new(way.alloc);
-    for tried in &tries {
-        let mv = move_of_try(tried);
-        if keys.is_empty() {
-            if is_same(&mv, &win.mv) {
-                add_key(&search.table, &asked, &mv, &mut keys)?;
-            }
-        } else if search.block_of(way, &asked, tried, MOST_LEVELS)?.is_none() {
-            add_key(&search.table, &asked, &mv, &mut keys)?;
+    for tried in &asked.at_hand.tries {
+        if is_key(search, way, &asked, tried, &win.mv, &keys)? {
+            add_key(&search.table, &asked, &move_of_try(tried), &mut keys)?;
         }
     }
     Ok(keys)

@@ -3,12 +3,16 @@ use Rattle.std.proofs.Common.{◌≡◌, ℕ, zero, suc, ◌<◌, Bool, true, fa
 use Rattle.std.specs.List.{list_all, list_any}
 use Rattle.std.proofs.lemmas.Bool.{both_ways}
 use Rattle.krieg_sight.proofs.Common.{Pos, Move, is_legal, after, moves, all_moves, in_check, is_ended, is_mate, is_stalemate, is_nil, In, is_met, mates_within}
-use Rattle.krieg_theory.proofs.Lists.{filter_in}
+use Rattle.krieg_theory.proofs.Lists.{any_from, filter_in}
 
 item_in : {X : Type 0} (xs : List X) (k : ℕ) (x : X) → k < length xs → x ≡ get_or xs k x → In x xs
 item_in [] k x l e = absurd (omega arith)
 item_in (y ∷ xs) zero x l e = inl (sym e)
 item_in (y ∷ xs) (suc k) x l e = inr (item_in xs k x (omega arith) e)
+
+-- some member passes, as the one at a place does
+pub some_member : {X : Type 0} (f : X → Bool) (xs ys : List X) (k : ℕ) (x : X) → ys ≡ xs → k < length ys → x ≡ get_or ys k x → f x ≡ true → list_any f xs ≡ true
+some_member f xs ys k x are l e passes = any_from f xs x (subst (In x) are (item_in ys k x l e)) passes
 
 listed_legal : (p : Pos) (t : Move) → In t (moves p) → is_legal p t ≡ true
 unfolding moves

@@ -15,7 +15,6 @@ use std::marker::Model;
 const MOST_KEPT: usize = 8_000_000;
 
 /// What was found of positions, and how many looks are left: each is one at a position, or at all squares of a king who is alone.
-#[derive(Drop)]
 pub struct Sight {
     alloc: Global,
     told: IndexMap<Packed, Told>,
@@ -35,6 +34,19 @@ impl Model for Sight {
     ghost view = { λ s. record { told = s.told.entries; left = s.nets } };
 
     ghost invariant = { λ s. AreRight s.told.entries };
+}
+
+/// Written out, so that each owner lets it go by one call.
+impl Drop for Sight {
+    fn drop(self) {
+        let Sight {
+            alloc: _,
+            told: _,
+            last: _,
+            nets: _,
+            first: _,
+        } = self;
+    }
 }
 
 impl Sight {

@@ -1,5 +1,5 @@
-use Rattle.std.proofs.Common.{◌≡◌, ℕ, ◌^◌, ◌-◌, ◌<◌, suc, sym, subst, ◌∙◌, refl, arith}
-use Rattle.krieg_refute.proofs.Common.{made, chess, entries, set_at, IsLost}
+use Rattle.std.proofs.Common.{◌≡◌, ℕ, ◌-◌, suc, sym, subst, ◌∙◌, refl, arith}
+use Rattle.krieg_refute.proofs.Common.{chess, entries, set_at, IsLost}
 use Rattle.krieg_claims.proofs.StoredLosses.{loss_paid}
 use Rattle.krieg_game.proofs.ChessLaws.{chess_is_game}
 use Rattle.krieg_search.proofs.Building.{adds_nothing, adds_then}
@@ -17,18 +17,17 @@ left_again-requires-clause-paid c =
     let lost = subst (λ (i : ℕ). IsLost T B i) (sym before) c.requires.lost in
     let a = loss_paid (chess d) (chess_is_game d) (entries T) c.requires.paid.ready.sound B (j - 1) lost c.args.mv c.requires.legal in
     let b = c.requires.paid.paid refl in
-    let fits : made (chess d) B c.args.mv < 2 ^ 64 = omega arith in
-    rw c.of.ensures fits
+    omega arith
 
 pub returns-in_default : goal.returns-in_default
-returns-in_default c = (adds_nothing c.args.table.now c.requires.paid.ready.counted, rw (c.in_default.is, c.of.ensures) at c.in_ok-classes.ensures)
+returns-in_default c = (adds_nothing c.args.table.now c.requires.paid.ready.counted, rw c.in_default.is at c.in_ok-classes.ensures)
 
 pub returns-in-Some-2 : goal.returns-in-Some-2
 returns-in-Some-2 c =
     let d = c.args.way.d in
     let T = c.args.table.now in
     let B = set_at T c.args.set in
-    let a = rw (c.in-Some.is, c.of.ensures) at c.in_ok-classes.ensures in
+    let a = rw c.in-Some.is at c.in_ok-classes.ensures in
     let h = rw c.in-Some-2.is at c.in_ok-class.ensures in
     let b = class_at d T B B c.args.mv c.args.moves c.requires.some refl c.requires.paid.ready c.requires.lost c.requires.legal c.in-Some.field-0 a c.in-Some-2.class.0 (set_at c.first_lost.new.table c.in-Some-2.class.1) h.first in
     (h.sets, record { blocks = b.0; within = h.within; at = sym b.1 })
@@ -39,7 +38,7 @@ returns c =
     let T = c.args.table.now in
     let T1 = c.first_lost.new.table in
     let B = set_at T c.args.set in
-    let a = rw (c.in-Some.is, c.of.ensures) at c.in_ok-classes.ensures in
+    let a = rw c.in-Some.is at c.in_ok-classes.ensures in
     let h = rw c.in_default-2.is at c.in_ok-class.ensures in
     let n = c.in_ok-number_of.ensures in (
       adds_then T T1 c.number_of.new.table h.0 (record { counted = n.counted; more = n.interned.more; noted = n.interned.noted }),

@@ -20,7 +20,7 @@ returns-then-not-are_few c =
     let cs = claims_over T w.claims.items in
     let is = claims_are d T w.places.keys cs one a c.requires.within own.numbered own.stands own.are c.requires.next (λ i. set_at T c.args.asked.set) (λ i. c.args.asked.moves) in
     let had = own.positions_part in
-    let members = c.len-members.ensures.value ∙ ap length c.of.ensures in
+    let members = c.in_ok-members.ensures in
     let positions : c.saturating_add-positions.result ≡ min (positions_in (chess d) (claims_of d cs) + length (set_at T c.args.asked.set)) 18446744073709551615 = c.saturating_add-positions.ensures ∙ (λ i. min (had i + members i) 18446744073709551615) in
     let given = own.reasons_part in
     let new : c.len.result ≡ length c.args.reasons.items = c.len.ensures ∙ search rules in
@@ -30,8 +30,8 @@ returns-then-not-are_few c =
     subst (λ cs. AreMany (chess d) most_claims most_claimed cs) is
     (too_many d cs one c.len-2.result c.saturating_add-positions.result c.saturating_add-count.result 18446744073709551615 c.are_few.result count (omega arith) positions reasons c.are_few.ensures.1 c.if-not-are_few.true)
 
-pub add_place-requires : goal.add_place-requires
-add_place-requires c = λ i.
+pub add-requires : goal.add-requires
+add-requires c = λ i.
     c.requires.next.fresh (in_map {Y = List Pos × ℕ} (λ (k : Question). (set_at c.args.table.now k.set, k.moves)) c.args.claimed.now.places.keys c.args.asked i)
 
 pub returns : goal.returns
@@ -48,13 +48,13 @@ returns c =
     let own = c.requires.claimed in
     let next = c.requires.next in
     let set : B ≡ B = refl in
-    let k = c.in_ok-add_place.ensures in
-    let more = c.in_ok-push.ensures.items in
-    let p : claims_over T c.push.new.self.items ≡ cs ++ one ∷ [] = ap (claims_over T) more ∙ map-append (claim_over T) w.claims.items (draft ∷ []) in
+    let k = c.in_ok-add.ensures.places in
+    let more = c.in_ok-add.ensures.claims in
+    let p : claims_over T c.add.new.claimed.claims.items ≡ cs ++ one ∷ [] = ap (claims_over T) more ∙ map-append (claim_over T) w.claims.items (draft ∷ []) in
     let is = claims_are d T keys cs one a c.requires.within own.numbered own.stands own.are next set (λ i. c.args.asked.moves) in
-    let pairs : pairs_in T c.add_place.new.places.keys ≡ pairs_in T keys ++ (set_at T c.args.asked.set, c.args.asked.moves) ∷ [] = ap (pairs_in T) k ∙ pairs_more d T keys cs one a c.requires.within own.numbered own.stands own.are next set (λ i. c.args.asked.moves) in
+    let pairs : pairs_in T c.add.new.claimed.places.keys ≡ pairs_in T keys ++ (set_at T c.args.asked.set, c.args.asked.moves) ∷ [] = ap (pairs_in T) k ∙ pairs_more d T keys cs one a c.requires.within own.numbered own.stands own.are next set (λ i. c.args.asked.moves) in
     let had = own.positions_part in
-    let members = c.len-members.ensures.value ∙ ap length c.of.ensures in
+    let members = c.in_ok-members.ensures in
     let positions : c.saturating_add-positions.result ≡ min (positions_in (chess d) (claims_of d cs) + length B) 18446744073709551615 = c.saturating_add-positions.ensures ∙ (λ i. min (had i + members i) 18446744073709551615) in
     let given = own.reasons_part in
     let new : c.len.result ≡ length c.args.reasons.items = c.len.ensures ∙ search rules in
@@ -62,8 +62,8 @@ returns c =
     let had_claims : c.len-2.result ≡ length w.claims.items = c.len-2.ensures ∙ search rules in
     let count : c.len-2.result ≡ length cs = had_claims ∙ sym (length-map w.claims.items (claim_over T)) in
     let few = still_few d cs one c.len-2.result c.saturating_add-positions.result c.saturating_add-count.result 18446744073709551615 count (omega arith) positions reasons (c.are_few.ensures.0 c.if-not-are_few.false) in
-    let has_claims : c.len-3.result ≡ length c.push.new.self.items = c.len-3.ensures ∙ search rules in
-    let last : c.len-3.result ≡ length (claims_over T c.push.new.self.items) = has_claims ∙ sym (length-map c.push.new.self.items (claim_over T)) in (
+    let has_claims : c.len-3.result ≡ length c.add.new.claimed.claims.items = c.len-3.ensures ∙ search rules in
+    let last : c.len-3.result ≡ length (claims_over T c.add.new.claimed.claims.items) = has_claims ∙ sym (length-map c.add.new.claimed.claims.items (claim_over T)) in (
       record {
         numbered = λ x i. all_numbered d T keys cs one a c.requires.within own.numbered own.stands own.are next set (λ i. c.args.asked.moves) x (subst (In x) k i);
         stands = subst (Stands (chess d) []) (sym pairs) (stand d T keys cs one a c.requires.within own.numbered own.stands own.are next set (λ i. c.args.asked.moves));

@@ -4,10 +4,10 @@ use Rattle.krieg_refute.proofs.Common.{claims_over, AreWithin, HaveSets}
 use Rattle.krieg_refute.proofs.claims.claims_of.Given as goal
 
 -- the claims of the drafts before this one, and where the sets are
-abbrev pub invariant-loop-moves : goal.invariant-loop-moves
-invariant-loop-moves l = record {
-  claims : l.claims.items ++ claims_over l.fn.table (into_iter_items l.moves-iterator) ≡ claims_over l.fn.table l.fn.drafts.items;
+abbrev pub invariant-loop-draft : goal.invariant-loop-draft
+invariant-loop-draft l = record {
+  claims : l.claims.items ++ claims_over l.fn.table (into_iter_items l.draft-iterator) ≡ claims_over l.fn.table l.fn.drafts.items;
   sets : HaveSets l.claims.items l.slots.items l.fn.table;
-  within : AreWithin l.fn.table (into_iter_items l.moves-iterator);
-  counted : into_iter_len l.moves-iterator ≡ length (into_iter_items l.moves-iterator);
+  within : AreWithin l.fn.table (into_iter_items l.draft-iterator);
+  counted : into_iter_len l.draft-iterator ≡ length (into_iter_items l.draft-iterator);
 }

@@ -20,7 +20,7 @@ pub returns-in_err-can_win-clause-searched : goal.returns-in_err-can_win-clause-
 returns-in_err-can_win-clause-searched c =
     let d = c.args.way.d in
     let covers = opening_covers d c.args.way.cut c.args.openings.now c.loop-o.o-index c.o-item.result c.loop-o-test.true c.o-item.is c.requires.numbered c.loop-o.invariant.checking in
-    stopped d c.args.way.cut c.from_residual.result c.in_err-can_win.field-0.0 _ _ _ _ _ _ (λ x h. cc) c.from_residual.ensures.1 covers c.loop-o.invariant.checking.searched (omega arith) c.in_err-can_win.ensures.searched
+    stopped d c.args.way.cut c.from_residual.result c.in_err-can_win.field-0.0 _ _ _ (λ x h. cc) c.from_residual.ensures.1 _ _ _ covers c.loop-o.invariant.checking.searched (omega arith) c.in_err-can_win.ensures.searched
 
 pub returns-then-not-branch-clause-searched : goal.returns-then-not-branch-clause-searched
 returns-then-not-branch-clause-searched c =

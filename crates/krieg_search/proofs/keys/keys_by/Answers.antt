@@ -56,7 +56,7 @@ pub keys_at_openings-requires : goal.keys_at_openings-requires
 keys_at_openings-requires c s i =
     let w = rw c.deref-2.ensures.value at c.in_ok-found.ensures.searched in
     let e = found_sets c.args.way.d c.args.moves c.ask_openings.new.search.table c.in_ok-sets.sets.items c.in_ok-found.found.items w.0 in
-    rw (c.deref-3.ensures.value, e) ((rw c.deref.ensures.value at c.in_ok-sets.ensures.all) s i)
+    rw (c.deref-4.ensures.value, e) ((rw c.deref.ensures.value at c.in_ok-sets.ensures.all) s (rw c.deref-3.ensures.value at i))
 
 pub returns-clause-answer : goal.returns-clause-answer
 returns-clause-answer c =
@@ -68,7 +68,7 @@ returns-clause-answer c =
     let only = rw c.deref.ensures.value at c.in_ok-sets.ensures.only in
     let w = rw c.deref-2.ensures.value at c.in_ok-found.ensures.searched in
     let e = found_sets d n T1 c.in_ok-sets.sets.items found w.0 in
-    let keyed = rw c.deref-3.ensures.value at c.in_ok-keys_at_openings.ensures in
+    let keyed = rw (c.deref-3.ensures.value, c.deref-4.ensures.value) at c.in_ok-keys_at_openings.ensures in
     keys_are d c.args.way.cut c.args.who c.args.b.now n T1 c.in-Some.field-0 c.args.search.now.units c.ask_openings.new.search.units a c.if-not-all_win.false c.in_ok-sets.sets.items c.in_ok-sets.ensures.once only c.in_ok-keys_at_openings.field-0
     (keyed d n T1 (subst (λ (ks : List ℕ). AreSetKeys d n T1 ks found) (sym e) w.0))
 

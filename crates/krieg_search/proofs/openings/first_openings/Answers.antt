@@ -9,7 +9,7 @@ pub loop-class-init : goal.loop-class-init
 loop-class-init c =
     let gives = c.into_iter-class-iterator.ensures.into_iter_gives in
     record {
-      opening = no_opening first_set c.args.table.now c.in_ok-found.found.items (into_iter_items c.into_iter-class-iterator.result) c.args.classes.items c.requires c.in_ok-found.ensures.items gives.0;
+      opening = no_opening first_set c.args.table.now c.new-found.result.items (into_iter_items c.into_iter-class-iterator.result) c.args.classes.items c.requires c.new-found.ensures.items gives.0;
       counted = omega (arith, gives.1, ap length gives.0);
     }
 

@@ -37,7 +37,7 @@ returns-in_err-tries c =
     let win = c.win_of-win.ensures in
     let a = subst (λ (rest : List ℕ). AreKeying d cut c.args.moves c.args.search.now.table c.loop-number.search.table sets rest c.loop-number.found.items c.args.search.now.units c.loop-number.search.units) (drop-cons sets k 0 c.loop-number-test.true) c.loop-number.invariant.keying in
     let ready = c.loop-number.invariant.ready.0 in
-    record { searched = stopped d cut c.from_residual.result c.in_err-tries.field-0.0 _ _ _ _ _ _ (λ x h. cc) c.from_residual.ensures.1 (set_covers d cut c.args.moves a w ready win.some win.at_most win.stored) a.searched (set_within d cut c.args.moves a w ready win.some win.at_most win.stored) c.in_err-tries.ensures.searched }
+    record { searched = stopped d cut c.from_residual.result c.in_err-tries.field-0.0 _ _ _ (λ x h. cc) c.from_residual.ensures.1 _ _ _ (set_covers d cut c.args.moves a w ready win.some win.at_most win.stored) a.searched (set_within d cut c.args.moves a w ready win.some win.at_most win.stored) c.in_err-tries.ensures.searched }
 
 pub loop-number-preserved : goal.loop-number-preserved
 loop-number-preserved c =

@@ -1,9 +1,9 @@
-use Rattle.std.proofs.Common.{◌≡◌, ◌<◌, ◌≤◌, ◌-◌, ◌+◌, ◌^◌, false, List, [], ◌∷◌, ◌++◌, ◌⊎◌, inl, inr, length, map, refl, sym, subst, ap, ◌∙◌, arith}
+use Rattle.std.proofs.Common.{◌≡◌, ◌<◌, ◌≤◌, ◌-◌, ◌+◌, false, [], ◌∷◌, ◌++◌, ◌⊎◌, inl, inr, length, map, refl, sym, subst, ap, ◌∙◌, arith}
 use Rattle.std.specs.Prelude.{option_map}
 use Rattle.std.specs.Vec.Iter.{into_iter_items}
 use Rattle.std.proofs.lemmas.Bool.{cond-false}
 use Rattle.std.proofs.lemmas.List.{map-append, nil_from_length}
-use Rattle.krieg_search.proofs.Common.{Pos, In, is_nil, Just, Nothing, size, size_other, depth, depth_other, canon, made, refused_canon, chess, class_pair, IsParted, set_at, tree_of, edge_of, as_other, Node, Edge-F, roll-Edge, sets_of, edges_for}
+use Rattle.krieg_search.proofs.Common.{In, is_nil, Just, Nothing, size, size_other, depth, depth_other, canon, refused_canon, chess, class_pair, set_at, tree_of, edge_of, as_other, Node, Edge-F, roll-Edge, sets_of, edges_for}
 use Rattle.krieg_theory.specs.Tree.{Try}
 use Rattle.krieg_plan.specs.declared.node.Edge.{Edge}
 use Rattle.krieg_plan.proofs.NodeTrees.{edge_rolled}
@@ -18,12 +18,12 @@ build-returns-then-self-eq0 t c = no_nodes c.args.d c.args.self.now.table (set_a
 pub build-returns-then-deep-eq0 : goal.build-returns-then-deep-eq0
 build-returns-then-deep-eq0 t c = no_path c.args.d c.args.self.now.table (set_at c.args.self.now.table c.args.set) c.args.moves c.args.self.now.left c.args.deep c.requires.paid.ready c.requires.won c.if-deep-eq0.true
 
-pub build-split_again-requires : goal.build-split_again-requires
-build-split_again-requires t c =
+pub build-split_again-requires-clause-paid : goal.build-split_again-requires-clause-paid
+build-split_again-requires-clause-paid t c =
     let T = c.args.self.now.table in
     let w = c.win_of-win.result in
     let n = c.win_of-win.ensures in
-    subst (λ (X : List Pos). made (chess c.args.d) X w.mv < 2 ^ 64) (sym c.of.ensures) (paid_by c.args.d T (set_at T c.args.set) c.args.moves w.moves w.mv c.requires.paid n.some n.at_most n.stored)
+    paid_by c.args.d T (set_at T c.args.set) c.args.moves w.moves w.mv c.requires.paid n.some n.at_most n.stored
 
 pub build-build_edges-requires : goal.build-build_edges-requires
 build-build_edges-requires t c =
@@ -34,7 +34,7 @@ build-build_edges-requires t c =
     let w = c.win_of-win.result in
     let n = c.win_of-win.ensures in
     let p = c.in_ok-refused.field-0 in
-    let q = subst (λ (X : List Pos). IsParted d X w.mv p) c.of.ensures c.in_ok-refused.ensures in
+    let q = c.in_ok-refused.ensures in
     let long = c.if-deep-eq0.false in
     (omega arith, (c.requires.paid, classes_won d T B j w.moves w.mv c.requires.paid n.some n.at_most n.stored p q))
 
@@ -47,7 +47,7 @@ build-returns-in_err-edges t c =
     let w = c.win_of-win.result in
     let n = c.win_of-win.ensures in
     let p = c.in_ok-refused.field-0 in
-    let q = subst (λ (X : List Pos). IsParted d X w.mv p) c.of.ensures c.in_ok-refused.ensures in
+    let q = c.in_ok-refused.ensures in
     let some : 0 < c.args.self.now.left = (let h = c.if-self-eq0.false in omega arith) in
     let long : 0 < c.args.deep = (let h = c.if-deep-eq0.false in omega arith) in
     too_large _ c.from_residual-in_err-edges.result c.in_err-edges.field-0.0 _ _ _ _ _ _ _ _ _ _ _ _ _ _ _ _ (λ x h. cc) c.from_residual-in_err-edges.ensures.1
@@ -62,7 +62,7 @@ build-build_other-requires t c =
     let w = c.win_of-win.result in
     let n = c.win_of-win.ensures in
     let p = c.in_ok-refused.field-0 in
-    let q = subst (λ (X : List Pos). IsParted d X w.mv p) c.of.ensures c.in_ok-refused.ensures in
+    let q = c.in_ok-refused.ensures in
     let long = c.if-deep-eq0.false in
     let s = c.in_ok-edges.ensures.3 in
     let T1 = c.build_edges.new.self.table in
@@ -77,7 +77,7 @@ build-returns-in_err-no t c =
     let w = c.win_of-win.result in
     let n = c.win_of-win.ensures in
     let p = c.in_ok-refused.field-0 in
-    let q = subst (λ (X : List Pos). IsParted d X w.mv p) c.of.ensures c.in_ok-refused.ensures in
+    let q = c.in_ok-refused.ensures in
     let some : 0 < c.args.self.now.left = (let h = c.if-self-eq0.false in omega arith) in
     let long : 0 < c.args.deep = (let h = c.if-deep-eq0.false in omega arith) in
     too_large _ c.from_residual-in_err-no.result c.in_err-no.field-0.0 _ _ _ _ _ _ _ _ _ _ _ _ _ _ _ _ (λ x h. cc) c.from_residual-in_err-no.ensures.1
@@ -92,7 +92,7 @@ build-returns t c =
     let w = c.win_of-win.result in
     let n = c.win_of-win.ensures in
     let p = c.in_ok-refused.field-0 in
-    let q = subst (λ (X : List Pos). IsParted d X w.mv p) c.of.ensures c.in_ok-refused.ensures in
+    let q = c.in_ok-refused.ensures in
     let some : 0 < c.args.self.now.left = (let h = c.if-self-eq0.false in omega arith) in
     let long : 0 < c.args.deep = (let h = c.if-deep-eq0.false in omega arith) in
     let es = c.in_ok-edges.ensures in

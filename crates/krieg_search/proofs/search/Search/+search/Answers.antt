@@ -1,9 +1,8 @@
-use Rattle.std.proofs.Common.{◌≡◌, ◌-◌, ◌≤◌, true, false, length, map, find, List, Some, None, refl, sym, subst, ap, ◌∙◌, arith}
+use Rattle.std.proofs.Common.{◌≡◌, ◌-◌, ◌≤◌, true, false, not, length, map, find, List, Some, None, refl, sym, subst, ap, ◌∙◌, arith}
 use Rattle.std.proofs.lemmas.List.{length-map, nil_from_length}
 use Rattle.std.specs.Vec.Iter.{into_iter_items}
-use Rattle.krieg_search.proofs.Common.{Pos, can, chess, class_pair, set_at, Wins, Loses, move_of, sets_of, items_of}
-use Rattle.krieg_theory.specs.Split.{tries as tries_of}
-use Rattle.krieg_search.proofs.Searching.{ready_from, searched_number, still_within, stopped}
+use Rattle.krieg_search.proofs.Common.{Pos, CoversTry, can, made, chess, class_pair, set_at, Wins, Loses, move_of, sets_of, items_of}
+use Rattle.krieg_search.proofs.Searching.{ready_from, searched_nothing, searched_number, still_within, stopped}
 use Rattle.krieg_search.proofs.Noted.{more_notes, no_notes, one_noted, all_noted}
 use Rattle.krieg_search.proofs.Blocked.{is_lost, first_here, first_later}
 use Rattle.krieg_search.proofs.Tries as tries
@@ -12,7 +11,7 @@ use Rattle.krieg_search.proofs.Telling.{move_at, told_at}
 use Rattle.krieg_search.proofs.NextNotes.{still_next}
 use Rattle.krieg_search.proofs.Noting.{found_tells, pair_stopped, noted_more, noted}
 use Rattle.krieg_search.proofs.Trying.{empty_is, some_is, tried_at, covers_classes, after_split, after_classes, class_lost, none_refuses, rest_smaller, before_rest, covers_rest, after_rest, rest_won, rest_lost}
-use Rattle.krieg_search.proofs.StillBlocked.{more_blockers, part_less, asked_part, after_keep, split_again, class_kept, refused_kept}
+use Rattle.krieg_search.proofs.StillBlocked.{more_blockers, part_less, part_covers, asked_part, after_keep, split_again, still_paid, still_short, class_kept, refused_kept}
 use Rattle.krieg_search.proofs.Checking as sets
 use Rattle.krieg_search.proofs.Checking.{IsChecking, none_checked, all_checked, set_lost, set_won}
 use Rattle.krieg_search.proofs.Numbers.{first_number, next_covers, number_wins, number_fails, all_fail}
@@ -33,7 +32,7 @@ can_win-returns-in_err-can_win_in-clause-searched t c =
     let a = c.loop-fewer.invariant.counting in
     let same = a.searched.more.same c.args.set c.requires.within in
     let covers = next_covers d c.args.way.cut (set_at c.args.self.now.table c.args.set) c.args.moves c.loop-fewer.fewer c.loop-fewer-test.true in
-    stopped d c.args.way.cut c.from_residual.result c.in_err-can_win_in.field-0.0 _ _ _ _ _ _ (λ x h. cc) c.from_residual.ensures.1 covers a.searched (omega arith) (rw same at c.in_err-can_win_in.ensures.searched)
+    stopped d c.args.way.cut c.from_residual.result c.in_err-can_win_in.field-0.0 _ _ _ (λ x h. cc) c.from_residual.ensures.1 _ _ _ covers a.searched (omega arith) (rw same at c.in_err-can_win_in.ensures.searched)
 
 pub can_win-returns-then-branch-clause-searched : goal.can_win-returns-then-branch-clause-searched
 can_win-returns-then-branch-clause-searched t c =
@@ -68,7 +67,7 @@ can_win_in-returns-in-Some-Loses-clause-searched t c =
 pub win_by_a_try-loop-tried-init : goal.win_by_a_try-loop-tried-init
 win_by_a_try-loop-tried-init t c = record {
   trying = none_tried c.args.way.d c.args.way.cut c.args.self.now.table (set_at c.args.self.now.table c.args.set) c.args.moves (map move_of c.deref-tried-items.result.now) c.args.self.now.units
-      (ap (map move_of) c.deref-tried-items.ensures.value ∙ c.in_ok-tries.ensures.moves c.args.way.d ∙ ap (tries_of (chess c.args.way.d)) c.of-b.ensures) c.requires.ready.0;
+      (ap (map move_of) c.deref-tried-items.ensures.value ∙ c.in_ok-at_hand.ensures.tries c.args.way.d) c.requires.ready.0;
   ready = c.requires.ready;
   most = refl;
   row = no_notes c.args.way.d c.args.way.cut c.args.self.now.table (set_at c.args.self.now.table c.args.set) c.args.moves (map move_of c.deref-tried-items.result.now) (items_of c.in_ok-row.row) c.in_ok-row.ensures;
@@ -83,8 +82,8 @@ win_by_a_try-block_of-requires t c =
     let w = c.requires.within in
     let same = a.searched.more.same c.args.set w in
     let size : length (set_at c.loop-tried.self.table c.args.set) ≡ length (set_at c.args.self.now.table c.args.set) = ap length same in
-    let told = told_at c.of-b.result.now (set_at c.loop-tried.self.table c.args.set) c.args.moves c.deref-tried-items.result.now c.in_ok-tries.tries.items c.loop-tried.tried-index c.tried-item.result c.in_ok-tries.ensures.told c.deref-tried-items.ensures.value c.loop-tried-test.true c.tried-item.is (c.of-b.ensures ∙ sym same) in
-    (omega (arith, size), (record { some = c.requires.next.some; within = still_within c.args.set a.searched.more w; opened = rw (sym same) at c.in_ok-opened.ensures }, (c.loop-tried.invariant.ready, record { told = told; legal = rw (sym same) at legal })))
+    let told = told_at (set_at c.args.self.now.table c.args.set) (set_at c.loop-tried.self.table c.args.set) c.args.moves c.deref-tried-items.result.now c.in_ok-at_hand.at_hand.tries.items c.loop-tried.tried-index c.tried-item.result c.in_ok-at_hand.ensures.told c.deref-tried-items.ensures.value c.loop-tried-test.true c.tried-item.is (sym same) in
+    (omega (arith, size), (record { some = c.requires.next.some; within = still_within c.args.set a.searched.more w; opened = rw (sym same) at c.in_ok-at_hand.ensures.opened }, (c.loop-tried.invariant.ready, record { told = told; legal = rw (sym same) at legal })))
 
 pub win_by_a_try-returns-in_err-block-clause-searched : goal.win_by_a_try-returns-in_err-block-clause-searched
 win_by_a_try-returns-in_err-block-clause-searched t c =
@@ -94,8 +93,8 @@ win_by_a_try-returns-in_err-block-clause-searched t c =
     let r = c.from_residual-in_err-block.result in
     let fails = c.from_residual-in_err-block.ensures.1 in
     let same = a.searched.more.same c.args.set c.requires.within in
-    pair_stopped d c.args.way.cut _ r _ _ _ _ _ _ _ fails (c.requires.next.unknown)
-    (stopped d c.args.way.cut r c.in_err-block.field-0.0 _ _ _ _ _ _ (λ x h. cc) fails (tries.next_covers d c.args.way.cut at a) a.searched (next_within d c.args.way.cut at a) (rw same at c.in_err-block.ensures.searched))
+    pair_stopped d c.args.way.cut r _ _ _ _ _ _ _ c.from_residual-in_err-block.ensures.0 c.requires.next.unknown
+    (stopped d c.args.way.cut r c.in_err-block.field-0.0 _ _ _ (λ x h. cc) fails _ _ _ (tries.next_covers d c.args.way.cut at a) a.searched (next_within d c.args.way.cut at a) (rw same at c.in_err-block.ensures.searched))
 
 pub win_by_a_try-returns-in-None-clause-searched : goal.win_by_a_try-returns-in-None-clause-searched
 win_by_a_try-returns-in-None-clause-searched t c =
@@ -171,7 +170,7 @@ pub block_anew-returns-in_err-lost-clause-searched : goal.block_anew-returns-in_
 block_anew-returns-in_err-lost-clause-searched t c =
     let d = c.args.way.d in
     let a = tried_at d c.args.way.cut (move_of c.args.tried.now) c.args.asked.now.moves c.args.self.now.units c.left_of.new.units c.of-b.ensures c.in-Some.is c.requires.asked.some c.requires.ready.0 c.requires.tried.legal c.in_ok-left.ensures.left c.in_ok-left.ensures.units in
-    stopped d c.args.way.cut c.from_residual-in_err-lost.result c.in_err-lost.field-0.0 _ _ _ _ _ _ (λ x h. cc) c.from_residual-in_err-lost.ensures.1 (covers_classes d c.args.way.cut a) (after_split d c.args.way.cut a) (omega arith) c.in_err-lost.ensures.searched
+    stopped d c.args.way.cut c.from_residual-in_err-lost.result c.in_err-lost.field-0.0 _ _ _ (λ x h. cc) c.from_residual-in_err-lost.ensures.1 _ _ _ (covers_classes d c.args.way.cut a) (after_split d c.args.way.cut a) (omega arith) c.in_err-lost.ensures.searched
 
 pub block_anew-returns-in-Some-lost-clause-searched : goal.block_anew-returns-in-Some-lost-clause-searched
 block_anew-returns-in-Some-lost-clause-searched t c =
@@ -205,7 +204,7 @@ block_anew-returns-in_err-can_win-clause-searched t c =
     let w = rw c.in_default-lost.is at c.in_ok-lost.ensures.searched in
     let n = some_is c.in-Some.field-0.refused c.is_empty.result c.is_empty.ensures c.if-is_empty.false in
     let i = c.in_ok-rest.ensures in
-    stopped d c.args.way.cut c.from_residual-in_err-can_win.result c.in_err-can_win.field-0.0 _ _ _ _ _ _ (λ x h. cc) c.from_residual-in_err-can_win.ensures.1 (covers_rest d c.args.way.cut a w.0 w.1 n i) (before_rest d c.args.way.cut a w.0 w.1 n i) (omega arith) c.in_err-can_win.ensures.searched
+    stopped d c.args.way.cut c.from_residual-in_err-can_win.result c.in_err-can_win.field-0.0 _ _ _ (λ x h. cc) c.from_residual-in_err-can_win.ensures.1 _ _ _ (covers_rest d c.args.way.cut a w.0 w.1 n i) (before_rest d c.args.way.cut a w.0 w.1 n i) (omega arith) c.in_err-can_win.ensures.searched
 
 pub block_anew-returns-then-branch-clause-searched : goal.block_anew-returns-then-branch-clause-searched
 block_anew-returns-then-branch-clause-searched t c =
@@ -254,7 +253,7 @@ first_lost-returns-in_err-can_win-clause-searched t c =
     let i = c.in_ok-set.ensures in
     let a = rw c.in-Some.ensures.steps.0 at c.loop-class.invariant.checking in
     let before = searched_number d c.args.way.cut a.searched i in
-    stopped d c.args.way.cut c.from_residual-in_err-can_win.result c.in_err-can_win.field-0.0 _ _ _ _ _ _ (λ x h. cc) c.from_residual-in_err-can_win.ensures.1 (sets.next_covers d c.args.way.cut a i.interned.at i.interned.noted before) before (omega arith) c.in_err-can_win.ensures.searched
+    stopped d c.args.way.cut c.from_residual-in_err-can_win.result c.in_err-can_win.field-0.0 _ _ _ (λ x h. cc) c.from_residual-in_err-can_win.ensures.1 _ _ _ (sets.next_covers d c.args.way.cut a i.interned.at i.interned.noted before) before (omega arith) c.in_err-can_win.ensures.searched
 
 pub first_lost-returns-then-not-branch-clause-searched : goal.first_lost-returns-then-not-branch-clause-searched
 first_lost-returns-then-not-branch-clause-searched t c =
@@ -291,26 +290,64 @@ first_lost-returns-clause-searched t c =
     let s = all_checked c.args.way.d c.args.way.cut (rw none at c.loop-class.invariant.checking) in
     (record { tells = s.0; first = c.loop-class.invariant.first ∙ ap (λ cs. find (is_lost c.args.way.d c.args.moves) (map class_pair cs)) none; within = tt }, s.1)
 
-pub block_of-returns-then-not-branch-clause-searched : goal.block_of-returns-then-not-branch-clause-searched
-block_of-returns-then-not-branch-clause-searched t c =
-    let again = c.block_anew-then-not-branch in
-    let v = rw (c.in-Some.ensures.mv ∙ c.move_of_try.ensures) at c.in_ok-still_blocks.ensures.searched in
-    split_again c.args.way.d c.args.way.cut v.1 again.new.self.table again.new.self.units again.result (rw (v.1.more.same c.args.asked.now.set c.requires.asked.within) at again.ensures.searched)
-
-pub still_blocks-can_win-requires : goal.still_blocks-can_win-requires
-still_blocks-can_win-requires t c =
+pub block_of-can_win-requires : goal.block_of-can_win-requires
+block_of-can_win-requires t c =
+    let d = c.args.way.d in
     let T = c.args.self.now.table in
-    let b = c.args.blocker.now in
-    let p = rw c.requires.set at c.requires.blocker.part in
-    let l = part_less c.args.way.d c.args.way.cut (set_at T c.args.asked.now.set) b.mv c.args.asked.now.moves c.requires.asked.some b.refuses (set_at T b.part) c.requires.legal (c.requires.ready.0.counted b.part) p in
-    (omega (arith, l, c.moves_for-moves.ensures), (c.requires.blocker.part_within, c.requires.ready))
+    let B = set_at T c.args.asked.now.set in
+    let b = c.in-Some.blocker in
+    let right = c.requires.ready.2 b c.in-Some.ensures.there in
+    let p = rw (c.in-Some.ensures.set, c.in-Some.ensures.mv, c.move_of_try.ensures) at right.part in
+    let l = part_less d c.args.way.cut B (move_of c.args.tried.now) c.args.asked.now.moves c.requires.asked.some b.refuses (set_at T b.part) c.requires.tried.legal (c.requires.ready.0.counted b.part) p in
+    (omega (arith, l, c.moves_for-moves.ensures), (right.part_within, c.requires.ready))
 
-pub still_blocks-returns-clause-searched : goal.still_blocks-returns-clause-searched
-still_blocks-returns-clause-searched t c =
+pub block_of-returns-in_err-can_win-clause-searched : goal.block_of-returns-in_err-can_win-clause-searched
+block_of-returns-in_err-can_win-clause-searched t c =
+    let d = c.args.way.d in
     let T = c.args.self.now.table in
-    let b = c.args.blocker.now in
-    let p = rw c.requires.set at c.requires.blocker.part in
-    asked_part c.args.way.d c.args.way.cut (set_at T c.args.asked.now.set) b.mv c.args.asked.now.moves c.requires.asked.some b.refuses (set_at T b.part) p c.requires.ready.0 (rw c.moves_for-moves.ensures at c.in_ok-won.ensures.searched)
+    let B = set_at T c.args.asked.now.set in
+    let b = c.in-Some.blocker in
+    let right = c.requires.ready.2 b c.in-Some.ensures.there in
+    let p = rw (c.in-Some.ensures.set, c.in-Some.ensures.mv, c.move_of_try.ensures) at right.part in
+    let covers = part_covers d c.args.way.cut B (move_of c.args.tried.now) c.args.asked.now.moves c.requires.asked.some b.refuses (set_at T b.part) p in
+    let before = searched_nothing d c.args.way.cut (CoversTry (chess d) B c.args.asked.now.moves (move_of c.args.tried.now)) T c.args.self.now.units c.requires.ready.0 in
+    stopped d c.args.way.cut c.from_residual.result c.in_err-can_win.field-0.0 _ _ _ (λ x h. cc) c.from_residual.ensures.1 _ _ _ covers before (omega arith) (rw c.moves_for-moves.ensures at c.in_err-can_win.ensures.searched)
+
+pub block_of-returns-then-branch-clause-searched : goal.block_of-returns-then-branch-clause-searched
+block_of-returns-then-branch-clause-searched t c =
+    let again = c.block_anew-then-branch in
+    let d = c.args.way.d in
+    let T = c.args.self.now.table in
+    let B = set_at T c.args.asked.now.set in
+    let b = c.in-Some.blocker in
+    let right = c.requires.ready.2 b c.in-Some.ensures.there in
+    let p = rw (c.in-Some.ensures.set, c.in-Some.ensures.mv, c.move_of_try.ensures) at right.part in
+    let v = asked_part d c.args.way.cut B (move_of c.args.tried.now) c.args.asked.now.moves c.requires.asked.some b.refuses (set_at T b.part) p c.requires.ready.0 (rw c.moves_for-moves.ensures at c.in_ok-can_win.ensures.searched) in
+    split_again d c.args.way.cut v.1 again.new.self.table again.new.self.units again.result (rw (v.1.more.same c.args.asked.now.set c.requires.asked.within) at again.ensures.searched)
+
+pub block_of-returns-in-Ok-clause-searched : goal.block_of-returns-in-Ok-clause-searched
+block_of-returns-in-Ok-clause-searched t c =
+    let d = c.args.way.d in
+    let T = c.args.self.now.table in
+    let B = set_at T c.args.asked.now.set in
+    let b = c.in-Some.blocker in
+    let right = c.requires.ready.2 b c.in-Some.ensures.there in
+    let p = rw (c.in-Some.ensures.set, c.in-Some.ensures.mv, c.move_of_try.ensures) at right.part in
+    let v = asked_part d c.args.way.cut B (move_of c.args.tried.now) c.args.asked.now.moves c.requires.asked.some b.refuses (set_at T b.part) p c.requires.ready.0 (rw c.moves_for-moves.ensures at c.in_ok-can_win.ensures.searched) in
+    let made = right.made ∙ ap (λ (X : List Pos). made (chess d) X b.mv) (ap (set_at T) c.in-Some.ensures.set) ∙ ap (made (chess d) B) (c.in-Some.ensures.mv ∙ c.move_of_try.ensures) in
+    still_paid d c.args.way.cut v.1 c.take.new.self right.may (v.0 (ap not c.if-branch.false)) (rw made at c.in-Ok.ensures.ok)
+
+pub block_of-returns-in-Err-clause-searched : goal.block_of-returns-in-Err-clause-searched
+block_of-returns-in-Err-clause-searched t c =
+    let d = c.args.way.d in
+    let T = c.args.self.now.table in
+    let B = set_at T c.args.asked.now.set in
+    let b = c.in-Some.blocker in
+    let right = c.requires.ready.2 b c.in-Some.ensures.there in
+    let p = rw (c.in-Some.ensures.set, c.in-Some.ensures.mv, c.move_of_try.ensures) at right.part in
+    let v = asked_part d c.args.way.cut B (move_of c.args.tried.now) c.args.asked.now.moves c.requires.asked.some b.refuses (set_at T b.part) p c.requires.ready.0 (rw c.moves_for-moves.ensures at c.in_ok-can_win.ensures.searched) in
+    let made = right.made ∙ ap (λ (X : List Pos). made (chess d) X b.mv) (ap (set_at T) c.in-Some.ensures.set) ∙ ap (made (chess d) B) (c.in-Some.ensures.mv ∙ c.move_of_try.ensures) in
+    still_short d c.args.way.cut v.1 c.take.new.self c.in-Err.ensures.err (rw made at (c.in-Err.ensures.refused.0 refl))
 
 pub block_anew-returns-in-Some-lost-clause-ready : goal.block_anew-returns-in-Some-lost-clause-ready
 block_anew-returns-in-Some-lost-clause-ready t c =

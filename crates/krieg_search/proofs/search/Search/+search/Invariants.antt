@@ -16,9 +16,6 @@ decreases-first_lost l = 8 * (l.moves * 2 ^ 64 + 2 ^ 64 - 1) + 5
 abbrev pub decreases-block_of : goal.decreases-block_of
 decreases-block_of l = 8 * (l.asked.now.moves * 2 ^ 64 + length (set_at l.self.now.table l.asked.now.set)) + 1
 
-abbrev pub decreases-still_blocks : goal.decreases-still_blocks
-decreases-still_blocks l = 8 * (l.asked.now.moves * 2 ^ 64 + length (set_at l.self.now.table l.asked.now.set))
-
 abbrev pub decreases-block_anew : goal.decreases-block_anew
 decreases-block_anew l = 8 * (l.asked.now.moves * 2 ^ 64 + length (set_at l.self.now.table l.asked.now.set))
 
