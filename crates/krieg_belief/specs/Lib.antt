@@ -1,3 +1,4 @@
+pub mod Staying
 pub mod Steps
 pub mod Possible
 pub mod Limits

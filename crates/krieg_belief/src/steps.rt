@@ -3,6 +3,8 @@ ghost use Rattle.std.specs.List.{All, filter};
 ghost use Rattle.krieg_moves.specs.Legal as rule;
 ghost use Rattle.krieg_moves.specs.After as change;
 ghost use Rattle.krieg_words.specs.ToldMoves.{are_told};
+ghost use Rattle.krieg_words.specs.declared.line.Line.TheVariants.{Heard};
+ghost use Rattle.krieg_belief.specs.Staying as staying;
 ghost use Rattle.krieg_belief.specs.Steps as spec;
 ghost use Rattle.krieg_belief.specs.declared.steps.StepStop.TheVariants as stop;
 
@@ -30,7 +32,7 @@ pub(crate) enum StepStop {
 
 /// Whether these words are told of the position at the start.
 fn has_opening(d: Dialect, w: &Words, p: &Position) -> bool
-    ensures { result ≡ spec.has_opening d w.now p.now }
+    ensures { result ≡ staying.has_opening d w.now p.now }
 {
     compare(w, &told(d, opening(p))).is_eq()
 }
@@ -65,8 +67,39 @@ fn push_heard(
     Ok(())
 }
 
-/// Adds the positions in which a game that stands in `p` may stand after the line.
+/// Adds the positions after the replies that have the words, where the opponent is to move.
 #[tactic(auto, using(crate::proofs::Runs::listed))]
+fn push_replies(
+    alloc: Global,
+    hearing: Hearing,
+    w: &Words,
+    p: &Position,
+    out: &mut Vec<Packed>,
+) -> Result<(), NoMemory>
+    ensures { OnOk result (out.new.items
+        ≡ out.old.items ++ spec.nexts hearing.dialect hearing.side (Heard w.now) p.now) }
+{
+    if p.side() == hearing.side {
+        return Ok(());
+    }
+    let moves = legal_moves(alloc, p)?;
+    push_heard(hearing.dialect, w, p, moves.as_slice(), out)
+}
+
+/// Whether a game goes on from this position as it stands by a line of the side's sheet: one that is no move.
+pub fn stays(d: Dialect, who: Side, line: &Line, p: &Position) -> bool
+    ensures { result ≡ staying.stays d who line.now p.now }
+{
+    match line {
+        Line::Opens(w) => has_opening(d, w, p),
+        Line::Illegal(mv) => has_move(p) && (p.side() == who && !is_legal(p, *mv)),
+        Line::Early(_) => has_move(p) && p.side() != who,
+        Line::Over(_) => !has_move(p),
+        Line::Done(_, _) | Line::Heard(_) => false,
+    }
+}
+
+/// Adds the positions in which a game that stands in `p` may stand after the line.
 fn push_next(
     alloc: Global,
     hearing: Hearing,
@@ -78,39 +111,15 @@ fn push_next(
         ≡ out.old.items ++ spec.nexts hearing.dialect hearing.side line.now p.now) }
 {
     match line {
-        Line::Opens(w) => {
-            if has_opening(hearing.dialect, w, p) {
-                out.push(pack(p))?;
-            }
-            Ok(())
-        }
-        Line::Illegal(mv) => {
-            if has_move(p) && (p.side() == hearing.side && !is_legal(p, *mv)) {
-                out.push(pack(p))?;
-            }
-            Ok(())
-        }
+        Line::Heard(w) => push_replies(alloc, hearing, w, p, out),
         Line::Done(mv, w) => {
             if let Some(next) = after_done(hearing, mv, w, p) {
                 out.push(pack(&next))?;
             }
             Ok(())
         }
-        Line::Heard(w) => {
-            if p.side() == hearing.side {
-                return Ok(());
-            }
-            let moves = legal_moves(alloc, p)?;
-            push_heard(hearing.dialect, w, p, moves.as_slice(), out)
-        }
-        Line::Early(_) => {
-            if has_move(p) && p.side() != hearing.side {
-                out.push(pack(p))?;
-            }
-            Ok(())
-        }
-        Line::Over(_) => {
-            if !has_move(p) {
+        _ => {
+            if stays(hearing.dialect, hearing.side, line, p) {
                 out.push(pack(p))?;
             }
             Ok(())

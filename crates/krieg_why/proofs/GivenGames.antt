@@ -1,10 +1,10 @@
 -- Games that are given one by one: one of those that are kept, and those that were given so far with one more.
-use Rattle.std.proofs.Common.{◌≡◌, ℕ, ◌+◌, List, [], ◌∷◌, ◌++◌, length, take, map, flat_map, Some, sym, ap, ◌∙◌}
+use Rattle.std.proofs.Common.{◌≡◌, ℕ, ◌+◌, List, [], ◌∷◌, ◌++◌, ◌<◌, length, get_or, drop, take, append_assoc, map, flat_map, Some, Result, Ok, Err, sym, ap, ◌∙◌}
 use Rattle.std.specs.Prelude.{slice_get, option_map}
-use Rattle.std.proofs.lemmas.List.{append-nil, length-map, map-append, take_more}
+use Rattle.std.proofs.lemmas.List.{append-nil, length-map, map-append, take_more, drop_more}
 use Rattle.std.proofs.lemmas.Option.{slice_get-map, slice_get_within, get_or_from_slice_get}
 use Rattle.std.proofs.lemmas.Grind.{flat_map-append}
-use Rattle.krieg_why.proofs.Common.{Pos, Side, Move, Line, Event, SheetState, Pieces, Written, HasLines, put_lines, ShownState, state_of, game_lines, begun, Entries, kept, numbered_tale, tale_of, tales_of, events_by, shown_of, Link, Shown}
+use Rattle.krieg_why.proofs.Common.{Pos, Side, Move, Line, Event, SheetState, Pieces, Written, HasLines, PutsLines, put_lines, ShownState, state_of, game_lines, begun, Entries, kept, numbered_tale, tale_of, tales_of, events_by, shown_of, Link, Shown}
 use Rattle.krieg_text.proofs.Writings.{lines_then}
 
 module _ (s : SheetState) (ps : List Pos) (ls : List Link) (lasts : Entries) where
@@ -41,6 +41,29 @@ pub ruleset counts = (counted)
 pub game_more : (games : List ShownState) (i : ℕ) (xs xs' : List Shown) (x : Shown) → slice_get games i ≡ Some (state_of x) → xs' ≡ xs ++ x ∷ [] → map state_of xs ≡ take i games → map state_of xs' ≡ take (i + 1) games
 game_more games i xs xs' x at pushed h =
     ap (map state_of) pushed ∙ (map-append state_of xs (x ∷ []) ∙ (ap (λ (t : List ShownState). t ++ state_of x ∷ []) h ∙ sym (one_more games i (state_of x) at)))
+
+entry_next : (ls : List Line) (i : ℕ) (l : Line) → i < length ls → l ≡ get_or ls i l → drop i ls ≡ l ∷ drop (i + 1) ls
+entry_next ls i l lt is = drop_more ls i l lt ∙ ap (λ (k : Line). k ∷ drop (i + 1) ls) (sym is)
+
+-- an entry more, which tells a try
+pub event_more : (who : Side) (ls : List Line) (i : ℕ) (l : Line) (es es' : List Event) (old new : List Move) (e : Event) (all : List Event) → i < length ls → l ≡ get_or ls i l →
+    ((ms : List Line) → events_by who (l ∷ ms) old ≡ e ∷ events_by who ms new) → es' ≡ es ++ e ∷ [] → es ++ events_by who (drop i ls) old ≡ all → es' ++ events_by who (drop (i + 1) ls) new ≡ all
+event_more who ls i l es es' old new e all lt is tells pushed h =
+    let rest = events_by who (drop (i + 1) ls) new in
+    ap (λ (t : List Event). t ++ rest) pushed ∙ append_assoc es (e ∷ []) rest ∙ ap (λ (t : List Event). es ++ t) (sym (tells (drop (i + 1) ls)))
+    ∙ sym (ap (λ (ms : List Line). es ++ events_by who ms old) (entry_next ls i l lt is)) ∙ h
+
+-- and one that tells none
+pub no_event_more : (who : Side) (ls : List Line) (i : ℕ) (l : Line) (es es' : List Event) (old new : List Move) (all : List Event) → i < length ls → l ≡ get_or ls i l →
+    ((ms : List Line) → events_by who (l ∷ ms) old ≡ events_by who ms new) → es' ≡ es → es ++ events_by who (drop i ls) old ≡ all → es' ++ events_by who (drop (i + 1) ls) new ≡ all
+no_event_more who ls i l es es' old new all lt is tells same h =
+    ap (λ (t : List Event). t ++ events_by who (drop (i + 1) ls) new) same ∙ ap (λ (t : List Event). es ++ t) (sym (tells (drop (i + 1) ls)))
+    ∙ sym (ap (λ (ms : List Line). es ++ events_by who ms old) (entry_next ls i l lt is)) ∙ h
+
+-- a line, and those after it
+pub one_then : {E : Type 0} (r : Result (Unit {0}) E) (old now next : Written) (l : Pieces) (ls : List Pieces) → HasLines old now (l ∷ []) → PutsLines r now next ls → PutsLines r old next (l ∷ ls)
+one_then (Ok u) old now next l ls f g = (g.0 ∙ f.0, g.1 ∙ ap (λ (t : List ℕ). put_lines t ls) f.1)
+one_then (Err e) old now next l ls f g = (g.0 ∙ f.0, tt)
 
 -- one game more that is written
 pub written_more : (old now next : Written) (games : List ShownState) (i : ℕ) (x : ShownState) → slice_get games i ≡ Some x → HasLines old now (flat_map game_lines (take i games)) → HasLines now next (game_lines x) →

@@ -1,32 +1,15 @@
 -- Of the parts of the work: games that are kept by numbers, each with its last reply and the number of the game before it.
-use Rattle.std.specs.Prelude.{◌≡◌, ℕ, suc, ◌+◌, ◌<◌, Bool, true, false, not, ◌&&◌, List, [], ◌∷◌, ◌++◌, None, is_some, unwrap_or, get_or, length, map, if◌then◌else◌}
+use Rattle.std.specs.Prelude.{◌≡◌, ℕ, suc, ◌+◌, ◌<◌, Bool, true, false, List, [], ◌∷◌, ◌++◌, None, is_some, unwrap_or, get_or, length, map, if◌then◌else◌}
 use Rattle.std.specs.List.{All}
 use Rattle.std.specs.Map.{lookup}
-use Rattle.krieg_board.specs.Men.{is_same_side}
 use Rattle.krieg_board.specs.Pos.{Pos}
-use Rattle.krieg_board.specs.declared.men.Side.{Side}
 use Rattle.krieg_board.specs.declared.men.Move.{Move}
 use Rattle.krieg_board.specs.declared.men.Side.TheVariants.{White}
-use Rattle.krieg_moves.specs.Legal.{is_legal}
-use Rattle.krieg_moves.specs.Moves.{is_ended}
-use Rattle.krieg_words.specs.declared.dialects.Dialect.{Dialect}
-use Rattle.krieg_words.specs.declared.line.Line.{Line}
-use Rattle.krieg_words.specs.declared.line.Line.TheVariants.{Opens, Illegal, Done, Heard, Early, Over}
 use Rattle.krieg_pack.specs.Order.{position_eq}
-use Rattle.krieg_belief.specs.Steps.{has_opening}
 use Rattle.krieg_belief.specs.declared.beliefs.BeliefStop.{BeliefStop}
 use Rattle.krieg_belief.specs.declared.beliefs.BeliefStop.TheVariants.{TooMany, NoMemory}
 use Rattle.krieg_why.specs.Tales.{Tale, begun, standing}
 use Rattle.krieg_why.specs.declared.links.Link.{Link}
-
--- whether the game goes on from this position as it stands by a line that is no move
-abbrev pub stays : Dialect → Side → Line → Pos → Bool
-stays d who (Opens w) p = has_opening d w p
-stays d who (Illegal m) p = not (is_ended p) && (is_same_side p.side who && not (is_legal p m))
-stays d who (Done m w) p = false
-stays d who (Heard w) p = false
-stays d who (Early m) p = not (is_ended p) && not (is_same_side p.side who)
-stays d who (Over m) p = is_ended p
 
 -- for each position the number of a game
 abbrev pub Entries : Type 0

@@ -1,9 +1,10 @@
-ghost use Rattle.std.specs.Prelude.{◌≡◌, ◌+◌, ◌<◌, IfOk, Some, length, map, reverse, slice_get, take};
+ghost use Rattle.std.specs.Prelude.{◌≡◌, ◌+◌, ◌<◌, ◌∷◌, List, IfOk, IfSome, IfNone, Some, length, map, reverse, slice_get, take};
 ghost use Rattle.std.specs.List.{All};
 ghost use Rattle.krieg_theory.specs.Sets.{is_nil};
 ghost use Rattle.krieg_pack.specs.Members.{set_of};
 ghost use Rattle.krieg_why.specs.Explained.{state_of};
 ghost use Rattle.krieg_why.specs.Links.{AreKept, Grounded, IsFound, entry_at, numbered_tale, place_of, tales_of};
+ghost use Rattle.krieg_words.specs.declared.line.Line.{Line as SheetLine};
 ghost use Rattle.krieg_why.specs.Retold as spec;
 ghost use Rattle.krieg_why.specs.Retold.{shown_of};
 
@@ -55,6 +56,31 @@ fn trace(
     })
 }
 
+/// The try that the entry tells, where it tells one: the player's own, or the next of the opponent's moves that are left, of
+/// which the last stands first.
+fn event_by(who: Side, line: &Line, left: &mut Vec<Move>) -> Option<Event>
+    ensures some { IfSome result (λ e. (ls : List SheetLine) →
+        spec.events_by who (line.now ∷ ls) (reverse left.old.items)
+        ≡ e ∷ spec.events_by who ls (reverse left.new.items)) }
+    ensures none { IfNone result ((ls : List SheetLine) →
+        spec.events_by who (line.now ∷ ls) (reverse left.old.items)
+        ≡ spec.events_by who ls (reverse left.new.items)) }
+{
+    match line {
+        Line::Illegal(mv) | Line::Early(mv) | Line::Over(mv) | Line::Done(mv, _) => {
+            Some(Event { who, mv: *mv })
+        }
+        Line::Heard(_) => match left.pop() {
+            None => None,
+            Some(mv) => Some(Event {
+                who: who.other(),
+                mv,
+            }),
+        },
+        Line::Opens(_) => None,
+    }
+}
+
 /// The tries of a game that gives these entries, with the opponent's moves, of which the last stands first. Each entry
 /// has at most one try, so the places are taken at once.
 fn events_by(
@@ -68,19 +94,8 @@ fn events_by(
     let mut left = replies;
     let mut events = Vec::with_capacity(alloc, entries.len())?;
     for line in entries {
-        match line {
-            Line::Illegal(mv) | Line::Early(mv) | Line::Over(mv) | Line::Done(mv, _) => {
-                events.push(Event { who, mv: *mv })?;
-            }
-            Line::Heard(_) => {
-                if let Some(mv) = left.pop() {
-                    events.push(Event {
-                        who: who.other(),
-                        mv,
-                    })?;
-                }
-            }
-            Line::Opens(_) => {}
+        if let Some(event) = event_by(who, line, &mut left) {
+            events.push(event)?;
         }
     }
     Ok(events)

@@ -5,18 +5,17 @@ ghost use Rattle.krieg_moves.specs.Legal as rule;
 ghost use Rattle.krieg_words.specs.ToldMoves as spoken;
 ghost use Rattle.krieg_pack.specs.Members.{IsAscending};
 ghost use Rattle.krieg_pack.specs.Order.{position_eq};
-ghost use Rattle.krieg_belief.specs.Steps as steps;
 ghost use Rattle.krieg_why.specs.Links as spec;
 ghost use Rattle.krieg_why.specs.Links.{AreKept, Adds, IsOver, tales_of, tale_of, kept, with_entry};
 ghost use Rattle.krieg_why.specs.Tales as tales_spec;
 ghost use Rattle.krieg_why.specs.Tales.{after_reply, begun, tales_after};
 
 use indexmap::IndexMap;
-use krieg_belief::BeliefStop;
+use krieg_belief::{BeliefStop, stays};
 use krieg_board::{Move, NoMemory, Position, Side};
-use krieg_moves::{has_move, is_legal, legal_moves};
+use krieg_moves::legal_moves;
 use krieg_pack::{Belief, Packed, pack, unpack};
-use krieg_words::{Dialect, Line, Words, after_told, after_told_if_legal, compare, opening, told};
+use krieg_words::{Dialect, Line, Words, after_told, after_told_if_legal};
 use std::alloc::Global;
 
 /// The last of the opponent's moves in a game, and the game before it: the number of a start, or behind them that of
@@ -58,26 +57,6 @@ pub(crate) fn begin(alloc: Global, starts: &Belief) -> Result<Tales, NoMemory>
         let _ = tales.insert(*k, i)?;
     }
     Ok(tales)
-}
-
-/// Whether these words are told of the position at the start.
-fn has_opening(d: Dialect, w: &Words, p: &Position) -> bool
-    ensures { result ≡ steps.has_opening d w.now p.now }
-{
-    compare(w, &told(d, opening(p))).is_eq()
-}
-
-/// Whether the game goes on from this position as it stands by a line that is no move.
-fn stays(d: Dialect, who: Side, line: &Line, p: &Position) -> bool
-    ensures { result ≡ spec.stays d who line.now p.now }
-{
-    match line {
-        Line::Opens(w) => has_opening(d, w, p),
-        Line::Illegal(mv) => has_move(p) && (p.side() == who && !is_legal(p, *mv)),
-        Line::Early(_) => has_move(p) && p.side() != who,
-        Line::Over(_) => !has_move(p),
-        Line::Done(_, _) | Line::Heard(_) => false,
-    }
 }
 
 /// Adds a game where none stands in its position.

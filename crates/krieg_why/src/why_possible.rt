@@ -48,18 +48,24 @@ fn tell_lines(
     Ok(tales)
 }
 
-/// For each position in which a game stands its number, in the order of the positions. The games are let go before the
-/// answer is read.
-fn lasts_of(alloc: Global, tales: Tales) -> Result<Vec<(Packed, usize)>, NoMemory>
+/// For each position in which a game stands its number, in the order of the positions.
+fn numbered_positions(alloc: Global, tales: &Tales) -> Result<Vec<(Packed, usize)>, NoMemory>
+    ensures { IfOk result (λ v. v.items ≡ map (entry_at tales.now.entries)
+        (set_of (map place_of tales.now.entries))) }
+{
+    let possible = positions(alloc, tales)?;
+    numbered(alloc, tales, &possible)
+}
+
+/// The same of games that are let go before the answer is read.
+fn lasts_of(alloc: Global, mut tales: Tales) -> Result<Vec<(Packed, usize)>, NoMemory>
     ensures { IfOk result (λ v. v.items ≡ map (entry_at tales.entries)
         (set_of (map place_of tales.entries))) }
 {
-    let mut tales = tales;
-    let possible = positions(alloc, &tales)?;
-    let lasts = numbered(alloc, &tales, &possible)?;
+    let lasts = numbered_positions(alloc, &tales);
     // What is let go in smaller parts goes back to the system, and the text of the games takes its place.
     tales.shrink_to_fit();
-    Ok(lasts)
+    lasts
 }
 
 /// For each position that is consistent with the sheet, in order, the least hidden game that explains it: the one

@@ -3,18 +3,32 @@ ghost use Rattle.std.specs.List.{flat_map};
 ghost use Rattle.krieg_text.specs.Writing.{PutsLines, Appends};
 ghost use Rattle.krieg_why.specs.Explained.{state_of};
 ghost use Rattle.krieg_why.specs.GamesText as spec;
+ghost use Rattle.krieg_session.specs.SessionText.{event_line};
 
 use crate::games::Games;
 use crate::shown::Shown;
 use krieg_board::NoMemory;
 use krieg_fen::{Ranks, put_next};
+use krieg_referee::Event;
 use krieg_session::put_event;
 use krieg_text::{Text, put_number};
-use krieg_words::{Dialect, dialect_name};
+use krieg_words::{Dialect, put_dialect_line};
 use std::alloc::Global;
 
 /// Room for so many bytes of each game is found before the first is written. A game of three moves has as many.
 const GAME_ROOM: usize = 128;
+
+/// Adds the lines of tries.
+#[tactic(auto, using(krieg_text::proofs::Writings::writings))]
+fn put_events(events: &[Event], text: &mut Text) -> Result<(), NoMemory>
+    ensures { PutsLines result text.old text.new (map event_line events.now) }
+{
+    for event in events {
+        put_event(event, text)?;
+        text.end_line()?;
+    }
+    Ok(())
+}
 
 /// Adds the lines of a game. Of both positions only the ranks that differ from those of the game before are spelled.
 #[tactic(auto, using(krieg_text::proofs::Writings::writings))]
@@ -30,11 +44,7 @@ fn put_game(
     put_next(&game.last, lasts, text)?;
     text.put(b"start ")?;
     put_next(&game.start, starts, text)?;
-    for event in &game.events {
-        put_event(event, text)?;
-        text.end_line()?;
-    }
-    Ok(())
+    put_events(&game.events, text)
 }
 
 /// Adds the first lines of the text of so many games.
@@ -42,9 +52,7 @@ fn put_head(d: Dialect, count: usize, text: &mut Text) -> Result<(), NoMemory>
     ensures { PutsLines result text.old text.new (spec.head_lines d count) }
 {
     text.line(b"krieg games 1")?;
-    text.put(b"dialect ")?;
-    text.put(dialect_name(d))?;
-    text.end_line()?;
+    put_dialect_line(d, text)?;
     text.put(b"games ")?;
     put_number(count as u64, text)?;
     text.end_line()

@@ -1,4 +1,5 @@
-use Rattle.std.proofs.Common.{rules, ◌≡◌, ◌++◌, ◌∷◌, [], ℕ, Some}
+use Rattle.std.proofs.Common.{rules, ap, ◌∙◌, map, ◌≡◌, ◌++◌, ◌∷◌, [], ℕ, Some}
+use Rattle.std.proofs.lemmas.List.{take_all}
 use Rattle.std.specs.Map.{lookup}
 use Rattle.krieg_why.proofs.Common.{position_eq, entry_at}
 use Rattle.krieg_why.proofs.Found.{entry_is, none_found, each_more}
@@ -18,3 +19,11 @@ loop-k-preserved c =
           each_more (entry_at es) qs c.loop-k.k-index q c.loop-k.lasts.items c.match-get.lasts.items (q, n) c.loop-k-test.true c.k-item.is pushed (entry_is es q n is) c.loop-k.invariant
       | in_default v ↦ absurd (none_found es q (search rules) (search rules))
     ]
+
+pub loop-k-init : goal.loop-k-init
+loop-k-init c = c.in_ok-lasts.ensures.items
+
+pub returns : goal.returns
+returns c =
+    let qs = c.members-k-items.result.now in
+    c.loop-k.invariant ∙ ap (map (entry_at c.args.tales.now.entries)) (take_all c.loop-k.k-index qs c.loop-k-test.false ∙ c.members-k-items.ensures.value)

@@ -1,4 +1,7 @@
-use Rattle.std.proofs.Common.{rules, ◌≡◌, ◌++◌, ◌∷◌, []}
+use Rattle.std.proofs.Common.{rules, arith, ap, ◌∙◌, map, ◌≡◌, ◌++◌, ◌∷◌, []}
+use Rattle.std.proofs.lemmas.List.{take_all}
+use Rattle.krieg_pack.specs.Members.{set_of}
+use Rattle.krieg_why.proofs.Common.{place_of}
 use Rattle.krieg_why.proofs.Found.{place_more}
 use Rattle.krieg_why.proofs.Lines.{none_past}
 use Rattle.krieg_why.proofs.games.positions.Goals as goal
@@ -13,3 +16,11 @@ loop-i-preserved c =
           place_more es c.loop-i.i v.in-Some.k.now v.in-Some._number.now c.loop-i.packed.items c.match-get_index.packed.items (search rules) pushed c.loop-i.invariant
       | in_default v ↦ absurd (none_past es c.loop-i.i (search rules) (search rules))
     ]
+
+pub loop-i-init : goal.loop-i-init
+loop-i-init c = c.in_ok-packed.ensures.items
+
+pub returns : goal.returns
+returns c =
+    let es = c.args.tales.now.entries in
+    c.from_packed.ensures.value ∙ ap set_of (c.loop-i.invariant ∙ ap (map place_of) (take_all c.loop-i.i es (omega (arith, c.len-i-end.ensures.len))))

@@ -13,7 +13,7 @@ loop-preserved c =
     let in_links : place < length c.args.links.now = omega (arith, lies, size, low, bound) in
     let there : c.loop.at ≡ n + place = omega (arith, lies, size) in
     let below = grounded_at n c.args.links.now place c.index-links-at.result c.requires.grounded in_links c.index-links-at.is in
-    let pushed : c.push.new.self.items ≡ c.loop.replies.items ++ c.index-links-at.result.reply ∷ [] = search rules in
+    let pushed : c.push.new.self.items ≡ c.loop.replies.items ++ c.index-links-at.result.reply ∷ [] = c.in_ok-push.ensures.items in
     record {
       low = omega (arith, lies, size, low, below);
       traced = traced_more c.args.starts.now c.args.links.now c.args.number c.loop.at place c.index-links-at.result c.loop.replies.items c.push.new.self.items c.requires.grounded in_links c.index-links-at.is there pushed c.loop.invariant.traced;
