@@ -7,6 +7,8 @@ use Rattle.krieg_referee.specs.declared.verdict.Judged.{Judged}
 use Rattle.krieg_referee.specs.declared.verdict.Verdict.{Verdict}
 use Rattle.krieg_referee.specs.declared.verdict.Verdict.TheVariants as verdict
 use Rattle.krieg_cli.specs.declared.commands.job.verdict_counts.VerdictCounts.{VerdictCounts}
+use Rattle.krieg_cli.specs.declared.commands.job.verdict_counts.VerdictKind.{VerdictKind}
+use Rattle.krieg_cli.specs.declared.commands.job.verdict_counts.VerdictKind.TheVariants as kind
 
 -- the try was done
 abbrev pub is_done : Verdict → Bool
@@ -27,6 +29,13 @@ is_early _ = false
 abbrev pub is_over : Verdict → Bool
 is_over verdict.Over = true
 is_over _ = false
+
+-- it was judged so
+abbrev pub is_judged : VerdictKind → Verdict → Bool
+is_judged kind.Done v = is_done v
+is_judged kind.Illegal v = is_illegal v
+is_judged kind.Early v = is_early v
+is_judged kind.Over v = is_over v
 
 -- how many of the tries were judged so
 abbrev pub count_judged : (Verdict → Bool) → List Judged → ℕ

@@ -5,7 +5,6 @@ use krieg_seats::Seat;
 use std::alloc::Global;
 
 /// The seats of both sides, and those that were relieved.
-#[derive(Drop)]
 pub struct Bench {
     /// White's seats. The first one sits, and the others relieve it in their order.
     pub white: Vec<Box<dyn Seat>>,
@@ -15,6 +14,18 @@ pub struct Bench {
     pub white_out: Vec<Box<dyn Seat>>,
     /// Black's seats that were relieved.
     pub black_out: Vec<Box<dyn Seat>>,
+}
+
+/// All seats go. It is written out, so that whoever has a bench lets it go by one call.
+impl Drop for Bench {
+    fn drop(self) {
+        let Bench {
+            white: _,
+            black: _,
+            white_out: _,
+            black_out: _,
+        } = self;
+    }
 }
 
 impl Bench {

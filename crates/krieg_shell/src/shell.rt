@@ -1,4 +1,4 @@
-ghost use Rattle.std.specs.Prelude.{◌≡◌, ℕ, List, [], map, option_map, string_bytes, None, codes};
+ghost use Rattle.std.specs.Prelude.{◌≡◌, ℕ, List, [], IfSome, map, option_map, string_bytes, None, codes};
 ghost use Rattle.krieg_args.specs.Command.{command_of};
 ghost use Rattle.krieg_cli.specs.Top.{Gets};
 ghost use Rattle.krieg_cli.specs.World.{stream, world};
@@ -46,9 +46,9 @@ trait Players {
     // What the player is whose tries come from the first of these files, and who is told in the second.
     ghost made: { List ℕ → List ℕ → Account };
 
-    /// The player at these two files.
-    fn player(&self, alloc: Global, tries: &str, told: &str) -> StreamSeat<File, File>
-        ensures { stream_account result ≡ made tries.now told.now };
+    /// The player at these two files, or none where there is no memory for one.
+    fn player(&self, alloc: Global, tries: &str, told: &str) -> Option<Box<StreamSeat<File, File>>>
+        ensures { IfSome result (λ seat. stream_account seat.value ≡ made tries.now told.now) };
 }
 
 /// Players at files of the system.
@@ -62,12 +62,18 @@ impl<'a, R: Files<File = File>> Players for FilePlayers<'a, R> {
 
     /// A file that cannot be opened is a missing reader or writer; the file in which he is told is made, and what it
     /// held is gone.
-    fn player(&self, alloc: Global, tries: &str, told: &str) -> StreamSeat<File, File> {
-        StreamSeat::new(
+    fn player(
+        &self,
+        alloc: Global,
+        tries: &str,
+        told: &str,
+    ) -> Option<Box<StreamSeat<File, File>>> {
+        let seat = StreamSeat::new(
             alloc,
             fs::open(self.rt, tries).ok(),
             fs::create(self.rt, told).ok(),
-        )
+        );
+        Box::new(alloc, seat).ok()
     }
 }
 
@@ -117,17 +123,17 @@ fn start_playing<P: Players, S: Source, O: Sink, E: Sink>(
         (heard err.old) (heard err.new) }
 {
     let alloc = call.alloc;
-    let mut bench = Bench::new(alloc);
-    let Ok(white) = Box::new(alloc, call.players.player(alloc, files.win, files.wout)) else {
+    let Some(white) = call.players.player(alloc, files.win, files.wout) else {
         return tell_memory(err);
     };
-    let Ok(black) = Box::new(alloc, call.players.player(alloc, files.bin, files.bout)) else {
+    let Some(black) = call.players.player(alloc, files.bin, files.bout) else {
         return tell_memory(err);
     };
     let white: Box<dyn Seat> = white;
     let black: Box<dyn Seat> = black;
     know_player(call.players, &white, files.win, files.wout);
     know_player(call.players, &black, files.bin, files.bout);
+    let mut bench = Bench::new(alloc);
     if bench.white.push(white).is_err() || bench.black.push(black).is_err() {
         return tell_memory(err);
     }
@@ -152,12 +158,12 @@ fn start_leading<P: Players, S: Source, O: Sink, E: Sink>(
         (seen input.old out.old) (seen input.new out.new)
         (heard err.old) (heard err.new) }
 {
-    let mut bench = Bench::new(call.alloc);
-    let Ok(opponent) = Box::new(call.alloc, call.players.player(call.alloc, tries, told)) else {
+    let Some(opponent) = call.players.player(call.alloc, tries, told) else {
         return tell_memory(err);
     };
     let opponent: Box<dyn Seat> = opponent;
     know_player(call.players, &opponent, tries, told);
+    let mut bench = Bench::new(call.alloc);
     if bench.white.push(opponent).is_err() {
         return tell_memory(err);
     }

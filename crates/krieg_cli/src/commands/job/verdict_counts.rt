@@ -31,52 +31,31 @@ pub(crate) fn made_verdicts(alloc: Global, number: u32) -> Result<VerdictCounts,
     Ok(verdict_counts(game.log()))
 }
 
-fn is_done(verdict: &Verdict) -> bool
-    ensures { result ≡ spec.is_done verdict.now }
-{
-    matches!(verdict, Verdict::Done(_))
+/// How a try is judged, without what is told of it.
+#[derive(Clone, Copy)]
+enum VerdictKind {
+    Done,
+    Illegal,
+    Early,
+    Over,
 }
 
-fn is_illegal(verdict: &Verdict) -> bool
-    ensures { result ≡ spec.is_illegal verdict.now }
+fn is_judged(verdict: &Verdict, kind: VerdictKind) -> bool
+    ensures { result ≡ spec.is_judged kind verdict.now }
 {
-    matches!(verdict, Verdict::Illegal)
+    match kind {
+        VerdictKind::Done => matches!(verdict, Verdict::Done(_)),
+        VerdictKind::Illegal => matches!(verdict, Verdict::Illegal),
+        VerdictKind::Early => matches!(verdict, Verdict::Early),
+        VerdictKind::Over => matches!(verdict, Verdict::Over),
+    }
 }
 
-fn is_early(verdict: &Verdict) -> bool
-    ensures { result ≡ spec.is_early verdict.now }
+/// How many of the tries are judged so.
+fn count_judged(log: &[Judged], kind: VerdictKind) -> usize
+    ensures { result ≡ spec.count_judged (spec.is_judged kind) log.now }
 {
-    matches!(verdict, Verdict::Early)
-}
-
-fn is_over(verdict: &Verdict) -> bool
-    ensures { result ≡ spec.is_over verdict.now }
-{
-    matches!(verdict, Verdict::Over)
-}
-
-fn count_done(log: &[Judged]) -> usize
-    ensures { result ≡ spec.count_judged spec.is_done log.now }
-{
-    log.iter().filter(|j| is_done(&j.verdict)).count()
-}
-
-fn count_illegal(log: &[Judged]) -> usize
-    ensures { result ≡ spec.count_judged spec.is_illegal log.now }
-{
-    log.iter().filter(|j| is_illegal(&j.verdict)).count()
-}
-
-fn count_early(log: &[Judged]) -> usize
-    ensures { result ≡ spec.count_judged spec.is_early log.now }
-{
-    log.iter().filter(|j| is_early(&j.verdict)).count()
-}
-
-fn count_over(log: &[Judged]) -> usize
-    ensures { result ≡ spec.count_judged spec.is_over log.now }
-{
-    log.iter().filter(|j| is_over(&j.verdict)).count()
+    log.iter().filter(|j| is_judged(&j.verdict, kind)).count()
 }
 
 /// How the tries were judged.
@@ -85,10 +64,10 @@ fn verdict_counts(log: &[Judged]) -> VerdictCounts
 {
     VerdictCounts {
         tries: log.len(),
-        done: count_done(log),
-        illegal: count_illegal(log),
-        early: count_early(log),
-        over: count_over(log),
+        done: count_judged(log, VerdictKind::Done),
+        illegal: count_judged(log, VerdictKind::Illegal),
+        early: count_judged(log, VerdictKind::Early),
+        over: count_judged(log, VerdictKind::Over),
     }
 }
 
