@@ -5,10 +5,7 @@ use crate::given::Given;
 use crate::plans::Plans;
 use crate::scene::{START, Scene};
 use crate::stop::judged;
-use crate::strategies::Strategies;
-use crate::{
-    boards, games, moves, positions, refutations, san, searches, sets, splits, tables, texts, words,
-};
+use crate::{boards, games, moves, positions, san, sets, splits, tables, texts, words};
 use krieg_board::NoMemory;
 use krieg_fen::read_position;
 use krieg_table::Table;
@@ -34,12 +31,9 @@ enum Layer {
     Tables,
     Splits,
     Plans,
-    Searches,
-    Refutations,
-    Strategies,
 }
 
-static LAYERS: [(&str, Layer); 14] = [
+static LAYERS: [(&str, Layer); 11] = [
     ("boards", Layer::Boards),
     ("positions", Layer::Positions),
     ("moves", Layer::Moves),
@@ -51,9 +45,6 @@ static LAYERS: [(&str, Layer); 14] = [
     ("tables", Layer::Tables),
     ("splits", Layer::Splits),
     ("plans", Layer::Plans),
-    ("searches", Layer::Searches),
-    ("refutations", Layer::Refutations),
-    ("strategies", Layer::Strategies),
 ];
 
 fn layer_of(given: &mut Given) -> Layer {
@@ -74,7 +65,6 @@ struct FactState {
     scene: Scene,
     table: Table,
     plans: Plans,
-    strategies: Strategies,
     facts: u64,
 }
 
@@ -94,9 +84,6 @@ impl FactState {
             Layer::Tables => tables::ask(scene, &mut self.table, mark, given, answer),
             Layer::Splits => splits::ask(scene, mark, given, answer),
             Layer::Plans => self.plans.ask(mark, given, answer),
-            Layer::Searches => searches::ask(scene, mark, given, answer),
-            Layer::Refutations => refutations::ask(scene, mark, given, answer),
-            Layer::Strategies => self.strategies.ask(mark, given, answer),
         }
     }
 
@@ -152,7 +139,6 @@ impl FactState {
             "about" => self.layer = layer_of(given),
             "table" => self.set_table(),
             "node" | "grid" | "path" | "bush" | "roots" | "plan" => self.plans.set(mark, given),
-            "strategy" => self.strategies.set(given),
             _ => self.scene.set(mark, given),
         }
     }
@@ -216,7 +202,6 @@ fn first_state(alloc: Global) -> Option<FactState> {
             scene: Scene::new(alloc, start),
             table: Table::new(alloc),
             plans,
-            strategies: Strategies::new(alloc),
             facts: 0,
         }),
         _ => None,

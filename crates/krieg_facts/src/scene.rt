@@ -7,7 +7,6 @@ use krieg_fen::read_position;
 use krieg_make::made_sheet;
 use krieg_moves::{after, is_legal, legal_moves};
 use krieg_pack::{Belief, order};
-use krieg_search::Way;
 use krieg_words::{Dialect, read_dialect};
 use std::alloc::Global;
 use std::cmp::Ordering;
@@ -36,16 +35,6 @@ pub struct Scene {
 }
 
 impl Scene {
-    /// A search for first tries or for a strategy: it cuts tries, and notes none.
-    pub fn way(&self) -> Way {
-        Way {
-            alloc: self.alloc,
-            d: self.dialect,
-            cut: true,
-            noted: 0,
-        }
-    }
-
     /// The position alone, in wild16.
     pub fn new(alloc: Global, position: Position) -> Scene {
         Scene {

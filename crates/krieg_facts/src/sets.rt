@@ -3,8 +3,11 @@
 use crate::answer::AnswerText;
 use crate::given::Given;
 use crate::scene::Scene;
-use krieg_board::{NoMemory, Position};
+use krieg_board::{NoMemory, Position, Side};
+use krieg_checker::has_one_turn as lists_one_turn;
 use krieg_pack::{Belief, KeptSet, Packed, order, pack, trim, unpack};
+use krieg_plan::{Plan, PlanFile};
+use krieg_search::has_one_turn;
 use std::cmp::Ordering;
 
 /// The bytes of a packed position.
@@ -111,7 +114,7 @@ fn say_kept(scene: &Scene, b: &Belief, answer: &mut AnswerText) {
 }
 
 /// Adds the positions to the buffer.
-pub fn add_packed(list: &[Position], buffer: &mut Vec<Packed>) -> Result<(), NoMemory> {
+fn add_packed(list: &[Position], buffer: &mut Vec<Packed>) -> Result<(), NoMemory> {
     for p in list {
         buffer.push(pack(p))?;
     }
@@ -151,6 +154,28 @@ fn say_same(scene: &Scene, b: &Belief, given: &mut Given, answer: &mut AnswerTex
     }
 }
 
+/// Whether the same side is to move in all positions, where the set and a plan file that lists them say the same.
+fn say_turn(scene: &Scene, list: Vec<Position>, b: &Belief, answer: &mut AnswerText) {
+    let file = PlanFile {
+        dialect: scene.dialect,
+        side: Side::White,
+        list,
+        worst: 1,
+        plan: Plan::make(Vec::new(scene.alloc)),
+    };
+    let is_one = has_one_turn(b);
+    answer.only_if(lists_one_turn(&file) == is_one);
+    answer.yes_or_no(is_one);
+}
+
+/// The same of the positions that are listed.
+fn say_one_turn(scene: &Scene, b: &Belief, answer: &mut AnswerText) {
+    match scene.list.to_vec(scene.alloc) {
+        Ok(list) => say_turn(scene, list, b, answer),
+        Err(_) => answer.stop.lacks_memory(),
+    }
+}
+
 /// Answers a question about the set of the positions that are listed.
 fn ask_set(scene: &Scene, b: &Belief, mark: &str, given: &mut Given, answer: &mut AnswerText) {
     match mark {
@@ -158,6 +183,7 @@ fn ask_set(scene: &Scene, b: &Belief, mark: &str, given: &mut Given, answer: &mu
         "holds" => answer.yes_or_no(b.holds(&scene.position_in(given.rest(), given))),
         "same-set" => say_same(scene, b, given, answer),
         "kept" => say_kept(scene, b, answer),
+        "one-turn" => say_one_turn(scene, b, answer),
         _ => answer.stop.unread(),
     }
 }

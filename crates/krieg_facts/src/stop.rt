@@ -1,7 +1,6 @@
 // Why a line is not answered.
 
 use krieg_board::NoMemory;
-use krieg_sheet::SheetFault;
 use krieg_split::SplitStop;
 
 /// Why a line is not answered.
@@ -16,14 +15,6 @@ pub enum LineStop {
 }
 
 impl LineStop {
-    /// Why there is no sheet or no entry.
-    pub fn of_sheet(fault: SheetFault) -> LineStop {
-        match fault {
-            SheetFault::NoMemory => LineStop::Memory,
-            _ => LineStop::Unread,
-        }
-    }
-
     /// Why a set was not split.
     pub fn of_split(stop: SplitStop) -> LineStop {
         match stop {
