@@ -105,6 +105,17 @@ pub(crate) fn no_more(words: &[String]) -> Option<()>
     words.is_empty().then_some(())
 }
 
+/// The names of two files, which are all words that there are.
+fn two_files(words: &[String]) -> Option<(&str, &str)>
+    ensures { option_map (λ it. (it.0.now, (it.1.now, tt))) result
+        ≡ spec.read_all (File ∷ File ∷ []) (map string_bytes words.now) }
+{
+    let (tries, words) = file(words)?;
+    let (told, words) = file(words)?;
+    no_more(words)?;
+    Some((tries, told))
+}
+
 /// Moves, budget and limit of a search, with the most moves and the most units of work.
 fn numbers(moves: u64, units: u64, words: &[String]) -> Option<(u64, u64, u64)>
     ensures { option_map (λ n. (n.0, (n.1, (n.2, tt)))) result
@@ -144,9 +155,7 @@ pub(crate) fn played_words(words: &[String]) -> Option<(u64, SeatFiles<'_>)>
     let (asks, words) = asks_of(words)?;
     let (win, words) = file(words)?;
     let (wout, words) = file(words)?;
-    let (bin, words) = file(words)?;
-    let (bout, words) = file(words)?;
-    no_more(words)?;
+    let (bin, bout) = two_files(words)?;
     let files = SeatFiles {
         win,
         wout,
@@ -163,8 +172,6 @@ pub(crate) fn led_words(words: &[String]) -> Option<(u64, u64, (&str, &str))>
 {
     let (asks, words) = asks_of(words)?;
     let (place, words) = limit_of(words)?;
-    let (tries, words) = file(words)?;
-    let (told, words) = file(words)?;
-    no_more(words)?;
-    Some((asks, place, (tries, told)))
+    let files = two_files(words)?;
+    Some((asks, place, files))
 }

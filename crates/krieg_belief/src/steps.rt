@@ -143,12 +143,12 @@ pub(crate) fn step(
 {
     let mut out = Vec::new(alloc);
     for k in b.members() {
-        if push_next(alloc, hearing, line, &unpack(k), &mut out).is_err() {
+        let Ok(()) = push_next(alloc, hearing, line, &unpack(k), &mut out) else {
             return Err(StepStop::NoMemory);
-        }
-        if trim(&mut out, limit).is_err() {
+        };
+        let Ok(()) = trim(&mut out, limit) else {
             return Err(StepStop::TooMany);
-        }
+        };
     }
     let next = Belief::from_packed(out);
     if next.len() > limit {

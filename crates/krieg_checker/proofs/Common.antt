@@ -3,7 +3,6 @@ pub use Rattle.krieg_board.specs.Men.{is_same_side}
 pub use Rattle.krieg_board.specs.Pos.{Pos}
 pub use Rattle.krieg_board.specs.declared.men.Move.{Move}
 pub use Rattle.krieg_board.specs.declared.men.Side.{Side}
-pub use Rattle.krieg_board.specs.declared.men.Side.TheVariants.{Black, White}
 unfoldable pub use Rattle.krieg_moves.specs.Moves.{is_ended, moves}
 pub use Rattle.krieg_words.specs.WordsReading.{silent}
 pub use Rattle.krieg_words.specs.declared.dialects.Dialect.{Dialect}
@@ -25,7 +24,6 @@ pub use Rattle.krieg_game.specs.Classes.{class_pair, classes_in}
 pub use Rattle.krieg_game.specs.Keys.{Key, RootKey, key_lt}
 unfoldable pub use Rattle.krieg_game.specs.Outset.{starts, waits}
 pub use Rattle.krieg_game.specs.Outset.{outset}
-pub use Rattle.krieg_plan.specs.OneTurn.{IsOneTurn}
 pub use Rattle.krieg_plan.specs.Nodes.{as_edges, as_other, edge_of, tree_of}
 pub use Rattle.krieg_plan.specs.Order.{is_ordered, is_ordered_other}
 pub use Rattle.krieg_plan.specs.Plans.{plan_of}

@@ -1,9 +1,7 @@
 -- What comes before the first own turn.
-use Rattle.std.proofs.Common.{◌≡◌, ℕ, Bool, true, false, not, cond, ◌||◌, List, [], ◌∷◌, map, length, inl, inr, refl, sym, ap, subst, ◌∙◌}
-use Rattle.std.specs.Prelude.{◌↔◌, IsTrue, slice_get, Some, None}
-use Rattle.std.specs.List.{list_any, list_all}
-use Rattle.krieg_checker.proofs.Common.{Pos, moves, is_ended, Dialect, silent, is_same_side, Side, White, Black, position_lt, IsAscending, set_of, In, as_set, is_nil, is_over, total, class_pair, classes_in, outset, waits, starts, IsOwnTurn, IsOthersTurn, first_cost, chess, first_outcomes, opened, IsOneTurn, IsFirstTurn, heard_of, FirstTurn}
-use Rattle.krieg_theory.proofs.Lists.{all_at, all_from}
+use Rattle.std.proofs.Common.{◌≡◌, ℕ, Bool, true, false, not, cond, ◌||◌, List, [], ◌∷◌, map, length, inl, inr, refl, sym, ap, ◌∙◌}
+use Rattle.std.specs.List.{list_any}
+use Rattle.krieg_checker.proofs.Common.{Pos, moves, is_ended, Dialect, silent, is_same_side, Side, position_lt, IsAscending, set_of, In, as_set, is_nil, is_over, total, class_pair, classes_in, outset, waits, starts, IsOwnTurn, IsOthersTurn, first_cost, chess, first_outcomes, opened, IsFirstTurn, heard_of, FirstTurn}
 use Rattle.krieg_pack.proofs.PositionSets.{position_order, set_of_ascending}
 use Rattle.krieg_theory.proofs.Ascending.{as_set_in}
 use Rattle.krieg_costs.proofs.Totals.{total_agree}
@@ -11,7 +9,6 @@ use Rattle.krieg_game.proofs.Starting.{own_start}
 use Rattle.krieg_parting.proofs.Advancing.{some_over, as_many}
 use Rattle.krieg_game.proofs.Classed.{openings_are_classed, first_moves_are_classed}
 use Rattle.krieg_checker.proofs.Sets.{total_none}
-use Rattle.krieg_plan.proofs.Listed.{get_in}
 
 any_same : (f g : Pos → Bool) (ps : List Pos) → ((p : Pos) → In p ps → f p ≡ g p) → list_any f ps ≡ list_any g ps
 any_same f g [] h = refl
@@ -55,26 +52,3 @@ module _ (d : Dialect) (who : Side) (S : List Pos) where
       over_part = over ∙ sym (some_over d who S turn);
       classes_part = (λ i. map (heard_of (own i)) (classes i)) ∙ first_moves_are_classed d who S turn;
     }
-
--- of the same side
-same_side : (s t : Side) → is_same_side s t ≡ true → s ≡ t
-same_side White White e = refl
-same_side White Black e = absurd cc
-same_side Black White e = absurd cc
-same_side Black Black e = refl
-
-side_same : (s : Side) → is_same_side s s ≡ true
-side_same White = refl
-side_same Black = refl
-
--- one turn is the turn of one position
-pub one_turn : (S : List Pos) (p : Pos) (side : Side) (r : Bool) → Some p ≡ slice_get S 0 → side ≡ p.side → r ≡ list_all (λ q. is_same_side q.side side) S → IsTrue r ↔ IsOneTurn S
-one_turn S p side r there at is = (
-  (λ e. let all = sym is ∙ e in record { same_side = λ q t j k. same_side q.side side (all_at _ S all q j) ∙ sym (same_side t.side side (all_at _ S all t k)) }),
-  (λ h. is ∙ all_from _ S (λ q j. subst (λ s. is_same_side q.side s ≡ true) (h.same_side q p j (get_in S 0 p (sym there)) ∙ sym at) (side_same q.side))),
-)
-
--- where there is none there is nothing to compare
-pub no_turn : (S : List Pos) → None ≡ slice_get S 0 → IsTrue true ↔ IsOneTurn S
-no_turn [] e = ((λ t. record { same_side = λ p q i j. absurd i }), (λ h. refl))
-no_turn (p ∷ ps) e = absurd cc

@@ -35,4 +35,4 @@ pub mod toy;
 mod walk;
 
 pub use krieg_parting::PartStop as CheckStop;
-pub use plan_check::{PlanVerdict, check, check_owned, has_one_turn};
+pub use plan_check::{PlanVerdict, check, check_owned};

@@ -1,6 +1,4 @@
-ghost use Rattle.std.specs.Prelude.{◌≡◌, ◌↔◌, IsTrue};
-ghost use Rattle.std.specs.List.{list_all};
-ghost use Rattle.krieg_board.specs.Men.{is_same_side};
+ghost use Rattle.std.specs.Prelude.{◌≡◌};
 ghost use Rattle.krieg_parting.specs.Charges.{Charges};
 ghost use Rattle.krieg_plan.specs.OneTurn.{IsOneTurn};
 ghost use Rattle.krieg_plan.specs.declared.plan.PlanFile.{PlanFile};
@@ -9,7 +7,7 @@ ghost use Rattle.krieg_checker.specs.Verdict.{IsVerdict, AreParts, check_cost};
 
 use crate::roots::walk_roots;
 use crate::start::start;
-use krieg_board::{Position, Side, Units};
+use krieg_board::{Side, Units};
 use krieg_pack::Belief;
 use krieg_parting::PartStop;
 use krieg_plan::{Plan, PlanFile};
@@ -41,29 +39,6 @@ fn verdict(worst: u16, over: bool, need: Option<u16>) -> PlanVerdict
     match need {
         Some(w) if !over && w <= worst => PlanVerdict::Mates(w),
         _ => PlanVerdict::Fails,
-    }
-}
-
-/// Whether the side is to move in all positions.
-fn are_turns_of(list: &[Position], side: Side) -> bool
-    ensures { result ≡ list_all (λ p. is_same_side p.side side) list.now }
-{
-    for p in list {
-        if p.side() != side {
-            return false;
-        }
-    }
-    true
-}
-
-/// Whether the same side is to move in all listed positions, as `check` asks for.
-pub fn has_one_turn(f: &PlanFile) -> bool
-    ensures { IsTrue result ↔ IsOneTurn f.now.list.items }
-{
-    let list = f.list.as_slice();
-    match list.first() {
-        None => true,
-        Some(p) => are_turns_of(list, p.side()),
     }
 }
 

@@ -5,12 +5,12 @@ use Rattle.std.proofs.lemmas.Bool.{both_ways}
 use Rattle.std.proofs.Math.Seq.{drop-append_seam, drop-length}
 use Rattle.krieg_cli.proofs.Common.{JudgedSo, Pos, White, Black, SheetState, san_of, unsan_of, is_nil, made_sheet, Line, Account, Team, Turns, Service, BrokenCourse, HasFailed, entry_of, now_of, Sides, takes_input, Command, Solve, Check, Refute, Deny, Believe, Why, Umpire, San, Unsan, Play, Lead, Next, Find, Keys, Share, Judge, Advise, Conduct, Make, Job, World, FaultsRose, WasRead, OfText, status, Leaves, has_no_turn, OfPossible, Claimed, Keyed, SharedBy, Judged, told_text, Believed, Shows, Guidance, guided, plan_guide, strategy_guide, PlaysFrom, PlaysWhole, LeadsFrom, LeadsWhole, Says, LivesBy, Plans, Summarizes, LiveOutcome, HasOutcome, ComesTo, Ends, Runs, CanBeJudged, CanBeDenied, CanBeChecked, CanBeShown, CanBeSummed, HoldsText, MustAnswer, NoneFailed, seats_since, CanPlay, BenchHolds, Completes, Refusal, Ending, MOST_INPUT, Side, Dialect, is_over, Search, Searches, OfSheet, Searched, CanBeSearched, PlanFits, KeysFit, StrategyFits, ClaimsFit, fresh_units}
 use Rattle.krieg_belief.proofs.Prefixes.{excess_not_within}
-use Rattle.krieg_cli.specs.Check.{Checked}
-use Rattle.krieg_cli.specs.Find.{Found}
-use Rattle.krieg_cli.specs.declared.refusal.Refusal.TheVariants as refusal
-use Rattle.krieg_cli.specs.declared.ending.Ending.TheVariants as ending
+use Rattle.krieg_outcome.specs.Check.{Checked}
+use Rattle.krieg_outcome.specs.Find.{Found}
+use Rattle.krieg_outcome.specs.declared.refusal.Refusal.TheVariants as refusal
+use Rattle.krieg_outcome.specs.declared.ending.Ending.TheVariants as ending
 use Rattle.krieg_cli.proofs.WholeGames.{text_read, given_le, not_refused}
-use Rattle.krieg_cli.proofs.Searching.{one_list}
+use Rattle.krieg_outcome.proofs.Searching.{one_list}
 
 -- ---- solve, find, keys, share and refute
 

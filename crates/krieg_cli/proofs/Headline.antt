@@ -2,7 +2,7 @@
 use Rattle.std.proofs.Common.{◌≡◌, ◌⊎◌, inl, inr, ℕ, Bool, List, length, ◌≤◌, Option, Ok, subst}
 use Rattle.std.specs.Io.KnownBytes.{Appends}
 use Rattle.krieg_cli.proofs.Common.{Pos, lines, whole, SheetState, sheet_at, is_over, plan_at, Command, Solve, Find, Keys, Share, Stream, World, WasRead, status, Search, Searches, OfSheet, Searched, Keyed, SharedBy, Tells, TellsKeys, TellsShared, NoneMates, none_text, strategy_at, LiveOutcome, ComesTo, Runs, Reports, HasSheet, Writing, AnswersBy, WritesPlan, WritesNone, WritesKeys, WritesStrategy, SolvesSheets, FindsSheets, ListsKeys, SharesPlans, MOST_INPUT, Ending}
-use Rattle.krieg_cli.specs.Find.{Found}
+use Rattle.krieg_outcome.specs.Find.{Found}
 use Rattle.krieg_cli.proofs.WholeGames.{answers, quiet, text_spells}
 
 -- ---- what is told is what is written

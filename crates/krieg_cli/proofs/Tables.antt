@@ -5,7 +5,7 @@ use Rattle.krieg_text.specs.declared.fault.TextFault.TheVariants as fault
 use Rattle.krieg_play.specs.declared.outcome.PlayFault.TheVariants.{Seat, NoMemory}
 use Rattle.krieg_play.proofs.Seen.{played_seen, refuses_seen}
 use Rattle.krieg_robot.specs.declared.led.LeadFault.TheVariants as lead
-use Rattle.krieg_cli.specs.declared.ending.Ending.TheVariants as ending
+use Rattle.krieg_outcome.specs.declared.ending.Ending.TheVariants as ending
 
 abbrev Follows : LiveOutcome → LiveOutcome → Type 0
 Follows t u = (c : Command) (text : List ℕ) (outcome : Result (List ℕ) Refusal) → t c text outcome → u c text outcome

@@ -10,7 +10,7 @@ use Rattle.krieg_belief.proofs.Prefixes.{excess_not_within}
 use Rattle.krieg_session.proofs.LastPositions.{last_is_consistent}
 use Rattle.krieg_session.proofs.SessionFormat.{sheets_again, code_game}
 use Rattle.krieg_ports.proofs.ToldBytes.{Consumes_all}
-use Rattle.krieg_cli.specs.declared.ending.Ending.TheVariants as ending
+use Rattle.krieg_outcome.specs.declared.ending.Ending.TheVariants as ending
 
 -- Status 0 is that of an answer alone.
 

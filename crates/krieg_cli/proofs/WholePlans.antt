@@ -4,8 +4,8 @@ use Rattle.std.proofs.lemmas.Bool.{both_ways}
 use Rattle.std.specs.Io.KnownBytes.{Appends}
 use Rattle.krieg_cli.proofs.Common.{lines, whole, PlanState, plan_at, Command, Check, World, OfText, status, worst_text, LiveOutcome, ComesTo, Ends, Runs, IsSolution, EndsOnSolution, ChecksSolutions, Refusal, BudgetSpent, PlanFails, Ending}
 use Rattle.krieg_planfile.proofs.ReadSizes.{read_within}
-use Rattle.krieg_cli.specs.Check.{Checked}
-use Rattle.krieg_cli.specs.declared.ending.Ending.TheVariants as ending
+use Rattle.krieg_outcome.specs.Check.{Checked}
+use Rattle.krieg_outcome.specs.declared.ending.Ending.TheVariants as ending
 use Rattle.krieg_cli.proofs.WholeGames.{text_read, given_le}
 
 -- what `check` comes to on that text

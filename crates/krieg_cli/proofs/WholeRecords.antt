@@ -5,7 +5,7 @@ use Rattle.krieg_cli.proofs.Common.{lines, whole, Wild16, Event, SessionState, s
 use Rattle.krieg_session.proofs.SessionFormat.{code_game}
 use Rattle.krieg_score.specs.Scores.{session_of}
 use Rattle.krieg_score.proofs.DoneMoves.{done_tries, sans_again, unsans_again, record_is}
-use Rattle.krieg_cli.specs.declared.ending.Ending.TheVariants as ending
+use Rattle.krieg_outcome.specs.declared.ending.Ending.TheVariants as ending
 use Rattle.krieg_cli.proofs.WholeGames.{text_read, given_le, same_answer, not_refused}
 
 -- the session of the record of a session is that of its tries that were done

@@ -4,7 +4,7 @@ use Rattle.std.proofs.lemmas.Bool.{both_ways}
 use Rattle.std.specs.Io.KnownBytes.{Appends}
 use Rattle.krieg_cli.proofs.Common.{Pos, lines, whole, SheetState, RefutationState, refutation_at, Command, Refute, Deny, World, OfText, status, IsDenialText, Claimed, has_no_turn, Judged, LiveOutcome, ComesTo, Ends, Runs, IsRefutation, sheet_file, WritesRefutation, RefutesSheets, EndsOnRefutation, DeniesRefutations, MOST_INPUT, Refusal, BudgetSpent, RefutationFails, Ending}
 use Rattle.krieg_refutefile.proofs.Sizes.{read_short}
-use Rattle.krieg_cli.specs.declared.ending.Ending.TheVariants as ending
+use Rattle.krieg_outcome.specs.declared.ending.Ending.TheVariants as ending
 use Rattle.krieg_cli.proofs.WholeGames.{answers, text_read, given_le}
 use Rattle.krieg_cli.proofs.Headline.{sheet_of}
 

@@ -33,18 +33,17 @@ use Rattle.krieg_args.specs.Command.{takes_input}
 use Rattle.krieg_args.specs.declared.command.Command.{Command}
 use Rattle.krieg_args.specs.declared.command.Command.TheVariants.{Solve, Check, Refute, Deny, Believe, Why, Umpire, San, Unsan, Play, Lead, Next, Find, Keys, Share, Judge, Advise, Conduct, Make, Job}
 use Rattle.krieg_cli.specs.World.{Stream, World, FaultsRose}
-use Rattle.krieg_cli.specs.Asked.{Leaves, has_no_turn}
-use Rattle.krieg_cli.specs.Solve.{mates_all, fresh_units, NoneMates, IsBestFile, IsTooLarge}
-use Rattle.krieg_cli.specs.Refute.{AreTooMany}
+use Rattle.krieg_outcome.specs.Asked.{Leaves, has_no_turn}
+use Rattle.krieg_outcome.specs.Solve.{mates_all, fresh_units, NoneMates, IsBestFile, IsTooLarge}
+use Rattle.krieg_outcome.specs.Refute.{AreTooMany}
 use Rattle.krieg_strategyfile.specs.Strategies.{StrategyState}
 use Rattle.krieg_share.specs.Answers.{IsLargeStrategy}
 use Rattle.krieg_strategyfile.specs.StrategyFormat.{strategy_at}
 use Rattle.krieg_strategyfile.specs.HeardStrategies.{heard_strategy}
-use Rattle.krieg_cli.specs.Check.{check_cost}
-use Rattle.krieg_cli.specs.Judge.{judge_cost, unfolded}
-use Rattle.krieg_cli.specs.Job.{IsBest}
-use Rattle.krieg_cli.specs.declared.input.TheConstants.{MOST_INPUT}
-use Rattle.krieg_cli.specs.declared.commands.job.TheConstants.{JOB_MOVES}
+use Rattle.krieg_outcome.specs.Check.{check_cost}
+use Rattle.krieg_outcome.specs.Judge.{judge_cost, unfolded}
+use Rattle.krieg_outcome.specs.Job.{IsBest}
+use Rattle.krieg_outcome.specs.declared.limits.TheConstants.{JOB_MOVES, MOST_INPUT}
 
 -- ---- the input
 

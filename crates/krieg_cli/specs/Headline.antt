@@ -23,11 +23,11 @@ use Rattle.krieg_args.specs.declared.command.Command.{Command}
 use Rattle.krieg_args.specs.declared.command.Command.TheVariants.{Solve, Find, Keys, Share}
 use Rattle.krieg_cli.specs.World.{Stream, World}
 use Rattle.krieg_cli.specs.Input.{WasRead}
-use Rattle.krieg_cli.specs.Solve.{none_text, mates_all}
-use Rattle.krieg_cli.specs.Judge.{unfolded}
-use Rattle.krieg_cli.specs.Keys.{IsKeysText}
-use Rattle.krieg_cli.specs.Share.{IsShared}
-use Rattle.krieg_cli.specs.declared.input.TheConstants.{MOST_INPUT}
+use Rattle.krieg_outcome.specs.Solve.{none_text, mates_all}
+use Rattle.krieg_outcome.specs.Judge.{unfolded}
+use Rattle.krieg_outcome.specs.Keys.{IsKeysText}
+use Rattle.krieg_outcome.specs.Share.{IsShared}
+use Rattle.krieg_outcome.specs.declared.limits.TheConstants.{MOST_INPUT}
 
 -- The input was the text of this sheet, and these are the positions that are consistent with it, each once: there is one.
 pub record HasSheet (s : SheetState) (S : List Pos) (before after : World) : Type 0 where

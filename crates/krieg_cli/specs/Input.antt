@@ -8,9 +8,9 @@ use Rattle.krieg_ports.specs.declared.transfer.ReadEnd.TheVariants as unread
 use Rattle.krieg_args.specs.Command.{takes_input}
 use Rattle.krieg_args.specs.declared.command.Command.{Command}
 use Rattle.krieg_cli.specs.World.{Stream, FaultsRose, NoFault}
-use Rattle.krieg_cli.specs.declared.ending.Ending.{Ending}
-use Rattle.krieg_cli.specs.declared.ending.Ending.TheVariants.{TooLong, ReadFault, NoMemory}
-use Rattle.krieg_cli.specs.declared.input.TheConstants.{MOST_INPUT}
+use Rattle.krieg_outcome.specs.declared.ending.Ending.{Ending}
+use Rattle.krieg_outcome.specs.declared.ending.Ending.TheVariants.{TooLong, ReadFault, NoMemory}
+use Rattle.krieg_outcome.specs.declared.limits.TheConstants.{MOST_INPUT}
 
 -- the source gave this text and is at its end, no call of it failed, and the text is not too long
 abbrev pub WasRead : Stream → Stream → List ℕ → Type 0

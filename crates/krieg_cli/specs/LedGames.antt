@@ -14,9 +14,9 @@ use Rattle.krieg_robot.specs.Guides.{Guidance}
 use Rattle.krieg_robot.specs.Leading.{own_moves}
 use Rattle.krieg_args.specs.declared.command.Command.{Command}
 use Rattle.krieg_args.specs.declared.command.Command.TheVariants.{Lead, Conduct}
-use Rattle.krieg_cli.specs.Guides.{plan_guide_in, strategy_guide_in}
-use Rattle.krieg_cli.specs.Recorded.{session_of}
-use Rattle.krieg_cli.specs.Solve.{mates_all}
+use Rattle.krieg_outcome.specs.Guides.{plan_guide_in, strategy_guide_in}
+use Rattle.krieg_outcome.specs.Recorded.{session_of}
+use Rattle.krieg_outcome.specs.Solve.{mates_all}
 use Rattle.krieg_cli.specs.World.{World}
 
 -- The text is the session of a game from the listed position with that number, of no more tries than were allowed. The side of the guide

@@ -10,8 +10,7 @@ use Rattle.krieg_strategyfile.specs.StrategyText as shared
 use Rattle.krieg_refute.specs.declared.refutation.TheConstants.{MOST_CLAIMS, MOST_CLAIMED}
 use Rattle.krieg_refutefile.specs.RefutationText as refutation
 use Rattle.krieg_args.specs.declared.command.TheConstants.{MOST_ASKS, MOST_SEED, MOST_FIND_MOVES, MOST_FIND_UNITS}
-use Rattle.krieg_cli.specs.declared.input.TheConstants.{MOST_INPUT}
-use Rattle.krieg_cli.specs.declared.commands.job.TheConstants.{JOB_MOVES}
+use Rattle.krieg_outcome.specs.declared.limits.TheConstants.{JOB_MOVES, MOST_INPUT}
 
 -- the constant of the code, and its number
 pub record AreLimits : Type 0 where

@@ -6,14 +6,14 @@ use Rattle.krieg_args.specs.Command.{command_of, find_of, takes_input}
 use Rattle.krieg_args.specs.declared.command.Command.{Command}
 use Rattle.krieg_cli.specs.World.{Stream, World, FaultsRose, NoFault}
 use Rattle.krieg_cli.specs.Input.{WasTaken, FailsToTake}
-use Rattle.krieg_cli.specs.Outcome.{LiveOutcome, HasOutcome}
+use Rattle.krieg_outcome.specs.Outcome.{LiveOutcome, HasOutcome}
 use Rattle.krieg_seats.specs.Accounts.{Account}
 use Rattle.krieg_play.specs.Played.{Sides}
-use Rattle.krieg_cli.specs.Live.{HasBegunBy, LivesBy, calls_seats}
-use Rattle.krieg_cli.specs.Ending.{status, line_of}
-use Rattle.krieg_cli.specs.declared.refusal.Refusal.{Refusal}
-use Rattle.krieg_cli.specs.declared.ending.Ending.{Ending}
-use Rattle.krieg_cli.specs.declared.ending.Ending.TheVariants.{Answered, Usage, TooLong, ReadFault, WriteFault, NoMemory, Refused}
+use Rattle.krieg_outcome.specs.Live.{HasBegunBy, LivesBy, calls_seats}
+use Rattle.krieg_outcome.specs.Ending.{status, line_of}
+use Rattle.krieg_outcome.specs.declared.refusal.Refusal.{Refusal}
+use Rattle.krieg_outcome.specs.declared.ending.Ending.{Ending}
+use Rattle.krieg_outcome.specs.declared.ending.Ending.TheVariants.{Answered, Usage, TooLong, ReadFault, WriteFault, NoMemory, Refused}
 
 -- the input was taken, and this is what the command makes of it
 abbrev pub ComesTo : LiveOutcome → Command → World → World → Result (List ℕ) Refusal → Type 0

@@ -21,12 +21,12 @@ use Rattle.krieg_args.specs.declared.command.Command.{Command}
 use Rattle.krieg_args.specs.declared.command.Command.TheVariants.{Believe, Umpire}
 use Rattle.krieg_cli.specs.World.{World, FaultsRose}
 use Rattle.krieg_cli.specs.Input.{WasRead}
-use Rattle.krieg_cli.specs.Umpire.{told_text}
-use Rattle.krieg_cli.specs.Ending.{EndsSo}
-use Rattle.krieg_cli.specs.declared.refusal.Refusal.TheVariants.{TooMany}
-use Rattle.krieg_cli.specs.declared.ending.Ending.{Ending}
-use Rattle.krieg_cli.specs.declared.ending.Ending.TheVariants.{Answered, TooLong, ReadFault, WriteFault, NoMemory, Refused}
-use Rattle.krieg_cli.specs.declared.input.TheConstants.{MOST_INPUT}
+use Rattle.krieg_outcome.specs.Umpire.{told_text}
+use Rattle.krieg_outcome.specs.Ending.{EndsSo}
+use Rattle.krieg_outcome.specs.declared.refusal.Refusal.TheVariants.{TooMany}
+use Rattle.krieg_outcome.specs.declared.ending.Ending.{Ending}
+use Rattle.krieg_outcome.specs.declared.ending.Ending.TheVariants.{Answered, TooLong, ReadFault, WriteFault, NoMemory, Refused}
+use Rattle.krieg_outcome.specs.declared.limits.TheConstants.{MOST_INPUT}
 
 -- a player's sheet of a session
 abbrev pub heard_sheet : SessionState → Side → SheetState

@@ -9,12 +9,12 @@ use Rattle.krieg_planfile.specs.PlanReading.{plan_at}
 use Rattle.krieg_args.specs.declared.command.Command.{Command}
 use Rattle.krieg_args.specs.declared.command.Command.TheVariants.{Check}
 use Rattle.krieg_cli.specs.World.{World, FaultsRose}
-use Rattle.krieg_cli.specs.Solve.{mates_all}
-use Rattle.krieg_cli.specs.Check.{check_cost, worst_text}
-use Rattle.krieg_cli.specs.Ending.{EndsSo}
-use Rattle.krieg_cli.specs.declared.refusal.Refusal.TheVariants.{BudgetSpent}
-use Rattle.krieg_cli.specs.declared.ending.Ending.{Ending}
-use Rattle.krieg_cli.specs.declared.ending.Ending.TheVariants.{Answered, ReadFault, WriteFault, NoMemory, Refused}
+use Rattle.krieg_outcome.specs.Solve.{mates_all}
+use Rattle.krieg_outcome.specs.Check.{check_cost, worst_text}
+use Rattle.krieg_outcome.specs.Ending.{EndsSo}
+use Rattle.krieg_outcome.specs.declared.refusal.Refusal.TheVariants.{BudgetSpent}
+use Rattle.krieg_outcome.specs.declared.ending.Ending.{Ending}
+use Rattle.krieg_outcome.specs.declared.ending.Ending.TheVariants.{Answered, ReadFault, WriteFault, NoMemory, Refused}
 
 -- the text is read as a file like those that `solve` writes: its plan mates from each listed position within the number that the
 -- file states, and no plan has a smaller worst case

@@ -12,10 +12,10 @@ use Rattle.krieg_score.specs.Scores.{done_events, san_of}
 use Rattle.krieg_args.specs.declared.command.Command.{Command}
 use Rattle.krieg_args.specs.declared.command.Command.TheVariants.{Unsan}
 use Rattle.krieg_cli.specs.World.{World, FaultsRose}
-use Rattle.krieg_cli.specs.Ending.{EndsSo}
-use Rattle.krieg_cli.specs.declared.ending.Ending.{Ending}
-use Rattle.krieg_cli.specs.declared.ending.Ending.TheVariants.{Answered, TooLong, ReadFault, WriteFault, NoMemory}
-use Rattle.krieg_cli.specs.declared.input.TheConstants.{MOST_INPUT}
+use Rattle.krieg_outcome.specs.Ending.{EndsSo}
+use Rattle.krieg_outcome.specs.declared.ending.Ending.{Ending}
+use Rattle.krieg_outcome.specs.declared.ending.Ending.TheVariants.{Answered, TooLong, ReadFault, WriteFault, NoMemory}
+use Rattle.krieg_outcome.specs.declared.limits.TheConstants.{MOST_INPUT}
 
 -- the session of the tries that were done: it begins where that one does, is in wild16, and does not tell why the game stopped
 abbrev pub done_session : SessionState → SessionState

@@ -11,14 +11,14 @@ use Rattle.krieg_refutefile.specs.RefutationText.{refutation_text}
 use Rattle.krieg_args.specs.declared.command.Command.{Command}
 use Rattle.krieg_args.specs.declared.command.Command.TheVariants.{Refute, Deny}
 use Rattle.krieg_cli.specs.World.{World, FaultsRose}
-use Rattle.krieg_cli.specs.Ending.{EndsSo}
+use Rattle.krieg_outcome.specs.Ending.{EndsSo}
 use Rattle.krieg_cli.specs.Headline.{HasSheet}
-use Rattle.krieg_cli.specs.Refute.{denial_file}
-use Rattle.krieg_cli.specs.Deny.{refuted_text}
-use Rattle.krieg_cli.specs.declared.refusal.Refusal.TheVariants.{BudgetSpent}
-use Rattle.krieg_cli.specs.declared.ending.Ending.{Ending}
-use Rattle.krieg_cli.specs.declared.ending.Ending.TheVariants.{Answered, TooLong, ReadFault, WriteFault, NoMemory, Refused}
-use Rattle.krieg_cli.specs.declared.input.TheConstants.{MOST_INPUT}
+use Rattle.krieg_outcome.specs.Refute.{denial_file}
+use Rattle.krieg_outcome.specs.Deny.{refuted_text}
+use Rattle.krieg_outcome.specs.declared.refusal.Refusal.TheVariants.{BudgetSpent}
+use Rattle.krieg_outcome.specs.declared.ending.Ending.{Ending}
+use Rattle.krieg_outcome.specs.declared.ending.Ending.TheVariants.{Answered, TooLong, ReadFault, WriteFault, NoMemory, Refused}
+use Rattle.krieg_outcome.specs.declared.limits.TheConstants.{MOST_INPUT}
 
 -- the text is read as a file like those that `refute` writes: it holds
 pub record IsRefutation (f : RefutationState) (text : List ℕ) : Type 0 where

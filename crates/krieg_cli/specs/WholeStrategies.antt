@@ -9,8 +9,8 @@ use Rattle.krieg_args.specs.declared.command.Command.{Command}
 use Rattle.krieg_args.specs.declared.command.Command.TheVariants.{Judge}
 use Rattle.krieg_cli.specs.World.{Stream, World}
 use Rattle.krieg_cli.specs.Input.{WasRead}
-use Rattle.krieg_cli.specs.Check.{worst_text}
-use Rattle.krieg_cli.specs.Judge.{IsWorstOf}
+use Rattle.krieg_outcome.specs.Check.{worst_text}
+use Rattle.krieg_outcome.specs.Judge.{IsWorstOf}
 
 -- The input was the text of this strategy, and the answer is the worst case of its plan over the positions that it lists, which is
 -- at most the number that it claims.

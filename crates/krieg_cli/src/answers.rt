@@ -3,34 +3,10 @@ ghost use Rattle.std.specs.List.{flat_map};
 ghost use Rattle.std.specs.Io.KnownBytes.{Appends};
 ghost use Rattle.krieg_ports.specs.Bytes.{AppendsPrefix};
 ghost use Rattle.krieg_ports.specs.Faults.{Rose};
-ghost use Rattle.krieg_cli.specs.Parts.{bytes_of, as_whole, as_pieces};
+ghost use Rattle.krieg_outcome.specs.Parts.{bytes_of};
 
-use crate::ending::Ending;
+use krieg_outcome::CommandAnswer;
 use krieg_ports::{Sink, WriteFault, write_all};
-use krieg_refutefile::Pieces;
-
-/// What a command answers.
-#[derive(Drop)]
-pub(crate) enum CommandAnswer {
-    /// One text.
-    Whole(Vec<u8>),
-    /// A text in pieces.
-    InPieces(Pieces),
-}
-
-/// The text as an answer.
-pub(crate) fn whole(text: Result<Vec<u8>, Ending>) -> Result<CommandAnswer, Ending>
-    ensures { result ≡ as_whole text }
-{
-    Ok(CommandAnswer::Whole(text?))
-}
-
-/// The text in pieces as an answer.
-pub(crate) fn in_pieces(text: Result<Pieces, Ending>) -> Result<CommandAnswer, Ending>
-    ensures { result ≡ as_pieces text }
-{
-    Ok(CommandAnswer::InPieces(text?))
-}
 
 /// Writes the pieces one after another.
 fn write_pieces<O: Sink>(out: &mut O, pieces: &[Vec<u8>]) -> Result<(), WriteFault>

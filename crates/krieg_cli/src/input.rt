@@ -3,13 +3,10 @@ ghost use Rattle.krieg_args.specs.Command.{takes_input};
 ghost use Rattle.krieg_cli.specs.World.{stream};
 ghost use Rattle.krieg_cli.specs.Input.{WasTaken, FailsToTake};
 
-use crate::ending::Ending;
 use krieg_args::Command;
+use krieg_outcome::{Ending, MOST_INPUT};
 use krieg_ports::{Source, read_all};
 use std::alloc::Global;
-
-/// The most bytes that an input may have: 64 MiB.
-pub const MOST_INPUT: usize = 67_108_864;
 
 /// The whole input, where the command takes one.
 pub(crate) fn taken<S: Source>(

@@ -4,11 +4,11 @@ ghost use Rattle.std.specs.Io.KnownBytes.{Appends};
 ghost use Rattle.krieg_ports.specs.Bytes.{AppendsPrefix};
 ghost use Rattle.krieg_ports.specs.Faults.{Rose};
 ghost use Rattle.krieg_cli.specs.World.{stream};
-ghost use Rattle.krieg_cli.specs.Ending.{line_of};
+ghost use Rattle.krieg_outcome.specs.Ending.{line_of};
 ghost use Rattle.krieg_cli.specs.Top.{Reports};
 
-use crate::ending::Ending;
 use itoa::Buffer;
+use krieg_outcome::Ending;
 use krieg_ports::{Sink, WriteFault, write_all};
 
 /// Writes the pieces one after another, and takes no memory.

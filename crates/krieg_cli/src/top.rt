@@ -3,8 +3,8 @@ ghost use Rattle.krieg_args.specs.declared.command.Command.{Command as Asked};
 ghost use Rattle.krieg_args.specs.Command.{takes_input, IsInRange};
 ghost use Rattle.krieg_cli.specs.World.{stream, world};
 ghost use Rattle.krieg_play.specs.Benches.{bench_sides};
-ghost use Rattle.krieg_cli.specs.Parts.{ending_of};
-ghost use Rattle.krieg_cli.specs.Live.{LivesBy};
+ghost use Rattle.krieg_outcome.specs.Parts.{ending_of};
+ghost use Rattle.krieg_outcome.specs.Live.{LivesBy};
 ghost use Rattle.krieg_cli.specs.Top.{Ends, Runs, IsRun, LeavesBench, asked_by, asked_to_find, reads};
 ghost use Rattle.krieg_cli.specs.WholeGames.{UmpiresGames, BelievesGames};
 ghost use Rattle.krieg_cli.specs.WholePlans.{ChecksSolutions};
@@ -16,11 +16,10 @@ ghost use Rattle.krieg_cli.specs.Headline.{SolvesSheets, FindsSheets, ListsKeys,
 ghost use Rattle.krieg_cli.specs.Complete.{Completes};
 
 use crate::answers::write_answer;
-use crate::ending::Ending;
 use crate::input::taken;
-use crate::outcome::outcome;
 use crate::report::report;
 use krieg_args::{Command, command_of, find_of};
+use krieg_outcome::{Ending, outcome};
 use krieg_play::Bench;
 use krieg_ports::{Sink, Source};
 use krieg_seats::Seat;

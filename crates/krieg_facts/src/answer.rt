@@ -3,7 +3,7 @@
 use crate::stop::FirstStop;
 use krieg_board::{BadPosition, Move, NoMemory, Position, Square, lowest, without_lowest};
 use krieg_fen::{put_square, write_move, write_position};
-use krieg_text::{Text, TextFault, TextKind, put_number};
+use krieg_text::{Text, put_number};
 use std::alloc::Global;
 
 /// A text that grows by words and by parts.
@@ -56,18 +56,6 @@ impl AnswerText {
         }
     }
 
-    /// Whether the two texts are the same.
-    fn is_same(&self, other: &AnswerText) -> bool {
-        self.text.as_slice() == other.text.as_slice()
-    }
-
-    /// Goes on only where the same was answered again.
-    pub fn only_if_same(&mut self, again: &AnswerText) {
-        self.stop_as(again);
-        let is_same = self.is_same(again);
-        self.only_if(is_same);
-    }
-
     /// Adds the bytes, right behind what stands there.
     pub fn put(&mut self, bytes: &[u8]) {
         if self.text.extend_from_slice(bytes).is_err() {
@@ -93,12 +81,6 @@ impl AnswerText {
         if is_so {
             self.word(bytes);
         }
-    }
-
-    /// Begins a part: a semicolon and a space stand before each but the first.
-    pub fn part(&mut self, bytes: &[u8]) {
-        self.put_behind(b"; ");
-        self.put(bytes);
     }
 
     /// `yes` or `no` as a word.
@@ -167,34 +149,6 @@ impl AnswerText {
     pub fn position(&mut self, p: &Position) {
         let done = write_position(p, &mut self.text);
         self.stop.took(done);
-    }
-
-    /// A fault of a text, as `line 3: syntax`.
-    pub fn fault(&mut self, fault: TextFault) {
-        match fault {
-            TextFault::At { line, kind } => self.fault_at(line, kind),
-            TextFault::NoMemory => self.stop.lacks_memory(),
-        }
-    }
-
-    fn fault_at(&mut self, line: usize, kind: TextKind) {
-        self.put(b"line ");
-        self.digits(line as u64);
-        self.put(b": ");
-        self.put(kind_name(kind));
-    }
-}
-
-fn kind_name(kind: TextKind) -> &'static [u8] {
-    match kind {
-        TextKind::Version => b"version",
-        TextKind::Syntax => b"syntax",
-        TextKind::Count => b"count",
-        TextKind::Position(bad) => fault_name(bad),
-        TextKind::Differs => b"differs",
-        TextKind::OutOfPlace => b"out of place",
-        TextKind::Deep => b"deep",
-        TextKind::Large => b"large",
     }
 }
 

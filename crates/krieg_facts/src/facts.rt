@@ -2,13 +2,11 @@
 
 use crate::answer::AnswerText;
 use crate::given::Given;
-use crate::plans::Plans;
 use crate::scene::{START, Scene};
 use crate::stop::judged;
-use crate::{boards, games, moves, positions, san, sets, splits, tables, texts, words};
+use crate::{boards, moves, positions, san, words};
 use krieg_board::NoMemory;
 use krieg_fen::read_position;
-use krieg_table::Table;
 use std::alloc::Global;
 
 /// How many facts there are where all hold, or the number of the first line that does not.
@@ -24,27 +22,15 @@ enum Layer {
     Positions,
     Moves,
     Words,
-    Texts,
     San,
-    Games,
-    Sets,
-    Tables,
-    Splits,
-    Plans,
 }
 
-static LAYERS: [(&str, Layer); 11] = [
+static LAYERS: [(&str, Layer); 5] = [
     ("boards", Layer::Boards),
     ("positions", Layer::Positions),
     ("moves", Layer::Moves),
     ("words", Layer::Words),
-    ("texts", Layer::Texts),
     ("san", Layer::San),
-    ("games", Layer::Games),
-    ("sets", Layer::Sets),
-    ("tables", Layer::Tables),
-    ("splits", Layer::Splits),
-    ("plans", Layer::Plans),
 ];
 
 fn layer_of(given: &mut Given) -> Layer {
@@ -63,32 +49,24 @@ fn layer_of(given: &mut Given) -> Layer {
 struct FactState {
     layer: Layer,
     scene: Scene,
-    table: Table,
-    plans: Plans,
     facts: u64,
 }
 
 impl FactState {
     /// Answers the question.
-    fn ask(&mut self, mark: &str, given: &mut Given, answer: &mut AnswerText) {
+    fn ask(&self, mark: &str, given: &mut Given, answer: &mut AnswerText) {
         let scene = &self.scene;
         match self.layer {
             Layer::Boards => boards::ask(scene, mark, given, answer),
             Layer::Positions => positions::ask(scene, mark, given, answer),
             Layer::Moves => moves::ask(scene, mark, given, answer),
             Layer::Words => words::ask(scene, mark, given, answer),
-            Layer::Texts => texts::ask(scene, mark, given, answer),
             Layer::San => san::ask(scene, mark, given, answer),
-            Layer::Games => games::ask(scene, mark, given, answer),
-            Layer::Sets => sets::ask(scene, mark, given, answer),
-            Layer::Tables => tables::ask(scene, &mut self.table, mark, given, answer),
-            Layer::Splits => splits::ask(scene, mark, given, answer),
-            Layer::Plans => self.plans.ask(mark, given, answer),
         }
     }
 
     /// Answers by how many words the answer of the question has.
-    fn ask_count(&mut self, given: &mut Given, answer: &mut AnswerText) {
+    fn ask_count(&self, given: &mut Given, answer: &mut AnswerText) {
         let mut counted = AnswerText::new(self.scene.alloc);
         self.ask(given.word(), given, &mut counted);
         answer.stop_as(&counted);
@@ -96,7 +74,7 @@ impl FactState {
     }
 
     /// Asks the question so many times, and answers as it was answered last.
-    fn ask_times(&mut self, given: &mut Given, answer: &mut AnswerText) {
+    fn ask_times(&self, given: &mut Given, answer: &mut AnswerText) {
         let times = given.count();
         let asked = given.rest();
         for _ in 0..times {
@@ -108,7 +86,7 @@ impl FactState {
     }
 
     /// Answers what is asked.
-    fn answer(&mut self, given: &mut Given, answer: &mut AnswerText) {
+    fn answer(&self, given: &mut Given, answer: &mut AnswerText) {
         match given.word() {
             "count" => self.ask_count(given, answer),
             "times" => self.ask_times(given, answer),
@@ -125,11 +103,6 @@ impl FactState {
         is_told(self.scene.alloc, &given, &answer, told)
     }
 
-    /// A table without sets.
-    fn set_table(&mut self) {
-        self.table = Table::new(self.scene.alloc);
-    }
-
     /// Takes a line that is no fact.
     fn set(&mut self, mark: &str, given: &mut Given) {
         match mark {
@@ -137,8 +110,6 @@ impl FactState {
                 let _title = given.rest();
             }
             "about" => self.layer = layer_of(given),
-            "table" => self.set_table(),
-            "node" | "grid" | "path" | "bush" | "roots" | "plan" => self.plans.set(mark, given),
             _ => self.scene.set(mark, given),
         }
     }
@@ -194,18 +165,14 @@ fn judge_by(trial: &mut FactState, text: &str) -> Result<Progress, NoMemory> {
     Ok(Progress::Facts(trial.facts))
 }
 
-/// What stands at first, where it can be made.
+/// What stands at first.
 fn first_state(alloc: Global) -> Option<FactState> {
-    match (read_position(START), Plans::new(alloc)) {
-        (Ok(start), Some(plans)) => Some(FactState {
-            layer: Layer::Boards,
-            scene: Scene::new(alloc, start),
-            table: Table::new(alloc),
-            plans,
-            facts: 0,
-        }),
-        _ => None,
-    }
+    let start = read_position(START).ok()?;
+    Some(FactState {
+        layer: Layer::Boards,
+        scene: Scene::new(alloc, start),
+        facts: 0,
+    })
 }
 
 /// How far the facts of a text hold.

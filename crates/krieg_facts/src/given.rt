@@ -67,15 +67,6 @@ impl<'a> Given<'a> {
         self.until(" ")
     }
 
-    /// Whether the rest is `none`, which is read then.
-    pub fn is_none(&mut self) -> bool {
-        let is_none = self.rest == "none";
-        if is_none {
-            self.rest = "";
-        }
-        is_none
-    }
-
     /// All of the rest.
     pub fn rest(&mut self) -> &'a str {
         let rest = self.rest;

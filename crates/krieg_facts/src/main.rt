@@ -11,19 +11,13 @@
 mod answer;
 mod boards;
 mod facts;
-mod games;
 mod given;
 mod moves;
-mod plans;
 mod positions;
 mod san;
 mod scene;
-mod sets;
-mod splits;
 mod stop;
-mod tables;
 mod terms;
-mod texts;
 mod words;
 
 use facts::{Progress, judge};

@@ -39,7 +39,7 @@ static PROMOS: [Promo; 5] = [
 ];
 
 /// The square of that number, which counts on from the last one to the first.
-pub fn nth_square(number: usize) -> Square {
+fn nth_square(number: usize) -> Square {
     Square::new((number % 64) as u8).unwrap_or_default()
 }
 
@@ -65,7 +65,7 @@ fn has_the_legal_moves(p: &Position, listed: &[Move]) -> bool {
 }
 
 /// Moves as words.
-pub fn say_moves(moves: &[Move], answer: &mut AnswerText) {
+fn say_moves(moves: &[Move], answer: &mut AnswerText) {
     for mv in moves {
         answer.word(b"");
         answer.put_move(*mv);

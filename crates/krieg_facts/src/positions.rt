@@ -53,7 +53,7 @@ fn say_units(given: &mut Given, answer: &mut AnswerText) {
 /// Whether the position and the one that is given have one hand.
 fn ask_hand(scene: &Scene, given: &mut Given, answer: &mut AnswerText) {
     let who = given.side();
-    let other = scene.position_in(given.rest(), given);
+    let other = scene.position_in(given);
     say_hand(who, &scene.position, &other, answer);
 }
 

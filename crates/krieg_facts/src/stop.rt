@@ -1,7 +1,6 @@
 // Why a line is not answered.
 
 use krieg_board::NoMemory;
-use krieg_split::SplitStop;
 
 /// Why a line is not answered.
 #[derive(Clone, Copy)]
@@ -10,18 +9,6 @@ pub enum LineStop {
     Memory,
     /// Part of the line has none of the forms of its place, or what it asks for does not stand.
     Unread,
-    /// There are fewer units than the work takes.
-    Spent,
-}
-
-impl LineStop {
-    /// Why a set was not split.
-    pub fn of_split(stop: SplitStop) -> LineStop {
-        match stop {
-            SplitStop::Spent => LineStop::Spent,
-            SplitStop::NoMemory => LineStop::Memory,
-        }
-    }
 }
 
 /// The first stop that came, where one came, so that calls which may be stopped need no result.
@@ -67,6 +54,6 @@ pub fn judged(stop: Option<LineStop>, holds: bool) -> Result<bool, NoMemory> {
     match stop {
         None => Ok(holds),
         Some(LineStop::Memory) => Err(NoMemory),
-        Some(_) => Ok(false),
+        Some(LineStop::Unread) => Ok(false),
     }
 }

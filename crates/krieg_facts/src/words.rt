@@ -6,17 +6,15 @@ use crate::scene::Scene;
 use krieg_board::{Move, NoMemory, Position};
 use krieg_moves::is_legal;
 use krieg_pack::order;
-use krieg_text::{Cursor, Text};
 use krieg_words::{
-    Dialect, Words, after_told, after_told_if_legal, compare, dialect_name, make_if_legal,
-    make_move, opening, put_version_lines, read_dialect, read_line, read_line_in,
-    read_version_lines, read_words_in, told, told_line, tries, words_of, write_line_in,
+    Dialect, Words, after_told, after_told_if_legal, compare, make_if_legal, make_move, opening,
+    read_line, read_line_in, read_words_in, told, told_line, tries, words_of, write_line_in,
     write_words_in,
 };
 use std::cmp::Ordering;
 
 /// Words as the dialect tells them.
-pub fn say_told(d: Dialect, words: Words, answer: &mut AnswerText) {
+fn say_told(d: Dialect, words: Words, answer: &mut AnswerText) {
     let done = write_words_in(d, told(d, words), &mut answer.text);
     answer.stop.took(done);
 }
@@ -137,38 +135,12 @@ fn say_ascending(scene: &Scene, given: &mut Given, answer: &mut AnswerText) {
     answer.yes_or_no(do_ascend(&list));
 }
 
-/// The name of the dialect that has this name.
-fn say_dialect_name(name: &[u8], answer: &mut AnswerText) {
-    if let Some(d) = read_dialect(name) {
-        answer.put(dialect_name(d));
-    }
-}
-
-/// The dialect that the first lines of a sheet tell.
-fn say_dialect_of(text: &[u8], answer: &mut AnswerText) {
-    match read_version_lines(&mut Cursor::new(text), b"krieg sheet ") {
-        Ok(d) => answer.put(dialect_name(d)),
-        Err(fault) => answer.fault(fault),
-    }
-}
-
-/// The first lines of a sheet in the dialect.
-fn say_first_lines(d: Dialect, answer: &mut AnswerText) {
-    let mut text = Text::after(&mut answer.text);
-    let done = put_version_lines(b"krieg sheet ", d, &mut text);
-    let done = text.end(done, &mut answer.text);
-    answer.stop.took(done);
-}
-
 /// Answers a question about texts of words.
 fn ask_texts(scene: &Scene, mark: &str, given: &mut Given, answer: &mut AnswerText) {
     match mark {
         "said" => say_words(scene.dialect, &given.bytes(scene.alloc), answer),
         "line" => say_line(scene.dialect, given.rest().as_bytes(), answer),
         "told-line" => say_told_line(scene.dialect, given.rest().as_bytes(), answer),
-        "dialect-name" => say_dialect_name(given.rest().as_bytes(), answer),
-        "dialect-of" => say_dialect_of(&given.bytes(scene.alloc), answer),
-        "first-lines" => say_first_lines(scene.dialect, answer),
         _ => answer.stop.unread(),
     }
 }

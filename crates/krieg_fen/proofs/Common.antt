@@ -26,13 +26,13 @@ pub use Rattle.krieg_board.specs.declared.men.Side.{Side}
 pub use Rattle.krieg_board.specs.declared.men.Side.TheVariants.{Black, White}
 pub use Rattle.krieg_board.specs.declared.position.Position.{Position}
 pub use Rattle.krieg_text.specs.Decimals.{number_text}
-pub use Rattle.krieg_text.specs.FirstBad.{FirstBad, Has, IsFormed, is_beyond_form}
+pub use Rattle.krieg_text.specs.FirstBad.{Has, IsFormed, is_beyond_form}
 pub use Rattle.krieg_text.specs.Formats.{behind_or}
 pub use Rattle.krieg_text.specs.Languages.{Any, Behind, Nothing, One, Times, ◌⨾◌}
 pub use Rattle.krieg_text.specs.Lines.{AreLines, is_line}
 pub use Rattle.krieg_text.specs.Outcomes.{◌>>=◌}
 pub use Rattle.krieg_text.specs.Pieces.{pieces, pieces_left}
-pub use Rattle.krieg_text.specs.Reading.{GivesOn, Passed, Place, on, place, reached, taken}
+pub use Rattle.krieg_text.specs.Reading.{GivesOn, Passed, Place, on, place, taken}
 pub use Rattle.krieg_text.specs.Writing.{HasLines}
 pub use Rattle.krieg_text.specs.declared.fault.TextFault.{TextFault}
 pub use Rattle.krieg_text.specs.declared.fault.TextFault.TheVariants.{At, NoMemory}
@@ -47,7 +47,7 @@ unfoldable pub use Rattle.krieg_fen.specs.Forms.{list_form, listed_form, listing
 pub use Rattle.krieg_fen.specs.Forms.{has_turn, list_line, matching, position_kind, positions_at, side_line, side_mark}
 pub use Rattle.krieg_fen.specs.Letters.{capital, kind_by, letter, man_of, small_letter}
 pub use Rattle.krieg_fen.specs.ListText.{position_line}
-pub use Rattle.krieg_fen.specs.Listing.{IsListed, ListGrammar, ListingGrammar, SpellList, SpellsListing, Suits, list_head}
+pub use Rattle.krieg_fen.specs.Listing.{ListGrammar, ListingGrammar, SpellList, SpellsListing, Suits, list_head}
 unfoldable pub use Rattle.krieg_fen.specs.MoveText.{move_text}
 pub use Rattle.krieg_fen.specs.MoveText.{IsOnBoard, move_of, move_with, promo_of, promo_text, square_named, square_of, square_text}
 pub use Rattle.krieg_fen.specs.Ranks.{AddsSquares, FailsAbove, KeepsOthers, Row, board_of, eight, onto_row, ranks_of, row_of, squares_at}

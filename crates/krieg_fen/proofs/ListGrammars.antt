@@ -1,11 +1,9 @@
 -- The readers of listed positions keep to their grammar, so that a fault is the first bad line.
-use Rattle.std.proofs.Common.{◌≡◌, ◌≢◌, inl, inr, ℕ, zero, suc, Bool, true, false, cond, List, [], ◌∷◌, ◌++◌, length, Option, Some, None, Result, Ok, Err, refl, sym, ap, subst, ◌∙◌, arith}
-use Rattle.std.specs.Prelude.{◌⊎◌, unwrap_or, replicate, IfErr, codes}
+use Rattle.std.proofs.Common.{◌≡◌, inl, inr, ℕ, zero, suc, Bool, true, false, cond, List, [], ◌∷◌, ◌++◌, length, Option, Some, None, Result, Ok, Err, refl, sym, ap, subst, ◌∙◌, arith}
+use Rattle.std.specs.Prelude.{◌⊎◌, unwrap_or, replicate, codes}
 use Rattle.std.proofs.lemmas.List.Elements.{All-nil, All-cons, All-head, All-tail}
-use Rattle.krieg_fen.proofs.Common.{Pos, same_hand, attacks, is_attacked, is_king_attacked, squares, some_square, every_square, IsValid, first_fault, has_pawns_inside, Board, Side, White, Black, King, TextFault, NoMemory, TextKind, Differs, OutOfPlace, Turn, Either, Own, ◌>>=◌, no_rights, position_text, Place, place, taken, GivesOn, side_line, side_form, list_line, list_form, position_form, has_turn, matching, listed_form, positions_at, listing_at, start_form, One, Nothing, Times, Any, ◌⨾◌, is_beyond_form, IsFormed, Has, FirstBad, ListGrammar, ListingGrammar, behind_or}
-use Rattle.krieg_text.proofs.FirstBadLine.{code_bad_from}
+use Rattle.krieg_fen.proofs.Common.{Pos, same_hand, attacks, is_attacked, is_king_attacked, squares, some_square, every_square, IsValid, first_fault, has_pawns_inside, Board, Side, White, Black, King, TextKind, Differs, OutOfPlace, Turn, Either, Own, ◌>>=◌, no_rights, position_text, taken, side_line, side_form, list_line, list_form, position_form, has_turn, matching, listed_form, positions_at, listing_at, start_form, One, Nothing, Times, Any, ◌⨾◌, is_beyond_form, IsFormed, Has, ListGrammar, ListingGrammar, behind_or}
 use Rattle.krieg_fen.proofs.FormSpellings.{side_again, count_again, position_read}
-use Rattle.krieg_text.proofs.Goings.{goes_by}
 use Rattle.krieg_text.proofs.Grammars.{untold, KeepsTo, HasForm, line_keeps, pure_keeps, bind_keeps, same_keeps, then_keeps, made_keeps}
 use Rattle.krieg_fen.proofs.HandOfItself.{hand_self}
 use Rattle.krieg_fen.proofs.ListSpellings.{written_spells, listed_spells}
@@ -124,12 +122,6 @@ listing_keeps turn =
     (line_keeps list_form (λ n. Unit {0}) (λ n. n) (λ n l. list_form l ≡ Ok n) (value_form list_form (list_line 1) 1 (count_again 1 (omega arith) (omega arith))))
     (λ n h.
     made_keeps (positions_at turn who None n) (λ list. (who, list)) (λ ps. Unit {0}) untold (λ u. ListGrammar n) (λ x. Unit {0}) untold (λ ps h. tt) (λ ps. refl) (positions_keep n turn who None tt)))
-
--- ---- what the code answered
-
-pub code_list_bad : {X : Type 0} (view : X → List Pos) (r : Result X TextFault) (q : Place) (who : Side) (n line : ℕ) (ls : List (List ℕ)) →
-    GivesOn view r q (positions_at Either who None n (place line ls)) → IfErr r (λ e. e ≢ NoMemory → FirstBad (λ t. positions_at Either who None n (place line t)) (ListGrammar n) line ls e)
-code_list_bad view r q who n line ls given = code_bad_from view r (positions_at Either who None n) (λ ps. Unit {0}) (ListGrammar n) (goes_by (positions_at Either who None n) (λ ps. Unit {0}) (ListGrammar n) (positions_keep n Either who None tt)) line ls q given
 
 -- a start is there
 pub some_start : start_form (codes "start " ++ position_text (lone_kings White)) ≡ Ok (lone_kings White)

@@ -1,9 +1,9 @@
 -- Lines are read as listed positions exactly where they spell them.
 use Rattle.std.proofs.Common.{◌≡◌, ℕ, zero, suc, ◌+◌, Bool, true, false, cond, List, [], ◌∷◌, ◌++◌, length, Option, Some, None, Result, Ok, Err, refl, sym, subst, ap, ◌∙◌, arith}
-use Rattle.std.specs.Prelude.{unwrap_or, IfOk}
+use Rattle.std.specs.Prelude.{unwrap_or}
 use Rattle.std.specs.List.{All}
 use Rattle.std.proofs.lemmas.List.Elements.{All-nil, All-cons}
-use Rattle.krieg_fen.proofs.Common.{Pos, same_hand, IsValid, Side, TextFault, TextKind, Differs, OutOfPlace, FenFault, Fields, Field, Bad, Turn, Either, ◌>>=◌, position_of, position_text, Spells, Place, place, on, GivesOn, position_kind, position_form, has_turn, matching, listed_form, positions_at, Suits, SpellList, IsListed}
+use Rattle.krieg_fen.proofs.Common.{Pos, same_hand, IsValid, Side, TextFault, TextKind, Differs, OutOfPlace, FenFault, Fields, Field, Bad, Turn, ◌>>=◌, position_of, position_text, Spells, Place, place, on, position_kind, position_form, has_turn, matching, listed_form, positions_at, Suits, SpellList}
 use Rattle.krieg_text.proofs.Locality.{ok_is}
 use Rattle.krieg_fen.proofs.FenTexts.{position_again}
 use Rattle.krieg_fen.proofs.PositionSpellings.{position_spells, position_reads}
@@ -109,24 +109,3 @@ list_reads (l ∷ ls) (p ∷ ps) turn who first line rest s =
     ap (behind_one turn who first (length ps) line (ls ++ rest)) (listed_reads turn who first l p s.0 s.1)
     ∙ ap (others p) (list_reads ls ps turn who (Some (unwrap_or first p)) (line + 1) rest s.2)
     ∙ ap (λ (n : ℕ). Ok (p ∷ ps, place n rest)) number
-
--- the same of what the code answered
-pub code_found : {X : Type 0} (view : X → List Pos) (r : Result X TextFault) (q : Place) (who : Side) (n line : ℕ) (old : List (List ℕ)) →
-    GivesOn view r q (positions_at Either who None n (place line old)) → IfOk r (λ v. (length (view v) ≡ n) × IsListed who old (view v) q.left)
-code_found view (Ok v) q who n line old given =
-    let a = list_spells n Either who None line old (view v) q given in
-    (a.count, record { listed = a.listed; is = a.is; spelled = a.spelled })
-code_found view (Err e) q who n line old given = tt
-
-pub code_only : {X : Type 0} (view : X → List Pos) (r : Result X TextFault) (q : Place) (who : Side) (n line : ℕ) (old listed rest : List (List ℕ)) (ps : List Pos) →
-    GivesOn view r q (positions_at Either who None n (place line old)) → length ps ≡ n → SpellList Either who None listed ps → old ≡ listed ++ rest →
-    GivesOn view r q (Ok (ps, place (line + n) rest))
-code_only view r q who n line old listed rest ps given count s is =
-    let read : positions_at Either who None n (place line old) ≡ Ok (ps, place (line + n) rest) =
-    ap (λ (t : List (List ℕ)). positions_at Either who None n (place line t)) is
-    ∙ ap (λ (k : ℕ). positions_at Either who None k (place line (listed ++ rest))) (sym count)
-    ∙ list_reads listed ps Either who None line rest s
-    ∙ ap (λ (k : ℕ). Ok (ps, place (line + k) rest)) count in
-    subst (GivesOn view r q) read given
-
-pub ruleset spellings = (code_found)

@@ -1,10 +1,9 @@
 -- Listed positions: the lines that spell them, and their written form.
-use Rattle.std.specs.Prelude.{◌≡◌, ◌≤◌, ℕ, true, List, [], ◌∷◌, ◌++◌, Option, Some, None, Ok, unwrap_or, length}
+use Rattle.std.specs.Prelude.{◌≡◌, ◌≤◌, ℕ, true, List, [], ◌∷◌, Option, Some, None, Ok, unwrap_or, length}
 use Rattle.krieg_board.specs.Pos.{Pos}
 use Rattle.krieg_board.specs.Hand.{same_hand}
 use Rattle.krieg_board.specs.declared.men.Side.{Side}
 use Rattle.krieg_fen.specs.declared.forms.Turn.{Turn}
-use Rattle.krieg_fen.specs.declared.forms.Turn.TheVariants.{Either}
 use Rattle.krieg_fen.specs.Forms.{side_line, side_form, list_line, list_form, position_form, has_turn}
 use Rattle.krieg_fen.specs.declared.forms.TheConstants.{MOST_LISTED}
 use Rattle.krieg_text.specs.Languages.{Language, One, Times, Any, ◌⨾◌}
@@ -21,12 +20,6 @@ abbrev pub SpellList : Turn → Side → Option Pos → List (List ℕ) → List
 SpellList turn who first [] [] = Unit {0}
 SpellList turn who first (l ∷ ls) (p ∷ ps) = Spells l p × Suits turn who first p × SpellList turn who (Some (unwrap_or first p)) ls ps
 SpellList turn who first _ _ = ⊥
-
--- lines at the front of old spell the positions, and new has those after them
-pub record IsListed (who : Side) (old : List (List ℕ)) (ps : List Pos) (new : List (List ℕ)) : Type 0 where
-  pub listed : List (List ℕ)
-  pub is : old ≡ listed ++ new
-  pub spelled : SpellList Either who None listed ps
 
 -- Whose text it is, how many positions are listed, and these, at least one and no more than the most, with one hand:
 -- only they have more than one spelling.

@@ -34,7 +34,7 @@ pub use forms::{
     MOST_LISTED, Turn, listed_form, position_form, read_list_line, read_side, side_line, side_mark,
     start_form,
 };
-pub use list::{read_list, read_listed, read_listing};
+pub use list::{read_listed, read_listing};
 pub use list_text::{
     put_list, put_list_head, put_list_line, put_listed, put_listing, put_next, put_side_line,
 };

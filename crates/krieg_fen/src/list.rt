@@ -1,16 +1,12 @@
-ghost use Rattle.std.specs.Prelude.{◌≡◌, ◌≢◌, ◌<◌, ◌+◌, ◌^◌, ◌++◌, ℕ, List, IfOk, IfErr, OnOk, Ok, None, length, slice_get};
+ghost use Rattle.std.specs.Prelude.{◌≢◌, IfErr, None};
 ghost use Rattle.std.specs.Option.{option_copied};
-ghost use Rattle.krieg_board.specs.Pos.{Pos};
 ghost use Rattle.krieg_fen.specs.Forms as spec;
-ghost use Rattle.krieg_fen.specs.Listing.{SpellList, IsListed, ListGrammar};
-ghost use Rattle.krieg_text.specs.Reading.{place, reached, taken, Passed, GivesOn};
-ghost use Rattle.krieg_text.specs.FirstBad.{FirstBad};
+ghost use Rattle.krieg_text.specs.Reading.{taken, Passed, GivesOn};
 ghost use Rattle.krieg_text.specs.declared.fault.TextFault.TheVariants.{NoMemory as OutOfMemory};
-ghost use Rattle.krieg_fen.specs.declared.forms.Turn.TheVariants.{Either};
 
 use crate::forms::{Turn, listed_form, read_list_line, read_side};
 use krieg_board::{Position, Side};
-use krieg_text::{Cursor, LineSource, Lines, TextFault};
+use krieg_text::{LineSource, TextFault};
 use std::alloc::Global;
 
 /// The next line, as a position that may stand in a list after its first one, or be the first.
@@ -51,40 +47,6 @@ fn list_at<S: LineSource>(
         }
     }
     Ok(list)
-}
-
-/// Reads `n` lines as positions that all have the hand of the first one, for the side `who`. The first of
-/// these lines has the number `line`. A line that is refused is the last that is taken.
-///
-/// The kinds of its faults are `Syntax`, also where a line is missing, `Position` and `Differs`.
-#[tactic(auto, using(crate::proofs::ListSpellings::spellings, krieg_text::proofs::ReadingLemmas::reaches))]
-pub fn read_list(
-    alloc: Global,
-    from: &mut Lines<'_>,
-    n: usize,
-    line: usize,
-    who: Side,
-) -> Result<Vec<Position>, TextFault>
-    requires { line + n < 2 ^ 48 }
-    ensures exact { GivesOn (λ v. v.items) result (reached line from.old from.new)
-        (spec.positions_at Either who None n (place line from.old)) }
-    ensures rest { Passed (place line from.old) (reached line from.old from.new) }
-    // What is read is spelled so, and what is spelled so is read.
-    ensures found { IfOk result (λ v. (length v.items ≡ n)
-        × IsListed who from.old v.items from.new) }
-    ensures only { (listed rest : List (List ℕ)) (ps : List Pos) → length ps ≡ n →
-        SpellList Either who None listed ps → from.old ≡ listed ++ rest
-        → GivesOn (λ v. v.items) result (reached line from.old from.new)
-        (Ok (ps, place (line + n) rest)) }
-    // The fault is the first bad line.
-    ensures first_bad { IfErr result (λ e. e ≢ OutOfMemory →
-        FirstBad (λ ls. spec.positions_at Either who None n (place line ls)) (ListGrammar n) line
-        from.old e) }
-{
-    let mut cursor = Cursor::starting(line, from);
-    let list = list_at(alloc, &mut cursor, Turn::Either, n, who);
-    *from = cursor.rest();
-    list
 }
 
 /// The next lines, as the side whose text it is, the number of positions that it lists, from 1 to

@@ -6,6 +6,3 @@ pub mod WonRoots
 mod Dropping
 mod Bisection
 mod Lookups
-mod LastKeys
-mod OrderedNodes
-mod DeepNodes

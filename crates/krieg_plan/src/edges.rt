@@ -11,7 +11,7 @@ use krieg_words::{Words, compare};
 use std::cmp::Ordering;
 
 /// The order of keys: by the own move's words, then by the reply's.
-pub(crate) fn compare_key(e: &Edge, own: &Words, reply: &Words) -> Ordering
+fn compare_key(e: &Edge, own: &Words, reply: &Words) -> Ordering
     ensures { result ≡ key_cmp (edge_of e.now).0 (own.now, reply.now) }
 {
     compare(&e.own, own).then(compare(&e.reply, reply))

@@ -6,27 +6,22 @@
 //! list of its roots' keys with their trees (`plan_of`).
 //!
 //! `node` has nodes and edges, and how they are dropped; `plan` has roots, plans and plan files. `edges`
-//! and `roots` find the node under a key. `ordered` says whether keys ascend, `size` and `depth` how many nodes
-//! there are, and `limits` how many there may be. The rules are the definitions of `specs/`: what is found, and
-//! what plans mean (`Trees`, `Nodes`, `Roots`, `Plans`), their size and depth over any game (`PlanMeasures`), and
-//! when keys ascend (`Order`). `Node::make` takes memory, and no other call does. A drop takes no stack to speak
-//! of; `size_within`, `depth_within`, `is_ordered` and `is_ordered_plan` take some for each edge on a path.
+//! and `roots` find the node under a key. `size` says how many nodes there are, and `limits` how many there may be.
+//! The rules are the definitions of `specs/`: what is found, and what plans mean (`Trees`, `Nodes`, `Roots`, `Plans`),
+//! their size and depth over any game (`PlanMeasures`), and when keys ascend (`Order`). `Node::make` takes memory, and
+//! no other call does. A drop takes no stack to speak of; `size_up_to` takes some for each edge on a path.
 #![tactic(auto)]
 
-mod depth;
 mod edges;
 mod limits;
 mod node;
-mod ordered;
 mod plan;
 mod roots;
 mod size;
 
-pub use depth::depth_within;
 pub use edges::{find_edge, find_edge_in_order};
 pub use limits::{MOST_NODES, MOST_ON_PATH};
 pub use node::{Edge, Node};
-pub use ordered::{is_ordered, is_ordered_plan};
 pub use plan::{Plan, PlanFile, Root};
 pub use roots::{compare_heard, find_root, know_ordered};
-pub use size::{size_up_to, size_within};
+pub use size::size_up_to;

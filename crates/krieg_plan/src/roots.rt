@@ -42,7 +42,7 @@ pub fn compare_heard(a: &Option<Words>, b: &Option<Words>) -> Ordering
 }
 
 /// The order of roots' keys: by the opening words, then by what was heard.
-pub(crate) fn compare_root(r: &Root, opens: &Words, heard: &Option<Words>) -> Ordering
+fn compare_root(r: &Root, opens: &Words, heard: &Option<Words>) -> Ordering
     ensures { result ≡ root_cmp (root_of r.now).0 (opens.now, heard.now) }
 {
     compare(&r.opens, opens).then(compare_heard(&r.heard, heard))

@@ -1,4 +1,4 @@
-ghost use Rattle.std.specs.Prelude.{◌≡◌, ◌+◌, ◌<◌, ◌≤◌, ◌↔◌, IsTrue, MatchOption, map};
+ghost use Rattle.std.specs.Prelude.{◌≡◌, ◌+◌, ◌<◌, ◌≤◌, MatchOption, map};
 ghost use Rattle.krieg_theory.specs.Tree.{size, size_edges};
 ghost use Rattle.krieg_plan.specs.Trees.{plan_size};
 ghost use Rattle.krieg_plan.specs.Nodes.{tree_of, edge_of, as_edges};
@@ -7,13 +7,6 @@ ghost use Rattle.krieg_plan.specs.Plans.{plan_of};
 
 use crate::node::{Edge, Node};
 use crate::plan::{Plan, Root};
-
-/// Whether the plan has at most `max` nodes.
-pub fn size_within(p: &Plan, max: usize) -> bool
-    ensures { IsTrue result ↔ (plan_size (plan_of p.now) ≤ max) }
-{
-    left_of(&p.roots, max).is_some()
-}
 
 /// How many nodes the plan has; none where they are more than `max`.
 pub fn size_up_to(p: &Plan, max: usize) -> Option<usize>

@@ -1,12 +1,10 @@
 -- Claims that are written where there are none yet.
-use Rattle.std.proofs.Common.{◌≡◌, ℕ, List, [], Vec, Global, Result, Ok, Err, sym, ap, subst, ◌∙◌, arith, length, ◌<◌}
+use Rattle.std.proofs.Common.{◌≡◌, ℕ, List, [], Ok, Err, sym, ap, subst, ◌∙◌, arith, length, ◌<◌}
 use Rattle.std.proofs.lemmas.List.Elements.{All-nil, All-same}
-use Rattle.std.specs.Result.{IsErrAnd}
-use Rattle.krieg_refute.proofs.Common.{Pos, Dialect, claimed, add_all, positions_in, reasons_in, AreFew, AreMany, Stands, chess, SetRows, SearchStop, ClaimList, Draft, claims_over, claims_of, most_claims, most_claimed, pairs_in, IsClaimList, Claims, AreClaims}
+use Rattle.krieg_refute.proofs.Common.{Pos, Dialect, claimed, add_all, positions_in, reasons_in, AreFew, AreMany, Stands, chess, SetRows, SearchStop, Spent, Large, NoMemory, ClaimList, Draft, claims_over, claims_of, most_claims, most_claimed, pairs_in, IsClaimList, Claims, AreClaims}
 use Rattle.krieg_theory.specs.Sets.{In}
 use Rattle.krieg_claims.specs.Written as written
 use Rattle.krieg_refute.specs.declared.refutation.Claim.{Claim}
-use Rattle.krieg_refute.proofs.Carrying.{carried}
 
 module _ (d : Dialect) (T : SetRows) (w : ClaimList) (ws : w.claims.items ≡ []) (ks : w.places.keys ≡ []) where
   nothing : pairs_in T w.places.keys ≡ []
@@ -33,7 +31,7 @@ module _ (d : Dialect) (T : SetRows) (w : ClaimList) (ws : w.claims.items ≡ []
       v.1.few,
     )
 
-    pub claims_carried : (P : SearchStop → Type 0) (r : Result (Vec Claim Global) SearchStop) (e : SearchStop) → ((x : SearchStop) → P x → e ≡ x) → IsErrAnd r P → Claims d (Err e) B j T T' w w' → AreClaims d B j r
-    claims_carried P r e same fails k =
-        carried P r e (λ e. Claims d (Err e) B j T T' w w') (λ r. AreClaims d B j r) same fails (λ v. v)
-        (λ v. subst (λ (qs : List (List Pos × ℕ)). AreMany (chess d) most_claims most_claimed (written.claims_of (chess d) (add_all (chess d) qs (claimed (chess d) j B)))) nothing v) tt k
+    pub claims_stop : (stop : SearchStop) → Claims d (Err stop) B j T T' w w' → AreClaims d B j (Err stop)
+    claims_stop Spent v = v
+    claims_stop Large v = subst (λ (qs : List (List Pos × ℕ)). AreMany (chess d) most_claims most_claimed (written.claims_of (chess d) (add_all (chess d) qs (claimed (chess d) j B)))) nothing v
+    claims_stop NoMemory v = tt

@@ -34,7 +34,6 @@ use krieg_search::{
 };
 use krieg_split::tries;
 use krieg_table::{SetResult, Table};
-use krieg_words::Dialect;
 use std::alloc::Global;
 
 /// The claims that are written so far, each behind those that it cites.
@@ -50,10 +49,10 @@ pub(crate) struct ClaimList {
 }
 
 /// What stays the same while claims are written, with what the search has noted.
-#[derive(Clone, Copy)]
-pub(crate) struct Setting<'a> {
+#[derive(Drop)]
+pub(crate) struct Setting {
     pub way: Way,
-    pub notes: &'a Notes,
+    pub notes: Notes,
 }
 
 /// Whether the set is stored as one that cannot be won within `moves`.
@@ -242,21 +241,20 @@ fn add(claimed: &mut ClaimList, asked: Question, reasons: Vec<Reason>) -> Result
 
 /// Puts the claim of a set behind the others, and gives its place. `Large` comes where the claims are too many with it.
 fn push(
-    alloc: Global,
-    d: Dialect,
+    setting: &Setting,
     table: &Table,
     claimed: &mut ClaimList,
     asked: Question,
     reasons: Vec<Reason>,
 ) -> Result<u16, SearchStop>
     requires within { asked.set < length table.now }
-    requires claimed { IsClaimList d table.now claimed.old }
-    requires next { IsNext d table.now claimed.old.places.keys (set_at table.now asked.set)
-        asked.moves (map reason_of reasons.items) }
-    ensures { IsPushed d table.now (set_at table.now asked.set) asked.moves
+    requires claimed { IsClaimList setting.now.way.d table.now claimed.old }
+    requires next { IsNext setting.now.way.d table.now claimed.old.places.keys
+        (set_at table.now asked.set) asked.moves (map reason_of reasons.items) }
+    ensures { IsPushed setting.now.way.d table.now (set_at table.now asked.set) asked.moves
         claimed.old claimed.new result }
 {
-    let members = size_of_set(alloc, table, asked.set)?;
+    let members = size_of_set(setting.way.alloc, table, asked.set)?;
     let positions = claimed.positions.saturating_add(members);
     let count = claimed.reasons.saturating_add(reasons.len());
     if !are_few(claimed.claims.len() + 1, positions, count) {
@@ -272,7 +270,7 @@ fn push(
 /// put behind all that it cites.
 #[cycle(claim)]
 pub(crate) fn claim(
-    setting: &Setting<'_>,
+    setting: &Setting,
     table: &mut Table,
     claimed: &mut ClaimList,
     asked: Question,
@@ -281,7 +279,7 @@ pub(crate) fn claim(
     requires within { asked.set < length table.old }
     requires members { is_nil (set_at table.old asked.set) ≡ false }
     requires paid { IsPaidFor setting.now.way.d false table.old }
-    requires noted { AreNotes setting.now.way.d false table.old setting.now.notes.now }
+    requires noted { AreNotes setting.now.way.d false table.old setting.now.notes }
     requires lost { IsLost table.old (set_at table.old asked.set) asked.moves }
     requires claimed { IsClaimList setting.now.way.d table.old claimed.old }
     ensures { Claims setting.now.way.d result (set_at table.old asked.set) asked.moves
@@ -292,21 +290,14 @@ pub(crate) fn claim(
         return Ok(index as u16 + 1);
     }
     let reasons = reasons_of(setting, table, claimed, asked)?;
-    push(
-        setting.way.alloc,
-        setting.way.d,
-        table,
-        claimed,
-        asked,
-        reasons,
-    )
+    push(setting, table, claimed, asked, reasons)
 }
 
 /// The reasons of all tries of the set, by claims that stand before its own. What blocks the tries is as the search has noted it,
 /// or is found by one split more for each.
 #[cycle(claim)]
 fn reasons_of(
-    setting: &Setting<'_>,
+    setting: &Setting,
     table: &mut Table,
     claimed: &mut ClaimList,
     asked: Question,
@@ -314,7 +305,7 @@ fn reasons_of(
     requires some { 0 < asked.moves }
     requires within { asked.set < length table.old }
     requires paid { IsPaidFor setting.now.way.d false table.old }
-    requires noted { AreNotes setting.now.way.d false table.old setting.now.notes.now }
+    requires noted { AreNotes setting.now.way.d false table.old setting.now.notes }
     requires lost { IsLost table.old (set_at table.old asked.set) asked.moves }
     requires claimed { IsClaimList setting.now.way.d table.old claimed.old }
     ensures { Reasons setting.now.way.d result (set_at table.old asked.set) asked.moves
@@ -331,7 +322,7 @@ fn reasons_of(
 /// The reasons of tries by what blocks each.
 #[cycle(claim)]
 fn reasons_for(
-    setting: &Setting<'_>,
+    setting: &Setting,
     table: &mut Table,
     claimed: &mut ClaimList,
     asked: Question,
@@ -340,7 +331,7 @@ fn reasons_for(
     requires some { 0 < asked.moves }
     requires within { asked.set < length table.old }
     requires paid { IsPaidFor setting.now.way.d false table.old }
-    requires noted { AreNotes setting.now.way.d false table.old setting.now.notes.now }
+    requires noted { AreNotes setting.now.way.d false table.old setting.now.notes }
     requires lost { IsLost table.old (set_at table.old asked.set) asked.moves }
     requires claimed { IsClaimList setting.now.way.d table.old claimed.old }
     requires row { IsRow setting.now.way.d false table.old asked row.now }
@@ -359,7 +350,7 @@ fn reasons_for(
 /// Why the try does not begin to win the set, by what blocks it.
 #[cycle(claim)]
 fn why(
-    setting: &Setting<'_>,
+    setting: &Setting,
     table: &mut Table,
     claimed: &mut ClaimList,
     asked: Question,
@@ -368,7 +359,7 @@ fn why(
     requires some { 0 < asked.moves }
     requires within { asked.set < length table.old }
     requires paid { IsPaidFor setting.now.way.d false table.old }
-    requires noted { AreNotes setting.now.way.d false table.old setting.now.notes.now }
+    requires noted { AreNotes setting.now.way.d false table.old setting.now.notes }
     requires lost { IsLost table.old (set_at table.old asked.set) asked.moves }
     requires claimed { IsClaimList setting.now.way.d table.old claimed.old }
     requires legal { legal_in_some (chess setting.now.way.d) (set_at table.old asked.set)

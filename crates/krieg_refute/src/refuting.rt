@@ -1,15 +1,18 @@
-ghost use Rattle.std.specs.Prelude.{◌≡◌, ◌<◌, ◌≤◌, false, true, find, is_some, length, IfSome};
+ghost use Rattle.std.specs.Prelude.{◌≡◌, ◌<◌, ◌≤◌, false, true, find, is_some, length, [], Ok, Err, Vec, IfSome, IfOk, IfErr};
+ghost use Rattle.std.specs.declared.alloc.Global.{Global};
 ghost use Rattle.krieg_theory.specs.Sets.{is_nil};
 ghost use Rattle.krieg_table.specs.SetRows.{set_at};
 ghost use Rattle.krieg_search.specs.Building.{IsPaidFor};
 ghost use Rattle.krieg_search.specs.Openings.{AreNumbered};
 ghost use Rattle.krieg_search.specs.Notes.{AreNotes};
+ghost use Rattle.krieg_refute.specs.declared.refutation.Claim.{Claim};
+ghost use Rattle.krieg_refute.specs.Drafts.{claims_over, AreWithin};
 ghost use Rattle.krieg_refute.specs.RefuteAnswers as side;
 ghost use Rattle.krieg_refute.specs.RefuteAnswers.{IsOneSide, IsDenied, IsTaken};
-ghost use Rattle.krieg_refute.specs.Claiming.{IsLost, is_lost_opening, AreClaims};
+ghost use Rattle.krieg_refute.specs.Claiming.{IsClaimList, IsLost, is_lost_opening, Claims, AreClaims};
 
 use crate::claiming::{ClaimList, Setting, claim, is_lost};
-use crate::claims::claims_of;
+use crate::claims::{Draft, claims_of};
 use crate::refutation::Claim;
 use indexmap::IndexSet;
 use krieg_board::{MOST_MOVES, Side, Units};
@@ -42,18 +45,79 @@ fn side_of(b: &Belief) -> Side
     b.get(0).side()
 }
 
-/// The set of the first opening that is stored as one that cannot be won within `moves`.
-fn lost_opening(table: &Table, openings: &[Opening], moves: u8) -> u32
-    requires numbered { AreNumbered table.now openings.now }
-    requires some { is_some (find (is_lost_opening table.now moves) openings.now) ≡ true }
-    ensures { IfSome (find (is_lost_opening table.now moves) openings.now) (λ o. o.set ≡ result) }
+/// The set of the first opening that is stored as one that cannot be won within `moves`. The openings are let go.
+fn lost_opening(table: &Table, openings: Vec<Opening>, moves: u8) -> u32
+    requires numbered { AreNumbered table.now openings.items }
+    requires some { is_some (find (is_lost_opening table.now moves) openings.items) ≡ true }
+    ensures { IfSome (find (is_lost_opening table.now moves) openings.items) (λ o. o.set ≡ result) }
 {
-    for o in openings {
+    for o in openings.as_slice() {
         if is_lost(table, o.set, moves) {
             return o.set;
         }
     }
     unreachable!()
+}
+
+/// No claims yet.
+fn no_claims(alloc: Global) -> ClaimList
+    ensures claims { result.claims.items ≡ [] }
+    ensures places { result.places.keys ≡ [] }
+    ensures positions { result.positions ≡ 0 }
+    ensures reasons { result.reasons ≡ 0 }
+{
+    ClaimList {
+        claims: Vec::new(alloc),
+        places: IndexSet::new(alloc),
+        positions: 0,
+        reasons: 0,
+    }
+}
+
+/// Writes the claims that the set, which is stored as such, cannot be won within its number of moves, and lets the notes go.
+fn write_claims(
+    setting: Setting,
+    table: &mut Table,
+    claimed: &mut ClaimList,
+    asked: Question,
+) -> Result<u16, SearchStop>
+    requires some { 0 < asked.moves }
+    requires within { asked.set < length table.old }
+    requires members { is_nil (set_at table.old asked.set) ≡ false }
+    requires paid { IsPaidFor setting.way.d false table.old }
+    requires noted { AreNotes setting.way.d false table.old setting.notes }
+    requires lost { IsLost table.old (set_at table.old asked.set) asked.moves }
+    requires claimed { IsClaimList setting.way.d table.old claimed.old }
+    ensures { Claims setting.way.d result (set_at table.old asked.set) asked.moves
+        table.old table.new claimed.old claimed.new }
+{
+    claim(&setting, table, claimed, asked)
+}
+
+/// The claims that the set, which is stored as such, cannot be won within its number of moves, whose sets are in the table.
+fn drafts_for(
+    setting: Setting,
+    table: &mut Table,
+    asked: Question,
+) -> Result<Vec<Draft>, SearchStop>
+    requires some { 0 < asked.moves }
+    requires within { asked.set < length table.old }
+    requires members { is_nil (set_at table.old asked.set) ≡ false }
+    requires paid { IsPaidFor setting.way.d false table.old }
+    requires noted { AreNotes setting.way.d false table.old setting.notes }
+    requires lost { IsLost table.old (set_at table.old asked.set) asked.moves }
+    ensures within { IfOk result (λ drafts. AreWithin table.new drafts.items) }
+    ensures claims { IfOk result (λ drafts. (cs : Vec Claim Global)
+        → cs.items ≡ claims_over table.new drafts.items
+        → AreClaims setting.way.d (set_at table.old asked.set) asked.moves (Ok cs)) }
+    ensures stop { IfErr result (λ stop. AreClaims setting.way.d (set_at table.old asked.set)
+        asked.moves (Err stop)) }
+{
+    let mut claimed = no_claims(setting.way.alloc);
+    match write_claims(setting, table, &mut claimed, asked) {
+        Ok(_) => Ok(claimed.claims),
+        Err(stop) => Err(stop),
+    }
 }
 
 /// The claims that the set, which is stored as such, cannot be won within `moves`.
@@ -72,17 +136,9 @@ fn claims_for(
     requires lost { IsLost table (set_at table set) moves }
     ensures { AreClaims way.d (set_at table set) moves result }
 {
-    let mut claimed = ClaimList {
-        claims: Vec::new(way.alloc),
-        places: IndexSet::new(way.alloc),
-        positions: 0,
-        reasons: 0,
-    };
-    let setting = Setting { way, notes: &notes };
-    claim(&setting, &mut table, &mut claimed, Question { set, moves })?;
-    drop(notes);
-    drop(claimed.places);
-    Ok(claims_of(way.alloc, table, claimed.claims)?)
+    let setting = Setting { way, notes };
+    let drafts = drafts_for(setting, &mut table, Question { set, moves })?;
+    Ok(claims_of(way.alloc, table, drafts)?)
 }
 
 /// The claims that no plan of the side to move mates all members within `moves`, as the umpire tells games in the
@@ -127,7 +183,7 @@ pub fn refute(
                 openings,
                 notes,
             } = found;
-            let set = lost_opening(&table, openings.as_slice(), moves);
+            let set = lost_opening(&table, openings, moves);
             let claims = claims_for(way, notes, table, set, moves)?;
             *units = left;
             Ok(Denied::Denial(claims))

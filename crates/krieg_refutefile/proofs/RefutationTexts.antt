@@ -1,12 +1,12 @@
 -- The text of a refutation spells it, and is read as it again.
 use Rattle.std.proofs.Common.{◌≡◌, true, Ok, refl, arith}
 use Rattle.std.specs.Prelude.{codes}
-use Rattle.krieg_refutefile.proofs.Common.{Version, Count, lines, is_line, whole, dialect_line, Dialect, Wild16, Anytry, RefutationState, claim_format, refutation_format, refutation_at, SpellsRefutation, a_list, a_claims, a_tries, a_dialect, a_position, a_claim, a_reason, Totals, refutation_text, CanBeWritten, MOST_MOVES, MOST_LISTED, MOST_CLAIMED, MOST_CLAIMS}
+use Rattle.krieg_refutefile.proofs.Common.{Version, Count, lines, is_line, whole, dialect_line, Dialect, Wild16, Anytry, RefutationState, claim_format, refutation_format, refutation_at, a_list, a_claims, a_tries, a_dialect, a_position, a_claim, a_reason, Totals, refutation_text, CanBeWritten, MOST_MOVES, MOST_LISTED, MOST_CLAIMED, MOST_CLAIMS}
 use Rattle.krieg_fen.proofs.CleanTexts.{position_line, side_is}
 use Rattle.krieg_fen.proofs.ListSpellings.{written_spells}
 use Rattle.krieg_words.specs.declared.dialects.Dialect.TheVariants.{Plain}
 use Rattle.krieg_format.proofs.LeafTexts.{literal_written, number_written, tested_written, which_written, telling_written}
-use Rattle.krieg_format.proofs.Writing.{OwesText, IsWritten, text_says, text_again}
+use Rattle.krieg_format.proofs.Writing.{OwesText, IsWritten, text_again}
 use Rattle.krieg_refutefile.proofs.ClaimLines.{claim_written}
 use Rattle.krieg_refutefile.proofs.ReasonLines.{reason_written}
 use Rattle.krieg_refutefile.proofs.RefutationLaws.{refutation_owes}
@@ -52,10 +52,6 @@ writes = (
     ),
   ),
 )
-
-pub spelled : (s : RefutationState) → CanBeWritten s → SpellsRefutation s (lines (refutation_text s))
-unfolding SpellsRefutation refutation_text
-spelled s w = text_says refutation_format writes s (fits_from s w)
 
 pub again : (s : RefutationState) → CanBeWritten s → whole refutation_at (lines (refutation_text s)) ≡ Ok s
 unfolding refutation_at refutation_text

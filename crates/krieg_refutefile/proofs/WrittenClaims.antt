@@ -1,15 +1,11 @@
 -- The lines of claims, one claim after another, and that their words can be told.
-use Rattle.std.proofs.Common.{◌≡◌, ℕ, ◌+◌, List, [], ◌∷◌, ◌++◌, map, length, Result, Ok, Err, codes, refl, sym, ap, ◌∙◌, append_assoc}
+use Rattle.std.proofs.Common.{◌≡◌, ℕ, ◌+◌, List, [], ◌∷◌, ◌++◌, map, length, Result, Ok, Err, codes, refl, sym, ap, ◌∙◌}
 use Rattle.std.specs.List.{All, flat_map}
-use Rattle.std.proofs.lemmas.List.{append-nil, length-map}
+use Rattle.std.proofs.lemmas.List.{length-map}
 use Rattle.std.proofs.lemmas.List.Elements.{All-nil, All-cons, All-weaker}
 use Rattle.krieg_refutefile.proofs.Common.{Pos, Side, Pieces, Written, HasLines, PutsLines, alone, put_lines, position_line, Dialect, Claim, IsTold, AreTold, numbered, claim_lines, head_lines, refutation_text, claim_state_of, state_from, IsToldReason, AreToldClaims}
 use Rattle.krieg_text.proofs.Writings.{lines_then}
 use Rattle.krieg_refutefile.proofs.WrittenLines.{lines_are}
-
-pub flat_last : {A B : Type 0} (f : A → List B) (xs : List A) (x : A) → flat_map f (xs ++ x ∷ []) ≡ flat_map f xs ++ f x
-flat_last f [] x = append-nil (f x)
-flat_last f (y ∷ xs) x = ap (λ (t : List _). f y ++ t) (flat_last f xs x) ∙ sym (append_assoc (f y) (flat_map f xs) (f x))
 
 pub flat_of_map : {A B C : Type 0} (g : A → B) (f : B → List C) (xs : List A) → flat_map f (map g xs) ≡ flat_map (λ x. f (g x)) xs
 flat_of_map g f [] = refl

@@ -19,11 +19,10 @@
 //!     claim 1 1\n7k/8/8/8/8/8/8/K7 w - -\ntries 3\na1b1 lives\na1a2 lives\na1b2 lives\nend\n";
 //! let file = read_refutation(alloc, text.to_vec(alloc)?)?;
 //! let held = deny(alloc, &file, &mut units)?; // true: a king alone does not mate
-//! let written = write_refutation(alloc, &file)?; // the same bytes, in `written.pieces()`
 //! let set = Belief::from_packed(file.list.clone()?);
 //! if let Denied::Denial(claims) = refute(alloc, file.dialect, &set, file.moves, &mut units)? {
 //!     let denial = Denial { dialect: file.dialect, side: file.side, moves: file.moves, set, claims };
-//!     let found = write_denial(alloc, denial)?; // a text of the claims that are found
+//!     let found = write_denial(alloc, denial)?; // a text of the claims that are found, in `found.pieces()`
 //! }
 //! let cut = read_refutation(alloc, b"krieg refutation 1\nside w\n".to_vec(alloc)?);
 //! // Err(TextFault::At { line: 2, kind: TextKind::Syntax }): the dialect has a line
@@ -38,4 +37,4 @@ mod writing;
 
 pub use pieces::Pieces;
 pub use reading::read_refutation;
-pub use writing::{Denial, write_denial, write_refutation};
+pub use writing::{Denial, write_denial};

@@ -6,10 +6,10 @@ ghost use Rattle.krieg_text.specs.Writing.{PutsPieces, PutsLines, Wrote, alone, 
 ghost use Rattle.krieg_fen.specs.ListText.{position_line};
 ghost use Rattle.krieg_words.specs.ToldWords.{Fits};
 ghost use Rattle.krieg_refute.specs.declared.refutation.Why.TheVariants.{Class};
-ghost use Rattle.krieg_refutefile.specs.RefutationFormat.{refutation_at, SpellsRefutation};
+ghost use Rattle.krieg_refutefile.specs.RefutationFormat.{refutation_at};
 ghost use Rattle.krieg_refutefile.specs.LineForms as line;
 ghost use Rattle.krieg_refutefile.specs.RefutationText as spec;
-ghost use Rattle.krieg_refutefile.specs.Refutations.{state_of, state_of_denial, claim_state_of};
+ghost use Rattle.krieg_refutefile.specs.Refutations.{state_of_denial, claim_state_of};
 ghost use Rattle.krieg_refutefile.specs.Writable.{IsToldWhy, CanBeWritten};
 ghost use Rattle.krieg_refutefile.specs.Parts as parts;
 ghost use Rattle.krieg_refutefile.specs.Parts.{IsTold, AreTold};
@@ -18,7 +18,7 @@ use crate::pieces::Pieces;
 use krieg_board::{NoMemory, Side};
 use krieg_fen::{Ranks, put_move, put_next, put_side_line};
 use krieg_pack::{Belief, Packed, unpack};
-use krieg_refute::{Claim, PackedKey, Reason, Refutation, Why};
+use krieg_refute::{Claim, PackedKey, Reason, Why};
 use krieg_text::{Text, put_number};
 use krieg_words::{Dialect, put_dialect_line, put_words_in};
 use std::alloc::Global;
@@ -189,19 +189,6 @@ fn put_claim(d: Dialect, claim: &Claim, text: &mut Pieces) -> Result<(), NoMemor
     put_reasons(d, &claim.reasons, text)
 }
 
-/// Adds the lines of claims.
-#[tactic(auto, using(krieg_text::proofs::Writings::writings, crate::proofs::WrittenClaims::flat_last))]
-fn put_claims(d: Dialect, claims: &[Claim], text: &mut Pieces) -> Result<(), NoMemory>
-    requires { All (λ c. AreTold d (claim_state_of c)) claims.now }
-    ensures { Wrote result text.new
-        (put_lines text.old (flat_map (λ c. parts.claim_lines d (claim_state_of c)) claims.now)) }
-{
-    for claim in claims {
-        put_claim(d, claim, text)?;
-    }
-    Ok(())
-}
-
 /// Adds the lines of claims, each of which is let go once its lines stand.
 #[tactic(auto, using(krieg_text::proofs::Writings::writings))]
 fn move_claims(d: Dialect, claims: Vec<Claim>, text: &mut Pieces) -> Result<(), NoMemory>
@@ -255,20 +242,6 @@ fn move_set(set: Belief, claims: &[Claim], text: &mut Pieces) -> Result<(), NoMe
     put_members(set.members(), text)
 }
 
-/// The lines of the refutation.
-fn refutation_lines(alloc: Global, f: &Refutation) -> Result<Pieces, NoMemory>
-    requires { All (λ c. AreTold f.now.dialect (claim_state_of c)) f.now.claims.items }
-    ensures { IfOk result (λ text. text ≡ spec.refutation_text (state_of f.now)) }
-{
-    let mut text = Pieces::new(alloc);
-    begin(f.dialect, f.side, f.moves, f.list.len(), &mut text)?;
-    put_members(&f.list, &mut text)?;
-    put_number_line(b"claims ", f.claims.len(), &mut text)?;
-    put_claims(f.dialect, &f.claims, &mut text)?;
-    end(&mut text)?;
-    Ok(text)
-}
-
 /// The lines of the refutation with these claims that lists the members of the set.
 fn denial_lines(alloc: Global, denial: Denial) -> Result<Pieces, NoMemory>
     requires { All (λ c. AreTold denial.dialect (claim_state_of c)) denial.claims.items }
@@ -290,27 +263,11 @@ fn denial_lines(alloc: Global, denial: Denial) -> Result<Pieces, NoMemory>
     Ok(text)
 }
 
-/// The text of the refutation in its one written form.
+/// The text of the refutation with these claims that lists the members of the set, in its one written form.
 ///
 /// The refutation is within the limits of a text, its listed positions have one hand of its side, which is to move, and its
 /// words can be told in the dialect. Its claims cite those before them alone, and the moves of their reasons ascend. Whether
 /// the claims hold is not asked.
-#[tactic(auto, using(crate::proofs::Sizes::text_short))]
-pub fn write_refutation(alloc: Global, f: &Refutation) -> Result<Pieces, NoMemory>
-    requires { CanBeWritten (state_of f.now) }
-    ensures value { IfOk result (λ text. text ≡ spec.refutation_text (state_of f.now)) }
-    // The text spells the refutation, and is read as it again.
-    ensures spelled { SpellsRefutation (state_of f.now)
-        (lines (spec.refutation_text (state_of f.now))) }
-    ensures again { whole refutation_at (lines (spec.refutation_text (state_of f.now)))
-        ≡ Ok (state_of f.now) }
-    // It has fewer than 66,000,000 bytes, so that it fits an input.
-    ensures short { length (spec.refutation_text (state_of f.now)) < spec.text_bound }
-{
-    refutation_lines(alloc, f)
-}
-
-/// The text of the refutation with these claims that lists the members of the set: what `write_refutation` gives.
 ///
 /// Each set is let go once its lines stand, and the text takes the memory that comes free: at no time are both there whole.
 pub fn write_denial(alloc: Global, denial: Denial) -> Result<Pieces, NoMemory>

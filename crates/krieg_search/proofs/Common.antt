@@ -3,7 +3,6 @@ pub use Rattle.krieg_board.specs.Men.{is_same_side}
 pub use Rattle.krieg_board.specs.Pos.{Pos}
 pub use Rattle.krieg_board.specs.declared.men.Move.{Move}
 pub use Rattle.krieg_board.specs.declared.men.Side.{Side}
-pub use Rattle.krieg_board.specs.declared.men.Side.TheVariants.{Black, White}
 unfoldable pub use Rattle.krieg_words.specs.WordNumbers.{words_number}
 pub use Rattle.krieg_words.specs.Words.{IsSaid, Said}
 pub use Rattle.krieg_words.specs.declared.dialects.Dialect.{Dialect}

@@ -26,5 +26,4 @@ mod KeySets
 pub mod KeyRoots
 mod Ordering
 pub mod Solving
-mod Turning
 mod ChessLaws

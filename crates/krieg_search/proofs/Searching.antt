@@ -1,5 +1,6 @@
 -- One stretch of the search behind another, over the table in which sets have numbers.
 use Rattle.std.proofs.Common.{Bool, ◌≡◌, ℕ, ◌+◌, ◌≤◌, ◌<◌, true, List, length, Result, Ok, Err, refl, sym, subst, ◌∙◌, arith}
+use Rattle.std.specs.Prelude.{OnOk}
 use Rattle.std.specs.Result.{IsErrAnd}
 use Rattle.krieg_search.proofs.Common.{Pos, Move, Dialect, Entries, IsStretch, FallsShort, chess, SetRows, entries, IsMore, SearchStop, Large, IsNumbered, IsReady, IsSearched, Stretches}
 use Rattle.krieg_accounts.proofs.Stretches.{stretch_of_nothing, stretch_of_split, stretch_of_cut, stretch_then, short_then, stretch_cost, short_cost}
@@ -57,3 +58,13 @@ module _ (d : Dialect) (cut : Bool) where
       go Spent v = (short_behind Q Q' a b all T0 T1 u0 u1 f s h v.0, (let a = s.stretch.fewer in let b = v.1 in omega arith))
       go Large v = absurd v
       go NoMemory v = let a = s.stretch.fewer in omega arith
+
+  -- memory was wanting, and no units are new
+  pub wanted_memory : {B : Type 0} {P : SearchStop → Type 0} (r : Result B SearchStop) (wanted : B → Type 0) (Q : List (List Pos × ℕ) → Type 0) (all : ℕ) (T0 T1 : SetRows) {u0 u1 : ℕ} → ((x : SearchStop) → P x → x ≡ NoMemory) → IsErrAnd r P → u1 ≤ u0 → Stretches d cut r wanted Q all T0 T1 u0 u1
+  wanted_memory (Ok x) wanted Q all T0 T1 same fails l = absurd fails
+  wanted_memory {B = B} (Err x) wanted Q all T0 T1 {u0 = u0} {u1 = u1} same fails l = subst (λ (y : SearchStop). Stretches d cut {A = B} (Err y) wanted Q all T0 T1 u0 u1) (sym (same x fails)) l
+
+-- an error leaves nothing to be shown
+pub none_after : {B : Type 0} (P : SearchStop → Type 0) (A : Type 0) (r : Result B SearchStop) → IsErrAnd r P → OnOk r A
+none_after P A (Ok x) fails = absurd fails
+none_after P A (Err x) fails = tt

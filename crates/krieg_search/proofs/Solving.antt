@@ -1,7 +1,8 @@
 -- The plan of the opening sets is the best one.
-use Rattle.std.proofs.Common.{Bool, ◌≡◌, ℕ, ◌<◌, ◌^◌, true, false, max, List, [], ◌∷◌, map, Ok, refl, sym, ap, subst, ◌∙◌, arith}
+use Rattle.std.proofs.Common.{Bool, ◌≡◌, ℕ, ◌<◌, ◌^◌, true, false, max, List, [], ◌∷◌, map, Result, Ok, Err, refl, sym, ap, subst, ◌∙◌, arith}
 use Rattle.std.proofs.lemmas.Bool.{both_ways, false_from_ne_true}
-use Rattle.krieg_search.proofs.Common.{Pos, Move, Side, Dialect, Maybe, Nothing, Just, least, canon, greatest, openings, opening_set, roots_of, root_with, can_plan, canon_plan, canon_worst, Key, RootKey, chess, outset, PlanTrees, plan_of, is_ordered_plan, Answer, Mates, None, Findings, entries, opening_in, IsWon, IsPaidFor, with_root, roots_for, IsUnfit, IsPlan, IsPlanned, IsBest, NoneMates, IsLarge, IsAnswer}
+use Rattle.krieg_search.proofs.Common.{Pos, Move, Side, Dialect, Maybe, Nothing, Just, least, canon, greatest, openings, opening_set, roots_of, root_with, can_plan, canon_plan, canon_worst, Key, RootKey, chess, outset, PlanTrees, plan_of, is_ordered_plan, Answer, Mates, None, Findings, entries, opening_in, IsWon, IsPaidFor, with_root, roots_for, IsUnfit, IsPlan, IsPlanned, IsBest, NoneMates, IsLarge, IsAnswer, IsAccount, Takes, SearchStop, Large}
+use Rattle.krieg_search.specs.declared.stop.SearchStop.TheVariants.{Spent, NoMemory}
 use Rattle.krieg_theory.proofs.Planned.{mates_shows, canon_plan_is, canon_plan_worst, worst_enough, worst_least}
 use Rattle.krieg_accounts.proofs.Stretches.{weaker}
 use Rattle.krieg_game.specs.ClassLaws as game
@@ -55,13 +56,13 @@ module _ (d : Dialect) (who : Side) (S : List Pos) (n : ℕ) where
     is_ordered = ap is_ordered_plan plan_is ∙ plan_ordered d who (canon_plan (chess d) (outset d who) n S) S (best a.can).canonical
 
     -- the plan that was built is the best one
-    pub is_best : (nodes worst : ℕ) (plan : PlanTrees) → IsPlan d n (map (opening_in w.table) w.openings.items) nodes worst plan → IsBest d who S n worst plan
+    is_best : (nodes worst : ℕ) (plan : PlanTrees) → IsPlan d n (map (opening_in w.table) w.openings.items) nodes worst plan → IsBest d who S n worst plan
     is_best nodes worst plan p =
         subst (λ (x : PlanTrees). IsBest d who S n worst x) (sym (p.are ∙ plan_is))
         (subst (λ (k : ℕ). IsBest d who S n k (canon_plan (chess d) (outset d who) n S)) (sym (p.greatest_least ∙ worst_is)) (best a.can))
 
     -- the plan that was not built is too large
-    pub is_large : (nodes : ℕ) → IsUnfit nodes (roots_for d n (map (opening_in w.table) w.openings.items)) → IsLarge d who S n nodes
+    is_large : (nodes : ℕ) → IsUnfit nodes (roots_for d n (map (opening_in w.table) w.openings.items)) → IsLarge d who S n nodes
     is_large nodes u = record {
       plan = canon_plan (chess d) (outset d who) n S;
       worst = canon_worst (chess d) (outset d who) n S;
@@ -69,8 +70,18 @@ module _ (d : Dialect) (who : Side) (S : List Pos) (n : ℕ) where
       large = subst (λ (p : PlanTrees). IsUnfit nodes p) plan_is u;
     }
 
-module _ (d : Dialect) (who : Side) (S : List Pos) (n : ℕ) where
-  -- the plan was built
-  pub built : (cut : Bool) (w : Findings) (had nodes : ℕ) (a : Answer) → IsWon d who S n cut w had → IsPlanned d n (map (opening_in w.table) w.openings.items) nodes (Ok a) → IsAnswer d who S n nodes (Ok a)
-  built cut w had nodes (Mates worst plan) k p = (is_best d who S n cut w had k nodes worst (plan_of plan) p, p.fit)
-  built cut w had nodes None k p = absurd p
+module _ (d : Dialect) (who : Side) (S : List Pos) (n : ℕ) (cut : Bool) (w : Findings) (had nodes : ℕ) (k : IsWon d who S n cut w had) where
+  -- the plan was built, or is too large, or memory was wanting
+  pub planned : (r : Result Answer SearchStop) → IsPlanned d n (map (opening_in w.table) w.openings.items) nodes r → IsAnswer d who S n nodes r
+  planned (Ok (Mates worst plan)) p = (is_best d who S n cut w had k nodes worst (plan_of plan) p, p.fit)
+  planned (Ok None) p = absurd p
+  planned (Err Spent) p = absurd p
+  planned (Err Large) p = is_large d who S n cut w had k nodes p
+  planned (Err NoMemory) p = tt
+
+  -- what it took, unless memory was wanting
+  pub planned_takes : (r : Result Answer SearchStop) (has u v : ℕ) → IsPlanned d n (map (opening_in w.table) w.openings.items) nodes r → IsAccount d who S n cut u has → (r ≡ Err NoMemory → ⊥) → v ≡ has → Takes d who S n cut r u v
+  planned_takes (Ok a) has u v p k some taken = rw taken k
+  planned_takes (Err Spent) has u v p k some taken = absurd p
+  planned_takes (Err Large) has u v p k some taken = rw taken k
+  planned_takes (Err NoMemory) has u v p k some taken = absurd (some refl)

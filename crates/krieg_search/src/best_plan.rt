@@ -1,4 +1,4 @@
-ghost use Rattle.std.specs.Prelude.{◌≡◌, ◌<◌, ◌≤◌, ◌⊎◌, true, List, map, Err};
+ghost use Rattle.std.specs.Prelude.{◌≡◌, ◌<◌, ◌≤◌, ◌⊎◌, ◌↔◌, true, List, map, Err};
 ghost use Rattle.krieg_board.specs.Pos.{Pos};
 ghost use Rattle.krieg_theory.specs.Sets.{In};
 ghost use Rattle.krieg_costs.specs.Cost.{cost_of};
@@ -6,7 +6,7 @@ ghost use Rattle.krieg_game.specs.Chess.{chess};
 ghost use Rattle.krieg_game.specs.Outset.{outset};
 ghost use Rattle.krieg_plan.specs.Order.{is_ordered_plan};
 ghost use Rattle.krieg_parting.specs.Turns.{IsOwnTurn, IsOthersTurn};
-ghost use Rattle.krieg_search.specs.declared.stop.SearchStop.TheVariants.{Spent};
+ghost use Rattle.krieg_search.specs.declared.stop.SearchStop.TheVariants.{Spent, NoMemory};
 ghost use Rattle.krieg_search.specs.Openings.{AreNumbered, opening_in};
 ghost use Rattle.krieg_search.specs.Decision.{sets_in};
 ghost use Rattle.krieg_search.specs.Building.{WonBy, IsPaidFor, roots_for};
@@ -57,11 +57,20 @@ fn build_plan(
     } = won;
     drop(notes);
     let mut builder = Builder { table, left: nodes };
-    let Roots { worst, roots } = build_roots(alloc, d, &mut builder, &openings, moves)?;
+    let built = build_roots(alloc, d, &mut builder, &openings, moves);
+    drop(builder.table);
+    let Roots { worst, roots } = built?;
     Ok(Answer::Mates {
         worst,
         plan: Plan::make(roots),
     })
+}
+
+/// Whether memory was not found.
+fn wants_memory(found: &Result<Answer, SearchStop>) -> bool
+    ensures { (result ≡ true) ↔ (found.now ≡ Err NoMemory) }
+{
+    matches!(found, Err(SearchStop::NoMemory))
 }
 
 /// The answer of a search, which may cut tries or not.
@@ -78,28 +87,18 @@ fn answer_for(
     ensures units { Takes way.d who b.now moves way.cut result units.old units.new }
 {
     let mut left = Units::new(units.left());
-    let won = match decide(way, who, b, moves, &mut left)? {
-        Decision::Over => {
-            *units = left;
-            return Ok(Answer::None);
+    let found = match decide(way, who, b, moves, &mut left)? {
+        Decision::Won(won) => build_plan(way.alloc, way.d, won, moves, nodes),
+        Decision::Over => Ok(Answer::None),
+        Decision::Lost(lost) => {
+            drop(lost);
+            Ok(Answer::None)
         }
-        Decision::Lost(_found) => {
-            *units = left;
-            return Ok(Answer::None);
-        }
-        Decision::Won(won) => won,
     };
-    match build_plan(way.alloc, way.d, won, moves, nodes) {
-        Ok(answer) => {
-            *units = left;
-            Ok(answer)
-        }
-        Err(SearchStop::Large) => {
-            *units = left;
-            Err(SearchStop::Large)
-        }
-        Err(stop) => Err(stop),
+    if !wants_memory(&found) {
+        *units = Units::new(left.left());
     }
+    found
 }
 
 /// The best plan of the side `who` for the listed positions, as the umpire tells games in the dialect, or that none
@@ -115,9 +114,9 @@ fn answer_for(
 /// is reached. So it is at least the floor and at most what is fresh. `Spent` comes only where fewer units are left than are
 /// fresh, and so fewer than the cost. It takes none, and neither does `NoMemory`.
 ///
-/// Within 0 moves no plan mates a list that has a position. The same side is to move in all
-/// listed positions; `has_one_turn` tells. `NoMemory` comes for want of memory, and for more than 100,000,000 different sets,
-/// which are all that a table keeps: each but the sets of openings takes a unit at least.
+/// Within 0 moves no plan mates a list that has a position. The same side is to move in all listed positions. `NoMemory` comes
+/// for want of memory, and for more than 100,000,000 different sets, which are all that a table keeps: each but the sets of
+/// openings takes a unit at least.
 pub fn solve(
     alloc: Global,
     d: Dialect,

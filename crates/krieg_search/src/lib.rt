@@ -74,7 +74,6 @@ mod search;
 mod set_keys;
 mod stop;
 mod try_list;
-mod turn;
 mod way;
 mod within;
 
@@ -86,6 +85,5 @@ pub use openings::Opening;
 pub use packed_key::PackedKey;
 pub use remainder::{Remainder, left_by};
 pub use stop::{SearchStop, SearchStop as Stop2};
-pub use turn::has_one_turn;
 pub use way::Way;
 pub use within::is_within;

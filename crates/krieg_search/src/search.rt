@@ -38,17 +38,20 @@ pub(crate) struct Search {
     pub blockers: Blockers,
 }
 
-/// Written out, so that each owner of a search lets it go by one call.
+/// Written out, so that each owner of a search lets it go by one call, and this its parts that have many.
 impl Drop for Search {
     fn drop(self) {
         let Search {
-            sight: _,
-            notes: _,
+            sight,
+            notes,
             lost_sets: _,
-            table: _,
+            table,
             units: _,
             blockers: _,
         } = self;
+        drop(sight);
+        drop(notes);
+        drop(table);
     }
 }
 

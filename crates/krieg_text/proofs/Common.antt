@@ -11,7 +11,7 @@ pub use Rattle.krieg_text.specs.Names.{cut, onto_front}
 pub use Rattle.krieg_text.specs.Outcomes.{◌>>=◌}
 pub use Rattle.krieg_text.specs.OwnedLines.{HaveBytes, behind_line, lines_back}
 pub use Rattle.krieg_text.specs.Pieces.{pieces}
-pub use Rattle.krieg_text.specs.Reading.{Gives, GivesOn, IsRefusedAt, LineReader, Passed, Place, Step, ended, goes_on, line_at, next_line, on, place, reached, stops, taken, up_to_last, whole}
+pub use Rattle.krieg_text.specs.Reading.{Gives, GivesOn, IsRefusedAt, LineReader, Passed, Place, Step, ended, goes_on, line_at, next_line, on, place, stops, taken, up_to_last, whole}
 pub use Rattle.krieg_text.specs.Writing.{Pieces, alone, joined, put, put_lines}
 pub use Rattle.krieg_text.specs.declared.fault.TextFault.{TextFault}
 pub use Rattle.krieg_text.specs.declared.fault.TextFault.TheVariants.{At, NoMemory}

@@ -2,7 +2,7 @@
 use Rattle.std.proofs.Common.{◌≡◌, ◌≢◌, inl, inr, ℕ, ◌+◌, Bool, true, false, List, [], ◌∷◌, ◌++◌, length, Result, Ok, Err, refl, sym, ap, subst, ◌∙◌, append_assoc, arith}
 use Rattle.std.specs.Prelude.{◌⊎◌, IfErr}
 use Rattle.std.proofs.lemmas.List.{append-nil}
-use Rattle.krieg_text.proofs.Common.{TextFault, At, NoMemory, TextKind, Syntax, ◌>>=◌, Place, place, LineReader, ended, whole, Gives, GivesOn, Language, Begins, is_beyond_form, IsGoodTo, GoesOn, FirstBad}
+use Rattle.krieg_text.proofs.Common.{TextFault, At, NoMemory, TextKind, Syntax, ◌>>=◌, Place, place, LineReader, ended, whole, Gives, Language, Begins, is_beyond_form, IsGoodTo, GoesOn, FirstBad}
 use Rattle.krieg_text.proofs.Locality.{ReadFrom, FaultAt}
 use Rattle.krieg_text.proofs.Grammars.{Judged, untold}
 use Rattle.krieg_text.proofs.Goings.{GoesBy}
@@ -157,10 +157,3 @@ pub code_first_bad : {X A : Type 0} (view : X → A) (answer : Result X TextFaul
 code_first_bad view (Ok x) r K G keeps ls given = tt
 code_first_bad view (Err NoMemory) r K G keeps ls given = λ other. absurd (other refl)
 code_first_bad view (Err (At line kind)) r K G keeps ls given = λ other. whole_first_bad r K G keeps ls (At line kind) given
-
--- the same in the midst of a text
-pub code_bad_from : {X A : Type 0} (view : X → A) (answer : Result X TextFault) (r : LineReader A) (K : A → Type 0) (G : Language) → GoesBy r K untold (λ u. G) → (n : ℕ) (ls : List (List ℕ)) (q : Place) →
-    GivesOn view answer q (r (place n ls)) → IfErr answer (λ e. e ≢ NoMemory → FirstBad (λ t. r (place n t)) G n ls e)
-code_bad_from view (Ok x) r K G keeps n ls q given = tt
-code_bad_from view (Err NoMemory) r K G keeps n ls q given = λ other. absurd (other refl)
-code_bad_from view (Err (At line kind)) r K G keeps n ls q given = λ other. first_bad r K G keeps n ls (At line kind) given.0

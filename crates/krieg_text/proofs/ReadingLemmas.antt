@@ -1,7 +1,7 @@
 -- Where a reader of lines stands, and the end of a text.
-use Rattle.std.proofs.Common.{◌≡◌, ◌≢◌, inl, inr, ℕ, ◌+◌, ◌-◌, List, [], ◌∷◌, ◌++◌, length, Result, Ok, Err, refl, sym, ap, subst, ◌∙◌, append_assoc, arith, length-append}
+use Rattle.std.proofs.Common.{◌≡◌, ◌≢◌, inl, inr, ℕ, ◌+◌, List, [], ◌∷◌, ◌++◌, length, Result, Ok, Err, refl, sym, ap, subst, ◌∙◌, append_assoc, arith, length-append}
 use Rattle.std.specs.Prelude.{IfOk}
-use Rattle.krieg_text.proofs.Common.{TextFault, At, TextKind, Syntax, ◌>>=◌, Place, place, on, taken, next_line, line_at, ended, Passed, reached, IsRefusedAt, GivesOn}
+use Rattle.krieg_text.proofs.Common.{TextFault, At, TextKind, Syntax, ◌>>=◌, Place, place, on, taken, next_line, line_at, ended, Passed, IsRefusedAt, GivesOn}
 use Rattle.krieg_text.proofs.Locality.{ok_is}
 
 pub ended_none : {A : Type 0} (value : A) (n : ℕ) (ls : List (List ℕ)) → ls ≡ [] → Ok value ≡ ended value n ls
@@ -89,12 +89,3 @@ line_fewer p q l e = go p.left e
 pub ruleset refused = (passed_none, passed_line, passed_then, refused_line, refused_none)
 
 pub ruleset formed = (passed_none, passed_line, refused_none, line_fewer)
-
--- ---- a reader of lines without their numbers
-
-pub reached_is : (line : ℕ) (old : List (List ℕ)) (q : Place) → Passed (place line old) q → reached line old q.left ≡ q
-reached_is line old q a =
-    let number : line + (length old - length q.left) ≡ q.number = omega (arith, a.number, ap length a.is, length-append a.given q.left) in
-    ap (λ (n : ℕ). place n q.left) number
-
-pub ruleset reaches = (reached_is)

@@ -1,5 +1,5 @@
 -- Reading a text line by line: where a reader stands, what it takes, and the first line that it refuses.
-use Rattle.std.specs.Prelude.{◌≡◌, ◌⊎◌, ℕ, ◌+◌, ◌-◌, List, [], ◌∷◌, ◌++◌, length, Result, Ok, Err}
+use Rattle.std.specs.Prelude.{◌≡◌, ◌⊎◌, ℕ, ◌+◌, List, [], ◌∷◌, ◌++◌, length, Result, Ok, Err}
 use Rattle.krieg_text.specs.declared.fault.TextFault.{TextFault}
 use Rattle.krieg_text.specs.declared.fault.TextFault.TheVariants.{At, NoMemory}
 use Rattle.krieg_text.specs.declared.fault.TextKind.{TextKind}
@@ -25,10 +25,6 @@ pub record Passed (old new : Place) : Type 0 where
   pub given : List (List ℕ)
   pub is : old.left ≡ given ++ new.left
   pub number : new.number ≡ old.number + length given
-
--- where one stands who has the lines new left of the lines old, the first of which has the number line
-abbrev pub reached : ℕ → List (List ℕ) → List (List ℕ) → Place
-reached line old new = place (line + (length old - length new)) new
 
 -- the line with that number was refused, and it is the last that was given, or it is missing and no line is left
 abbrev pub IsRefusedAt : ℕ → Place → Type 0

@@ -1,5 +1,5 @@
-ghost use Rattle.std.specs.Prelude.{◌≡◌, ◌<◌, ◌≤◌, ◌+◌, ◌^◌, ◌≢◌, IfOk, IfErr, OnOk, OnErr, Ok, Err, length};
-ghost use Rattle.krieg_text.specs.Reading.{begin, place, line_at, Passed};
+ghost use Rattle.std.specs.Prelude.{◌≡◌, ◌+◌, ◌≢◌, IfOk, IfErr, OnOk, OnErr, Ok, Err, length};
+ghost use Rattle.krieg_text.specs.Reading.{begin, line_at, Passed};
 ghost use Rattle.krieg_text.specs.declared.fault.TextFault.TheVariants.{NoMemory as OutOfMemory};
 
 use crate::fault::{TextFault, TextKind};
@@ -24,7 +24,7 @@ impl<'a> Model for Cursor<'a> {
 
     ghost view = { λ c. place c.number c.source };
 
-    ghost invariant = { λ c. c.number + length c.source ≤ 2 ^ 63 + 2 ^ 48 };
+    ghost invariant = { λ c. c.number + length c.source ≤ 2 ^ 63 + 1 };
 }
 
 impl<'a> Cursor<'a> {
@@ -36,24 +36,6 @@ impl<'a> Cursor<'a> {
             source: lines_of(text),
             number: 1,
         }
-    }
-
-    /// Stands before the first of these lines, which has that number.
-    pub fn starting(line: usize, source: &Lines<'a>) -> Cursor<'a>
-        requires { line < 2 ^ 48 }
-        ensures { result ≡ place line source.now }
-    {
-        Cursor {
-            source: source.again(),
-            number: line,
-        }
-    }
-
-    /// The lines that are left.
-    pub fn rest(&self) -> Lines<'a>
-        ensures { result ≡ self.now.left }
-    {
-        self.source.again()
     }
 
     /// The next line. Where none is left, the text is not complete.
@@ -75,14 +57,6 @@ impl<'a> Cursor<'a> {
                 kind: TextKind::Syntax,
             }),
         }
-    }
-
-    /// The number of the next line.
-    pub fn number(&self) -> usize
-        ensures value { result ≡ self.now.number }
-        ensures bound { result ≤ 2 ^ 63 + 2 ^ 48 }
-    {
-        self.number
     }
 }
 

@@ -1,4 +1,4 @@
-ghost use Rattle.std.specs.Prelude.{◌≡◌, ◌<◌, ◌≤◌, ◌^◌, ◌∷◌, ◌==◌, ◌↔◌, ℕ, List, [], length, IfNone, IfSome, IsTrue, true, false, slice_index, slice_get};
+ghost use Rattle.std.specs.Prelude.{◌≡◌, ◌<◌, ◌≤◌, ◌∷◌, ◌==◌, ◌↔◌, ℕ, List, [], length, IfNone, IfSome, IsTrue, true, false, slice_index, slice_get};
 ghost use Rattle.std.specs.Iterator.{YieldsFirstRef, item_count};
 ghost use Rattle.std.specs.Option.{option_copied};
 ghost use Rattle.krieg_text.specs.Lines.{lines, with_ends, AreLines, EndsLines};
@@ -54,15 +54,6 @@ impl<'a> Iterator for Lines<'a> {
 }
 
 impl<'a> Lines<'a> {
-    /// The same lines, to be read apart.
-    #[tactic(auto, using(crate::proofs::LineCuts::sizes))]
-    pub(crate) fn again(&self) -> Lines<'a>
-        ensures value { result ≡ self.now }
-        ensures bound { length result ≤ 2 ^ 63 }
-    {
-        Lines { rest: self.rest }
-    }
-
     /// The next line, which stays.
     pub fn peek(&self) -> Option<&'a [u8]>
         ensures { option_copied result ≡ slice_get self.now 0 }

@@ -43,4 +43,3 @@ pub use Rattle.krieg_why.specs.Links.{Adds, AreKept, Entries, Grounded, IsFound,
 pub use Rattle.krieg_why.specs.Retold.{events_by, shown_of}
 pub use Rattle.krieg_why.specs.Tales.{Tale, after_reply, begun, elsewhere, firsts, standing, stands_of, tale_cmp, tale_lt, tales_after, tell, tell_all}
 pub use Rattle.krieg_why.specs.declared.links.Link.{Link}
-pub use Rattle.krieg_why.specs.declared.shown.Shown.{Shown}

@@ -1,10 +1,10 @@
 -- Games that are given one by one: one of those that are kept, and those that were given so far with one more.
 use Rattle.std.proofs.Common.{◌≡◌, ℕ, ◌+◌, List, [], ◌∷◌, ◌++◌, ◌<◌, length, get_or, drop, take, append_assoc, map, flat_map, Some, Result, Ok, Err, sym, ap, ◌∙◌}
 use Rattle.std.specs.Prelude.{slice_get, option_map}
-use Rattle.std.proofs.lemmas.List.{append-nil, length-map, map-append, take_more, drop_more}
+use Rattle.std.proofs.lemmas.List.{append-nil, length-map, take_more, drop_more}
 use Rattle.std.proofs.lemmas.Option.{slice_get-map, slice_get_within, get_or_from_slice_get}
 use Rattle.std.proofs.lemmas.Grind.{flat_map-append}
-use Rattle.krieg_why.proofs.Common.{Pos, Side, Move, Line, Event, SheetState, Pieces, Written, HasLines, PutsLines, put_lines, ShownState, state_of, game_lines, begun, Entries, kept, numbered_tale, tale_of, tales_of, events_by, shown_of, Link, Shown}
+use Rattle.krieg_why.proofs.Common.{Pos, Side, Move, Line, Event, SheetState, Pieces, Written, HasLines, PutsLines, put_lines, ShownState, game_lines, begun, Entries, kept, numbered_tale, tale_of, tales_of, events_by, shown_of, Link}
 use Rattle.krieg_text.proofs.Writings.{lines_then}
 
 module _ (s : SheetState) (ps : List Pos) (ls : List Link) (lasts : Entries) where
@@ -30,17 +30,6 @@ module _ (s : SheetState) (ps : List Pos) (ls : List Link) (lasts : Entries) whe
 -- one member more
 pub one_more : {X : Type 0} (xs : List X) (i : ℕ) (x : X) → slice_get xs i ≡ Some x → take (i + 1) xs ≡ take i xs ++ x ∷ []
 one_more {X = X} xs i x at = take_more xs i x (slice_get_within xs i x at) ∙ ap (λ (y : X). take i xs ++ y ∷ []) (get_or_from_slice_get xs i x x at)
-
--- there are as many games as values
-pub counted : (xs : List Shown) → length (map state_of xs) ≡ length xs
-counted xs = length-map xs state_of
-
-pub ruleset counts = (counted)
-
--- one game more
-pub game_more : (games : List ShownState) (i : ℕ) (xs xs' : List Shown) (x : Shown) → slice_get games i ≡ Some (state_of x) → xs' ≡ xs ++ x ∷ [] → map state_of xs ≡ take i games → map state_of xs' ≡ take (i + 1) games
-game_more games i xs xs' x at pushed h =
-    ap (map state_of) pushed ∙ (map-append state_of xs (x ∷ []) ∙ (ap (λ (t : List ShownState). t ++ state_of x ∷ []) h ∙ sym (one_more games i (state_of x) at)))
 
 entry_next : (ls : List Line) (i : ℕ) (l : Line) → i < length ls → l ≡ get_or ls i l → drop i ls ≡ l ∷ drop (i + 1) ls
 entry_next ls i l lt is = drop_more ls i l lt ∙ ap (λ (k : Line). k ∷ drop (i + 1) ls) (sym is)

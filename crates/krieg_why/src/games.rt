@@ -204,15 +204,4 @@ impl<'a> Games<'a> {
             events: events_by(alloc, self.sheet.side(), entries, traced.replies)?,
         })
     }
-
-    /// All games at once.
-    pub(crate) fn all(&self, alloc: Global) -> Result<Vec<Shown>, NoMemory>
-        ensures { IfOk result (λ v. map state_of v.items ≡ self.now) }
-    {
-        let mut games = Vec::with_capacity(alloc, self.len())?;
-        for i in 0..self.len() {
-            games.push(self.get(alloc, i)?)?;
-        }
-        Ok(games)
-    }
 }

@@ -17,8 +17,7 @@
 //! // "start 2k5/8/1K6/8/8/8/8/7R w - -", "w h1d1", "b c8b8", "end", a line each
 //! ```
 //!
-//! `why` and `write_games` are the same for all games at once. Where no games are shown, `WhyStop` says why; it is the
-//! `BeliefStop` of `believe`.
+//! Where no games are shown, `WhyStop` says why; it is the `BeliefStop` of `believe`.
 #![tactic(auto)]
 
 mod games;
@@ -32,5 +31,5 @@ pub use games::Games;
 pub use krieg_belief::BeliefStop as WhyStop;
 pub use laws::shown_law;
 pub use shown::Shown;
-pub use why_possible::{least_games, why};
-pub use writing::{write_games, write_games_of};
+pub use why_possible::least_games;
+pub use writing::write_games_of;

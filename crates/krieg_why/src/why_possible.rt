@@ -2,13 +2,12 @@ ghost use Rattle.std.specs.Prelude.{◌≡◌, ◌≤◌, ◌<◌, ◌+◌, ◌^
 ghost use Rattle.krieg_pack.specs.Members.{set_of};
 ghost use Rattle.krieg_belief.specs.Limits.{AllWithin, IsLateStop, IsStop};
 ghost use Rattle.krieg_belief.specs.Steps.{run};
-ghost use Rattle.krieg_why.specs.Explained.{AreShown, state_of};
+ghost use Rattle.krieg_why.specs.Explained.{AreShown};
 ghost use Rattle.krieg_why.specs.Links.{AreKept, entry_at, place_of, tales_of};
 ghost use Rattle.krieg_why.specs.Tales.{begun, tell_all};
 
 use crate::games::{Games, numbered, positions};
 use crate::links::{Link, Setting, Tales, begin, tell};
-use crate::shown::Shown;
 use krieg_belief::{BeliefStop, line_before_entries, starts_of};
 use krieg_board::NoMemory;
 use krieg_pack::Packed;
@@ -89,21 +88,6 @@ pub fn least_games<'a>(alloc: Global, s: &'a Sheet, limit: usize) -> Result<Game
     let tales = tell_lines(alloc, &setting, s.entries(), behind, &mut links)?;
     match lasts_of(alloc, tales) {
         Ok(lasts) => Ok(Games::kept(s, setting.starts, links, lasts)),
-        Err(NoMemory) => Err(BeliefStop::NoMemory),
-    }
-}
-
-/// The games of `least_games`, all at once.
-///
-/// `TooMany` exactly where `believe` answers it, with the same line. `NoMemory` where memory was not found.
-pub fn why(alloc: Global, s: &Sheet, limit: usize) -> Result<Vec<Shown>, BeliefStop>
-    ensures value { IfOk result (λ v. AreShown s.now (map state_of v.items)) }
-    ensures within { OnOk result (AllWithin limit s.now) }
-    ensures stop { IfErr result (IsStop s.now limit) }
-{
-    let games = least_games(alloc, s, limit)?;
-    match games.all(alloc) {
-        Ok(games) => Ok(games),
         Err(NoMemory) => Err(BeliefStop::NoMemory),
     }
 }

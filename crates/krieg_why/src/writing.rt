@@ -58,41 +58,6 @@ fn put_head(d: Dialect, count: usize, text: &mut Text) -> Result<(), NoMemory>
     text.end_line()
 }
 
-/// Adds the lines of each game.
-#[tactic(auto, using(krieg_text::proofs::Writings::writings))]
-fn put_each(games: &[Shown], text: &mut Text) -> Result<(), NoMemory>
-    ensures { PutsLines result text.old text.new
-        (flat_map spec.game_lines (map state_of games.now)) }
-{
-    let mut lasts = Ranks::new();
-    let mut starts = Ranks::new();
-    for game in games {
-        put_game(game, &mut lasts, &mut starts, text)?;
-    }
-    Ok(())
-}
-
-/// Adds the lines of the games.
-#[tactic(auto, using(krieg_text::proofs::Writings::writings, crate::proofs::GivenGames::counts))]
-fn put_games(d: Dialect, games: &[Shown], text: &mut Text) -> Result<(), NoMemory>
-    ensures { PutsLines result text.old text.new (spec.games_lines d (map state_of games.now)) }
-{
-    put_head(d, games.len(), text)?;
-    put_each(games, text)?;
-    text.line(b"end")
-}
-
-/// Appends the text of the games in its one written form. Where memory runs out, nothing is appended.
-#[tactic(auto, unfolding(crate::specs::GamesText::games_text))]
-pub fn write_games(d: Dialect, games: &[Shown], text: &mut Vec<u8>) -> Result<(), NoMemory>
-    ensures { Appends result text.old.items text.new.items
-        (spec.games_text d (map state_of games.now)) }
-{
-    let mut all = Text::after(text);
-    let done = put_games(d, games, &mut all);
-    all.end(done, text)
-}
-
 /// Adds the lines of each game, of which one is made at a time.
 #[tactic(auto, using(krieg_text::proofs::Writings::writings))]
 fn put_each_of(alloc: Global, games: &Games, text: &mut Text) -> Result<(), NoMemory>
@@ -116,7 +81,7 @@ fn put_games_of(alloc: Global, d: Dialect, games: &Games, text: &mut Text) -> Re
     text.line(b"end")
 }
 
-/// Appends the text of the games, as `write_games` does. One game is made at a time. Where memory runs out, nothing is
+/// Appends the text of the games in its one written form. One game is made at a time. Where memory runs out, nothing is
 /// appended.
 #[tactic(auto, unfolding(crate::specs::GamesText::games_text))]
 pub fn write_games_of(

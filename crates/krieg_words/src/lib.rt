@@ -49,5 +49,5 @@ pub use versions::{
 pub use word_numbers::{WORDS_LIMIT, words_at, words_number};
 pub use words::{End, MOST_TRIES, SILENT, Took, Words, compare, know_words};
 pub use words_of_moves::{Made, make_if_legal, make_move, opening, words_of};
-pub use words_reading::{WordsFault, read_words, read_words_in};
+pub use words_reading::{WordsFault, read_words_in};
 pub use words_text::{has_ended, put_words, put_words_in, write_words, write_words_in};

@@ -6,7 +6,6 @@ ghost use Rattle.krieg_words.specs.Words.{Said, IsSaid};
 ghost use Rattle.krieg_words.specs.ToldWords.{Fits};
 ghost use Rattle.krieg_words.specs.WordsText.{words_text};
 ghost use Rattle.krieg_words.specs.WordsReading as spec;
-ghost use Rattle.krieg_words.specs.declared.dialects.Dialect.TheVariants.{Wild16};
 
 use crate::dialects::{ChecksTold, Dialect, MenTold, TriesTold, dialect_rules};
 use crate::parts::Rest;
@@ -190,14 +189,4 @@ pub fn read_words_in(d: Dialect, text: &[u8]) -> Result<Words, WordsFault>
     ensures only { (w : Said) → IsSaid w → Fits d w → text.now ≡ words_text d w → result ≡ Ok w }
 {
     words_in(d, text).ok_or(WordsFault)
-}
-
-/// The words that the text spells in the dialect wild16, as `read_words_in` reads them.
-pub fn read_words(text: &[u8]) -> Result<Words, WordsFault>
-    ensures exact { Reads result (spec.words_in Wild16 text.now) }
-    // What is read is spelled so, and what is spelled so is read.
-    ensures found { IfOk result (λ w. IsSaid w × (text.now ≡ words_text Wild16 w)) }
-    ensures only { (w : Said) → IsSaid w → text.now ≡ words_text Wild16 w → result ≡ Ok w }
-{
-    read_words_in(Dialect::Wild16, text)
 }

@@ -15,8 +15,8 @@ loop-k-preserved c =
     let more = next_more c.args.hearing.dialect c.args.hearing.side c.args.line.now all i c.k-item.result (omega arith) c.k-item.is in
     set_of_grown _ _ c.loop-k.out.items (flat_map f (take i all)) (f c.k-item.result) c.trim.ensures.same pushed c.loop-k.invariant ∙ ap set_of (sym more)
 
-pub returns-then-is_err-2-clause-too_many : goal.returns-then-is_err-2-clause-too_many
-returns-then-is_err-2-clause-too_many c e =
+pub returns-in_default-trim-clause-too_many : goal.returns-in_default-trim-clause-too_many
+returns-in_default-trim-clause-too_many c e =
     let f = nexts c.args.hearing.dialect c.args.hearing.side c.args.line.now in
     let all = c.members-k-items.result.now in
     let i = c.loop-k.k-index in

@@ -1,6 +1,6 @@
 use Rattle.krieg_cli.proofs.Common.{LivesBy}
 use Rattle.krieg_cli.proofs.Headline.{finds_sheets, lists_keys, shares_plans}
-use Rattle.krieg_cli.proofs.Judging.{judges_strategies}
+use Rattle.krieg_cli.proofs.WholeStrategies.{judges_strategies}
 use Rattle.krieg_cli.proofs.LedGames.{conducts_to_mate}
 use Rattle.krieg_cli.proofs.Complete.{completes}
 use Rattle.krieg_cli.proofs.top.run_find.Goals as goal

@@ -102,7 +102,7 @@ reasons_of-reasons_for-requires-2 t c =
           (
             still_paid d T0 T1 row.0 c.requires.paid,
             (
-              more_notes d false c.args.setting.now.notes.now row.0.more c.requires.noted,
+              more_notes d false c.args.setting.now.notes row.0.more c.requires.noted,
               ((λ i. stored position_lt (noted i) (same i, c.args.asked.moves)) ∙ c.requires.lost, (still_claimed d T0 T1 c.args.claimed.now row.0 c.requires.claimed, rw (sym c.as_slice.ensures.value) at row.1)),
             ),
           ),
@@ -141,7 +141,7 @@ reasons_for-why-requires t c =
           (
             still_paid d T0 T1 s c.requires.paid,
             (
-              more_notes d false c.args.setting.now.notes.now s.more c.requires.noted,
+              more_notes d false c.args.setting.now.notes s.more c.requires.noted,
               ((λ i. stored position_lt (noted i) (same i, c.args.asked.moves)) ∙ c.requires.lost, (c.loop-note.invariant.claimed, (legal, blocked))),
             ),
           ),

@@ -11,7 +11,7 @@ use Rattle.krieg_refute.proofs.claiming.push.Goals as goal
 
 pub returns-then-not-are_few : goal.returns-then-not-are_few
 returns-then-not-are_few c =
-    let d = c.args.d in
+    let d = c.args.setting.now.way.d in
     let T = c.args.table.now in
     let w = c.args.claimed.now in
     let one : Claim = record { moves = c.args.asked.moves; set = set_at T c.args.asked.set; reasons = c.args.reasons } in
@@ -36,7 +36,7 @@ add-requires c = λ i.
 
 pub returns : goal.returns
 returns c =
-    let d = c.args.d in
+    let d = c.args.setting.now.way.d in
     let T = c.args.table.now in
     let w = c.args.claimed.now in
     let keys = w.places.keys in

@@ -18,19 +18,19 @@ unreachable-requires c =
 pub lost_opening-set-requires-clause-numbered : goal.lost_opening-set-requires-clause-numbered
 lost_opening-set-requires-clause-numbered c =
     let k = rw (c.in-Lost.is, c.side_of-who.ensures) at c.in_ok-decide.ensures.decided in
-    rw c.as_slice.ensures.value k.0.found.numbered
+    k.0.found.numbered
 
 pub lost_opening-set-requires-clause-some : goal.lost_opening-set-requires-clause-some
 lost_opening-set-requires-clause-some c =
     let k = rw (c.in-Lost.is, c.side_of-who.ensures) at c.in_ok-decide.ensures.decided in
-    rw c.as_slice.ensures.value (first_some c.args.d _ c.args.b.now c.args.moves c.in-Lost.found c.new-left.result k.0 c.requires.some)
+    first_some c.args.d _ c.args.b.now c.args.moves c.in-Lost.found c.new-left.result k.0 c.requires.some
 
 pub claims_for-requires : goal.claims_for-requires
 claims_for-requires c =
     let k = rw (c.in-Lost.is, c.side_of-who.ensures) at c.in_ok-decide.ensures.decided in
     let a = c.left.type_inv in
     let e = c.new-left.ensures in
-    let h = rw c.as_slice.ensures.value at c.lost_opening-set.ensures in
+    let h = c.lost_opening-set.ensures in
     let n = c.args.moves in
     let w = c.in-Lost.found in
     record {
@@ -54,7 +54,7 @@ returns-in_err-decide c =
 pub returns-in_err-claims-in-Lost : goal.returns-in_err-claims-in-Lost
 returns-in_err-claims-in-Lost c =
     let k = rw (c.in-Lost.is, c.side_of-who.ensures) at c.in_ok-decide.ensures.decided in
-    let h = rw c.as_slice.ensures.value at c.lost_opening-set.ensures in
+    let h = c.lost_opening-set.ensures in
     let stop = c.in_err-claims-in-Lost.field-0.0 in
     let both = stopped c.args.d _ c.args.b.now c.args.moves _ c.from_residual-in_err-claims-in-Lost.result stop c.args.units.now (λ x h. cc) c.from_residual-in_err-claims-in-Lost.ensures.1
     (claims_stop c.args.d _ c.args.b.now c.args.moves c.in-Lost.found c.new-left.result k.0 c.requires.some c.lost_opening-set.result h stop c.args.units.now c.in_err-claims-in-Lost.ensures) in
@@ -63,7 +63,7 @@ returns-in_err-claims-in-Lost c =
 pub returns-in_ok-claims-in-Lost-clause-answer : goal.returns-in_ok-claims-in-Lost-clause-answer
 returns-in_ok-claims-in-Lost-clause-answer c =
     let k = rw (c.in-Lost.is, c.side_of-who.ensures) at c.in_ok-decide.ensures.decided in
-    let h = rw c.as_slice.ensures.value at c.lost_opening-set.ensures in
+    let h = c.lost_opening-set.ensures in
     is_denial c.args.d _ c.args.b.now c.args.moves c.in-Lost.found c.new-left.result k.0 c.requires.some c.lost_opening-set.result h c.in_ok-claims-in-Lost.claims.items c.in_ok-claims-in-Lost.ensures.0
     c.in_ok-claims-in-Lost.ensures.1
 

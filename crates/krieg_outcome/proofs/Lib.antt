@@ -1,0 +1,19 @@
+mod Common
+mod Asking
+mod Benches
+mod BestFiles
+mod Checking
+mod Judging
+mod ClaimedSets
+mod Denying
+mod Jobs
+mod KeyTexts
+mod Leading
+mod Playing
+mod Refuting
+pub mod Searching
+mod SharedTexts
+mod SheetTurns
+mod Showing
+mod ToldClaims
+mod ToldPlans

@@ -1,7 +1,0 @@
-use Rattle.std.proofs.Common.{◌≡◌, drop}
-use Rattle.std.specs.List.{list_all}
-use Rattle.krieg_search.proofs.Common.{is_same_side}
-use Rattle.krieg_search.proofs.turn.are_turns_of.Given as goal
-
-abbrev pub invariant-loop-p : goal.invariant-loop-p
-invariant-loop-p l = list_all (λ p. is_same_side p.side l.side) (drop l.p-index l.members) ≡ list_all (λ p. is_same_side p.side l.side) l.members
