@@ -14,17 +14,17 @@ pub use Rattle.krieg_words.specs.declared.dialects.Dialect.{Dialect}
 pub use Rattle.krieg_words.specs.declared.dialects.Dialect.TheVariants.{Wild16}
 pub use Rattle.krieg_words.specs.declared.line.Line.{Line}
 unfoldable pub use Rattle.krieg_record.specs.RecordReading.{record_at}
-pub use Rattle.krieg_referee.specs.declared.verdict.Event.{Event}
+pub use Rattle.krieg_umpire.specs.declared.verdict.Event.{Event}
 unfoldable pub use Rattle.krieg_sheet.specs.SheetReading.{sheet_at}
 unfoldable pub use Rattle.krieg_sheet.specs.SheetText.{sheet_text}
 pub use Rattle.krieg_sheet.specs.Sheets.{SheetState}
 pub use Rattle.krieg_sheet.specs.Turns.{is_over}
-pub use Rattle.krieg_session.specs.Laws.{IsGame}
-unfoldable pub use Rattle.krieg_session.specs.SessionReading.{session_at}
-pub use Rattle.krieg_session.specs.SessionReading.{start_at}
-unfoldable pub use Rattle.krieg_session.specs.SessionText.{session_text}
-pub use Rattle.krieg_session.specs.Sessions.{SessionState}
-pub use Rattle.krieg_score.specs.Scores.{record_of, san_of, unsan_of}
+pub use Rattle.krieg_umpire.specs.Laws.{IsGame}
+unfoldable pub use Rattle.krieg_umpire.specs.SessionReading.{session_at}
+pub use Rattle.krieg_umpire.specs.SessionReading.{start_at}
+unfoldable pub use Rattle.krieg_umpire.specs.SessionText.{session_text}
+pub use Rattle.krieg_umpire.specs.Sessions.{SessionState}
+pub use Rattle.krieg_umpire.specs.Scores.{record_of, san_of, unsan_of}
 pub use Rattle.krieg_theory.specs.Sets.{is_nil}
 pub use Rattle.krieg_seats.specs.Accounts.{Account}
 pub use Rattle.krieg_play.specs.Played.{Sides, seen, seen_team}

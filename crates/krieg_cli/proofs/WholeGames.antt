@@ -5,10 +5,10 @@ use Rattle.std.specs.Io.KnownBytes.{Appends, Consumes}
 use Rattle.krieg_cli.proofs.Common.{Side, lines, whole, TextFault, TextKind, opening, told, told_line, Line, sheet_at, sheet_text, SessionState, session_at, IsGame, Command, Believe, Umpire, Stream, World, WasRead, text_status, refusal_status, OfText, status, Believed, told_text, LiveOutcome, ComesTo, Answers, Ends, Runs, Reports, heard_sheet, standing, stripped, IsUmpired, IsHeard, TellsGame, EndsOnHeard, UmpiresGames, BelievesGames, Refusal, BadText, TooMany, Ending}
 use Rattle.krieg_text.specs.declared.fault.TextFault.TheVariants as fault
 use Rattle.krieg_text.specs.declared.fault.TextKind.TheVariants as kind
-use Rattle.krieg_referee.proofs.Stripping.{lines_strip}
+use Rattle.krieg_umpire.proofs.Stripping.{lines_strip}
 use Rattle.krieg_belief.proofs.Prefixes.{excess_not_within}
-use Rattle.krieg_session.proofs.LastPositions.{last_is_consistent}
-use Rattle.krieg_session.proofs.SessionFormat.{sheets_again, code_game}
+use Rattle.krieg_umpire.proofs.LastPositions.{last_is_consistent}
+use Rattle.krieg_umpire.proofs.SessionFormat.{sheets_again, code_game}
 use Rattle.krieg_ports.proofs.ToldBytes.{Consumes_all}
 use Rattle.krieg_outcome.specs.declared.ending.Ending.TheVariants as ending
 

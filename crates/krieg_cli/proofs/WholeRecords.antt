@@ -2,9 +2,9 @@
 use Rattle.std.proofs.Common.{◌≡◌, ℕ, List, Option, Some, None, Result, Ok, Err, ap, subst, ◌∙◌, arith}
 use Rattle.std.specs.Io.KnownBytes.{Appends}
 use Rattle.krieg_cli.proofs.Common.{lines, whole, Wild16, Event, SessionState, session_at, session_text, IsGame, record_at, record_of, unsan_of, Command, Unsan, World, OfText, status, LiveOutcome, ComesTo, Ends, Runs, done_session, IsScored, EndsOnRecord, ReturnsGames, Refusal, Ending}
-use Rattle.krieg_session.proofs.SessionFormat.{code_game}
-use Rattle.krieg_score.specs.Scores.{session_of}
-use Rattle.krieg_score.proofs.DoneMoves.{done_tries, sans_again, unsans_again, record_is}
+use Rattle.krieg_umpire.proofs.SessionFormat.{code_game}
+use Rattle.krieg_umpire.specs.Scores.{session_of}
+use Rattle.krieg_umpire.proofs.DoneMoves.{done_tries, sans_again, unsans_again, record_is}
 use Rattle.krieg_outcome.specs.declared.ending.Ending.TheVariants as ending
 use Rattle.krieg_cli.proofs.WholeGames.{text_read, given_le, same_answer, not_refused}
 

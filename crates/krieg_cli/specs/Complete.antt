@@ -17,8 +17,8 @@ use Rattle.krieg_belief.specs.Possible.{IsPossible}
 use Rattle.krieg_belief.specs.Limits.{AllWithin}
 use Rattle.krieg_why.specs.Explained.{ShownState, AreShown}
 use Rattle.krieg_why.specs.GamesText.{games_text}
-use Rattle.krieg_session.specs.Sessions.{SessionState}
-use Rattle.krieg_session.specs.SessionReading.{session_at, start_at}
+use Rattle.krieg_umpire.specs.Sessions.{SessionState}
+use Rattle.krieg_umpire.specs.SessionReading.{session_at, start_at}
 use Rattle.krieg_record.specs.Records.{RecordState}
 use Rattle.krieg_record.specs.RecordReading.{record_at}
 use Rattle.krieg_planfile.specs.PlanFiles.{PlanState}

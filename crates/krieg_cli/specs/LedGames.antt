@@ -5,10 +5,10 @@ use Rattle.krieg_board.specs.Men.{other}
 use Rattle.krieg_board.specs.Pos.{Pos}
 use Rattle.krieg_text.specs.declared.fault.TextFault.{TextFault}
 use Rattle.krieg_moves.specs.Moves.{is_mate}
-use Rattle.krieg_referee.specs.Games.{GameState}
-use Rattle.krieg_referee.specs.declared.verdict.Stop.{Stop}
-use Rattle.krieg_referee.specs.declared.verdict.Stop.TheVariants.{Ended, Left}
-use Rattle.krieg_session.specs.SessionText.{session_text}
+use Rattle.krieg_umpire.specs.Games.{GameState}
+use Rattle.krieg_umpire.specs.declared.verdict.Stop.{Stop}
+use Rattle.krieg_umpire.specs.declared.verdict.Stop.TheVariants.{Ended, Left}
+use Rattle.krieg_umpire.specs.SessionText.{session_text}
 use Rattle.krieg_play.specs.Games.{IsGameFrom}
 use Rattle.krieg_robot.specs.Guides.{Guidance}
 use Rattle.krieg_robot.specs.Leading.{own_moves}

@@ -5,8 +5,8 @@ use Rattle.krieg_board.specs.Pos.{Pos}
 use Rattle.krieg_board.specs.declared.men.Side.{Side}
 use Rattle.krieg_text.specs.Lines.{lines}
 use Rattle.krieg_text.specs.Reading.{whole}
-use Rattle.krieg_referee.specs.Games.{last}
-use Rattle.krieg_referee.specs.Hearing.{strip}
+use Rattle.krieg_umpire.specs.Games.{last}
+use Rattle.krieg_umpire.specs.Hearing.{strip}
 use Rattle.krieg_sheet.specs.Games.{IsConsistent}
 use Rattle.krieg_sheet.specs.Sheets.{SheetState}
 use Rattle.krieg_sheet.specs.SheetReading.{sheet_at}
@@ -14,9 +14,9 @@ use Rattle.krieg_sheet.specs.SheetText.{answer_text}
 use Rattle.krieg_theory.specs.Sets.{In}
 use Rattle.krieg_belief.specs.Possible.{IsPossible}
 use Rattle.krieg_belief.specs.Limits.{AllWithin}
-use Rattle.krieg_session.specs.Sessions.{SessionState}
-use Rattle.krieg_session.specs.SessionReading.{session_at}
-use Rattle.krieg_session.specs.Telling.{sheet_of}
+use Rattle.krieg_umpire.specs.Sessions.{SessionState}
+use Rattle.krieg_umpire.specs.SessionReading.{session_at}
+use Rattle.krieg_umpire.specs.Telling.{sheet_of}
 use Rattle.krieg_args.specs.declared.command.Command.{Command}
 use Rattle.krieg_args.specs.declared.command.Command.TheVariants.{Believe, Umpire}
 use Rattle.krieg_cli.specs.World.{World, FaultsRose}

@@ -4,11 +4,11 @@ use Rattle.std.specs.Io.KnownBytes.{Appends}
 use Rattle.krieg_text.specs.Lines.{lines}
 use Rattle.krieg_text.specs.Reading.{whole}
 use Rattle.krieg_words.specs.declared.dialects.Dialect.TheVariants.{Wild16}
-use Rattle.krieg_referee.specs.Games.{judge}
-use Rattle.krieg_session.specs.Sessions.{SessionState}
-use Rattle.krieg_session.specs.SessionReading.{session_at}
-use Rattle.krieg_session.specs.SessionText.{session_text}
-use Rattle.krieg_score.specs.Scores.{done_events, san_of}
+use Rattle.krieg_umpire.specs.Games.{judge}
+use Rattle.krieg_umpire.specs.Sessions.{SessionState}
+use Rattle.krieg_umpire.specs.SessionReading.{session_at}
+use Rattle.krieg_umpire.specs.SessionText.{session_text}
+use Rattle.krieg_umpire.specs.Scores.{done_events, san_of}
 use Rattle.krieg_args.specs.declared.command.Command.{Command}
 use Rattle.krieg_args.specs.declared.command.Command.TheVariants.{Unsan}
 use Rattle.krieg_cli.specs.World.{World, FaultsRose}

@@ -34,12 +34,12 @@ pub use Rattle.krieg_words.specs.WordsOfMoves.{end_of, took_by}
 pub use Rattle.krieg_words.specs.WordsReading.{silent}
 pub use Rattle.krieg_words.specs.declared.words.End.TheVariants.{Goes, Mate, Stalemate}
 pub use Rattle.krieg_words.specs.declared.words.Took.TheVariants.{Nothing}
-pub use Rattle.krieg_referee.specs.Games.{judge, last}
-unfoldable pub use Rattle.krieg_referee.specs.Verdicts.{verdict}
-pub use Rattle.krieg_referee.specs.Verdicts.{next}
-pub use Rattle.krieg_referee.specs.declared.verdict.Event.{Event}
-pub use Rattle.krieg_referee.specs.declared.verdict.Verdict.{Verdict}
-pub use Rattle.krieg_referee.specs.declared.verdict.Verdict.TheVariants.{Done, Early, Illegal}
+pub use Rattle.krieg_umpire.specs.Games.{judge, last}
+unfoldable pub use Rattle.krieg_umpire.specs.Verdicts.{verdict}
+pub use Rattle.krieg_umpire.specs.Verdicts.{next}
+pub use Rattle.krieg_umpire.specs.declared.verdict.Event.{Event}
+pub use Rattle.krieg_umpire.specs.declared.verdict.Verdict.{Verdict}
+pub use Rattle.krieg_umpire.specs.declared.verdict.Verdict.TheVariants.{Done, Early, Illegal}
 pub use Rattle.krieg_sheet.specs.Lists.{differs, list_fault, other_hand}
 pub use Rattle.krieg_sheet.specs.declared.sheet.SheetFault.TheVariants.{Count}
 pub use Rattle.krieg_make.specs.Laws.{AreCounted, AreDistinct, AreListedOnce, RookMates, RoundsAreAlike, round_verdicts}

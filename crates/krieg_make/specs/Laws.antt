@@ -8,9 +8,9 @@ use Rattle.krieg_moves.specs.After.{after}
 use Rattle.krieg_moves.specs.Legal.{is_legal}
 use Rattle.krieg_moves.specs.Moves.{plain_move, is_mate}
 use Rattle.krieg_words.specs.WordsReading.{silent}
-use Rattle.krieg_referee.specs.Games.{judge}
-use Rattle.krieg_referee.specs.declared.verdict.Verdict.{Verdict}
-use Rattle.krieg_referee.specs.declared.verdict.Verdict.TheVariants.{Early, Illegal, Done}
+use Rattle.krieg_umpire.specs.Games.{judge}
+use Rattle.krieg_umpire.specs.declared.verdict.Verdict.{Verdict}
+use Rattle.krieg_umpire.specs.declared.verdict.Verdict.TheVariants.{Early, Illegal, Done}
 use Rattle.krieg_make.specs.Named.{g1, g8}
 use Rattle.krieg_make.specs.Start.{start_position}
 use Rattle.krieg_make.specs.MadePositions.{made_position}

@@ -7,8 +7,8 @@ use Rattle.krieg_board.specs.declared.men.Side.TheVariants.{White, Black}
 use Rattle.krieg_board.specs.declared.men.Move.{Move}
 use Rattle.krieg_moves.specs.Moves.{plain_move}
 use Rattle.krieg_words.specs.declared.dialects.Dialect.TheVariants.{Wild16}
-use Rattle.krieg_referee.specs.declared.verdict.Event.{Event}
-use Rattle.krieg_session.specs.Sessions.{SessionState}
+use Rattle.krieg_umpire.specs.declared.verdict.Event.{Event}
+use Rattle.krieg_umpire.specs.Sessions.{SessionState}
 use Rattle.krieg_make.specs.Named.{g1, f3, g8, f6}
 use Rattle.krieg_make.specs.Start.{start_position}
 

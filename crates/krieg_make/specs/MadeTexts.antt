@@ -3,8 +3,8 @@ use Rattle.std.specs.Prelude.{◌≡◌, ℕ, List, Ok}
 use Rattle.krieg_text.specs.Reading.{whole}
 use Rattle.krieg_sheet.specs.SheetReading.{sheet_at}
 use Rattle.krieg_sheet.specs.SheetText.{sheet_text}
-use Rattle.krieg_session.specs.SessionReading.{session_at}
-use Rattle.krieg_session.specs.SessionText.{session_text}
+use Rattle.krieg_umpire.specs.SessionReading.{session_at}
+use Rattle.krieg_umpire.specs.SessionText.{session_text}
 use Rattle.krieg_make.specs.declared.text.MakeKind.{MakeKind}
 use Rattle.krieg_make.specs.declared.text.MakeKind.TheVariants.{Session, Sheet}
 use Rattle.krieg_make.specs.MadeSheets.{made_sheet}

@@ -1,13 +1,12 @@
 ghost use Rattle.std.specs.Prelude.{◌≡◌, ◌<◌, IfOk};
-ghost use Rattle.krieg_session.specs.Sessions.{state_of};
+ghost use Rattle.krieg_umpire.specs.Sessions.{state_of};
 ghost use Rattle.krieg_moves.specs.Moves.{plain_move};
 ghost use Rattle.krieg_make.specs.MadeSessions as spec;
 
 use crate::named::{F3, F6, G1, G8};
 use crate::start::start_position;
 use krieg_board::{Move, NoMemory, Promo, Side, Square};
-use krieg_referee::Event;
-use krieg_session::Session;
+use krieg_umpire::{Event, Session};
 use krieg_words::Dialect;
 use std::alloc::Global;
 

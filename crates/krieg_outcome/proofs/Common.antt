@@ -24,12 +24,12 @@ pub use Rattle.krieg_words.specs.declared.dialects.Dialect.{Dialect}
 pub use Rattle.krieg_words.specs.declared.dialects.Dialect.TheVariants.{Wild16}
 pub use Rattle.krieg_words.specs.declared.line.Line.{Line}
 pub use Rattle.krieg_words.specs.declared.line.Line.TheVariants.{Done, Early, Heard, Illegal, Opens, Over}
-pub use Rattle.krieg_referee.specs.Games.{judge}
+pub use Rattle.krieg_umpire.specs.Games.{judge}
 pub use Rattle.krieg_sheet.specs.Games.{IsConsistent, Gives}
 pub use Rattle.krieg_sheet.specs.Places.{IsSheet}
 pub use Rattle.krieg_sheet.specs.Sheets.{SheetState, new_sheet}
 pub use Rattle.krieg_sheet.specs.Turns.{first_turn, is_my_turn, is_over, turn_behind, turn_of}
-unfoldable pub use Rattle.krieg_session.specs.SessionText.{session_text}
+unfoldable pub use Rattle.krieg_umpire.specs.SessionText.{session_text}
 pub use Rattle.krieg_theory.specs.Can.{begins, can, least}
 pub use Rattle.krieg_theory.specs.Canonical.{AreCanon, IsCanon, IsCanonOther, edge_keys}
 pub use Rattle.krieg_theory.specs.Game.{Game}

@@ -6,7 +6,7 @@ use Rattle.krieg_board.specs.declared.limits.TheConstants.{MOST_UNITS}
 use Rattle.krieg_text.specs.Decimals.{number_text}
 use Rattle.krieg_text.specs.Writing.{Pieces, put_lines}
 use Rattle.krieg_words.specs.declared.dialects.Dialect.TheVariants.{Wild16}
-use Rattle.krieg_referee.specs.Games.{judge}
+use Rattle.krieg_umpire.specs.Games.{judge}
 use Rattle.krieg_belief.specs.Possible.{IsPossible}
 use Rattle.krieg_plan.specs.Trees.{plan_size}
 use Rattle.krieg_planfile.specs.PlanFiles.{PlanState}

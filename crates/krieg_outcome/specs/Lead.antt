@@ -3,7 +3,7 @@ use Rattle.std.specs.Prelude.{◌≡◌, ◌⊎◌, ◌<◌, ◌≤◌, ℕ, Lis
 use Rattle.krieg_board.specs.Men.{other}
 use Rattle.krieg_text.specs.declared.fault.TextFault.{TextFault}
 use Rattle.krieg_text.specs.declared.fault.TextFault.TheVariants as fault
-use Rattle.krieg_session.specs.SessionText.{session_text}
+use Rattle.krieg_umpire.specs.SessionText.{session_text}
 use Rattle.krieg_seats.specs.Accounts.{Account}
 use Rattle.krieg_play.specs.Calls.{FirstChanges}
 use Rattle.krieg_play.specs.Played.{Sides}

@@ -6,10 +6,10 @@ use Rattle.krieg_text.specs.Reading.{whole}
 use Rattle.krieg_text.specs.declared.fault.TextFault.{TextFault}
 use Rattle.krieg_text.specs.declared.fault.TextFault.TheVariants as fault
 use Rattle.krieg_words.specs.declared.dialects.Dialect.TheVariants.{Wild16}
-use Rattle.krieg_referee.specs.Games.{GameState}
-use Rattle.krieg_referee.specs.declared.verdict.Stop.{Stop}
-use Rattle.krieg_session.specs.SessionReading.{start_at}
-use Rattle.krieg_session.specs.SessionText.{session_text}
+use Rattle.krieg_umpire.specs.Games.{GameState}
+use Rattle.krieg_umpire.specs.declared.verdict.Stop.{Stop}
+use Rattle.krieg_umpire.specs.SessionReading.{start_at}
+use Rattle.krieg_umpire.specs.SessionText.{session_text}
 use Rattle.krieg_seats.specs.Accounts.{Account}
 use Rattle.krieg_play.specs.Played.{Sides, IsPlayed}
 use Rattle.krieg_play.specs.Broken.{IsBroken, Refuses}

@@ -2,9 +2,9 @@
 use Rattle.std.specs.Prelude.{Some}
 use Rattle.krieg_board.specs.Pos.{Pos}
 use Rattle.krieg_words.specs.declared.dialects.Dialect.{Dialect}
-use Rattle.krieg_referee.specs.Games.{GameState}
-use Rattle.krieg_referee.specs.declared.verdict.Stop.{Stop}
-use Rattle.krieg_session.specs.Sessions.{SessionState}
+use Rattle.krieg_umpire.specs.Games.{GameState}
+use Rattle.krieg_umpire.specs.declared.verdict.Stop.{Stop}
+use Rattle.krieg_umpire.specs.Sessions.{SessionState}
 use Rattle.krieg_play.specs.Games.{events_of}
 
 -- the session in that dialect of a game from that start, which stopped so

@@ -2,8 +2,8 @@
 use Rattle.std.specs.Prelude.{◌≡◌, List, ℕ, Result, Ok}
 use Rattle.krieg_text.specs.Lines.{lines}
 use Rattle.krieg_text.specs.Reading.{whole}
-use Rattle.krieg_session.specs.SessionReading.{session_at}
-use Rattle.krieg_score.specs.Scores.{san_of}
+use Rattle.krieg_umpire.specs.SessionReading.{session_at}
+use Rattle.krieg_umpire.specs.Scores.{san_of}
 use Rattle.krieg_outcome.specs.Refusal.{OfText}
 use Rattle.krieg_outcome.specs.declared.refusal.Refusal.{Refusal}
 

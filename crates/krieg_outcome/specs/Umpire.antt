@@ -3,9 +3,9 @@ use Rattle.std.specs.Prelude.{◌≡◌, List, ℕ, Option, Result, Ok}
 use Rattle.krieg_board.specs.declared.men.Side.{Side}
 use Rattle.krieg_text.specs.Lines.{lines}
 use Rattle.krieg_text.specs.Reading.{whole}
-use Rattle.krieg_session.specs.Sessions.{SessionState}
-use Rattle.krieg_session.specs.SessionReading.{session_at}
-use Rattle.krieg_session.specs.Telling.{umpire_text}
+use Rattle.krieg_umpire.specs.Sessions.{SessionState}
+use Rattle.krieg_umpire.specs.SessionReading.{session_at}
+use Rattle.krieg_umpire.specs.Telling.{umpire_text}
 use Rattle.krieg_outcome.specs.Refusal.{OfText}
 use Rattle.krieg_outcome.specs.declared.refusal.Refusal.{Refusal}
 

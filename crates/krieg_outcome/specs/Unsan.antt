@@ -3,7 +3,7 @@ use Rattle.std.specs.Prelude.{◌≡◌, List, ℕ, Result, Ok}
 use Rattle.krieg_text.specs.Lines.{lines}
 use Rattle.krieg_text.specs.Reading.{whole}
 use Rattle.krieg_record.specs.RecordReading.{record_at}
-use Rattle.krieg_score.specs.Scores.{unsan_of}
+use Rattle.krieg_umpire.specs.Scores.{unsan_of}
 use Rattle.krieg_outcome.specs.Refusal.{OfText}
 use Rattle.krieg_outcome.specs.declared.refusal.Refusal.{Refusal}
 

@@ -3,9 +3,9 @@ use Rattle.std.specs.Prelude.{ℕ, Bool, true, false, List, [], ◌∷◌, lengt
 use Rattle.std.specs.List.{count_by}
 use Rattle.krieg_text.specs.Decimals.{number_text}
 use Rattle.krieg_text.specs.Writing.{Pieces}
-use Rattle.krieg_referee.specs.declared.verdict.Judged.{Judged}
-use Rattle.krieg_referee.specs.declared.verdict.Verdict.{Verdict}
-use Rattle.krieg_referee.specs.declared.verdict.Verdict.TheVariants as verdict
+use Rattle.krieg_umpire.specs.declared.verdict.Judged.{Judged}
+use Rattle.krieg_umpire.specs.declared.verdict.Verdict.{Verdict}
+use Rattle.krieg_umpire.specs.declared.verdict.Verdict.TheVariants as verdict
 use Rattle.krieg_outcome.specs.declared.commands.job.verdict_counts.VerdictCounts.{VerdictCounts}
 use Rattle.krieg_outcome.specs.declared.commands.job.verdict_counts.VerdictKind.{VerdictKind}
 use Rattle.krieg_outcome.specs.declared.commands.job.verdict_counts.VerdictKind.TheVariants as kind

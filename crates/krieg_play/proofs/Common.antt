@@ -10,13 +10,13 @@ unfoldable pub use Rattle.krieg_words.specs.WordsOfMoves.{opening}
 pub use Rattle.krieg_words.specs.declared.dialects.Dialect.TheVariants.{Wild16}
 pub use Rattle.krieg_words.specs.declared.line.Line.{Line}
 pub use Rattle.krieg_words.specs.declared.line.Line.TheVariants.{Opens}
-pub use Rattle.krieg_referee.specs.Games.{GameState, judge, judged, last}
-pub use Rattle.krieg_referee.specs.Hearing.{heard, line_for, lines_for}
-pub use Rattle.krieg_referee.specs.Verdicts.{next}
-pub use Rattle.krieg_referee.specs.declared.verdict.Event.{Event}
-pub use Rattle.krieg_referee.specs.declared.verdict.Judged.{Judged}
-pub use Rattle.krieg_referee.specs.declared.verdict.Stop.{Stop}
-pub use Rattle.krieg_referee.specs.declared.verdict.Stop.TheVariants.{AsksUsed, Ended, Left}
+pub use Rattle.krieg_umpire.specs.Games.{GameState, judge, judged, last}
+pub use Rattle.krieg_umpire.specs.Hearing.{heard, line_for, lines_for}
+pub use Rattle.krieg_umpire.specs.Verdicts.{next}
+pub use Rattle.krieg_umpire.specs.declared.verdict.Event.{Event}
+pub use Rattle.krieg_umpire.specs.declared.verdict.Judged.{Judged}
+pub use Rattle.krieg_umpire.specs.declared.verdict.Stop.{Stop}
+pub use Rattle.krieg_umpire.specs.declared.verdict.Stop.TheVariants.{AsksUsed, Ended, Left}
 pub use Rattle.krieg_seats.specs.Accounts.{Account, Asked, Told}
 pub use Rattle.krieg_seats.specs.declared.seat.Say.{Say}
 pub use Rattle.krieg_seats.specs.declared.seat.Say.TheVariants.{Leave, Try}

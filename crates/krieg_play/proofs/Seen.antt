@@ -3,7 +3,7 @@ use Rattle.std.proofs.Common.{◌≡◌, ℕ, ◌+◌, ◌<◌, List, [], ◌∷
 use Rattle.std.proofs.lemmas.List.{length-map}
 use Rattle.std.specs.List.{flat_map}
 use Rattle.krieg_play.proofs.Common.{Pos, Move, Side, White, Black, Line, GameState, Stop, Ended, AsksUsed, Account, Team, Service, entry_of, now_of, asks_of, all_asks, said_of, known_behind, Turns, AreRelieved, Course, Sides, seen_team, seen, relieved, used_up, IsAskedWithin, leaver, last_ask, Courses, lines_of, IsWhole, LastAsk, turns_then, StopsBy, IsPlayed, EndsAt, IsUntold, Breaks, IsBroken, Refuses, PlayFault, Vacant, Seat}
-use Rattle.krieg_referee.specs.declared.verdict.Stop.TheVariants.{Left}
+use Rattle.krieg_umpire.specs.declared.verdict.Stop.TheVariants.{Left}
 use Rattle.krieg_play.specs.declared.outcome.PlayFault.TheVariants.{NoMemory}
 
 abbrev itself : Account → Account

@@ -1,7 +1,7 @@
 -- How a game stops.
 use Rattle.std.proofs.Common.{◌≡◌, ℕ, ◌-◌, ◌<◌, ◌≤◌, Bool, true, false, not, length, refl, sym, ap, ◌∙◌, subst, arith, Result, Ok, Err, Option, Some, None}
 use Rattle.krieg_play.proofs.Common.{Pos, Side, is_ended, GameState, Stop, Ended, AsksUsed, Account, Sides, seats_of, seat_count, AfterPass, Passes, PlaysOn, PlayFault}
-use Rattle.krieg_referee.specs.declared.verdict.Stop.TheVariants.{Left}
+use Rattle.krieg_umpire.specs.declared.verdict.Stop.TheVariants.{Left}
 use Rattle.krieg_play.proofs.Courses.{both_counted}
 
 pub stops_ended : {X : Type 0} (account : X → Account) (start : Pos) (seats : ℕ) (now : Sides X) (game : GameState) → is_ended game.position ≡ true → PlaysOn account (Ok Ended) start seats now now game game

@@ -4,7 +4,7 @@ use Rattle.krieg_board.specs.Pos.{Pos}
 use Rattle.krieg_board.specs.declared.men.Side.{Side}
 use Rattle.krieg_board.specs.declared.men.Side.TheVariants.{White, Black}
 use Rattle.krieg_words.specs.declared.line.Line.{Line}
-use Rattle.krieg_referee.specs.Games.{GameState}
+use Rattle.krieg_umpire.specs.Games.{GameState}
 use Rattle.krieg_seats.specs.Accounts.{Account}
 use Rattle.krieg_play.specs.Teams.{Turns, BrokenCourse, Stays, HasFailed, MayBeShort}
 use Rattle.krieg_play.specs.Games.{events_of, IsGameFrom}

@@ -7,8 +7,8 @@ use Rattle.krieg_board.specs.declared.men.Side.{Side}
 use Rattle.krieg_words.specs.WordsOfMoves.{opening}
 use Rattle.krieg_words.specs.declared.line.Line.{Line}
 use Rattle.krieg_words.specs.declared.line.Line.TheVariants.{Opens}
-use Rattle.krieg_referee.specs.Hearing.{lines_for}
-use Rattle.krieg_referee.specs.declared.verdict.Judged.{Judged}
+use Rattle.krieg_umpire.specs.Hearing.{lines_for}
+use Rattle.krieg_umpire.specs.declared.verdict.Judged.{Judged}
 use Rattle.krieg_seats.specs.Accounts.{Account, Asked}
 use Rattle.krieg_seats.specs.declared.seat.Say.TheVariants.{Try, Leave}
 use Rattle.krieg_seats.specs.declared.seat.SeatFault.{SeatFault}

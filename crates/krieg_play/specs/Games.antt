@@ -5,10 +5,10 @@ use Rattle.krieg_board.specs.Men.{is_same_side}
 use Rattle.krieg_board.specs.Pos.{Pos}
 use Rattle.krieg_board.specs.declared.men.Side.{Side}
 use Rattle.krieg_board.specs.declared.men.Move.{Move}
-use Rattle.krieg_referee.specs.Verdicts.{next}
-use Rattle.krieg_referee.specs.Games.{GameState, judge, last}
-use Rattle.krieg_referee.specs.declared.verdict.Event.{Event}
-use Rattle.krieg_referee.specs.declared.verdict.Judged.{Judged}
+use Rattle.krieg_umpire.specs.Verdicts.{next}
+use Rattle.krieg_umpire.specs.Games.{GameState, judge, last}
+use Rattle.krieg_umpire.specs.declared.verdict.Event.{Event}
+use Rattle.krieg_umpire.specs.declared.verdict.Judged.{Judged}
 
 -- the try that was judged
 abbrev pub event_of : Judged → Event

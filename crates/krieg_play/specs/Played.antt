@@ -7,11 +7,11 @@ use Rattle.krieg_board.specs.declared.men.Side.TheVariants.{White, Black}
 use Rattle.krieg_moves.specs.Moves.{is_ended}
 use Rattle.krieg_words.specs.declared.dialects.Dialect.TheVariants.{Wild16}
 use Rattle.krieg_words.specs.declared.line.Line.{Line}
-use Rattle.krieg_referee.specs.Hearing.{heard}
-use Rattle.krieg_referee.specs.Games.{GameState}
-use Rattle.krieg_referee.specs.declared.verdict.Event.{Event}
-use Rattle.krieg_referee.specs.declared.verdict.Stop.{Stop}
-use Rattle.krieg_referee.specs.declared.verdict.Stop.TheVariants.{Ended, Left, AsksUsed}
+use Rattle.krieg_umpire.specs.Hearing.{heard}
+use Rattle.krieg_umpire.specs.Games.{GameState}
+use Rattle.krieg_umpire.specs.declared.verdict.Event.{Event}
+use Rattle.krieg_umpire.specs.declared.verdict.Stop.{Stop}
+use Rattle.krieg_umpire.specs.declared.verdict.Stop.TheVariants.{Ended, Left, AsksUsed}
 use Rattle.krieg_seats.specs.Accounts.{Account}
 use Rattle.krieg_play.specs.Teams.{Team, team, Turns, turns_since, turns_of, Course, Stays, HasLeft}
 use Rattle.krieg_play.specs.Games.{events_of, tries_of, IsGameFrom, TriesOnce}

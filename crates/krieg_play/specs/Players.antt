@@ -6,11 +6,11 @@ use Rattle.krieg_board.specs.declared.men.Side.TheVariants.{White, Black}
 use Rattle.krieg_words.specs.Line.{told_line}
 use Rattle.krieg_words.specs.declared.dialects.Dialect.{Dialect}
 use Rattle.krieg_words.specs.declared.line.Line.{Line}
-use Rattle.krieg_referee.specs.Hearing.{line_for}
-use Rattle.krieg_referee.specs.Verdicts.{next}
-use Rattle.krieg_referee.specs.Games.{GameState, judged}
-use Rattle.krieg_referee.specs.declared.verdict.Event.{Event}
-use Rattle.krieg_referee.specs.declared.verdict.Judged.{Judged}
+use Rattle.krieg_umpire.specs.Hearing.{line_for}
+use Rattle.krieg_umpire.specs.Verdicts.{next}
+use Rattle.krieg_umpire.specs.Games.{GameState, judged}
+use Rattle.krieg_umpire.specs.declared.verdict.Event.{Event}
+use Rattle.krieg_umpire.specs.declared.verdict.Judged.{Judged}
 use Rattle.krieg_seats.specs.declared.seat.SeatFault.{SeatFault}
 use Rattle.krieg_play.specs.Played.{by_side}
 use Rattle.krieg_play.specs.Calls.{lines_to}

@@ -3,7 +3,7 @@ use crate::AskOutcome;
 use crate::player::Player;
 use crate::telling::{ask_seat, tell_due};
 use krieg_board::{Position, Side};
-use krieg_referee::Judged;
+use krieg_umpire::Judged;
 use krieg_seats::{Say, Seat, SeatFault};
 use krieg_words::Line;
 

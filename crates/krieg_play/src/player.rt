@@ -4,7 +4,7 @@ ghost use Rattle.krieg_play.specs.Calls.{lines_to};
 
 use crate::AskOutcome;
 use krieg_board::{Position, Side};
-use krieg_referee::Judged;
+use krieg_umpire::Judged;
 use krieg_seats::SeatFault;
 use krieg_words::Line;
 

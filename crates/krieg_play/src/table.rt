@@ -10,7 +10,7 @@ use crate::bench::Bench;
 use crate::team::Roster;
 use crate::turns::take_turn;
 use krieg_board::{Position, Side};
-use krieg_referee::Game;
+use krieg_umpire::Game;
 use krieg_seats::Seat;
 use krieg_words::Dialect;
 use std::alloc::Global;

@@ -8,7 +8,7 @@ use crate::player::Player;
 use crate::telling::{ask_seat, tell_all, tell_seat};
 use crate::{AskOutcome, relieved_turn};
 use krieg_board::{Position, Side};
-use krieg_referee::Judged;
+use krieg_umpire::Judged;
 use krieg_seats::{Say, Seat, SeatFault};
 use krieg_words::Line;
 

@@ -1,11 +1,11 @@
 // What one seat is asked and told.
 ghost use Rattle.std.specs.Prelude.{◌≡◌, option_to_list};
 ghost use Rattle.krieg_seats.specs.Accounts.{Asked, Told};
-ghost use Rattle.krieg_referee.specs.Hearing.{line_for, lines_for};
+ghost use Rattle.krieg_umpire.specs.Hearing.{line_for, lines_for};
 ghost use Rattle.krieg_play.specs.Calls.{lines_to, ToldAll};
 
 use krieg_board::{Position, Side};
-use krieg_referee::{Judged, line_for};
+use krieg_umpire::{Judged, line_for};
 use krieg_seats::{Say, Seat, SeatFault};
 use krieg_words::{Line, opening};
 

@@ -1,6 +1,6 @@
 // One turn of a game between two players of any kind.
 ghost use Rattle.std.specs.Prelude.{◌≡◌, ◌+◌, ◌<◌, option_to_list, Ok, Err};
-ghost use Rattle.krieg_referee.specs.Games.{judged};
+ghost use Rattle.krieg_umpire.specs.Games.{judged};
 ghost use Rattle.krieg_play.specs.Played.{by_side};
 ghost use Rattle.krieg_play.specs.Calls.{lines_to};
 ghost use Rattle.krieg_play.specs.Players as spec;
@@ -9,7 +9,7 @@ ghost use Rattle.krieg_play.specs.Players.{BothHear, IsStepped, TakesTurns};
 use crate::player::Player;
 use crate::{AskOutcome, PlayFault, fault_of};
 use krieg_board::{Position, Side};
-use krieg_referee::{Event, Game, Judged, line_for};
+use krieg_umpire::{Event, Game, Judged, line_for};
 use krieg_seats::SeatFault;
 use krieg_words::{Dialect, Line, told_line};
 

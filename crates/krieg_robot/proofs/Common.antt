@@ -17,16 +17,16 @@ pub use Rattle.krieg_words.specs.declared.dialects.Dialect.{Dialect}
 pub use Rattle.krieg_words.specs.declared.line.Line.{Line}
 pub use Rattle.krieg_words.specs.declared.line.Line.TheVariants.{Opens}
 pub use Rattle.krieg_words.specs.declared.words.End.TheVariants.{Mate, Stalemate}
-pub use Rattle.krieg_referee.specs.Games.{GameState, judge, judged, last}
-pub use Rattle.krieg_referee.specs.Hearing.{heard, line_for, lines_for, others_line, own_line}
-unfoldable pub use Rattle.krieg_referee.specs.Verdicts.{verdict}
-pub use Rattle.krieg_referee.specs.Verdicts.{is_done, next, position_after}
-pub use Rattle.krieg_referee.specs.declared.verdict.Event.{Event}
-pub use Rattle.krieg_referee.specs.declared.verdict.Judged.{Judged}
-pub use Rattle.krieg_referee.specs.declared.verdict.Stop.{Stop}
-pub use Rattle.krieg_referee.specs.declared.verdict.Stop.TheVariants.{AsksUsed, Ended, Left}
-pub use Rattle.krieg_referee.specs.declared.verdict.Verdict.{Verdict}
-pub use Rattle.krieg_referee.specs.declared.verdict.Verdict.TheVariants.{Done, Early, Illegal, Over}
+pub use Rattle.krieg_umpire.specs.Games.{GameState, judge, judged, last}
+pub use Rattle.krieg_umpire.specs.Hearing.{heard, line_for, lines_for, others_line, own_line}
+unfoldable pub use Rattle.krieg_umpire.specs.Verdicts.{verdict}
+pub use Rattle.krieg_umpire.specs.Verdicts.{is_done, next, position_after}
+pub use Rattle.krieg_umpire.specs.declared.verdict.Event.{Event}
+pub use Rattle.krieg_umpire.specs.declared.verdict.Judged.{Judged}
+pub use Rattle.krieg_umpire.specs.declared.verdict.Stop.{Stop}
+pub use Rattle.krieg_umpire.specs.declared.verdict.Stop.TheVariants.{AsksUsed, Ended, Left}
+pub use Rattle.krieg_umpire.specs.declared.verdict.Verdict.{Verdict}
+pub use Rattle.krieg_umpire.specs.declared.verdict.Verdict.TheVariants.{Done, Early, Illegal, Over}
 pub use Rattle.krieg_theory.specs.Sets.{In}
 pub use Rattle.krieg_theory.specs.Tree.{Edges, Just, Maybe, Nothing, Try}
 pub use Rattle.krieg_theory.specs.Wins.{wins, wins_other}

@@ -1,8 +1,8 @@
 -- That a plan that mates wins: a statement that a function of this crate has as its contract.
 use Rattle.std.specs.Prelude.{◌≡◌, ℕ, true}
 use Rattle.krieg_board.specs.Pos.{Pos}
-use Rattle.krieg_referee.specs.Games.{GameState}
-use Rattle.krieg_referee.specs.declared.verdict.Stop.{Stop}
+use Rattle.krieg_umpire.specs.Games.{GameState}
+use Rattle.krieg_umpire.specs.declared.verdict.Stop.{Stop}
 use Rattle.krieg_seats.specs.Accounts.{Account}
 use Rattle.krieg_theory.specs.Sets.{In}
 use Rattle.krieg_theory.specs.Plans.{mates}

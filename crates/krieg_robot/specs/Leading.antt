@@ -6,13 +6,13 @@ use Rattle.krieg_board.specs.declared.men.Move.{Move}
 use Rattle.krieg_board.specs.declared.men.Side.{Side}
 use Rattle.krieg_moves.specs.Moves.{is_ended, is_mate}
 use Rattle.krieg_words.specs.declared.line.Line.{Line}
-use Rattle.krieg_referee.specs.Verdicts.{is_done}
-use Rattle.krieg_referee.specs.Hearing.{heard}
-use Rattle.krieg_referee.specs.Games.{GameState}
-use Rattle.krieg_referee.specs.declared.verdict.Event.{Event}
-use Rattle.krieg_referee.specs.declared.verdict.Judged.{Judged}
-use Rattle.krieg_referee.specs.declared.verdict.Stop.{Stop}
-use Rattle.krieg_referee.specs.declared.verdict.Stop.TheVariants.{Ended, Left, AsksUsed}
+use Rattle.krieg_umpire.specs.Verdicts.{is_done}
+use Rattle.krieg_umpire.specs.Hearing.{heard}
+use Rattle.krieg_umpire.specs.Games.{GameState}
+use Rattle.krieg_umpire.specs.declared.verdict.Event.{Event}
+use Rattle.krieg_umpire.specs.declared.verdict.Judged.{Judged}
+use Rattle.krieg_umpire.specs.declared.verdict.Stop.{Stop}
+use Rattle.krieg_umpire.specs.declared.verdict.Stop.TheVariants.{Ended, Left, AsksUsed}
 use Rattle.krieg_seats.specs.Accounts.{Account}
 use Rattle.krieg_play.specs.Games.{events_of, tries_of, IsGameFrom, TriesOnce}
 use Rattle.krieg_play.specs.Played.{leaver, played_counts, once}

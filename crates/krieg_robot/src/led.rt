@@ -1,6 +1,6 @@
 // What leading a game came to.
 use krieg_play::PlayFault;
-use krieg_referee::{Game, Stop};
+use krieg_umpire::{Game, Stop};
 
 /// A game that a guide led, and why it stopped.
 #[derive(Drop)]

@@ -3,7 +3,7 @@ use crate::guide::Guide;
 use crate::seat::{GuidedSeat, ask_own, tell_own};
 use krieg_board::{Position, Side};
 use krieg_play::{AskOutcome, Player};
-use krieg_referee::Judged;
+use krieg_umpire::Judged;
 use krieg_seats::SeatFault;
 use krieg_words::Line;
 

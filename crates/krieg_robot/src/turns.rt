@@ -8,7 +8,7 @@ use crate::seat::GuidedSeat;
 use krieg_board::{Position, Side};
 use krieg_play as play;
 use krieg_play::PlayFault;
-use krieg_referee::{Game, Judged};
+use krieg_umpire::{Game, Judged};
 use krieg_seats::Seat;
 use krieg_words::Line;
 

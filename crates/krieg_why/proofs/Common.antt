@@ -17,16 +17,16 @@ unfoldable pub use Rattle.krieg_words.specs.WordsOfMoves.{opening, words}
 pub use Rattle.krieg_words.specs.declared.dialects.Dialect.{Dialect}
 pub use Rattle.krieg_words.specs.declared.line.Line.{Line}
 pub use Rattle.krieg_words.specs.declared.line.Line.TheVariants.{Heard, Opens}
-pub use Rattle.krieg_referee.specs.Games.{judge, judged, last}
-pub use Rattle.krieg_referee.specs.Hearing.{line_for, lines_for, others_line, own_line}
-unfoldable pub use Rattle.krieg_referee.specs.Verdicts.{verdict}
-pub use Rattle.krieg_referee.specs.Verdicts.{is_done, next, position_after}
-pub use Rattle.krieg_referee.specs.declared.verdict.Event.{Event}
-pub use Rattle.krieg_referee.specs.declared.verdict.Verdict.{Verdict}
+pub use Rattle.krieg_umpire.specs.Games.{judge, judged, last}
+pub use Rattle.krieg_umpire.specs.Hearing.{line_for, lines_for, others_line, own_line}
+unfoldable pub use Rattle.krieg_umpire.specs.Verdicts.{verdict}
+pub use Rattle.krieg_umpire.specs.Verdicts.{is_done, next, position_after}
+pub use Rattle.krieg_umpire.specs.declared.verdict.Event.{Event}
+pub use Rattle.krieg_umpire.specs.declared.verdict.Verdict.{Verdict}
 pub use Rattle.krieg_sheet.specs.Games.{IsConsistent, Gives, OpensWith}
 pub use Rattle.krieg_sheet.specs.Places.{IsSheet}
 pub use Rattle.krieg_sheet.specs.Sheets.{SheetState}
-pub use Rattle.krieg_session.specs.SessionText.{event_line}
+pub use Rattle.krieg_umpire.specs.SessionText.{event_line}
 pub use Rattle.krieg_theory.specs.Sets.{Ascending, In}
 pub use Rattle.krieg_pack.specs.Members.{IsAscending, IsSetOf}
 pub use Rattle.krieg_pack.specs.Order.{position_cmp, position_eq, position_lt}

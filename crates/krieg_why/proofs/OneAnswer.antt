@@ -13,7 +13,7 @@ use Rattle.krieg_why.proofs.Common.{other, is_same_side, move_cmp, Pos, Side, Mo
 use Rattle.krieg_board.proofs.MenLemmas.{same_side_eq}
 use Rattle.krieg_board.proofs.MoveOrder.{move_total, move_equal}
 use Rattle.krieg_words.specs.declared.line.Line.TheVariants as line
-use Rattle.krieg_referee.specs.declared.verdict.Verdict.TheVariants.{Over, Early, Illegal, Done}
+use Rattle.krieg_umpire.specs.declared.verdict.Verdict.TheVariants.{Over, Early, Illegal, Done}
 use Rattle.krieg_pack.proofs.PositionSets.{same_members}
 use Rattle.krieg_why.proofs.Least.{entries_heard}
 use Rattle.krieg_why.proofs.TriedGames.{try_is, others}

@@ -12,11 +12,11 @@ use Rattle.krieg_board.specs.declared.men.Move.{Move}
 use Rattle.krieg_words.specs.WordsOfMoves.{opening}
 use Rattle.krieg_words.specs.ToldWords.{told}
 use Rattle.krieg_words.specs.declared.line.Line.TheVariants.{Opens}
-use Rattle.krieg_referee.specs.Verdicts.{is_done}
-use Rattle.krieg_referee.specs.Games.{judge, last}
-use Rattle.krieg_referee.specs.Hearing.{heard}
-use Rattle.krieg_referee.specs.declared.verdict.Event.{Event}
-use Rattle.krieg_referee.specs.declared.verdict.Judged.{Judged}
+use Rattle.krieg_umpire.specs.Verdicts.{is_done}
+use Rattle.krieg_umpire.specs.Games.{judge, last}
+use Rattle.krieg_umpire.specs.Hearing.{heard}
+use Rattle.krieg_umpire.specs.declared.verdict.Event.{Event}
+use Rattle.krieg_umpire.specs.declared.verdict.Judged.{Judged}
 use Rattle.krieg_play.specs.Games.{tries_of}
 use Rattle.krieg_sheet.specs.Sheets.{SheetState}
 use Rattle.krieg_sheet.specs.Games.{OpensWith}

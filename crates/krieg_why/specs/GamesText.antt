@@ -6,7 +6,7 @@ use Rattle.krieg_fen.specs.FenText.{position_text}
 use Rattle.krieg_text.specs.Writing.{Pieces, alone, put_lines}
 use Rattle.krieg_words.specs.Dialects.{dialect_text}
 use Rattle.krieg_words.specs.declared.dialects.Dialect.{Dialect}
-use Rattle.krieg_session.specs.SessionText.{event_line}
+use Rattle.krieg_umpire.specs.SessionText.{event_line}
 use Rattle.krieg_why.specs.Explained.{ShownState}
 
 -- the position in which a game stands, the one in which it began, and a line for each try

@@ -12,7 +12,7 @@ use crate::links::{Link, Tales};
 use crate::shown::Shown;
 use krieg_board::{Move, NoMemory, Position, Side};
 use krieg_pack::{Belief, Packed, unpack};
-use krieg_referee::Event;
+use krieg_umpire::Event;
 use krieg_sheet::Sheet;
 use krieg_words::Line;
 use std::alloc::Global;

@@ -1,5 +1,5 @@
 use krieg_board::Position;
-use krieg_referee::Event;
+use krieg_umpire::Event;
 
 /// A hidden game: the position in which it stands, where it began, and the tries of both players.
 ///

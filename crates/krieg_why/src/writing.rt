@@ -3,14 +3,13 @@ ghost use Rattle.std.specs.List.{flat_map};
 ghost use Rattle.krieg_text.specs.Writing.{PutsLines, Appends};
 ghost use Rattle.krieg_why.specs.Explained.{state_of};
 ghost use Rattle.krieg_why.specs.GamesText as spec;
-ghost use Rattle.krieg_session.specs.SessionText.{event_line};
+ghost use Rattle.krieg_umpire.specs.SessionText.{event_line};
 
 use crate::games::Games;
 use crate::shown::Shown;
 use krieg_board::NoMemory;
 use krieg_fen::{Ranks, put_next};
-use krieg_referee::Event;
-use krieg_session::put_event;
+use krieg_umpire::{Event, put_event};
 use krieg_text::{Text, put_number};
 use krieg_words::{Dialect, put_dialect_line};
 use std::alloc::Global;

@@ -10,7 +10,7 @@ use crate::refusal::Refusal;
 use krieg_board::NoMemory;
 use krieg_play::{Bench, PlayFault, play};
 use krieg_seats::Seat;
-use krieg_session::read_start;
+use krieg_umpire::read_start;
 use krieg_words::Dialect;
 use std::alloc::Global;
 

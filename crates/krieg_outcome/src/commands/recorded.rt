@@ -1,12 +1,11 @@
 // The text of a game that was played or led.
 ghost use Rattle.std.specs.Prelude.{◌≡◌, IfOk};
 ghost use Rattle.krieg_play.specs.Games.{events_of};
-ghost use Rattle.krieg_session.specs.SessionText.{session_text};
+ghost use Rattle.krieg_umpire.specs.SessionText.{session_text};
 ghost use Rattle.krieg_outcome.specs.Recorded as spec;
 
 use krieg_board::{NoMemory, Position};
-use krieg_referee::{Event, Game, Judged, Stop};
-use krieg_session::{Session, write_session};
+use krieg_umpire::{Event, Game, Judged, Session, Stop, write_session};
 use krieg_words::Dialect;
 use std::alloc::Global;
 

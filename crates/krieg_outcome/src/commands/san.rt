@@ -4,8 +4,7 @@ ghost use Rattle.krieg_outcome.specs.San as spec;
 
 use crate::ending::Ending;
 use krieg_record::write_record;
-use krieg_score::record_of;
-use krieg_session::read_session;
+use krieg_umpire::{read_session, record_of};
 use std::alloc::Global;
 
 /// What `san` answers to the text of a session.

@@ -4,7 +4,7 @@ ghost use Rattle.krieg_outcome.specs.Umpire as spec;
 
 use crate::ending::Ending;
 use krieg_board::Side;
-use krieg_session::{read_session, umpire};
+use krieg_umpire::{read_session, umpire};
 use std::alloc::Global;
 
 /// What `umpire` answers to the text of a session.

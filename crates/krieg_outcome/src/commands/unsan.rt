@@ -4,8 +4,7 @@ ghost use Rattle.krieg_outcome.specs.Unsan as spec;
 
 use crate::ending::Ending;
 use krieg_record::read_record;
-use krieg_score::session_of;
-use krieg_session::write_session;
+use krieg_umpire::{session_of, write_session};
 use std::alloc::Global;
 
 /// What `unsan` answers to the text of a record.

@@ -1,13 +1,13 @@
 ghost use Rattle.std.specs.Prelude.{◌≡◌, ◌∷◌, [], IfOk};
 ghost use Rattle.krieg_text.specs.Writing.{PutsLines};
-ghost use Rattle.krieg_referee.specs.Games.{judge};
+ghost use Rattle.krieg_umpire.specs.Games.{judge};
 ghost use Rattle.krieg_make.specs.MadeSessions.{made_session};
 ghost use Rattle.krieg_outcome.specs.VerdictCounts as spec;
 
 use crate::commands::counted::{put_count, put_counted};
 use krieg_board::NoMemory;
 use krieg_make::made_session;
-use krieg_referee::{Judged, Verdict, judge};
+use krieg_umpire::{Judged, Verdict, judge};
 use krieg_text::Text;
 use std::alloc::Global;
 

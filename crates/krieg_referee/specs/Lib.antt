@@ -1,4 +1,0 @@
-pub mod Verdicts
-pub mod Games
-pub mod Hearing
-pub mod Laws

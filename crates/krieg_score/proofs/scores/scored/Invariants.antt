@@ -1,8 +1,0 @@
-use Rattle.std.proofs.Common.{◌≡◌, ◌++◌, drop}
-use Rattle.krieg_referee.specs.Games.{judge}
-use Rattle.krieg_score.specs.Scores.{done_moves}
-use Rattle.krieg_score.proofs.scores.scored.Given as goal
-
--- the moves so far, and those that are done from here, are all
-abbrev pub invariant-loop-event : goal.invariant-loop-event
-invariant-loop-event l = l.moves.items ++ done_moves (judge l.p (drop l.event-index l.s.events.items)) ≡ done_moves (judge l.s.start l.s.events.items)

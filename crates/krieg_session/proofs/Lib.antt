@@ -1,7 +1,0 @@
-mod Common
-pub mod Tellings
-pub mod HeardLines
-pub mod InPlace
-pub mod SheetsOfGames
-pub mod SessionFormat
-pub mod LastPositions

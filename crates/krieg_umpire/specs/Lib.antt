@@ -1,0 +1,10 @@
+pub mod Verdicts
+pub mod Games
+pub mod Hearing
+pub mod Sessions
+pub mod SessionReading
+pub mod Telling
+pub mod SessionText
+pub mod SessionSpelling
+pub mod Scores
+pub mod Laws
