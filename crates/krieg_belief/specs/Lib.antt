@@ -2,3 +2,9 @@ pub mod Staying
 pub mod Steps
 pub mod Possible
 pub mod Limits
+pub mod Explained
+pub mod GamesText
+pub mod Tales
+pub mod Links
+pub mod Retold
+pub mod Laws

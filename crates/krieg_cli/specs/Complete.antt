@@ -15,8 +15,8 @@ use Rattle.krieg_sheet.specs.SheetReading.{sheet_at}
 use Rattle.krieg_sheet.specs.Turns.{is_over}
 use Rattle.krieg_belief.specs.Possible.{IsPossible}
 use Rattle.krieg_belief.specs.Limits.{AllWithin}
-use Rattle.krieg_why.specs.Explained.{ShownState, AreShown}
-use Rattle.krieg_why.specs.GamesText.{games_text}
+use Rattle.krieg_belief.specs.Explained.{ShownState, AreShown}
+use Rattle.krieg_belief.specs.GamesText.{games_text}
 use Rattle.krieg_umpire.specs.Sessions.{SessionState}
 use Rattle.krieg_umpire.specs.SessionReading.{session_at, start_at}
 use Rattle.krieg_record.specs.Records.{RecordState}

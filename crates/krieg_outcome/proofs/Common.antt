@@ -57,8 +57,8 @@ pub use Rattle.krieg_play.specs.Games.{events_of}
 pub use Rattle.krieg_play.specs.Played.{Sides}
 pub use Rattle.krieg_play.specs.declared.outcome.PlayFault.{PlayFault}
 pub use Rattle.krieg_play.specs.declared.outcome.PlayFault.TheVariants.{Vacant}
-pub use Rattle.krieg_why.specs.Explained.{AreShown, ShownState}
-unfoldable pub use Rattle.krieg_why.specs.GamesText.{games_text}
+pub use Rattle.krieg_belief.specs.Explained.{AreShown, ShownState}
+unfoldable pub use Rattle.krieg_belief.specs.GamesText.{games_text}
 pub use Rattle.krieg_game.specs.Chess.{chess}
 pub use Rattle.krieg_game.specs.Keys.{Key, RootKey, root_lt}
 pub use Rattle.krieg_game.specs.Laws.{ComesAbout}

@@ -7,8 +7,8 @@ use Rattle.krieg_sheet.specs.SheetReading.{sheet_at}
 use Rattle.krieg_theory.specs.Sets.{is_nil}
 use Rattle.krieg_belief.specs.Possible.{IsPossible}
 use Rattle.krieg_belief.specs.Limits.{AllWithin, IsFirstExcess}
-use Rattle.krieg_why.specs.Explained.{ShownState, AreShown}
-use Rattle.krieg_why.specs.GamesText.{games_text}
+use Rattle.krieg_belief.specs.Explained.{ShownState, AreShown}
+use Rattle.krieg_belief.specs.GamesText.{games_text}
 use Rattle.krieg_outcome.specs.Refusal.{OfText}
 use Rattle.krieg_outcome.specs.declared.refusal.Refusal.{Refusal}
 use Rattle.krieg_outcome.specs.declared.refusal.Refusal.TheVariants.{TooMany, NonePossible, AnswerTooLong}

@@ -37,20 +37,12 @@ pub use Rattle.krieg_words.specs.declared.dialects.Dialect.{Dialect}
 pub use Rattle.krieg_words.specs.declared.dialects.Dialect.TheVariants.{Anytry, Plain, Wild16}
 pub use Rattle.krieg_words.specs.declared.line.Line.{Line}
 pub use Rattle.krieg_words.specs.declared.line.Line.TheVariants.{Opens}
-pub use Rattle.krieg_umpire.specs.Games.{judge, judged, last}
-pub use Rattle.krieg_umpire.specs.Hearing.{line_for, lines_for, others_line, own_line, strip}
-unfoldable pub use Rattle.krieg_umpire.specs.Verdicts.{verdict}
-pub use Rattle.krieg_umpire.specs.Verdicts.{next, position_after}
-pub use Rattle.krieg_umpire.specs.declared.verdict.Event.{Event}
-pub use Rattle.krieg_umpire.specs.declared.verdict.Judged.{Judged}
-pub use Rattle.krieg_umpire.specs.declared.verdict.Stop.{Stop}
-pub use Rattle.krieg_umpire.specs.declared.verdict.Stop.TheVariants.{AsksUsed, Ended, Left}
-pub use Rattle.krieg_umpire.specs.declared.verdict.Verdict.{Verdict}
-pub use Rattle.krieg_umpire.specs.declared.verdict.Verdict.TheVariants.{Done, Early, Illegal, Over}
 pub use Rattle.krieg_sheet.specs.Places.{IsTold}
 unfoldable pub use Rattle.krieg_sheet.specs.SheetText.{sheet_text}
 pub use Rattle.krieg_sheet.specs.SheetText.{entry_line}
 pub use Rattle.krieg_sheet.specs.Turns.{are_in_place, ends}
+pub use Rattle.krieg_umpire.specs.Games.{judge, judged, last}
+pub use Rattle.krieg_umpire.specs.Hearing.{line_for, lines_for, others_line, own_line, strip}
 pub use Rattle.krieg_umpire.specs.Laws.{AreTries, IsGame, LastIsConsistent, LinesAreHeard, SessionsAreReadBack, SheetsAreInPlace, SheetsAreReadBack}
 unfoldable pub use Rattle.krieg_umpire.specs.SessionReading.{last_form, line_form, session_at, session_version_at, try_form}
 pub use Rattle.krieg_umpire.specs.SessionReading.{event_form, events_at, last_lines, led, start_at, tried, unless_last, white_try}
@@ -60,5 +52,13 @@ pub use Rattle.krieg_umpire.specs.SessionText.{event_line, last_text, session_li
 pub use Rattle.krieg_umpire.specs.Sessions.{SessionState}
 unfoldable pub use Rattle.krieg_umpire.specs.Telling.{heard_lines}
 pub use Rattle.krieg_umpire.specs.Telling.{both_lines, if_of, lines_of, marked_line, players_line, sheet_of, umpire_text}
+unfoldable pub use Rattle.krieg_umpire.specs.Verdicts.{verdict}
+pub use Rattle.krieg_umpire.specs.Verdicts.{next, position_after}
 pub use Rattle.krieg_umpire.specs.declared.reading.SessionLine.{SessionLine}
 pub use Rattle.krieg_umpire.specs.declared.reading.SessionLine.TheVariants.{Last, Try}
+pub use Rattle.krieg_umpire.specs.declared.verdict.Event.{Event}
+pub use Rattle.krieg_umpire.specs.declared.verdict.Judged.{Judged}
+pub use Rattle.krieg_umpire.specs.declared.verdict.Stop.{Stop}
+pub use Rattle.krieg_umpire.specs.declared.verdict.Stop.TheVariants.{AsksUsed, Ended, Left}
+pub use Rattle.krieg_umpire.specs.declared.verdict.Verdict.{Verdict}
+pub use Rattle.krieg_umpire.specs.declared.verdict.Verdict.TheVariants.{Done, Early, Illegal, Over}

@@ -2,7 +2,7 @@ use Rattle.std.proofs.Common.{◌∷◌, [], ◌++◌, sym, ap, subst, ◌∙◌
 use Rattle.std.specs.List.{All}
 use Rattle.std.proofs.lemmas.List.Elements.{All-push}
 use Rattle.krieg_outcome.proofs.Common.{IsValid}
-use Rattle.krieg_why.proofs.GivenGames.{one_more}
+use Rattle.krieg_belief.proofs.GivenGames.{one_more}
 use Rattle.krieg_outcome.proofs.commands.asked.listed.Goals as goal
 
 pub loop-i-preserved : goal.loop-i-preserved

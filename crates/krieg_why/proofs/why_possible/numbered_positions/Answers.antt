@@ -1,5 +1,0 @@
-use Rattle.krieg_why.proofs.Found.{places_found}
-use Rattle.krieg_why.proofs.why_possible.numbered_positions.Goals as goal
-
-pub numbered-requires : goal.numbered-requires
-numbered-requires c = places_found c.args.tales.now.entries c.in_ok-possible.possible c.in_ok-possible.ensures

@@ -1,6 +1,0 @@
-pub mod Explained
-pub mod GamesText
-pub mod Tales
-pub mod Links
-pub mod Retold
-pub mod Laws
