@@ -8,7 +8,7 @@
 #![tactic(auto)]
 
 use krieg_ports::{Adapter, AdapterOut};
-use krieg_shell::start;
+use krieg_cli::start;
 use std::process::ExitCode;
 
 fn main(rt: HostRuntime) -> ExitCode {

@@ -11,3 +11,4 @@ mod WholeRecords
 mod WholeRefutations
 mod WholeStrategies
 pub mod Tables
+pub mod Starting

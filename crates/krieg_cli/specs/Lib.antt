@@ -10,3 +10,4 @@ pub mod LedGames
 pub mod Headline
 pub mod Limits
 pub mod Complete
+pub mod Start

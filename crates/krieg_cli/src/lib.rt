@@ -1,4 +1,5 @@
-//! The whole program as one call over streams: `run`, and the program `krieg_find` as another: `run_find`.
+//! The whole program as one call over streams: `run`, and the program `krieg_find` as another: `run_find`. At their edge `start` and
+//! `start_find` make a run of the words that the system gives.
 //!
 //! Words that are a command take their input whole, `krieg_outcome` makes an answer or a refusal of it, and the answer is written
 //! whole, or `err` gets the reason. `specs/` says what is seen of a run before it and after it (`World`), what comes of its input
@@ -18,16 +19,28 @@
 //! let status = run(alloc, &words, &mut input, &mut out, &mut err, &mut Bench::new(alloc)); // 3
 //! let line = err.bytes(); // "krieg: line 3: syntax\n", and nothing is on `out`
 //! ```
+//!
+//! `Start` says what holds of every start, whatever the words are: no clause of the system's says which they are.
+//!
+//! ```
+//! let mut input = Adapter::new(rt.stdin());
+//! let mut out = AdapterOut::new(rt.stdout());
+//! let mut err = AdapterOut::new(rt.stderr());
+//! let status = start(&rt, &mut input, &mut out, &mut err);
+//! // 1, with `krieg: usage` on standard error, where the program has no words
+//! ```
 #![tactic(auto)]
 
 mod answers;
 mod input;
 mod laws;
 mod report;
+mod shell;
 mod top;
 
 pub use krieg_args::{SeatFiles, conduct_files, lead_files, seat_files};
 pub use krieg_outcome::MOST_INPUT;
 pub use krieg_play::{Bench, PlayFault, Played, play};
 pub use laws::limits_law;
+pub use shell::{start, start_find};
 pub use top::{run, run_find};

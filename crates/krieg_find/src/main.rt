@@ -17,7 +17,7 @@
 #![tactic(auto)]
 
 use krieg_ports::{Adapter, AdapterOut};
-use krieg_shell::start_find;
+use krieg_cli::start_find;
 use std::process::ExitCode;
 
 fn main(rt: HostRuntime) -> ExitCode {

@@ -1,8 +1,8 @@
 use Rattle.std.proofs.Common.{map}
 use Rattle.std.specs.Prelude.{string_bytes}
 use Rattle.krieg_args.specs.Command.{command_of, find_of}
-use Rattle.krieg_shell.proofs.Starting.{starts_alone}
-use Rattle.krieg_shell.proofs.shell.start_alone.Goals as goal
+use Rattle.krieg_cli.proofs.Starting.{starts_alone}
+use Rattle.krieg_cli.proofs.shell.start_alone.Goals as goal
 
 pub returns-in-Krieg : goal.returns-in-Krieg
 returns-in-Krieg g c =

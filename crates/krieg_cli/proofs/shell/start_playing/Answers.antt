@@ -2,8 +2,8 @@ use Rattle.std.proofs.Common.{map, arith}
 use Rattle.std.proofs.lemmas.Grind.{common_steps}
 use Rattle.std.specs.Prelude.{string_bytes}
 use Rattle.krieg_args.specs.Command.{command_of}
-use Rattle.krieg_shell.proofs.Starting.{starts_playing}
-use Rattle.krieg_shell.proofs.shell.start_playing.Goals as goal
+use Rattle.krieg_cli.proofs.Starting.{starts_playing}
+use Rattle.krieg_cli.proofs.shell.start_playing.Goals as goal
 
 pub returns : goal.returns
 returns g c =

@@ -6,9 +6,11 @@ ghost use Rattle.krieg_seats.specs.Accounts.{Account, new_account};
 ghost use Rattle.krieg_seats.specs.Streams.{stream_account};
 ghost use Rattle.krieg_play.specs.Teams.{team};
 ghost use Rattle.krieg_play.specs.Played.{sides};
-ghost use Rattle.krieg_shell.specs.Start.{asked_of, both_at, one_at, seated, StartsAt, StartsWith, Starts};
+ghost use Rattle.krieg_cli.specs.Start.{asked_of, both_at, one_at, seated, StartsAt, StartsWith, Starts};
 
-use krieg_cli::{Bench, SeatFiles, conduct_files, lead_files, run, run_find, seat_files};
+use crate::top::{run, run_find};
+use krieg_args::{SeatFiles, conduct_files, lead_files, seat_files};
+use krieg_play::Bench;
 use krieg_ports::{Sink, Source, write_all};
 use krieg_seats::{Seat, StreamSeat};
 use std::alloc::Global;
@@ -266,7 +268,7 @@ fn start_program<R: Env + AllocGlobal + Files<File = File>, S: Source, O: Sink, 
 /// Does all that the program does with the words that the system gives, over these streams, and gives the
 /// status with which the program ends.
 ///
-/// It is the status of `krieg_cli::run`, with the players of the four files where the words are those of `play`, the
+/// It is the status of `crate::run`, with the players of the four files where the words are those of `play`, the
 /// opponent at the two files where they are those of `lead`, and nobody for other words; where memory is not found for the words or the players, it is 11, with the same line on
 /// `err`, and nothing was read or written to `out`.
 pub fn start<R: Env + AllocGlobal + Files<File = File>, S: Source, O: Sink, E: Sink>(
@@ -286,7 +288,7 @@ pub fn start<R: Env + AllocGlobal + Files<File = File>, S: Source, O: Sink, E: S
 /// Does all that the program `krieg_find` does with the words that the system gives, over these streams, and gives the status
 /// with which it ends.
 ///
-/// It is the status of `krieg_cli::run_find`, with the opponent at the two files where the words are those of `conduct`, and nobody
+/// It is the status of `crate::run_find`, with the opponent at the two files where the words are those of `conduct`, and nobody
 /// for other words; where memory is not found for the words or the opponent, it is 11, with the same line on `err`, and nothing was
 /// read or written to `out`.
 pub fn start_find<R: Env + AllocGlobal + Files<File = File>, S: Source, O: Sink, E: Sink>(

@@ -8,7 +8,7 @@ use Rattle.krieg_args.specs.Files.{Files}
 use Rattle.krieg_cli.specs.World.{Stream, World}
 use Rattle.krieg_cli.specs.Top.{IsRun}
 use Rattle.krieg_cli.proofs.Tables.{run_seen}
-use Rattle.krieg_shell.specs.Start.{Made, both_at, one_at, StartsAt}
+use Rattle.krieg_cli.specs.Start.{Made, both_at, one_at, StartsAt}
 
 starts : {X : Type 0} {account : X → Account} {entry now : Sides X} {code : ℕ} {before after : World} {err err' : Stream} (players : Sides Account) (asked : Option Command) →
     seen account entry ≡ players → IsRun account entry now asked code before after err err' → StartsAt players asked code before after err err'

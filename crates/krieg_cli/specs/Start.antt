@@ -8,8 +8,8 @@ use Rattle.krieg_args.specs.Files.{Files, seat_files, lead_files, conduct_files}
 use Rattle.krieg_args.specs.declared.command.Command.{Command}
 use Rattle.krieg_cli.specs.World.{Stream, World}
 use Rattle.krieg_cli.specs.Top.{IsRun, Gets}
-use Rattle.krieg_shell.specs.declared.shell.Program.{Program}
-use Rattle.krieg_shell.specs.declared.shell.Program.TheVariants.{Krieg, Find}
+use Rattle.krieg_cli.specs.declared.shell.Program.{Program}
+use Rattle.krieg_cli.specs.declared.shell.Program.TheVariants.{Krieg, Find}
 
 -- the command that the words are of the program
 abbrev pub asked_of : Program → List (List ℕ) → Option Command
