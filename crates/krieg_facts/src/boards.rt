@@ -7,7 +7,7 @@ use crate::terms::{letter_of, placed_of};
 use krieg_board::{
     Bits, Man, Position, Side, Square, apart, attacks, file_of, has, is_of, only, rank_of,
 };
-use krieg_checks::{Kinds, kinds_of, long_diagonal};
+use krieg_words::{Kinds, kinds_of, long_diagonal};
 use krieg_rays::{
     attacked_by, attacked_from, attackers, between, between_at, diagonal_from, falling_through,
     file_through, king_attacks, knight_attacks, pawn_attacks, pawn_steps, pinned, rank_through,

@@ -24,7 +24,7 @@ pub use Rattle.krieg_moves.specs.Legal.{can_castle, has_promotion, is_double_ste
 unfoldable pub use Rattle.krieg_moves.specs.Moves.{all_moves, can_go, in_check, is_ended, is_mate, is_stalemate, moves}
 pub use Rattle.krieg_moves.specs.Moves.{plain_move, promotions}
 pub use Rattle.krieg_moves.specs.declared.wing.Wing.TheVariants.{Long, Short}
-unfoldable pub use Rattle.krieg_checks.specs.Kinds.{checks_from, is_checked, is_checked_at, kinds}
+unfoldable pub use Rattle.krieg_words.specs.Kinds.{checks_from, is_checked, is_checked_at, kinds}
 unfoldable pub use Rattle.krieg_fen.specs.Fen.{position_of}
 pub use Rattle.krieg_fen.specs.declared.forms.TheConstants.{MOST_LISTED}
 unfoldable pub use Rattle.krieg_words.specs.PawnTries.{is_try, tries, tries_from}

@@ -2,8 +2,7 @@
 // memory.
 
 use krieg_board::Square;
-use krieg_checks::Kinds;
-use krieg_words::{End, Took, Words, write_words};
+use krieg_words::{End, Kinds, Took, Words, write_words};
 
 /// What is captured for a number below 129: nothing, then a pawn and then a piece on each square.
 fn took_at(number: usize) -> Took {

@@ -1,20 +1,23 @@
 -- The words of specs/, of this crate and of those below it, that its proofs cite: passed on from one place.
-unfoldable pub use Rattle.krieg_board.specs.Attacks.{attacks}
-pub use Rattle.krieg_board.specs.Attacks.{apart, can_reach, is_forward}
+unfoldable pub use Rattle.krieg_board.specs.Attacks.{attacks, is_clear}
+pub use Rattle.krieg_board.specs.Attacks.{apart, can_reach, is_forward, man_attacks, slides}
 pub use Rattle.krieg_board.specs.Board.{Board, is_man, is_of, man_at}
-pub use Rattle.krieg_board.specs.Men.{is_same_kind, is_same_side, other}
+pub use Rattle.krieg_board.specs.Boards.{is_kind}
+pub use Rattle.krieg_board.specs.Men.{is_same_kind, is_same_side, other, is_same_bool}
 pub use Rattle.krieg_board.specs.Pos.{Pos}
 unfoldable pub use Rattle.krieg_board.specs.Sets.{has}
 pub use Rattle.krieg_board.specs.Sets.{IsLowest}
-unfoldable pub use Rattle.krieg_board.specs.Squares.{squares}
+unfoldable pub use Rattle.krieg_board.specs.Squares.{squares, every_square, some_square}
 pub use Rattle.krieg_board.specs.Squares.{file_of, gathered, rank_of}
 pub use Rattle.krieg_board.specs.Validity.{IsValid, count_kind, count_side, is_pawn, is_small}
 pub use Rattle.krieg_board.specs.declared.men.Kind.{Kind}
+pub use Rattle.krieg_board.specs.declared.men.Kind.TheVariants.{Bishop, King, Knight, Pawn, Queen, Rook}
 pub use Rattle.krieg_board.specs.declared.men.Man.{Man}
 pub use Rattle.krieg_board.specs.declared.men.Move.{Move}
 pub use Rattle.krieg_board.specs.declared.men.Promo.{Promo}
 pub use Rattle.krieg_board.specs.declared.men.Side.{Side}
 pub use Rattle.krieg_board.specs.declared.men.Side.TheVariants.{Black, White}
+unfoldable pub use Rattle.krieg_rays.specs.Rays.{goes, is_on_falling, is_on_file, is_on_rank, is_on_rising}
 unfoldable pub use Rattle.krieg_moves.specs.After.{after}
 pub use Rattle.krieg_moves.specs.After.{is_en_passant, is_marked, passed_square}
 unfoldable pub use Rattle.krieg_moves.specs.Legal.{is_legal}
@@ -22,8 +25,6 @@ pub use Rattle.krieg_moves.specs.Legal.{has_promotion, holds, is_double_step, is
 unfoldable pub use Rattle.krieg_moves.specs.Moves.{can_go}
 pub use Rattle.krieg_moves.specs.Wings.{corner}
 pub use Rattle.krieg_moves.specs.declared.wing.Wing.{Wing}
-pub use Rattle.krieg_checks.specs.Kinds.{bits_of}
-pub use Rattle.krieg_checks.specs.declared.kinds.Kinds.{Kinds}
 pub use Rattle.krieg_text.specs.Decimals.{number_between, number_text}
 pub use Rattle.krieg_text.specs.Formats.{Always}
 pub use Rattle.krieg_text.specs.Forms.{version_form}
@@ -38,7 +39,11 @@ pub use Rattle.krieg_text.specs.declared.fault.TextKind.TheVariants.{Version}
 pub use Rattle.krieg_text.specs.declared.number.NumberFault.{NumberFault}
 unfoldable pub use Rattle.krieg_fen.specs.MoveText.{move_text}
 pub use Rattle.krieg_fen.specs.MoveText.{IsOnBoard, move_of, square_text}
+unfoldable pub use Rattle.krieg_words.specs.Diagonals.{is_on_long, is_on_short}
+pub use Rattle.krieg_words.specs.Diagonals.{falling_length, is_long_diagonal, is_rising_longer, rising_length}
 pub use Rattle.krieg_words.specs.Dialects.{dialect_of, dialect_rules, dialect_text, unnamed_dialect}
+unfoldable pub use Rattle.krieg_words.specs.Kinds.{checks_from, is_checked, is_checked_at, kinds}
+pub use Rattle.krieg_words.specs.Kinds.{bits_of, CheckKind, File, Leap, Long, Rank, Short, is_knight, is_same_check, kind_from}
 unfoldable pub use Rattle.krieg_words.specs.Line.{line_text}
 pub use Rattle.krieg_words.specs.Line.{IsLine, LineFits, told_line}
 unfoldable pub use Rattle.krieg_words.specs.LineReading.{line_in}
@@ -69,6 +74,7 @@ pub use Rattle.krieg_words.specs.declared.dialects.TextVersion.{TextVersion}
 pub use Rattle.krieg_words.specs.declared.dialects.TextVersion.TheVariants.{First, Second}
 pub use Rattle.krieg_words.specs.declared.dialects.TriesTold.{TriesTold}
 pub use Rattle.krieg_words.specs.declared.dialects.TriesTold.TheVariants.{Any, Number, Untold}
+pub use Rattle.krieg_words.specs.declared.kinds.Kinds.{Kinds}
 pub use Rattle.krieg_words.specs.declared.line.Line.{Line}
 pub use Rattle.krieg_words.specs.declared.line.Line.TheVariants.{Done, Early, Heard, Illegal, Opens, Over}
 pub use Rattle.krieg_words.specs.declared.word_numbers.TheConstants.{WORDS_LIMIT}

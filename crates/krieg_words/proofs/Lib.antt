@@ -1,4 +1,6 @@
 mod Common
+pub mod Lengths
+pub mod Givers
 pub mod Cases
 pub mod OrderLaws
 pub mod RangeSums

@@ -1,3 +1,5 @@
+pub mod Diagonals
+pub mod Kinds
 pub mod Words
 pub mod WordNumbers
 pub mod PawnTries

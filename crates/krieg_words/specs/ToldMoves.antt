@@ -6,7 +6,7 @@ use Rattle.krieg_board.specs.Pos.{Pos}
 use Rattle.krieg_board.specs.declared.men.Move.{Move}
 use Rattle.krieg_moves.specs.After.{after}
 use Rattle.krieg_moves.specs.Legal.{is_legal}
-use Rattle.krieg_checks.specs.Kinds.{kinds, bits_of}
+use Rattle.krieg_words.specs.Kinds.{kinds, bits_of}
 use Rattle.krieg_words.specs.declared.words.End.{End}
 use Rattle.krieg_words.specs.declared.words.Took.{Took}
 use Rattle.krieg_words.specs.declared.dialects.Dialect.{Dialect}

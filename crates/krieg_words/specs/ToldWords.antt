@@ -1,7 +1,7 @@
 -- What is told of words in each dialect.
 use Rattle.std.specs.Prelude.{◌≡◌, ℕ, ◌==◌, true, false, if◌then◌else◌}
-use Rattle.krieg_checks.specs.Kinds.{bits_of}
-use Rattle.krieg_checks.specs.declared.kinds.Kinds.{Kinds}
+use Rattle.krieg_words.specs.Kinds.{bits_of}
+use Rattle.krieg_words.specs.declared.kinds.Kinds.{Kinds}
 use Rattle.krieg_words.specs.declared.words.Took.{Took}
 use Rattle.krieg_words.specs.declared.words.Took.TheVariants.{Nothing, Pawn, Piece}
 use Rattle.krieg_words.specs.declared.dialects.Dialect.{Dialect}

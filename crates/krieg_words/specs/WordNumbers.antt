@@ -1,7 +1,7 @@
 -- Words as numbers, which are ordered as they are.
 use Rattle.std.specs.Prelude.{ℕ, ◌+◌, ◌*◌, ◌/◌, ◌%◌, ◌==◌, if◌then◌else◌}
-use Rattle.krieg_checks.specs.Kinds.{bits_of}
-use Rattle.krieg_checks.specs.declared.kinds.Kinds.{Kinds}
+use Rattle.krieg_words.specs.Kinds.{bits_of}
+use Rattle.krieg_words.specs.declared.kinds.Kinds.{Kinds}
 use Rattle.krieg_words.specs.declared.words.End.{End}
 use Rattle.krieg_words.specs.declared.words.End.TheVariants.{Goes, Mate, Stalemate}
 use Rattle.krieg_words.specs.declared.words.Took.{Took}

@@ -7,7 +7,7 @@ use Rattle.krieg_board.specs.declared.men.Man.{Man}
 use Rattle.krieg_board.specs.declared.men.Move.{Move}
 use Rattle.krieg_moves.specs.After.{after, is_en_passant, passed_square}
 use Rattle.krieg_moves.specs.Moves.{is_mate, is_stalemate}
-use Rattle.krieg_checks.specs.Kinds.{kinds}
+use Rattle.krieg_words.specs.Kinds.{kinds}
 use Rattle.krieg_words.specs.PawnTries.{tries}
 use Rattle.krieg_words.specs.declared.words.End.{End}
 use Rattle.krieg_words.specs.declared.words.End.TheVariants.{Goes, Mate, Stalemate}

@@ -6,7 +6,7 @@ use Rattle.krieg_text.specs.Names.{behind}
 use Rattle.krieg_text.specs.Decimals.{number_between}
 use Rattle.krieg_fen.specs.MoveText.{square_named}
 use Rattle.krieg_text.specs.declared.number.NumberFault.{NumberFault}
-use Rattle.krieg_checks.specs.declared.kinds.Kinds.{Kinds}
+use Rattle.krieg_words.specs.declared.kinds.Kinds.{Kinds}
 use Rattle.krieg_words.specs.declared.words.End.{End}
 use Rattle.krieg_words.specs.declared.words.End.TheVariants.{Goes, Mate, Stalemate}
 use Rattle.krieg_words.specs.declared.words.Took.{Took}

@@ -2,8 +2,8 @@
 use Rattle.std.specs.Prelude.{ℕ, Bool, true, false, ◌==◌, not, List, [], ◌∷◌, ◌++◌, codes}
 use Rattle.krieg_text.specs.Decimals.{number_text}
 use Rattle.krieg_fen.specs.MoveText.{square_text}
-use Rattle.krieg_checks.specs.Kinds.{bits_of}
-use Rattle.krieg_checks.specs.declared.kinds.Kinds.{Kinds}
+use Rattle.krieg_words.specs.Kinds.{bits_of}
+use Rattle.krieg_words.specs.declared.kinds.Kinds.{Kinds}
 use Rattle.krieg_words.specs.declared.words.End.{End}
 use Rattle.krieg_words.specs.declared.words.End.TheVariants.{Goes, Mate, Stalemate}
 use Rattle.krieg_words.specs.declared.words.Took.{Took}

@@ -3,9 +3,10 @@
 //!
 //! What a dialect tells, and how it is written, is one record a dialect (`Dialects` in `specs/`, `dialects`
 //! here): how men are told, how checks, what of pawn tries, and which version its texts have. All else asks
-//! that record.
+//! that record. The kinds of check are those by file, rank, long or short diagonal, or knight.
 //!
-//! The rules of this crate are the definitions of `specs/`: what words are and their order (`Words`), pawn
+//! The rules of this crate are the definitions of `specs/`: which of the two diagonals through a square is the longer
+//! (`Diagonals`), the kinds of check that the side to move is in (`Kinds`), what words are and their order (`Words`), pawn
 //! tries (`PawnTries`), the words of a move and of a position (`WordsOfMoves`), the dialects (`Dialects`), what
 //! they tell of words (`ToldWords`) and of a move (`ToldMoves`), texts of parts (`Parts`), the text of words (`WordsText`) and the words
 //! of a text (`WordsReading`), a player's line and its text (`Line`) and the line of a text (`LineReading`),
@@ -19,10 +20,18 @@
 //!     let plain = told(Dialect::Plain, made.words);
 //!     write_words_in(Dialect::Plain, plain, &mut other)?; // "check, mate"
 //! }
+//!
+//! // White's king stands on e1 and is to move. Black has rooks on e8 and a1 and a knight on d3.
+//! let kinds = kinds_of(&p);
+//! let by_lines = (kinds.file, kinds.rank); // (true, true)
+//! let by_diagonals = (kinds.long, kinds.short); // (false, false)
+//! let bits = kinds.bits(); // 19: file 1, rank 2, knight 16
 //! ```
 #![tactic(auto)]
 
+mod diagonals;
 mod dialects;
+mod kinds;
 mod line;
 mod line_reading;
 mod parts;
@@ -36,7 +45,9 @@ mod words_of_moves;
 mod words_reading;
 mod words_text;
 
+pub use diagonals::long_diagonal;
 pub use dialects::{Dialect, dialect_name, read_dialect};
+pub use kinds::{Kinds, NO_KINDS, kinds_by, kinds_of};
 pub use line::{Line, know_line, put_line, put_line_in, told_line, write_line, write_line_in};
 pub use line_reading::{LineFault, read_line, read_line_in};
 pub use pawn_tries::tries;

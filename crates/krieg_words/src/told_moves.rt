@@ -8,12 +8,12 @@ ghost use Rattle.krieg_words.specs.ToldWords.{tries_told};
 ghost use Rattle.krieg_words.specs.PawnTries as pawns;
 
 use crate::dialects::{Dialect, TriesTold, dialect_rules};
+use crate::kinds::kinds_of;
 use crate::pawn_tries::{count_tries, has_tries};
 use crate::told_words::{checks_told, took_told};
 use crate::words::{End, Took, Words};
 use crate::words_of_moves::took_by;
 use krieg_board::{Move, Position};
-use krieg_checks::kinds_of;
 use krieg_moves::{Guard, after, after_if_legal, has_move_by, in_check_by};
 
 fn is_same_took(a: &Took, b: &Took) -> bool

@@ -2,8 +2,8 @@ ghost use Rattle.std.specs.Prelude.{◌≡◌};
 ghost use Rattle.krieg_words.specs.ToldWords as spec;
 
 use crate::dialects::{ChecksTold, Dialect, MenTold, TriesTold, dialect_rules};
+use crate::kinds::{Kinds, NO_KINDS};
 use crate::words::{Took, Words};
-use krieg_checks::{Kinds, NO_KINDS};
 
 /// A check without its kinds is told as one on a file.
 pub(crate) const SOME_KIND: Kinds = Kinds {

@@ -3,9 +3,9 @@ ghost use Rattle.krieg_words.specs.Words as rank;
 ghost use Rattle.krieg_words.specs.Words.{IsSaid};
 ghost use Rattle.krieg_words.specs.WordNumbers as spec;
 
+use crate::kinds::Kinds;
 use crate::words::{End, Took, Words, know_words};
 use krieg_board::Square;
-use krieg_checks::Kinds;
 
 /// Above all numbers of words.
 pub const WORDS_LIMIT: u64 = 1_048_576;

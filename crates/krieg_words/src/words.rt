@@ -5,9 +5,9 @@ ghost use Rattle.std.specs.Ordering.{on};
 ghost use Rattle.krieg_words.specs.WordNumbers.{words_number};
 ghost use Rattle.krieg_words.specs.Words.{IsSaid, IsTaken, words_cmp};
 
+use crate::kinds::{Kinds, NO_KINDS};
 use crate::word_numbers::words_number;
 use krieg_board::Square;
-use krieg_checks::{Kinds, NO_KINDS};
 use std::cmp::Ordering;
 use std::marker::Model;
 

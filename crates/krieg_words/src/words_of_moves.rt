@@ -6,10 +6,10 @@ ghost use Rattle.krieg_moves.specs.Guarding.{IsGuard};
 ghost use Rattle.krieg_words.specs.Words.{IsSaid};
 ghost use Rattle.krieg_words.specs.WordsOfMoves as spec;
 
+use crate::kinds::kinds_by;
 use crate::pawn_tries::count_tries;
 use crate::words::{End, Took, Words};
 use krieg_board::{Kind, Man, Move, Position, Side, Square, is_man, know_valid};
-use krieg_checks::kinds_by;
 use krieg_moves::{
     Guard, after, after_if_legal, has_move_by, in_check_by, is_en_passant, passed_square,
 };

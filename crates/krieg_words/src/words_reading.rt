@@ -8,12 +8,12 @@ ghost use Rattle.krieg_words.specs.WordsText.{words_text};
 ghost use Rattle.krieg_words.specs.WordsReading as spec;
 
 use crate::dialects::{ChecksTold, Dialect, MenTold, TriesTold, dialect_rules};
+use crate::kinds::{Kinds, NO_KINDS};
 use crate::parts::Rest;
 use crate::told_words::SOME_KIND;
 use crate::words::{End, MOST_TRIES, SILENT, Took, Words};
 use crate::words_text::{are_tries, has_ended, is_capture, is_check};
 use krieg_board::Square;
-use krieg_checks::{Kinds, NO_KINDS};
 use krieg_fen::read_square;
 use krieg_text::{behind, is_name, read_number_between};
 use thiserror::Error;

@@ -7,10 +7,10 @@ ghost use Rattle.krieg_words.specs.Parts.{piece, joined_by};
 ghost use Rattle.krieg_words.specs.declared.dialects.Dialect.TheVariants.{Wild16};
 
 use crate::dialects::{ChecksTold, Dialect, MenTold, TriesTold, dialect_rules};
+use crate::kinds::Kinds;
 use crate::parts::put_piece;
 use crate::words::{End, Took, Words};
 use krieg_board::NoMemory;
-use krieg_checks::Kinds;
 use krieg_fen::put_square;
 use krieg_text::{Text, put_number};
 

@@ -4,7 +4,7 @@ use Rattle.std.specs.Prelude.{Option, Some, None}
 use Rattle.std.specs.Int.RustNames.{bit_xor}
 use Rattle.std.proofs.lemmas.Bool.{and_from, and_parts}
 use Rattle.std.proofs.lemmas.Nat.{and_le_l, xor_lt}
-use Rattle.krieg_checks.proofs.Common.{Side, White, Black, Kind, Pawn, Knight, Bishop, Rook, Queen, King, Man, other, is_same_bool, is_same_side, is_same_kind, squares, file_of, rank_of, every_square, some_square, Board, man_at, is_of, is_man, is_kind, attacks, man_attacks, can_reach, slides, is_clear, has, count_kind, goes, is_on_file, is_on_rank, is_on_rising, is_on_falling, is_long_diagonal, is_on_long, is_on_short, CheckKind, File, Rank, Long, Short, Leap, is_knight, kind_from, is_same_check, checks_from, is_checked_at, is_checked}
+use Rattle.krieg_words.proofs.Common.{Side, White, Black, Kind, Pawn, Knight, Bishop, Rook, Queen, King, Man, other, is_same_bool, is_same_side, is_same_kind, squares, file_of, rank_of, every_square, some_square, Board, man_at, is_of, is_man, is_kind, attacks, man_attacks, can_reach, slides, is_clear, has, count_kind, goes, is_on_file, is_on_rank, is_on_rising, is_on_falling, is_long_diagonal, is_on_long, is_on_short, CheckKind, File, Rank, Long, Short, Leap, is_knight, kind_from, is_same_check, checks_from, is_checked_at, is_checked}
 use Rattle.krieg_board.proofs.SquareTests.{every_square_at}
 use Rattle.krieg_board.proofs.SetLemmas.{differ, has_and, has_xor, has_zero}
 use Rattle.krieg_board.proofs.OneKing.{set_empty}

@@ -1,6 +1,6 @@
 -- The two diagonals through a square never have the same length, by evaluation.
 use Rattle.std.proofs.Common.{◌≡◌, ℕ, ◌<◌, true, not, refl, nat_lt}
-use Rattle.krieg_checks.proofs.Common.{is_same_bool, squares, every_square, rising_length, falling_length, is_rising_longer}
+use Rattle.krieg_words.proofs.Common.{is_same_bool, squares, every_square, rising_length, falling_length, is_rising_longer}
 use Rattle.krieg_board.proofs.SquareTests.{every_square_at}
 use Rattle.krieg_board.proofs.SameTests.{same_bool_eq}
 

@@ -4,7 +4,7 @@ ghost use Rattle.krieg_board.specs.Attacks.{attacks};
 ghost use Rattle.krieg_board.specs.Board.{man_at, is_of, is_man};
 ghost use Rattle.krieg_board.specs.Sets.{has};
 ghost use Rattle.krieg_board.specs.declared.men.Kind.TheVariants.{King};
-ghost use Rattle.krieg_checks.specs.Kinds as spec;
+ghost use Rattle.krieg_words.specs.Kinds as spec;
 
 use crate::diagonals::diagonals_through;
 use krieg_board::{Position, king_of, know_valid};

@@ -9,8 +9,8 @@ use Rattle.krieg_board.specs.declared.men.Man.{Man}
 use Rattle.krieg_board.specs.declared.men.Side.{Side}
 use Rattle.krieg_board.specs.declared.men.Side.TheVariants.{White, Black}
 use Rattle.krieg_board.specs.declared.men.Kind.TheVariants.{King, Knight}
-use Rattle.krieg_checks.specs.Diagonals.{is_long_diagonal}
-use Rattle.krieg_checks.specs.declared.kinds.Kinds.{Kinds}
+use Rattle.krieg_words.specs.Diagonals.{is_long_diagonal}
+use Rattle.krieg_words.specs.declared.kinds.Kinds.{Kinds}
 
 -- how a man attacks a king: along a file, a rank, the longer or the shorter of the two diagonals through the king's square, or by a knight's leap
 pub data CheckKind : Type 0 where

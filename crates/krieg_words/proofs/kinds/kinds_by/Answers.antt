@@ -1,8 +1,8 @@
 use Rattle.std.proofs.Common.{◌≡◌, ◌∙◌, ◌&&◌, ℕ, ◌<◌, ◌^◌, refl, true, false}
-use Rattle.krieg_checks.proofs.Common.{other, Pos, attacks, man_at, is_of, is_man, is_kind, has, IsValid, Knight, King, CheckKind, File, Rank, Long, Short, Leap, kinds, is_checked}
+use Rattle.krieg_words.proofs.Common.{other, Pos, attacks, man_at, is_of, is_man, is_kind, has, IsValid, Knight, King, CheckKind, File, Rank, Long, Short, Leap, kinds, is_checked}
 use Rattle.krieg_rays.proofs.Kings.{one_king_on}
-use Rattle.krieg_checks.proofs.Givers.{Attack, not_checked, leap_checked, file_checked, rank_checked, long_checked, short_checked}
-use Rattle.krieg_checks.proofs.kinds.kinds_by.Goals as goal
+use Rattle.krieg_words.proofs.Givers.{Attack, not_checked, leap_checked, file_checked, rank_checked, long_checked, short_checked}
+use Rattle.krieg_words.proofs.kinds.kinds_by.Goals as goal
 
 attack : (p : Pos) (king givers : ℕ) → IsValid p → givers < 2 ^ 64 → king < 64 → is_man p.side King (man_at p.board king) ≡ true →
     ((k : ℕ) → k < 64 → has givers k ≡ (is_of (other p.side) (man_at p.board k) && attacks p.board k king)) → Attack p.board p.side king givers

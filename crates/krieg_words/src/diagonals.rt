@@ -1,8 +1,8 @@
 ghost use Rattle.std.specs.Prelude.{◌≡◌, ◌≢◌, ◌<◌, ℕ, true};
 ghost use Rattle.krieg_board.specs.Attacks.{are_on_diagonal};
 ghost use Rattle.krieg_board.specs.Sets.{has};
-ghost use Rattle.krieg_checks.specs.Diagonals as spec;
-ghost use Rattle.krieg_checks.specs.Diagonals.{rising_length, falling_length, is_long_diagonal};
+ghost use Rattle.krieg_words.specs.Diagonals as spec;
+ghost use Rattle.krieg_words.specs.Diagonals.{rising_length, falling_length, is_long_diagonal};
 
 use krieg_board::{Square, apart, file_of, rank_of};
 use krieg_rays::{falling_through, rising_through};

@@ -1,7 +1,7 @@
 use Rattle.std.proofs.Common.{◌∙◌, sym, ap, ◌&&◌}
-use Rattle.krieg_checks.proofs.Common.{other, man_at, is_of, is_man, attacks, King}
+use Rattle.krieg_words.proofs.Common.{other, man_at, is_of, is_man, attacks, King}
 use Rattle.krieg_rays.proofs.Kings.{one_king_on}
-use Rattle.krieg_checks.proofs.kinds.kinds_of.Goals as goal
+use Rattle.krieg_words.proofs.kinds.kinds_of.Goals as goal
 
 pub king_of-king-requires : goal.king_of-king-requires
 king_of-king-requires c = one_king_on c.bits-bits.result.now c.args.p.now c.side-side.result c.bits-bits.ensures.valid c.bits-bits.ensures.value

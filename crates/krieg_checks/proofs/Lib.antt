@@ -1,3 +1,0 @@
-mod Common
-pub mod Lengths
-pub mod Givers

@@ -1,2 +1,0 @@
-pub mod Diagonals
-pub mod Kinds
