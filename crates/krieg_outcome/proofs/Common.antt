@@ -78,13 +78,13 @@ pub use Rattle.krieg_checker.specs.Verdict.{IsVerdict}
 pub use Rattle.krieg_parting.specs.Turns.{IsOthersTurn, IsOwnTurn}
 pub use Rattle.krieg_split.specs.Units.{IsPaid}
 pub use Rattle.krieg_search.specs.Decision.{IsBetween}
-pub use Rattle.krieg_search.specs.BuiltPlan.{IsFit}
-pub use Rattle.krieg_search.specs.KeyTries.{AreKeys, IsKeyAnswer, IsWithinFresh, Told, key_tries, key_try, keys_of, told_of}
-pub use Rattle.krieg_search.specs.Solutions.{IsAnswer, IsBest, IsCharged, IsChargedAtMost}
-pub use Rattle.krieg_search.specs.declared.best_plan.Answer.{Answer}
-pub use Rattle.krieg_search.specs.declared.keys.KeyTry.{KeyTry}
-pub use Rattle.krieg_search.specs.declared.keys.KeysAt.{KeysAt}
-pub use Rattle.krieg_search.specs.declared.keys.Keys.{Keys as FoundKeys}
+pub use Rattle.krieg_solve.specs.BuiltPlan.{IsFit}
+pub use Rattle.krieg_solve.specs.KeyTries.{AreKeys, IsKeyAnswer, IsWithinFresh, Told, key_tries, key_try, keys_of, told_of}
+pub use Rattle.krieg_solve.specs.Solutions.{IsAnswer, IsBest, IsCharged, IsChargedAtMost}
+pub use Rattle.krieg_solve.specs.declared.best_plan.Answer.{Answer}
+pub use Rattle.krieg_solve.specs.declared.keys.KeyTry.{KeyTry}
+pub use Rattle.krieg_solve.specs.declared.keys.KeysAt.{KeysAt}
+pub use Rattle.krieg_solve.specs.declared.keys.Keys.{Keys as FoundKeys}
 pub use Rattle.krieg_search.specs.declared.stop.SearchStop.{SearchStop}
 pub use Rattle.krieg_refute.specs.Refutations.{claims_price, most_claimed, most_claims, refutes}
 pub use Rattle.krieg_refute.specs.RefuteAnswers.{IsDenial, IsDenied, IsMated, IsOneSide, IsTaken, side_of}

@@ -11,7 +11,7 @@ use Rattle.krieg_theory.proofs.Lists.{in_map, map_in, in_filter, filter_in}
 use Rattle.krieg_theory.proofs.Planned.{can_plan_at, canon_mates, worst_enough, worst_least}
 use Rattle.krieg_theory.proofs.Theorems.{least_is_least}
 use Rattle.krieg_game.proofs.ChessLaws.{chess_is_game, outset_is_lawful}
-use Rattle.krieg_search.specs.Laws.{KeysAreWon}
+use Rattle.krieg_solve.specs.Laws.{KeysAreWon}
 use Rattle.krieg_search.specs.declared.stop.SearchStop.TheVariants as stop
 use Rattle.krieg_belief.proofs.Facts.{kept_up}
 use Rattle.krieg_outcome.proofs.BestFiles.{all_of, each_of, turn_is}

@@ -23,8 +23,8 @@ use Rattle.krieg_game.specs.Chess.{chess}
 use Rattle.krieg_game.specs.Outset.{outset}
 use Rattle.krieg_plan.specs.Trees.{PlanTrees}
 use Rattle.krieg_planfile.specs.PlanText.{root_line, worst_line, count_line}
-use Rattle.krieg_search.specs.KeyTries.{Told}
-use Rattle.krieg_search.specs.declared.keys.KeyTry.{KeyTry}
+use Rattle.krieg_solve.specs.KeyTries.{Told}
+use Rattle.krieg_solve.specs.declared.keys.KeyTry.{KeyTry}
 use Rattle.krieg_outcome.specs.Refute.{SomeMates}
 use Rattle.krieg_outcome.specs.Solve.{mates_all, NoneMates, none_text, fresh_units}
 use Rattle.krieg_outcome.specs.declared.refusal.Refusal.{Refusal}

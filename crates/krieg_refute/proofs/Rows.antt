@@ -5,7 +5,7 @@ use Rattle.std.proofs.lemmas.List.{length-map, get_or-map}
 use Rattle.krieg_refute.proofs.Common.{Pos, Move, Dialect, legal_in_some, add_all, WalksTries, chess, SetRows, set_at, IsMore, Question, Note, SearchStop, Spent, Large, NoMemory, IsBlock, IsRow, AddsSets, ClaimList, pairs_in, IsClaimList, Reasons}
 use Rattle.krieg_accounts.proofs.TryWalk.{legal_at}
 use Rattle.krieg_game.proofs.ChessLaws.{chess_is_game}
-use Rattle.krieg_search.proofs.Building.{adds_then}
+use Rattle.krieg_search.proofs.Adding.{adds_then}
 use Rattle.krieg_search.proofs.Noted.{more_block}
 use Rattle.krieg_refute.specs.declared.refutation.Reason.{Reason as Reason'}
 use Rattle.krieg_refute.proofs.Blocking.{same_pairs}

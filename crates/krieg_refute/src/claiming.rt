@@ -13,7 +13,7 @@ ghost use Rattle.krieg_accounts.specs.Stored.{stored};
 ghost use Rattle.krieg_table.specs.SetRows.{set_at};
 ghost use Rattle.krieg_table.specs.Entries.{entries};
 ghost use Rattle.krieg_claims.specs.Losses.{is_loss};
-ghost use Rattle.krieg_search.specs.Building.{IsPaidFor};
+ghost use Rattle.krieg_search.specs.WonSets.{IsPaidFor};
 ghost use Rattle.krieg_search.specs.Remainders.{IsRemainder};
 ghost use Rattle.krieg_search.specs.Notes.{IsBlock, IsRow, AreNotes};
 ghost use Rattle.krieg_refute.specs.Blocking.{HasBlock, HasRow, IsNoted};

@@ -2,7 +2,7 @@ ghost use Rattle.std.specs.Prelude.{◌≡◌, ◌<◌, ◌≤◌, false, true, 
 ghost use Rattle.std.specs.declared.alloc.Global.{Global};
 ghost use Rattle.krieg_theory.specs.Sets.{is_nil};
 ghost use Rattle.krieg_table.specs.SetRows.{set_at};
-ghost use Rattle.krieg_search.specs.Building.{IsPaidFor};
+ghost use Rattle.krieg_search.specs.WonSets.{IsPaidFor};
 ghost use Rattle.krieg_search.specs.Openings.{AreNumbered};
 ghost use Rattle.krieg_search.specs.Notes.{AreNotes};
 ghost use Rattle.krieg_refute.specs.declared.refutation.Claim.{Claim};

@@ -1,11 +1,7 @@
 -- The theorems on plans, costs and refutations, for chess.
-use Rattle.std.proofs.Common.{ap, subst}
-use Rattle.std.specs.List.{filter}
-use Rattle.krieg_search.proofs.Common.{Move, Side, Dialect, In, legal_in_some, tries, begins, KeyTry, key_try, KeysAreWon, CanBegins, CanIsWon, BeginsIsWon, CanPlanIsMated, CanonPlanIsOne, CanonPlanIsThere, CanonPlanIsLeast, CanonPlanIsComputed, ReachIsLeast, FreshIsAtMostCost, BackingIsLeast, FloorIsAtMostFresh, RefutationExcludes, chess, outset}
-use Rattle.krieg_theory.proofs.Lists.{in_map, map_in, in_filter, filter_in}
+use Rattle.krieg_search.proofs.Common.{Side, Dialect, CanBegins, CanIsWon, BeginsIsWon, CanPlanIsMated, CanonPlanIsOne, CanonPlanIsThere, CanonPlanIsLeast, CanonPlanIsComputed, ReachIsLeast, FreshIsAtMostCost, BackingIsLeast, FloorIsAtMostFresh, RefutationExcludes, chess, outset}
 use Rattle.krieg_theory.proofs.Theorems as theory
 use Rattle.krieg_costs.proofs.Costs as costs
-use Rattle.krieg_costs.proofs.Costs.{legal_try}
 use Rattle.krieg_costs.proofs.Reached as reached
 use Rattle.krieg_costs.proofs.Backed as backed
 use Rattle.krieg_costs.proofs.Refuted as refuted
@@ -20,16 +16,6 @@ module _ (d : Dialect) where
 
   pub begins_is_won : BeginsIsWon (chess d)
   begins_is_won = theory.begins_is_won (chess d) (chess_is_game d)
-
-  pub keys_are_won : KeysAreWon d
-  keys_are_won B j t = (
-    (λ i. (
-        let k = map_in (key_try d B) (filter (begins (chess d) j B) (tries (chess d) B)) (key_try d B t) i in
-        let a = filter_in (begins (chess d) j B) (tries (chess d) B) t (subst (λ (x : Move). In x (filter (begins (chess d) j B) (tries (chess d) B))) (ap (λ (y : KeyTry). y.mv) k.2) k.1) in
-        let legal = (filter_in (legal_in_some (chess d) B) (chess d).moves t a.0).1 in
-        let w = (begins_is_won B j t legal).0 a.1 in (legal, w.0, w.1, w.2))),
-    (λ w. in_map (key_try d B) (filter (begins (chess d) j B) (tries (chess d) B)) t (in_filter (begins (chess d) j B) (tries (chess d) B) t (legal_try (chess d) (chess_is_game d) B t w.0) ((begins_is_won B j t w.0).1 (w.1, w.2, w.3)))),
-  )
 
 module _ (d : Dialect) (who : Side) where
   pub can_plan_is_mated : CanPlanIsMated (chess d) (outset d who)

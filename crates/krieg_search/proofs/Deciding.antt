@@ -27,6 +27,9 @@ no_entries = refl
 pub empty_counted : AreCounted []
 empty_counted k = omega arith
 
+pub empty_ready : (d : Dialect) (cut : Bool) (T : SetRows) → T ≡ [] → IsReady d cut T
+empty_ready d cut T e = subst (λ (T : SetRows). IsReady d cut T) (sym e) (record { counted = empty_counted; sound = subst (λ E. IsSound (chess d) cut E) (sym no_entries) (empty_sound (chess d) cut) })
+
 module _ (d : Dialect) (who : Side) (S : List Pos) where
   -- the sets of the openings that occur
   pub sets_are_opened : (T : SetRows) (os : List Opening) → map (opening_in T) os ≡ game.opening_sets d who S → sets_in T os ≡ opening_sets (chess d) (outset d who) S

@@ -4,8 +4,8 @@ pub mod Leaving
 pub mod Blocked
 mod PackedHeards
 pub mod Noted
-mod Telling
-mod Trying
+pub mod Telling
+pub mod Trying
 mod StillBlocked
 mod Tries
 mod Numbers
@@ -14,16 +14,8 @@ pub mod NextNotes
 pub mod SetParts
 pub mod Checking
 mod Asking
+pub mod Adding
 pub mod OpenedSets
 pub mod Accounting
 pub mod Deciding
-pub mod Building
-mod Edging
-mod Rooting
-mod LaterPrices
-mod Keying
-mod KeySets
-pub mod KeyRoots
-mod Ordering
-pub mod Solving
 mod ChessLaws

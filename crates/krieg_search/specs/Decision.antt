@@ -32,7 +32,7 @@ use Rattle.krieg_search.specs.declared.stop.SearchStop.{SearchStop}
 use Rattle.krieg_search.specs.declared.stop.SearchStop.TheVariants.{Spent, Large, NoMemory}
 use Rattle.krieg_search.specs.Stretches.{AreCounted, IsReady, TellsSets}
 use Rattle.krieg_search.specs.Openings.{AreNumbered, opening_in}
-use Rattle.krieg_search.specs.Building.{WonBy, WinsAreBelow}
+use Rattle.krieg_search.specs.WonSets.{WonBy, WinsAreBelow}
 use Rattle.krieg_search.specs.Notes.{AreNotes, notes_in}
 
 -- the sets of openings

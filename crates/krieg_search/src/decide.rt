@@ -1,4 +1,4 @@
-ghost use Rattle.std.specs.Prelude.{◌≡◌, ◌≤◌, ◌⊎◌, [], IfOk, IfSome, OnOk};
+ghost use Rattle.std.specs.Prelude.{◌≡◌, ◌⊎◌, [], IfOk, IfSome, OnOk};
 ghost use Rattle.krieg_accounts.specs.Stored.{pairs};
 ghost use Rattle.krieg_accounts.specs.Stretch.{CoversSets};
 ghost use Rattle.krieg_costs.specs.Sums.{IsOnce};
@@ -8,8 +8,6 @@ ghost use Rattle.krieg_table.specs.Entries.{entries};
 ghost use Rattle.krieg_search.specs.Stretches.{IsAtWork, Searches, TellsSets};
 ghost use Rattle.krieg_search.specs.Openings.{AreNumbered};
 ghost use Rattle.krieg_search.specs.Decision.{IsAsking, IsDecision, AreFewNotes, sets_in};
-ghost use Rattle.krieg_search.specs.Notes.{AreNotes};
-ghost use Rattle.krieg_search.specs.Blockers.{AreBlockers};
 
 use crate::blockers::Blockers;
 use crate::lost_sets::LostSets;
@@ -71,17 +69,16 @@ fn all_openings_win(
 
 /// What was asked: what may be heard before the first own turn, and whether the set of each can be won.
 #[derive(Drop)]
-pub(crate) struct Outlook {
+pub struct Outlook {
     pub openings: Vec<Opening>,
     pub all_win: bool,
 }
 
-/// A search that has found out nothing yet.
-pub(crate) fn new_search(way: Way, units: u64) -> Search
+/// A search that has found out nothing yet, with so many units. It takes no memory.
+pub fn new_search(way: Way, units: u64) -> Search
     ensures empty { result.table ≡ [] }
-    ensures noted { AreNotes way.d way.cut result.table result.notes }
+    ensures ready { IsAtWork way result }
     ensures most { result.notes.most ≡ way.noted }
-    ensures blockers { result.blockers ≡ [] }
     ensures units { result.units ≡ units }
 {
     Search {
@@ -94,9 +91,9 @@ pub(crate) fn new_search(way: Way, units: u64) -> Search
     }
 }
 
-/// Asks of the set of each opening whether it can be won within `moves`, up to the first that cannot. There are no openings where
-/// some listed position is over.
-pub(crate) fn ask_openings(
+/// Asks of the set of each opening whether it can be won within `moves`, up to the first that cannot: the first step of a search, on
+/// which others may follow. There are no openings where some listed position is over.
+pub fn ask_openings(
     search: &mut Search,
     way: Way,
     who: Side,
@@ -105,14 +102,10 @@ pub(crate) fn ask_openings(
 ) -> Result<Option<Outlook>, SearchStop>
     requires turn { IsOwnTurn who b.now ⊎ IsOthersTurn who b.now }
     requires empty { search.old.table ≡ [] }
-    requires noted { AreNotes way.d way.cut search.old.table search.old.notes }
-    requires blockers { search.old.blockers ≡ [] }
+    requires ready { IsAtWork way search.old }
     ensures asked { IsAsking way.d who b.now moves way.cut search.new.table result
         search.old.units search.new.units }
-    ensures noted { IfOk result (λ o. IfSome o
-        (λ _. AreNotes way.d way.cut search.new.table search.new.notes)) }
-    ensures blockers { IfOk result (λ o. IfSome o
-        (λ _. AreBlockers way.d way.cut search.new.table search.new.blockers)) }
+    ensures ready { IfOk result (λ o. IfSome o (λ _. IsAtWork way search.new)) }
     ensures most { search.new.notes.most ≡ search.old.notes.most }
 {
     let Some(openings) = find_openings(

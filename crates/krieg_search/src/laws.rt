@@ -8,7 +8,7 @@ ghost use Rattle.krieg_theory.specs.Laws.{CanBegins, CanIsWon, BeginsIsWon, CanP
 ghost use Rattle.krieg_costs.specs.Laws.{ReachIsLeast, FreshIsAtMostCost, BackingIsLeast, FloorIsAtMostFresh, RefutationExcludes};
 ghost use Rattle.krieg_game.specs.Chess.{chess};
 ghost use Rattle.krieg_game.specs.Outset.{outset};
-ghost use Rattle.krieg_search.specs.Laws.{AccountIsBetween, KeysAreWon};
+ghost use Rattle.krieg_search.specs.Laws.{AccountIsBetween};
 
 /// A set can be won within a number exactly where some try meets its conditions there.
 #[tactic(auto, using(crate::proofs::ChessLaws::can_begins))]
@@ -26,12 +26,6 @@ pub fn can_is_won()
 #[tactic(auto, using(crate::proofs::ChessLaws::begins_is_won))]
 pub fn begins_is_won()
     ensures { (d : Dialect) → BeginsIsWon (chess d) }
-{}
-
-/// The keys of a set with a number are exactly the tries that are legal in some member and begin a tree that wins all of the set
-/// within it.
-pub fn keys_are_won()
-    ensures { (d : Dialect) → KeysAreWon d }
 {}
 
 /// Some plan mates within a number exactly where each opening set can be won within it and nothing is over.

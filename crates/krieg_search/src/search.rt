@@ -1,6 +1,7 @@
-ghost use Rattle.std.specs.Prelude.{◌≡◌, ◌<◌, ◌≤◌, true, false, Ok, IfOk, OnOk, is_some, length, map, not};
-ghost use Rattle.krieg_theory.specs.Can.{begins, can};
+ghost use Rattle.std.specs.Prelude.{◌≡◌, ◌<◌, true, false, Ok, IfOk, OnOk, length};
+ghost use Rattle.krieg_theory.specs.Can.{can};
 ghost use Rattle.krieg_theory.specs.Split.{legal_in_some};
+ghost use Rattle.krieg_costs.specs.Cost.{made};
 ghost use Rattle.krieg_accounts.specs.Answers.{LostBelow};
 ghost use Rattle.krieg_accounts.specs.Stretch.{CoversSet, CoversPair, CoversTry, CoversSets};
 ghost use Rattle.krieg_game.specs.Chess.{chess};
@@ -8,7 +9,7 @@ ghost use Rattle.krieg_table.specs.SetRows.{set_at};
 ghost use Rattle.krieg_table.specs.Entries.{entries};
 ghost use Rattle.krieg_table.specs.Table.{IsNext};
 ghost use Rattle.krieg_search.specs.Tries.{move_of};
-ghost use Rattle.krieg_search.specs.Stretches.{IsAtWork, Searches, TellsSet, sets_of};
+ghost use Rattle.krieg_search.specs.Stretches.{IsAtWork, Searches, TellsSet, TellsTry, sets_of};
 ghost use Rattle.krieg_search.specs.Blocks.{FindsBlock, IsAskedIn, IsAtHand, IsTryOf, TellsFirst};
 
 use crate::blockers::{Blocker, Blockers};
@@ -20,7 +21,7 @@ use crate::remainder::{Remainder, is_cut, left_of, squares_for};
 use crate::stop::SearchStop;
 use crate::try_list::{Try, move_of_try, tries_for};
 use crate::way::Way;
-use krieg_board::{NoMemory, Units};
+use krieg_board::{Move, NoMemory, Units};
 use krieg_game::Class;
 use krieg_sight::{Sight, some_is_no_mate};
 use krieg_table::{OpenSet, SetResult, Table};
@@ -29,13 +30,18 @@ use krieg_table::{OpenSet, SetResult, Table};
 pub(crate) const MOST_LEVELS: u16 = 5_000;
 
 /// A search at work: what it has found out so far, and the units that are left to it.
-pub(crate) struct Search {
-    pub sight: Sight,
+///
+/// Whoever goes on by it behind `ask_openings` may look at what it has found and ask of more tries.
+pub struct Search {
+    pub(crate) sight: Sight,
+    /// What blocks each try of sets that cannot be won, as far as the way asks for it.
     pub notes: Notes,
-    pub lost_sets: LostSets,
+    pub(crate) lost_sets: LostSets,
+    /// The sets by their numbers, with what is found of each.
     pub table: Table,
+    /// The units that are left.
     pub units: Units,
-    pub blockers: Blockers,
+    pub(crate) blockers: Blockers,
 }
 
 /// Written out, so that each owner of a search lets it go by one call, and this its parts that have many.
@@ -56,7 +62,7 @@ impl Drop for Search {
 }
 
 /// A set while its tries are tried: it is open, and these are its tries in their order.
-pub(crate) struct AtHand {
+struct AtHand {
     pub opened: OpenSet,
     /// What `squares_for` says of the set. Nothing is claimed of it.
     pub squares: Option<u64>,
@@ -76,7 +82,7 @@ impl Drop for AtHand {
 
 /// What is asked of a set: whether it can be won within a number of moves. It is at hand meanwhile.
 #[derive(Drop)]
-pub(crate) struct Asked {
+struct Asked {
     pub set: u32,
     pub moves: u8,
     pub at_hand: AtHand,
@@ -85,7 +91,7 @@ pub(crate) struct Asked {
 impl Search {
     /// The set at hand, for its tries to be tried with so many moves.
     #[inline(always)]
-    pub(crate) fn take_up(&self, way: Way, set: u32, moves: u8) -> Result<AtHand, NoMemory>
+    fn take_up(&self, way: Way, set: u32, moves: u8) -> Result<AtHand, NoMemory>
         requires { set < length self.now.table }
         ensures { IfOk result (IsAtHand (set_at self.now.table set) moves) }
     {
@@ -238,10 +244,39 @@ impl Search {
         Ok(false)
     }
 
+    /// Whether the try, which is legal in some member of the set with that number, begins to win all of it within so many moves. It takes
+    /// what the split of the try and the search of its parts take, or less where tries may be cut.
+    pub fn begins(&mut self, way: Way, set: u32, moves: u8, mv: Move) -> Result<bool, SearchStop>
+        requires some { 0 < moves }
+        requires within { set < length self.old.table }
+        requires ready { IsAtWork way self.old }
+        requires legal { legal_in_some (chess way.d) (set_at self.old.table set) mv ≡ true }
+        ensures searched { Searches way result
+            (TellsTry way.d way.cut self.new.table (set_at self.old.table set) moves mv)
+            (CoversTry (chess way.d) (set_at self.old.table set) moves mv)
+            (made (chess way.d) (set_at self.old.table set) mv) self.old self.new }
+        ensures ready { OnOk result (IsAtWork way self.new) }
+    {
+        let opened = self.table.open(way.alloc, set)?;
+        let squares = squares_for(way, opened.of(&self.table, set));
+        let at_hand = AtHand {
+            opened,
+            squares,
+            tries: Vec::new(way.alloc),
+        };
+        let asked = Asked {
+            set,
+            moves,
+            at_hand,
+        };
+        let block = self.block_of(way, &asked, &Try::Plain(mv), MOST_LEVELS)?;
+        Ok(block.is_none())
+    }
+
     /// What blocks the try in the set that is asked, or nothing where it begins to win all of it. Where it was split with fewer moves, the
     /// part that blocked it then is asked first: while that cannot be won it takes what a split takes, and no more is told than that it fails.
     #[cycle(search)]
-    pub(crate) fn block_of(
+    fn block_of(
         &mut self,
         way: Way,
         asked: &Asked,

@@ -33,8 +33,8 @@ use Rattle.krieg_search.specs.declared.openings.Opening.{Opening}
 use Rattle.krieg_search.specs.declared.decide.Findings.{Findings}
 use Rattle.krieg_search.specs.Openings.{opening_in}
 use Rattle.krieg_search.specs.Decision.{IsWon}
-use Rattle.krieg_search.specs.Solutions.{IsBest}
-use Rattle.krieg_search.proofs.Solving.{worst_of}
+use Rattle.krieg_solve.specs.Solutions.{IsBest}
+use Rattle.krieg_solve.proofs.Solving.{worst_of}
 use Rattle.krieg_share.specs.declared.answer.Answer.{Answer}
 use Rattle.krieg_share.specs.declared.answer.Answer.TheVariants.{Mates, None}
 use Rattle.krieg_share.specs.declared.sharer.Sharer.{Sharer}

@@ -19,9 +19,9 @@ use Rattle.krieg_search.specs.declared.openings.Opening.{Opening}
 use Rattle.krieg_search.specs.Stretches.{IsReady}
 use Rattle.krieg_search.specs.Openings.{AddsSets, AreNumbered, opening_in}
 use Rattle.krieg_search.specs.Decision.{sets_in}
-use Rattle.krieg_search.specs.Building.{WonBy}
+use Rattle.krieg_search.specs.WonSets.{WonBy}
 use Rattle.krieg_search.proofs.Checking.{at_item}
-use Rattle.krieg_search.proofs.Building.{still_won, won_at, won_can}
+use Rattle.krieg_solve.proofs.Building.{still_won, won_at, won_can}
 
 module _ (d : Dialect) (j : ℕ) (T : SetRows) where
   -- the number with which a set is stored as won is its least

@@ -37,8 +37,10 @@ use Rattle.krieg_strategy.specs.declared.limits.TheConstants.{MOST_NODES, MOST_E
 use Rattle.krieg_search.specs.declared.stop.SearchStop.{SearchStop}
 use Rattle.krieg_search.specs.declared.stop.SearchStop.TheVariants.{Spent, Large, NoMemory}
 use Rattle.krieg_search.specs.Openings.{AddsSets}
-use Rattle.krieg_search.specs.Building.{WonBy, IsPaidFor, edges_for}
-use Rattle.krieg_search.proofs.Building.{adds_nothing, still_paid, won_node, node_is}
+use Rattle.krieg_search.specs.WonSets.{WonBy, IsPaidFor}
+use Rattle.krieg_solve.specs.Building.{edges_for}
+use Rattle.krieg_search.proofs.Adding.{adds_nothing, still_paid}
+use Rattle.krieg_solve.proofs.Building.{won_node, node_is}
 use Rattle.krieg_share.specs.declared.sharer.Sharer.{Sharer}
 use Rattle.krieg_share.specs.Sharing.{Shared, AreShared, has_node, number_of, node_number, refused_number, share, share_other}
 use Rattle.krieg_share.specs.Parts.{share_sets, numbered, IsOver}

@@ -20,7 +20,7 @@ use Rattle.krieg_strategy.specs.declared.limits.TheConstants.{MOST_NODES, MOST_E
 use Rattle.krieg_search.specs.declared.stop.SearchStop.{SearchStop}
 use Rattle.krieg_search.specs.declared.stop.SearchStop.TheVariants.{Spent, Large, NoMemory}
 use Rattle.krieg_search.specs.Decision.{IsAccount}
-use Rattle.krieg_search.specs.Solutions.{IsBest, NoneMates}
+use Rattle.krieg_solve.specs.Solutions.{IsBest, NoneMates}
 use Rattle.krieg_share.specs.declared.answer.Answer.{Answer}
 use Rattle.krieg_share.specs.declared.answer.Answer.TheVariants.{Mates, None}
 use Rattle.krieg_share.specs.Sharing.{nothing_shared, shared, shared_roots}

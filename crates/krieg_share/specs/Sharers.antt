@@ -16,7 +16,7 @@ use Rattle.krieg_strategy.specs.declared.limits.TheConstants.{MOST_NODES, MOST_E
 use Rattle.krieg_search.specs.declared.stop.SearchStop.{SearchStop}
 use Rattle.krieg_search.specs.declared.stop.SearchStop.TheVariants.{Spent, Large, NoMemory}
 use Rattle.krieg_search.specs.Openings.{AddsSets}
-use Rattle.krieg_search.specs.Building.{IsPaidFor}
+use Rattle.krieg_search.specs.WonSets.{IsPaidFor}
 use Rattle.krieg_share.specs.declared.sharer.Sharer.{Sharer}
 use Rattle.krieg_share.specs.Sharing.{Shared, AreShared, number_of}
 use Rattle.krieg_share.specs.Parts.{IsOver}

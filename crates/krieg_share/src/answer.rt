@@ -4,7 +4,7 @@ ghost use Rattle.krieg_theory.specs.Sets.{In};
 ghost use Rattle.krieg_parting.specs.Turns.{IsOwnTurn, IsOthersTurn};
 ghost use Rattle.krieg_search.specs.Openings.{AreNumbered, opening_in};
 ghost use Rattle.krieg_search.specs.Decision.{sets_in};
-ghost use Rattle.krieg_search.specs.Building.{WonBy, IsPaidFor};
+ghost use Rattle.krieg_search.specs.WonSets.{WonBy, IsPaidFor};
 ghost use Rattle.krieg_share.specs.Answers.{IsStrategyAnswer, MakesStrategy, TakesAsPlan, IsShared};
 
 use crate::roots::{share_openings, worst_of};

@@ -1,6 +1,6 @@
 //! The best plan as a strategy, `share`: each set of positions that is reached has one node.
 //!
-//! `find` of krieg_search makes the canonical plan as a tree, which repeats itself: a whole ending may take billions of nodes. Here a
+//! `find` of krieg_solve makes the canonical plan as a tree, which repeats itself: a whole ending may take billions of nodes. Here a
 //! node is made once for each different set, so an ending takes some thousands. The strategy unfolds to the same plan, which is never
 //! made.
 //!

@@ -10,7 +10,7 @@ ghost use Rattle.krieg_strategy.specs.Roots.{root_of};
 ghost use Rattle.krieg_search.specs.Stretches.{IsReady};
 ghost use Rattle.krieg_search.specs.Openings.{AreNumbered, opening_in};
 ghost use Rattle.krieg_search.specs.Decision.{sets_in};
-ghost use Rattle.krieg_search.specs.Building.{WonBy};
+ghost use Rattle.krieg_search.specs.WonSets.{WonBy};
 ghost use Rattle.krieg_share.specs.Parts.{share_sets, numbered};
 ghost use Rattle.krieg_share.specs.Sharers.{sets_with_nodes, shared_by, IsSharing, Shares};
 

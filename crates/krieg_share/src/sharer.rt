@@ -18,7 +18,7 @@ ghost use Rattle.krieg_strategy.specs.Edges.{edge_of};
 ghost use Rattle.krieg_strategy.specs.declared.limits.TheConstants.{MOST_NODES, MOST_EDGES};
 ghost use Rattle.krieg_search.specs.declared.stop.SearchStop.TheVariants.{Spent, Large};
 ghost use Rattle.krieg_search.specs.Stretches.{sets_of};
-ghost use Rattle.krieg_search.specs.Building.{WonBy};
+ghost use Rattle.krieg_search.specs.WonSets.{WonBy};
 ghost use Rattle.krieg_share.specs.Sharing.{node_number, refused_number, share_other};
 ghost use Rattle.krieg_share.specs.Parts.{share_sets, numbered};
 ghost use Rattle.krieg_share.specs.Sharers.{node_by, sets_with_nodes, AreInTable, shared_by, IsSharing, HasNumber, Shares};

@@ -2,7 +2,7 @@ ghost use Rattle.std.specs.Prelude.{◌≡◌, ◌≤◌, ◌⊎◌, false, leng
 ghost use Rattle.krieg_text.specs.Lines.{lines};
 ghost use Rattle.krieg_text.specs.Reading.{whole};
 ghost use Rattle.krieg_parting.specs.Turns.{IsOwnTurn, IsOthersTurn};
-ghost use Rattle.krieg_search.specs.Solutions.{IsAnswer, IsCharged, IsChargedAtMost};
+ghost use Rattle.krieg_solve.specs.Solutions.{IsAnswer, IsCharged, IsChargedAtMost};
 ghost use Rattle.krieg_theory.specs.Sets.{is_nil};
 ghost use Rattle.krieg_belief.specs.Possible.{HaveOneHand};
 ghost use Rattle.krieg_plan.specs.Plans.{plan_of};
@@ -23,7 +23,8 @@ use krieg_fen::MOST_LISTED;
 use krieg_pack::Belief;
 use krieg_plan::{MOST_NODES, Plan, PlanFile};
 use krieg_planfile::write_plan;
-use krieg_search::{Answer, SearchStop, Way, find, solve};
+use krieg_search::{SearchStop, Way};
+use krieg_solve::{Answer, find, solve};
 use krieg_words::Dialect;
 use std::alloc::Global;
 

@@ -2,7 +2,7 @@ use Rattle.std.proofs.Common.{◌≡◌, ℕ, ◌-◌, suc, sym, subst, ◌∙�
 use Rattle.krieg_refute.proofs.Common.{chess, entries, set_at, IsLost}
 use Rattle.krieg_claims.proofs.StoredLosses.{loss_paid}
 use Rattle.krieg_game.proofs.ChessLaws.{chess_is_game}
-use Rattle.krieg_search.proofs.Building.{adds_nothing, adds_then}
+use Rattle.krieg_search.proofs.Adding.{adds_nothing, adds_then}
 use Rattle.krieg_refute.proofs.Blocking.{class_at, refused_at}
 use Rattle.krieg_refute.proofs.claiming.block_of.Goals as goal
 

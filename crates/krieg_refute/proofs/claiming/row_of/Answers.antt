@@ -3,7 +3,7 @@ use Rattle.krieg_refute.proofs.Common.{Pos, legal_in_some, chess, entries, set_a
 use Rattle.krieg_accounts.proofs.Tables.{result_can}
 use Rattle.krieg_accounts.proofs.TryWalk.{legal_at}
 use Rattle.krieg_game.proofs.ChessLaws.{chess_is_game}
-use Rattle.krieg_search.proofs.Building.{adds_nothing, adds_then}
+use Rattle.krieg_search.proofs.Adding.{adds_nothing, adds_then}
 use Rattle.krieg_search.proofs.Searching.{more_itself}
 use Rattle.krieg_search.proofs.Noted.{no_notes, one_noted, all_noted}
 use Rattle.krieg_refute.proofs.claiming.row_of.Goals as goal

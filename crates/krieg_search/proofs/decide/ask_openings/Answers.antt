@@ -2,7 +2,7 @@ use Rattle.std.proofs.Common.{Bool, Err, refl, sym, subst, List, Option, Vec}
 use Rattle.std.specs.declared.alloc.Global.{Global}
 use Rattle.krieg_search.proofs.Common.{CoversSets, chess, Opening, Outlook, AreCounted, IsSearched, Stretches, TellsSets, AreNumbered, IsOpened, sets_in}
 use Rattle.krieg_search.proofs.Noted.{more_notes}
-use Rattle.krieg_search.proofs.StillBlocked.{no_blockers}
+use Rattle.krieg_search.proofs.StillBlocked.{more_blockers}
 use Rattle.krieg_search.proofs.Deciding.{empty_counted, are_opened, openings_stopped, opened_ready, search_stopped, sets_asked}
 use Rattle.krieg_search.proofs.decide.ask_openings.Goals as goal
 
@@ -28,8 +28,11 @@ all_openings_win-requires-clause-ready c =
     let d = c.args.way.d in
     let T1 = c.find_openings.new.table in
     let os = c.in-Some.openings in
-    let o = are_opened d c.args.way.cut c.args.who c.args.b.now c.args.moves c.args.search.now.table T1 c.in_ok-openings.field-0 os c.requires.empty c.in-Some.is c.in_ok-openings.ensures.0 in
-    (opened_ready d c.args.way.cut c.args.who c.args.b.now c.args.moves T1 os.items o.1, more_notes d c.args.way.cut c.args.search.now.notes o.1.sets.more (rw c.requires.empty at c.requires.noted), no_blockers d c.args.way.cut T1 c.args.search.now.blockers c.requires.blockers)
+    let o = are_opened d c.args.way.cut c.args.who c.args.b.now c.args.moves c.args.search.now.table T1 c.in_ok-openings.field-0 os c.requires.empty c.in-Some.is c.in_ok-openings.ensures.0 in (
+      opened_ready d c.args.way.cut c.args.who c.args.b.now c.args.moves T1 os.items o.1,
+      more_notes d c.args.way.cut c.args.search.now.notes o.1.sets.more (rw c.requires.empty at c.requires.ready.1),
+      more_blockers d c.args.way.cut c.args.search.now.blockers o.1.sets.more (rw c.requires.empty at c.requires.ready.2),
+    )
 
 pub all_openings_win-requires-clause-numbered : goal.all_openings_win-requires-clause-numbered
 all_openings_win-requires-clause-numbered c =
@@ -66,5 +69,5 @@ returns-clause-asked c =
     sets_asked d c.args.way.cut c.args.who c.args.b.now n T1 os.items o.1 T2 asked c.args.search.now.units u1 u2 refl o.0 c.in_ok-openings.ensures.1
     (subst (λ (xs : List Opening). TellsSets d T2 (sets_in T1 xs) n c.in_ok-all_win.all_win × IsSearched d c.args.way.cut (CoversSets (chess d) (sets_in T1 xs) n) 0 T1 T2 u1 u2) c.deref.ensures.value c.in_ok-all_win.ensures.searched)
 
-pub returns-clause-blockers : goal.returns-clause-blockers
-returns-clause-blockers c = c.in_ok-all_win.ensures.ready.2
+pub returns-clause-ready : goal.returns-clause-ready
+returns-clause-ready c = c.in_ok-all_win.ensures.ready

@@ -17,11 +17,13 @@ returns-in_default-clause-decided c =
 pub returns-then-not-all_win-clause-decided : goal.returns-then-not-all_win-clause-decided
 returns-then-not-all_win-clause-decided c =
     let a = rw (c.in-Some.is, c.new_search-search.ensures.units, c.left.ensures, sym c.left-2.ensures, sym c.new.ensures) at c.in_ok-asked.ensures.asked in
-    let noted = rw (c.in-Some.is, sym c.take_findings-found.ensures.notes) at c.in_ok-asked.ensures.noted in
+    let ready = rw c.in-Some.is at c.in_ok-asked.ensures.ready in
+    let noted = rw (sym c.take_findings-found.ensures.notes) at ready.1 in
     not_won c.args.way.d c.args.way.cut c.args.who c.args.b.now c.args.moves c.ask_openings.new.search.table c.in-Some.field-0 c.args.units.now c.new.result a c.take_findings-found.ensures.once c.if-not-all_win.true c.take_findings-found.result c.take_findings-found.ensures.table (ap (λ (v : Vec Opening Global). v.items) c.take_findings-found.ensures.openings) noted
 
 pub returns-clause-decided : goal.returns-clause-decided
 returns-clause-decided c =
     let a = rw (c.in-Some.is, c.new_search-search.ensures.units, c.left.ensures, sym c.left-2.ensures, sym c.new.ensures) at c.in_ok-asked.ensures.asked in
-    let noted = rw (c.in-Some.is, sym c.take_findings-found.ensures.notes) at c.in_ok-asked.ensures.noted in
+    let ready = rw c.in-Some.is at c.in_ok-asked.ensures.ready in
+    let noted = rw (sym c.take_findings-found.ensures.notes) at ready.1 in
     all_are_won c.args.way.d c.args.way.cut c.args.who c.args.b.now c.args.moves c.ask_openings.new.search.table c.in-Some.field-0 c.args.units.now c.new.result a c.take_findings-found.ensures.once c.if-not-all_win.false c.take_findings-found.result c.take_findings-found.ensures.table (ap (λ (v : Vec Opening Global). v.items) c.take_findings-found.ensures.openings) noted

@@ -1,4 +1,4 @@
-use Rattle.krieg_search.proofs.Keying.{same_move}
+use Rattle.krieg_search.proofs.Telling.{same_move}
 use Rattle.krieg_search.proofs.try_list.is_same.Goals as goal
 
 pub returns : goal.returns

@@ -1,5 +1,5 @@
 use Rattle.std.proofs.Common.{arith}
-use Rattle.krieg_search.proofs.Solving.{none_mates, is_paid}
+use Rattle.krieg_solve.proofs.Solving.{none_mates, is_paid}
 use Rattle.krieg_share.proofs.Answering.{is_large, answered, well_formed}
 use Rattle.krieg_share.proofs.answer.share.Goals as goal
 

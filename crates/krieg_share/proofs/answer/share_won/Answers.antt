@@ -9,7 +9,7 @@ use Rattle.krieg_table.specs.SetRows.{SetRows}
 use Rattle.krieg_search.specs.declared.openings.Opening.{Opening}
 use Rattle.krieg_search.specs.Openings.{opening_in}
 use Rattle.krieg_search.specs.Decision.{sets_in}
-use Rattle.krieg_search.specs.Building.{WonBy}
+use Rattle.krieg_search.specs.WonSets.{WonBy}
 use Rattle.krieg_share.proofs.Answering.{as_shared}
 use Rattle.krieg_share.proofs.answer.share_won.Goals as goal
 

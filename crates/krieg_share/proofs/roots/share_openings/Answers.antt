@@ -10,7 +10,7 @@ use Rattle.krieg_strategy.specs.Roots.{root_of}
 use Rattle.krieg_strategy.specs.declared.root.StrategyRoot.{StrategyRoot}
 use Rattle.krieg_strategy.specs.declared.limits.TheConstants.{MOST_NODES, MOST_EDGES}
 use Rattle.krieg_search.specs.Openings.{opening_in}
-use Rattle.krieg_search.proofs.Building.{adds_then}
+use Rattle.krieg_search.proofs.Adding.{adds_then}
 use Rattle.krieg_share.specs.Sharing.{number_of, share_other}
 use Rattle.krieg_share.specs.Parts.{IsOver}
 use Rattle.krieg_share.specs.Sharers.{shared_by, sets_with_nodes}

@@ -15,7 +15,8 @@ use Rattle.krieg_strategy.specs.Edges.{edge_of}
 use Rattle.krieg_strategy.specs.declared.edge.StrategyEdge.{StrategyEdge}
 use Rattle.krieg_strategy.specs.declared.limits.TheConstants.{MOST_NODES, MOST_EDGES}
 use Rattle.krieg_search.specs.Stretches.{sets_of}
-use Rattle.krieg_search.proofs.Building.{adds_then, adds_number, still_won, won_at, paid_by, classes_won, refused_is_won}
+use Rattle.krieg_search.proofs.Adding.{adds_then, adds_number}
+use Rattle.krieg_solve.proofs.Building.{still_won, won_at, paid_by, classes_won, refused_is_won}
 use Rattle.krieg_share.specs.declared.sharer.Sharer.{Sharer}
 use Rattle.krieg_share.specs.Sharing.{share_other, number_of}
 use Rattle.krieg_share.specs.Parts.{IsOver}
