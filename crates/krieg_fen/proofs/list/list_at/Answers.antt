@@ -9,15 +9,15 @@ pub returns-in-Err-clause-value : goal.returns-in-Err-clause-value
 returns-in-Err-clause-value g c =
     let at = g.S.LineSource.place in
     let new = at c.read_listed.new.from in
-    let given : GivesOn {X = Pos} (λ p. p) (Err c.in-Err.fault) new (taken (listed_form c.args.turn c.args.who (slice_get c.loop-i.list.items 0)) (at c.loop-i.from)) = search rules in
+    let given : GivesOn {X = Pos} (λ p. p) (Err c.in-Err.fault) new (taken (listed_form c.args.turn c.args.who (slice_get c.loop-i.list.items 0)) (at c.loop-i.from)) = rw (c.first.ensures.value, c.deref.ensures.value) at c.in-Err.ensures.value in
     listed_gives {X = Vec Position Global} (λ v. v.items) c.args.turn c.args.who c.loop-i.list.items c.args.n c.loop-i.i (at c.loop-i.from) new c.in-Err.fault (positions_at c.args.turn c.args.who None c.args.n (g.S.LineSource.place c.args.from.now)) (omega arith) given c.loop-i.invariant.read
 
 pub loop-i-preserved : goal.loop-i-preserved
 loop-i-preserved g c =
     let at = g.S.LineSource.place in
     let new = at c.read_listed.new.from in
-    let read : taken (listed_form c.args.turn c.args.who (slice_get c.loop-i.list.items 0)) (at c.loop-i.from) ≡ Ok (c.in-Ok.position, new) = search rules in
-    let pushed : c.push.new.self.items ≡ c.loop-i.list.items ++ c.in-Ok.position ∷ [] = search rules in
+    let read : taken (listed_form c.args.turn c.args.who (slice_get c.loop-i.list.items 0)) (at c.loop-i.from) ≡ Ok (c.in-Ok.position, new) = rw (c.first.ensures.value, c.deref.ensures.value) at c.in-Ok.ensures.value in
+    let pushed : c.push.new.self.items ≡ c.loop-i.list.items ++ c.in-Ok.position ∷ [] = c.in_ok-push-in-Ok.ensures.items in
     record {
       read = rw pushed (listed_ok c.args.turn c.args.who c.loop-i.list.items c.args.n c.loop-i.i (at c.loop-i.from) new c.in-Ok.position (positions_at c.args.turn c.args.who None c.args.n (g.S.LineSource.place c.args.from.now)) (omega arith) read c.loop-i.invariant.read);
       rest = passed_then (at c.args.from.now) (at c.loop-i.from) new c.loop-i.invariant.rest c.read_listed.ensures.rest;
