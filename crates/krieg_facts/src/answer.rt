@@ -41,21 +41,6 @@ impl AnswerText {
         }
     }
 
-    /// Goes on only where this was found to be so.
-    pub fn only_if_found(&mut self, is_so: Result<bool, NoMemory>) {
-        match is_so {
-            Ok(is_so) => self.only_if(is_so),
-            Err(_) => self.stop.lacks_memory(),
-        }
-    }
-
-    /// What stopped the other text stops this one.
-    pub fn stop_as(&mut self, other: &AnswerText) {
-        if let Some(stop) = other.stop.first {
-            self.stop.note(stop);
-        }
-    }
-
     /// Adds the bytes, right behind what stands there.
     pub fn put(&mut self, bytes: &[u8]) {
         if self.text.extend_from_slice(bytes).is_err() {
@@ -63,16 +48,11 @@ impl AnswerText {
         }
     }
 
-    /// Adds the bytes where something stands before them.
-    fn put_behind(&mut self, bytes: &[u8]) {
-        if !self.text.is_empty() {
-            self.put(bytes);
-        }
-    }
-
     /// A word: a space stands before each but the first.
     pub fn word(&mut self, bytes: &[u8]) {
-        self.put_behind(b" ");
+        if !self.text.is_empty() {
+            self.put(b" ");
+        }
         self.put(bytes);
     }
 
@@ -98,7 +78,7 @@ impl AnswerText {
 
     /// A number as a word.
     pub fn number(&mut self, number: u64) {
-        self.put_behind(b" ");
+        self.word(b"");
         self.digits(number);
     }
 
@@ -112,7 +92,7 @@ impl AnswerText {
 
     /// A square as a word.
     pub fn square(&mut self, square: Square) {
-        self.put_behind(b" ");
+        self.word(b"");
         let mut text = Text::after(&mut self.text);
         let done = put_square(square, &mut text);
         let done = text.end(done, &mut self.text);

@@ -2,6 +2,7 @@
 
 use crate::answer::AnswerText;
 use crate::given::Given;
+use crate::mark::{AloneMark, SideMark, SquaresMark, found};
 use crate::scene::Scene;
 use crate::terms::{letter_of, placed_of};
 use krieg_board::{
@@ -19,29 +20,54 @@ fn agreed(set: u64, again: u64) -> Option<u64> {
     if set == again { Some(set) } else { None }
 }
 
-/// The set of the men of a side or of a kind.
-fn men_of(bits: &Bits, name: &str) -> Option<u64> {
+/// Which men are asked for.
+#[derive(Clone, Copy)]
+enum MenMark {
+    White,
+    Black,
+    Pawns,
+    Knights,
+    Bishops,
+    Rooks,
+    Queens,
+    Kings,
+    All,
+}
+
+static MEN: [(&str, MenMark); 9] = [
+    ("white", MenMark::White),
+    ("black", MenMark::Black),
+    ("pawns", MenMark::Pawns),
+    ("knights", MenMark::Knights),
+    ("bishops", MenMark::Bishops),
+    ("rooks", MenMark::Rooks),
+    ("queens", MenMark::Queens),
+    ("kings", MenMark::Kings),
+    ("all", MenMark::All),
+];
+
+/// The set of these men.
+fn men_of(bits: &Bits, mark: MenMark) -> u64 {
     let sets = bits.sets();
-    match name {
-        "white" => Some(sets.white),
-        "black" => Some(sets.black),
-        "pawns" => Some(sets.pawns),
-        "knights" => Some(sets.knights),
-        "bishops" => Some(sets.bishops),
-        "rooks" => Some(sets.rooks),
-        "queens" => Some(sets.queens),
-        "kings" => Some(sets.kings),
-        "all" => Some(bits.occupied()),
-        _ => None,
+    match mark {
+        MenMark::White => sets.white,
+        MenMark::Black => sets.black,
+        MenMark::Pawns => sets.pawns,
+        MenMark::Knights => sets.knights,
+        MenMark::Bishops => sets.bishops,
+        MenMark::Rooks => sets.rooks,
+        MenMark::Queens => sets.queens,
+        MenMark::Kings => sets.kings,
+        MenMark::All => bits.occupied(),
     }
 }
 
 /// The same of the board by sets and of the board square by square.
 fn men_of_both(bits: &Bits, name: &str) -> Option<u64> {
     let again = Bits::from_board(&bits.to_board());
-    match (men_of(bits, name), men_of(&again, name)) {
-        (Some(set), Some(again)) => agreed(set, again),
-        _ => None,
+    match found(&MEN, name) {
+        Some(mark) => agreed(men_of(bits, mark), men_of(&again, mark)),
+        None => None,
     }
 }
 
@@ -55,11 +81,6 @@ fn attackers_by_rule(bits: &Bits, by: Side, to: Square) -> u64 {
         }
     }
     set
-}
-
-/// The men of a side that attack a square, by lines of squares and by the rule.
-fn attackers_of(bits: &Bits, by: Side, to: Square) -> Option<u64> {
-    agreed(attackers(bits, to, by), attackers_by_rule(bits, by, to))
 }
 
 /// The squares that the side attacks, where each square is told alike.
@@ -99,46 +120,56 @@ fn reach_of(bits: &Bits, text: &str) -> Option<u64> {
 }
 
 /// The squares that are told by a square alone.
-fn about(mark: &str, square: Square) -> Option<u64> {
+pub fn alone(mark: AloneMark, square: Square) -> u64 {
+    let number = square.number();
     match mark {
-        "knight" => Some(knight_attacks(square.number())),
-        "king" => Some(king_attacks(square.number())),
-        "file" => Some(file_through(square.number())),
-        "rank" => Some(rank_through(square.number())),
-        "rising" => Some(rising_through(square.number())),
-        "falling" => Some(falling_through(square.number())),
-        _ => None,
+        AloneMark::Knight => knight_attacks(number),
+        AloneMark::King => king_attacks(number),
+        AloneMark::File => file_through(number),
+        AloneMark::Rank => rank_through(number),
+        AloneMark::Rising => rising_through(number),
+        AloneMark::Falling => falling_through(number),
     }
 }
 
-/// The squares that a pawn attacks or steps to, and those on the lines from a square, as far as none of the squares that
-/// are given stands before them.
-fn around(mark: &str, given: &mut Given) -> Option<u64> {
+/// The men of the side that attack a square, by lines of squares and by the rule, and the squares that its pawn attacks or steps to.
+pub fn by_side(bits: &Bits, mark: SideMark, who: Side, square: Square) -> Option<u64> {
     match mark {
-        "squares" => Some(given.number()),
-        "between" => between_of(given.square(), given.square()),
-        "pawn-attacks" => Some(pawn_attacks(given.side(), given.square().number())),
-        "pawn-steps" => Some(pawn_steps(given.side(), given.square().number())),
-        "straight" => Some(straight_from(given.square().number(), given.squares())),
-        "diagonal" => Some(diagonal_from(given.square().number(), given.squares())),
-        _ => about(mark, given.square()),
+        SideMark::Attackers => agreed(
+            attackers(bits, square, who),
+            attackers_by_rule(bits, who, square),
+        ),
+        SideMark::PawnAttacks => Some(pawn_attacks(who, square.number())),
+        SideMark::PawnSteps => Some(pawn_steps(who, square.number())),
+    }
+}
+
+/// The squares on the lines from a square, as far as none of the squares that are given stands before them.
+fn lines_from(is_straight: bool, square: Square, others: u64) -> u64 {
+    if is_straight {
+        straight_from(square.number(), others)
+    } else {
+        diagonal_from(square.number(), others)
     }
 }
 
 /// The squares that answer the question.
-fn squares_asked(scene: &Scene, mark: &str, given: &mut Given) -> Option<u64> {
+pub fn squares_asked(scene: &Scene, mark: SquaresMark, given: &mut Given) -> Option<u64> {
     match mark {
-        "men" => men_of_both(&scene.bits, given.word()),
-        "attackers" => attackers_of(&scene.bits, given.side(), given.square()),
-        "attacked" => attacked_of(&scene.bits, given.side()),
-        "reach" => reach_of(&scene.bits, given.word()),
-        "pinned" => Some(pinned_of(&scene.position, given.side())),
-        _ => around(mark, given),
+        SquaresMark::Numbered => Some(given.number()),
+        SquaresMark::Men => men_of_both(&scene.bits, given.word()),
+        SquaresMark::Reach => reach_of(&scene.bits, given.word()),
+        SquaresMark::Attacked => attacked_of(&scene.bits, given.side()),
+        SquaresMark::Pinned => Some(pinned_of(&scene.position, given.side())),
+        SquaresMark::Between => between_of(given.square(), given.square()),
+        SquaresMark::Lines(is_straight) => {
+            Some(lines_from(is_straight, given.square(), given.squares()))
+        }
     }
 }
 
 /// Whether the diagonal through both squares is the longer one through the first.
-fn say_longer(king: Square, other: Square, answer: &mut AnswerText) {
+pub fn say_longer(king: Square, other: Square, answer: &mut AnswerText) {
     let files = apart(file_of(king.number()), file_of(other.number()));
     let ranks = apart(rank_of(king.number()), rank_of(other.number()));
     if files == ranks && king.number() != other.number() {
@@ -148,14 +179,14 @@ fn say_longer(king: Square, other: Square, answer: &mut AnswerText) {
     }
 }
 
-fn say_man(man: Option<Man>, answer: &mut AnswerText) {
+pub fn say_man(man: Option<Man>, answer: &mut AnswerText) {
     if let Some(man) = man {
         answer.put(letter_of(man).as_bytes());
     }
 }
 
 /// The names of the kinds of check.
-fn say_kinds(kinds: Kinds, answer: &mut AnswerText) {
+pub fn say_kinds(kinds: Kinds, answer: &mut AnswerText) {
     answer.word_if(kinds.file, b"file");
     answer.word_if(kinds.rank, b"rank");
     answer.word_if(kinds.long, b"long");
@@ -164,24 +195,12 @@ fn say_kinds(kinds: Kinds, answer: &mut AnswerText) {
 }
 
 /// The kinds of check of a number.
-fn say_kinds_by(number: u8, answer: &mut AnswerText) {
+pub fn say_kinds_by(number: u8, answer: &mut AnswerText) {
     match Kinds::new(number) {
         Some(kinds) => {
             answer.only_if(kinds.bits() == number);
             say_kinds(kinds, answer);
         }
         None => answer.put(b"no kinds"),
-    }
-}
-
-/// Answers a question about the board.
-pub fn ask(scene: &Scene, mark: &str, given: &mut Given, answer: &mut AnswerText) {
-    match mark {
-        "set" => answer.number(given.squares()),
-        "on" => say_man(scene.bits.man_at(given.square().number()), answer),
-        "longer" => say_longer(given.square(), given.square(), answer),
-        "kinds" => say_kinds_by(given.small(), answer),
-        "checks" => say_kinds(kinds_of(&scene.position), answer),
-        _ => answer.squares_found(squares_asked(scene, mark, given)),
     }
 }

@@ -1,5 +1,6 @@
 // What a line gives, as it is read.
 
+use crate::mark::{Mark, found, mark_of};
 use crate::stop::{FirstStop, LineStop};
 use krieg_board::{Move, Side, Square, only};
 use krieg_fen::{read_move, read_square};
@@ -15,6 +16,20 @@ fn meant_by(byte: u8, is_behind: bool) -> u8 {
         _ => byte,
     }
 }
+
+/// Adds the bytes that those of the text stand for: a backslash stands for none. It tells whether there was memory.
+fn add_meant(text: &str, bytes: &mut Vec<u8>) -> bool {
+    let mut is_behind = false;
+    for byte in text.bytes() {
+        if byte != b'\\' && bytes.push(meant_by(byte, is_behind)).is_err() {
+            return false;
+        }
+        is_behind = byte == b'\\';
+    }
+    true
+}
+
+static SIDES: [(&str, Side); 2] = [("w", Side::White), ("b", Side::Black)];
 
 /// A text that is read from its head on.
 ///
@@ -44,11 +59,9 @@ impl<'a> Given<'a> {
         }
     }
 
-    /// What stopped the other text, or what was left of it, stops this one.
-    pub fn stop_at_end_of(&mut self, other: &Given) {
-        if let Some(stop) = other.end() {
-            self.stop.note(stop);
-        }
+    /// Goes on with this text in the place of what is left.
+    pub fn go_on(&mut self, text: &'a str) {
+        self.rest = text;
     }
 
     /// What stands before the next of these separators, or all of the rest.
@@ -87,81 +100,56 @@ impl<'a> Given<'a> {
     /// The bytes of the rest, in which `\n` is a line feed and `\r` a carriage return.
     pub fn bytes(&mut self, alloc: Global) -> Vec<u8> {
         let mut bytes = Vec::new(alloc);
-        let mut is_behind = false;
-        for byte in self.rest().bytes() {
-            self.add_meant(byte, is_behind, &mut bytes);
-            is_behind = byte == b'\\';
+        if !add_meant(self.rest(), &mut bytes) {
+            self.stop.lacks_memory();
         }
         bytes
     }
 
-    /// Adds the byte that this one stands for, where the one before it may be a backslash: such a one stands for none.
-    fn add_meant(&mut self, byte: u8, is_behind: bool, bytes: &mut Vec<u8>) {
-        if byte != b'\\' && bytes.push(meant_by(byte, is_behind)).is_err() {
-            self.stop.lacks_memory();
+    /// What was found, or the other value where nothing was.
+    pub fn or_unread<T: Copy>(&mut self, found: Option<T>, other: T) -> T {
+        match found {
+            Some(found) => found,
+            None => {
+                self.stop.unread();
+                other
+            }
         }
+    }
+
+    /// The next word as the mark of a question.
+    pub fn mark(&mut self) -> Mark {
+        mark_of(self.word())
     }
 
     /// The next word as a number in plain decimal digits.
     pub fn number(&mut self) -> u64 {
-        match read_number(self.word().as_bytes(), u64::MAX) {
-            Some(number) => number,
-            None => {
-                self.stop.unread();
-                0
-            }
-        }
+        let found = read_number(self.word().as_bytes(), u64::MAX);
+        self.or_unread(found, 0)
     }
 
     /// The next word as a number below the 32nd power of two.
     pub fn count(&mut self) -> u32 {
-        match u32::try_from(self.number()) {
-            Ok(count) => count,
-            Err(_) => {
-                self.stop.unread();
-                0
-            }
-        }
+        let found = u32::try_from(self.number()).ok();
+        self.or_unread(found, 0)
     }
 
     /// The next word as a number below 256.
     pub fn small(&mut self) -> u8 {
-        match u8::try_from(self.number()) {
-            Ok(small) => small,
-            Err(_) => {
-                self.stop.unread();
-                0
-            }
-        }
+        let found = u8::try_from(self.number()).ok();
+        self.or_unread(found, 0)
     }
 
-    /// The side that `w` or `b` names.
-    pub fn side_of(&mut self, text: &str) -> Side {
-        match text {
-            "w" => Side::White,
-            "b" => Side::Black,
-            _ => {
-                self.stop.unread();
-                Side::White
-            }
-        }
-    }
-
-    /// The next word as a side.
+    /// The next word as a side: `w` or `b`.
     pub fn side(&mut self) -> Side {
-        let word = self.word();
-        self.side_of(word)
+        let found = found(&SIDES, self.word());
+        self.or_unread(found, Side::White)
     }
 
     /// The next word as a square by its name, as `e4`.
     pub fn square(&mut self) -> Square {
-        match read_square(self.word().as_bytes()) {
-            Some(square) => square,
-            None => {
-                self.stop.unread();
-                Square::default()
-            }
-        }
+        let found = read_square(self.word().as_bytes());
+        self.or_unread(found, Square::default())
     }
 
     /// The set of the squares that the rest names.
@@ -173,31 +161,15 @@ impl<'a> Given<'a> {
         set
     }
 
-    /// A move, as `e2e4` or `e7e8q`.
-    pub fn move_of(&mut self, text: &str) -> Move {
-        match read_move(text.as_bytes()) {
-            Ok(mv) => mv,
-            Err(_) => {
-                self.stop.unread();
-                Move::default()
-            }
-        }
-    }
-
-    /// The next word as a move.
+    /// The next word as a move, as `e2e4` or `e7e8q`.
     pub fn try_move(&mut self) -> Move {
-        let word = self.word();
-        self.move_of(word)
+        let found = read_move(self.word().as_bytes()).ok();
+        self.or_unread(found, Move::default())
     }
 
     /// Words of the dialect.
     pub fn words_of(&mut self, d: Dialect, text: &str) -> Words {
-        match read_words_in(d, text.as_bytes()) {
-            Ok(words) => words,
-            Err(_) => {
-                self.stop.unread();
-                SILENT
-            }
-        }
+        let found = read_words_in(d, text.as_bytes()).ok();
+        self.or_unread(found, SILENT)
     }
 }

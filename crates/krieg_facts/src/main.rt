@@ -9,9 +9,11 @@
 #![tactic(auto)]
 
 mod answer;
+mod asking;
 mod boards;
 mod facts;
 mod given;
+mod mark;
 mod moves;
 mod positions;
 mod san;
@@ -24,64 +26,50 @@ use facts::{Progress, judge};
 use std::process::ExitCode;
 use std::{env, fs, io};
 
-/// How a run ends.
-#[derive(Clone, Copy)]
-enum Ending {
-    AllHold,
-    SomeFail,
-    /// A file could not be read, or memory was not found.
-    Unread,
-}
+/// The status with which the program ends where a file, or the names of the files, could not be read, or memory was not found.
+const UNREAD: u8 = 2;
 
-impl Ending {
-    fn status(self) -> u8 {
-        match self {
-            Ending::AllHold => 0,
-            Ending::SomeFail => 1,
-            Ending::Unread => 2,
-        }
+/// The status where a line could not be printed.
+const UNPRINTED: u8 = 3;
+
+/// How far the facts of the file hold, as if memory was short where it could not be read.
+fn progress_of(rt: &HostRuntime, name: &str) -> Progress {
+    match fs::read_to_string(rt, name) {
+        Ok(text) => judge(rt.alloc(), text.as_str()),
+        Err(_) => Progress::Short,
     }
 }
 
-/// What the file holds, where it can be read and memory is found.
-fn found_in(rt: &HostRuntime, name: &str) -> Option<Progress> {
-    let text = fs::read_to_string(rt, name).ok()?;
-    judge(rt.alloc(), text.as_str())
-}
-
-/// Prints what comes of a file.
-fn tell(rt: &HostRuntime, name: &str) -> io::Result<Ending> {
-    match found_in(rt, name) {
-        Some(Progress::Facts(count)) => {
-            println!(rt; "{name}: {count} facts hold")?;
-            Ok(Ending::AllHold)
-        }
-        Some(Progress::Wrong(line)) => {
-            println!(rt; "{name}: line {line} does not hold")?;
-            Ok(Ending::SomeFail)
-        }
-        None => {
-            println!(rt; "{name}: cannot be read")?;
-            Ok(Ending::Unread)
-        }
+/// This status, where the line could be printed.
+fn printed(done: io::Result<()>, status: u8) -> u8 {
+    match done {
+        Ok(()) => status,
+        Err(_) => UNPRINTED,
     }
 }
 
-/// Prints what comes of each file, and gives the worst ending.
-fn tell_all(rt: &HostRuntime) -> io::Result<Ending> {
-    let mut worst = Ending::AllHold;
-    for name in env::args(rt)?.skip(1) {
-        let ending = tell(rt, name.as_str())?;
-        if worst.status() < ending.status() {
-            worst = ending;
-        }
+/// Goes through the file, prints what it finds, and is the status: 0 where all holds, and 1 where a line does not.
+fn judge_file(rt: &HostRuntime, name: &str) -> u8 {
+    match progress_of(rt, name) {
+        Progress::Facts(count) => printed(println!(rt; "{name}: {count} facts hold"), 0),
+        Progress::Wrong(line) => printed(println!(rt; "{name}: line {line} does not hold"), 1),
+        Progress::Short => printed(println!(rt; "{name}: cannot be read"), UNREAD),
     }
-    Ok(worst)
+}
+
+/// Goes through all files that the words name, and is the greatest status.
+fn judge_files(rt: &HostRuntime) -> u8 {
+    let Ok(mut words) = env::args(rt) else {
+        return UNREAD;
+    };
+    let mut status = 0;
+    let _program = words.next();
+    for name in words {
+        status = status.max(judge_file(rt, name.as_str()));
+    }
+    status
 }
 
 fn main(rt: HostRuntime) -> ExitCode {
-    match tell_all(&rt) {
-        Ok(ending) => ExitCode::from(ending.status()),
-        Err(_) => ExitCode::from(3),
-    }
+    ExitCode::from(judge_files(&rt))
 }

@@ -1,8 +1,6 @@
 // Facts of moves: which are legal, what they change, how many games there are, and how one ends.
 
 use crate::answer::AnswerText;
-use crate::given::Given;
-use crate::scene::Scene;
 use krieg_board::{Move, NoMemory, Position, Promo, Square, only};
 use krieg_moves::{
     Guard, after, after_if_legal, count_moves, has_move, has_move_by, in_check, is_en_passant,
@@ -14,7 +12,7 @@ use std::alloc::Global;
 use std::cmp::Ordering;
 
 /// How many games of that many moves there are. Each move is made, or the last ones are counted alone.
-fn perft(alloc: Global, p: &Position, depth: u8, is_counted: bool) -> Result<u64, NoMemory> {
+pub fn perft(alloc: Global, p: &Position, depth: u8, is_counted: bool) -> Result<u64, NoMemory> {
     if depth == 0 {
         return Ok(1);
     }
@@ -73,7 +71,7 @@ fn say_moves(moves: &[Move], answer: &mut AnswerText) {
 }
 
 /// The legal moves, where they are the legal ones of all moves.
-fn say_listed(alloc: Global, p: &Position, answer: &mut AnswerText) {
+pub fn say_listed(alloc: Global, p: &Position, answer: &mut AnswerText) {
     match legal_moves(alloc, p) {
         Ok(moves) => {
             answer.only_if(has_the_legal_moves(p, moves.as_slice()));
@@ -91,7 +89,7 @@ fn leads_to(p: &Position, mv: &Move, found: &Position) -> bool {
 }
 
 /// The position after the move, where each way to make it gives the same.
-fn say_after(p: &Position, mv: &Move, answer: &mut AnswerText) {
+pub fn say_after(p: &Position, mv: &Move, answer: &mut AnswerText) {
     match after_if_legal(p, *mv) {
         Some(found) => {
             answer.only_if(leads_to(p, mv, &found));
@@ -102,7 +100,7 @@ fn say_after(p: &Position, mv: &Move, answer: &mut AnswerText) {
 }
 
 /// The square of the pawn that the move would capture in passing.
-fn passed_by(p: &Position, mv: &Move) -> u64 {
+pub fn passed_by(p: &Position, mv: &Move) -> u64 {
     match p.man_at(mv.from) {
         Some(man) if is_en_passant(&p.mark(), man, mv) => only(passed_square(mv).number()),
         _ => 0,
@@ -110,7 +108,7 @@ fn passed_by(p: &Position, mv: &Move) -> u64 {
 }
 
 /// What holds of the side to move.
-fn say_state(p: &Position, answer: &mut AnswerText) {
+pub fn say_state(p: &Position, answer: &mut AnswerText) {
     answer.word_if(has_move(p), b"moves");
     answer.word_if(in_check(p), b"check");
     answer.word_if(is_mate(p), b"mate");
@@ -118,7 +116,7 @@ fn say_state(p: &Position, answer: &mut AnswerText) {
 }
 
 /// The king's square and then those of his pinned men.
-fn say_guard(p: &Position, answer: &mut AnswerText) {
+pub fn say_guard(p: &Position, answer: &mut AnswerText) {
     let guard = Guard::of(p);
     match Square::new(guard.king) {
         Some(king) => answer.square(king),
@@ -128,33 +126,8 @@ fn say_guard(p: &Position, answer: &mut AnswerText) {
 }
 
 /// Where a man may go, where the guard and the list agree about whether there is a move.
-fn say_targets(p: &Position, from: Square, answer: &mut AnswerText) {
+pub fn say_targets(p: &Position, from: Square, answer: &mut AnswerText) {
     let guard = Guard::of(p);
     answer.only_if(has_move_by(p, &guard) == has_move(p));
     answer.squares(targets(p, &guard, from));
-}
-
-/// Answers a question about the position alone.
-fn ask_position(alloc: Global, p: &Position, mark: &str, answer: &mut AnswerText) {
-    match mark {
-        "moves" => answer.number(count_moves(p) as u64),
-        "listed" => say_listed(alloc, p, answer),
-        "state" => say_state(p, answer),
-        "guard" => say_guard(p, answer),
-        _ => answer.stop.unread(),
-    }
-}
-
-/// Answers a question about the moves of the position.
-pub fn ask(scene: &Scene, mark: &str, given: &mut Given, answer: &mut AnswerText) {
-    let (alloc, p) = (scene.alloc, &scene.position);
-    match mark {
-        "legal" => answer.yes_or_no(is_legal(p, given.try_move())),
-        "after" => say_after(p, &given.try_move(), answer),
-        "passed" => answer.squares(passed_by(p, &given.try_move())),
-        "targets" => say_targets(p, given.square(), answer),
-        "perft" => answer.number_found(perft(alloc, p, given.small(), false)),
-        "perft-by-count" => answer.number_found(perft(alloc, p, given.small(), true)),
-        _ => ask_position(alloc, p, mark, answer),
-    }
 }

@@ -7,7 +7,7 @@ use krieg_board::{Position, Side, Units, same_hand};
 use krieg_fen::{FenFault, read_position};
 
 /// What is wrong with the text of a position, or nothing.
-fn say_fault(text: &[u8], answer: &mut AnswerText) {
+pub fn say_fault(text: &[u8], answer: &mut AnswerText) {
     match read_position(text) {
         Ok(_) => {}
         Err(FenFault::Fields) => answer.put(b"fields"),
@@ -20,7 +20,7 @@ fn say_fault(text: &[u8], answer: &mut AnswerText) {
 }
 
 /// The position that the text spells, written again.
-fn say_written(text: &[u8], answer: &mut AnswerText) {
+pub fn say_written(text: &[u8], answer: &mut AnswerText) {
     match read_position(text) {
         Ok(p) => answer.position(&p),
         Err(_) => answer.stop.unread(),
@@ -43,7 +43,7 @@ fn say_taken(units: &mut Units, number: u64, answer: &mut AnswerText) {
 }
 
 /// The same after each of these numbers.
-fn say_units(given: &mut Given, answer: &mut AnswerText) {
+pub fn say_units(given: &mut Given, answer: &mut AnswerText) {
     let mut units = Units::new(given.number());
     for _ in 0..given.words() {
         say_taken(&mut units, given.number(), answer);
@@ -51,19 +51,8 @@ fn say_units(given: &mut Given, answer: &mut AnswerText) {
 }
 
 /// Whether the position and the one that is given have one hand.
-fn ask_hand(scene: &Scene, given: &mut Given, answer: &mut AnswerText) {
+pub fn say_hand_of(scene: &Scene, given: &mut Given, answer: &mut AnswerText) {
     let who = given.side();
     let other = scene.position_in(given);
     say_hand(who, &scene.position, &other, answer);
-}
-
-/// Answers a question about positions.
-pub fn ask(scene: &Scene, mark: &str, given: &mut Given, answer: &mut AnswerText) {
-    match mark {
-        "fault" => say_fault(&given.bytes(scene.alloc), answer),
-        "written" => say_written(given.rest().as_bytes(), answer),
-        "same-hand" => ask_hand(scene, given, answer),
-        "units" => say_units(given, answer),
-        _ => answer.stop.unread(),
-    }
 }

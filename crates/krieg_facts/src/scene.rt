@@ -1,6 +1,7 @@
 // What the facts are about.
 
 use crate::given::Given;
+use crate::mark::found;
 use crate::terms::with_men;
 use krieg_board::{Bits, Position};
 use krieg_fen::read_position;
@@ -20,14 +21,33 @@ pub struct Scene {
     pub position: Position,
 }
 
+/// What a line sets.
+#[derive(Clone, Copy)]
+enum LineMark {
+    /// Nothing: it says in words what follows.
+    Title,
+    Dialect,
+    Position,
+    Board,
+    Put,
+    Take,
+    /// It has no mark.
+    Unread,
+}
+
+static LINES: [(&str, LineMark); 7] = [
+    ("", LineMark::Title),
+    ("case", LineMark::Title),
+    ("dialect", LineMark::Dialect),
+    ("position", LineMark::Position),
+    ("board", LineMark::Board),
+    ("put", LineMark::Put),
+    ("take", LineMark::Take),
+];
+
 fn dialect_of(given: &mut Given) -> Dialect {
-    match read_dialect(given.rest().as_bytes()) {
-        Some(d) => d,
-        None => {
-            given.stop.unread();
-            Dialect::Wild16
-        }
-    }
+    let found = read_dialect(given.rest().as_bytes());
+    given.or_unread(found, Dialect::Wild16)
 }
 
 impl Scene {
@@ -43,13 +63,8 @@ impl Scene {
 
     /// The position that the rest spells.
     pub fn position_in(&self, given: &mut Given) -> Position {
-        match read_position(given.rest().as_bytes()) {
-            Ok(p) => p,
-            Err(_) => {
-                given.stop.unread();
-                self.position
-            }
-        }
+        let found = read_position(given.rest().as_bytes()).ok();
+        given.or_unread(found, self.position)
     }
 
     fn set_position(&mut self, given: &mut Given) {
@@ -57,15 +72,18 @@ impl Scene {
         self.bits = *self.position.bits();
     }
 
-    /// Takes a line that sets what stands.
-    pub fn set(&mut self, mark: &str, given: &mut Given) {
-        match mark {
-            "dialect" => self.dialect = dialect_of(given),
-            "position" => self.set_position(given),
-            "board" => self.bits = with_men(&Bits::from_board(&[None; 64]), given),
-            "put" => self.bits = with_men(&self.bits, given),
-            "take" => self.bits = self.bits.with(given.square().number(), None),
-            _ => given.stop.unread(),
+    /// Takes a line that sets what stands, or says nothing.
+    pub fn set(&mut self, given: &mut Given) {
+        match found(&LINES, given.word()).unwrap_or(LineMark::Unread) {
+            LineMark::Title => {
+                let _title = given.rest();
+            }
+            LineMark::Dialect => self.dialect = dialect_of(given),
+            LineMark::Position => self.set_position(given),
+            LineMark::Board => self.bits = with_men(&Bits::from_board(&[None; 64]), given),
+            LineMark::Put => self.bits = with_men(&self.bits, given),
+            LineMark::Take => self.bits = self.bits.with(given.square().number(), None),
+            LineMark::Unread => given.stop.unread(),
         }
     }
 }

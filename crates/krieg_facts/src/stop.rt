@@ -23,21 +23,21 @@ impl FirstStop {
         FirstStop { first: None }
     }
 
-    /// Notes a stop. The first one stays.
-    pub fn note(&mut self, stop: LineStop) {
+    /// Notes a stop, where one came. The first one stays.
+    pub fn note(&mut self, stop: Option<LineStop>) {
         if self.first.is_none() {
-            self.first = Some(stop);
+            self.first = stop;
         }
     }
 
     /// Notes that something has none of the forms of its place, does not stand, or differs from what it must agree with.
     pub fn unread(&mut self) {
-        self.note(LineStop::Unread);
+        self.note(Some(LineStop::Unread));
     }
 
     /// Notes that memory was not found.
     pub fn lacks_memory(&mut self) {
-        self.note(LineStop::Memory);
+        self.note(Some(LineStop::Memory));
     }
 
     /// Notes whether memory was found.
@@ -48,12 +48,21 @@ impl FirstStop {
     }
 }
 
-/// Whether a line holds, where nothing stopped it or where it was not that memory was not found: a line that cannot be
-/// read does not hold.
-pub fn judged(stop: Option<LineStop>, holds: bool) -> Result<bool, NoMemory> {
+/// What comes of a line.
+#[derive(Clone, Copy)]
+pub enum LineResult {
+    Holds,
+    /// It does not hold, or cannot be read.
+    Fails,
+    /// Memory was not found.
+    Short,
+}
+
+/// What comes of a line that holds or does not, where nothing stopped it.
+pub fn judged(stop: Option<LineStop>, holds: bool) -> LineResult {
     match stop {
-        None => Ok(holds),
-        Some(LineStop::Memory) => Err(NoMemory),
-        Some(LineStop::Unread) => Ok(false),
+        None if holds => LineResult::Holds,
+        Some(LineStop::Memory) => LineResult::Short,
+        _ => LineResult::Fails,
     }
 }

@@ -3,7 +3,7 @@
 use crate::answer::AnswerText;
 use crate::given::Given;
 use crate::scene::Scene;
-use krieg_board::{Move, NoMemory, Position};
+use krieg_board::{Move, Position};
 use krieg_moves::is_legal;
 use krieg_pack::order;
 use krieg_words::{
@@ -14,7 +14,7 @@ use krieg_words::{
 use std::cmp::Ordering;
 
 /// Words as the dialect tells them.
-fn say_told(d: Dialect, words: Words, answer: &mut AnswerText) {
+pub fn say_told(d: Dialect, words: Words, answer: &mut AnswerText) {
     let done = write_words_in(d, told(d, words), &mut answer.text);
     answer.stop.took(done);
 }
@@ -25,7 +25,7 @@ fn are_words_of(p: &Position, mv: &Move, words: Words) -> bool {
 }
 
 /// What is heard of the move.
-fn say_move(d: Dialect, p: &Position, mv: &Move, answer: &mut AnswerText) {
+pub fn say_move(d: Dialect, p: &Position, mv: &Move, answer: &mut AnswerText) {
     match make_if_legal(p, *mv) {
         Some(made) => {
             answer.only_if(are_words_of(p, mv, made.words));
@@ -47,25 +47,20 @@ fn say_same(next: &Option<Position>, again: &Option<Position>, answer: &mut Answ
     }
 }
 
-/// Nothing may come of an illegal move.
-fn say_illegal(tried: &Option<Position>, answer: &mut AnswerText) {
-    answer.only_if(tried.is_none());
-    answer.put(b"illegal");
-}
-
-/// The position after the move, where those words are told of it.
+/// The position after the move, where those words are told of it. Nothing may come of an illegal move.
 fn say_after_told(scene: &Scene, mv: &Move, words: &Words, answer: &mut AnswerText) {
     let p = &scene.position;
     let tried = after_told_if_legal(scene.dialect, words, p, *mv);
     if is_legal(p, *mv) {
         say_same(&after_told(scene.dialect, words, p, *mv), &tried, answer);
     } else {
-        say_illegal(&tried, answer);
+        answer.only_if(tried.is_none());
+        answer.put(b"illegal");
     }
 }
 
 /// The words that the text spells, written again.
-fn say_words(d: Dialect, text: &[u8], answer: &mut AnswerText) {
+pub fn say_words(d: Dialect, text: &[u8], answer: &mut AnswerText) {
     match read_words_in(d, text) {
         Ok(words) => {
             let done = write_words_in(d, words, &mut answer.text);
@@ -76,7 +71,7 @@ fn say_words(d: Dialect, text: &[u8], answer: &mut AnswerText) {
 }
 
 /// The line that the text spells, written again.
-fn say_line(d: Dialect, text: &[u8], answer: &mut AnswerText) {
+pub fn say_line(d: Dialect, text: &[u8], answer: &mut AnswerText) {
     match read_line_in(d, text) {
         Ok(line) => {
             let done = write_line_in(d, line, &mut answer.text);
@@ -87,7 +82,7 @@ fn say_line(d: Dialect, text: &[u8], answer: &mut AnswerText) {
 }
 
 /// A line in wild16, as the dialect tells it.
-fn say_told_line(d: Dialect, text: &[u8], answer: &mut AnswerText) {
+pub fn say_told_line(d: Dialect, text: &[u8], answer: &mut AnswerText) {
     match read_line(text) {
         Ok(line) => {
             let done = write_line_in(d, told_line(d, line), &mut answer.text);
@@ -118,49 +113,26 @@ fn do_ascend(list: &[Words]) -> bool {
 }
 
 /// Adds words with semicolons between.
-fn add_listed(d: Dialect, given: &mut Given, list: &mut Vec<Words>) -> Result<(), NoMemory> {
+fn add_listed(d: Dialect, given: &mut Given, list: &mut Vec<Words>) {
     for _ in 0..given.parts("; ") {
         let words = given.until("; ");
-        list.push(given.words_of(d, words))?;
+        if list.push(given.words_of(d, words)).is_err() {
+            given.stop.lacks_memory();
+        }
     }
-    Ok(())
 }
 
 /// Whether words with semicolons between are in their order.
-fn say_ascending(scene: &Scene, given: &mut Given, answer: &mut AnswerText) {
+pub fn say_ascending(scene: &Scene, given: &mut Given, answer: &mut AnswerText) {
     let mut list = Vec::new(scene.alloc);
-    answer
-        .stop
-        .took(add_listed(scene.dialect, given, &mut list));
+    add_listed(scene.dialect, given, &mut list);
     answer.yes_or_no(do_ascend(&list));
 }
 
-/// Answers a question about texts of words.
-fn ask_texts(scene: &Scene, mark: &str, given: &mut Given, answer: &mut AnswerText) {
-    match mark {
-        "said" => say_words(scene.dialect, &given.bytes(scene.alloc), answer),
-        "line" => say_line(scene.dialect, given.rest().as_bytes(), answer),
-        "told-line" => say_told_line(scene.dialect, given.rest().as_bytes(), answer),
-        _ => answer.stop.unread(),
-    }
-}
-
 /// The position after a move, where certain words are told of it.
-fn ask_told(scene: &Scene, given: &mut Given, answer: &mut AnswerText) {
+pub fn say_told_after(scene: &Scene, given: &mut Given, answer: &mut AnswerText) {
     let mv = given.try_move();
     let words = given.rest();
     let words = given.words_of(scene.dialect, words);
     say_after_told(scene, &mv, &words, answer);
-}
-
-/// Answers a question about words.
-pub fn ask(scene: &Scene, mark: &str, given: &mut Given, answer: &mut AnswerText) {
-    match mark {
-        "opens" => say_told(scene.dialect, opening(&scene.position), answer),
-        "tries" => answer.number(u64::from(tries(&scene.position))),
-        "words" => say_move(scene.dialect, &scene.position, &given.try_move(), answer),
-        "told" => ask_told(scene, given, answer),
-        "ascending" => say_ascending(scene, given, answer),
-        _ => ask_texts(scene, mark, given, answer),
-    }
 }
