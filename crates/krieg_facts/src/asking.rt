@@ -12,9 +12,8 @@ use crate::words::{
     say_ascending, say_line, say_move, say_told, say_told_after, say_told_line, say_words,
 };
 use krieg_board::Move;
-use krieg_checks::kinds_of;
 use krieg_moves::{count_moves, is_legal};
-use krieg_words::{opening, tries};
+use krieg_words::{kinds_of, opening, tries};
 
 /// Answers a question about the position alone.
 fn ask_plain(scene: &Scene, mark: PlainMark, answer: &mut AnswerText) {

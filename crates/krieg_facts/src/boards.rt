@@ -8,12 +8,12 @@ use crate::terms::{letter_of, placed_of};
 use krieg_board::{
     Bits, Man, Position, Side, Square, apart, attacks, file_of, has, is_of, only, rank_of,
 };
-use krieg_words::{Kinds, kinds_of, long_diagonal};
 use krieg_rays::{
     attacked_by, attacked_from, attackers, between, between_at, diagonal_from, falling_through,
     file_through, king_attacks, knight_attacks, pawn_attacks, pawn_steps, pinned, rank_through,
     rising_through, straight_from,
 };
+use krieg_words::{Kinds, kinds_of, long_diagonal};
 
 /// The set, where it was told twice alike.
 fn agreed(set: u64, again: u64) -> Option<u64> {

@@ -5,8 +5,8 @@ ghost use Rattle.krieg_make.specs.MadeTexts as spec;
 use crate::session::made_session;
 use crate::sheet::made_sheet;
 use krieg_board::NoMemory;
-use krieg_umpire::write_session;
 use krieg_sheet::write_sheet;
+use krieg_umpire::write_session;
 use std::alloc::Global;
 
 /// Which input is made.

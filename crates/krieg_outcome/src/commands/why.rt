@@ -4,8 +4,8 @@ ghost use Rattle.krieg_outcome.specs.Why as spec;
 use crate::ending::Ending;
 use crate::limits::MOST_INPUT;
 use crate::refusal::Refusal;
-use krieg_sheet::{Sheet, read_sheet};
 use krieg_belief::{least_games, write_games_of};
+use krieg_sheet::{Sheet, read_sheet};
 use std::alloc::Global;
 
 /// What `why` answers to a sheet: a text that can be an input again, or none.

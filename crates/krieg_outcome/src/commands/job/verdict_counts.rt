@@ -7,8 +7,8 @@ ghost use Rattle.krieg_outcome.specs.VerdictCounts as spec;
 use crate::commands::counted::{put_count, put_counted};
 use krieg_board::NoMemory;
 use krieg_make::made_session;
-use krieg_umpire::{Judged, Verdict, judge};
 use krieg_text::Text;
+use krieg_umpire::{Judged, Verdict, judge};
 use std::alloc::Global;
 
 /// How many tries there are, and of each verdict.
