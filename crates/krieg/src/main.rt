@@ -7,8 +7,8 @@
 //! ```
 #![tactic(auto)]
 
-use krieg_ports::{Adapter, AdapterOut};
 use krieg_cli::start;
+use krieg_ports::{Adapter, AdapterOut};
 use std::process::ExitCode;
 
 fn main(rt: HostRuntime) -> ExitCode {

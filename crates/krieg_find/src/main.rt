@@ -16,8 +16,8 @@
 //! ```
 #![tactic(auto)]
 
-use krieg_ports::{Adapter, AdapterOut};
 use krieg_cli::start_find;
+use krieg_ports::{Adapter, AdapterOut};
 use std::process::ExitCode;
 
 fn main(rt: HostRuntime) -> ExitCode {

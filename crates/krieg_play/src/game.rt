@@ -14,8 +14,8 @@ use crate::team::Roster;
 use crate::turns::tell_both;
 use krieg_board::{NoMemory, Position, Side};
 use krieg_moves::has_move;
-use krieg_umpire::{Game, Stop};
 use krieg_seats::Seat;
+use krieg_umpire::{Game, Stop};
 use krieg_words::{Line, opening};
 use std::alloc::Global;
 

@@ -3,8 +3,8 @@ use crate::AskOutcome;
 use crate::player::Player;
 use crate::telling::{ask_seat, tell_due};
 use krieg_board::{Position, Side};
-use krieg_umpire::Judged;
 use krieg_seats::{Say, Seat, SeatFault};
+use krieg_umpire::Judged;
 use krieg_words::Line;
 
 impl Player for Box<dyn Seat> {

@@ -4,8 +4,8 @@ ghost use Rattle.krieg_play.specs.Calls.{lines_to};
 
 use crate::AskOutcome;
 use krieg_board::{Position, Side};
-use krieg_umpire::Judged;
 use krieg_seats::SeatFault;
+use krieg_umpire::Judged;
 use krieg_words::Line;
 
 /// A side of a game: one player, or some who relieve one another.

@@ -8,8 +8,8 @@ use crate::player::Player;
 use crate::telling::{ask_seat, tell_all, tell_seat};
 use crate::{AskOutcome, relieved_turn};
 use krieg_board::{Position, Side};
-use krieg_umpire::Judged;
 use krieg_seats::{Say, Seat, SeatFault};
+use krieg_umpire::Judged;
 use krieg_words::Line;
 
 /// Asks the seat that sits.

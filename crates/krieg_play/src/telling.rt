@@ -5,8 +5,8 @@ ghost use Rattle.krieg_umpire.specs.Hearing.{line_for, lines_for};
 ghost use Rattle.krieg_play.specs.Calls.{lines_to, ToldAll};
 
 use krieg_board::{Position, Side};
-use krieg_umpire::{Judged, line_for};
 use krieg_seats::{Say, Seat, SeatFault};
+use krieg_umpire::{Judged, line_for};
 use krieg_words::{Line, opening};
 
 /// Asks a seat.

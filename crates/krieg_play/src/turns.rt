@@ -9,8 +9,8 @@ ghost use Rattle.krieg_play.specs.Players.{BothHear, IsStepped, TakesTurns};
 use crate::player::Player;
 use crate::{AskOutcome, PlayFault, fault_of};
 use krieg_board::{Position, Side};
-use krieg_umpire::{Event, Game, Judged, line_for};
 use krieg_seats::SeatFault;
+use krieg_umpire::{Event, Game, Judged, line_for};
 use krieg_words::{Dialect, Line, told_line};
 
 /// Tells White and then Black the lines that are due to them.

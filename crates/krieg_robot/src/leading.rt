@@ -12,8 +12,8 @@ use crate::seat::GuidedSeat;
 use crate::turns::{take_turn, tell_both};
 use krieg_board::{NoMemory, Position};
 use krieg_moves::has_move;
-use krieg_umpire::{Game, Stop};
 use krieg_seats::Seat;
+use krieg_umpire::{Game, Stop};
 use krieg_words::{Line, opening, told_line};
 use std::alloc::Global;
 

@@ -3,8 +3,8 @@ use crate::guide::Guide;
 use crate::seat::{GuidedSeat, ask_own, tell_own};
 use krieg_board::{Position, Side};
 use krieg_play::{AskOutcome, Player};
-use krieg_umpire::Judged;
 use krieg_seats::SeatFault;
+use krieg_umpire::Judged;
 use krieg_words::Line;
 
 impl<G: Guide> Player for GuidedSeat<G> {

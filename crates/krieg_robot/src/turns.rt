@@ -8,8 +8,8 @@ use crate::seat::GuidedSeat;
 use krieg_board::{Position, Side};
 use krieg_play as play;
 use krieg_play::PlayFault;
-use krieg_umpire::{Game, Judged};
 use krieg_seats::Seat;
+use krieg_umpire::{Game, Judged};
 use krieg_words::Line;
 
 /// The answer of two players, as that of a game that is led.

@@ -1,4 +1,4 @@
-use Rattle.std.proofs.Common.{rules, ◌≡◌, ◌∷◌, [], ◌++◌, None, Ok, Err, arith, Vec, Global}
+use Rattle.std.proofs.Common.{◌≡◌, ◌∷◌, [], ◌++◌, None, Ok, Err, arith, Vec, Global}
 use Rattle.std.specs.Prelude.{slice_get}
 use Rattle.krieg_fen.proofs.Common.{Pos, Position, taken, GivesOn, listed_form, positions_at}
 use Rattle.krieg_fen.proofs.Listing.{listed_ok, listed_gives, listed_start, listed_end, memory_gives}
