@@ -179,6 +179,7 @@ pub fn say_longer(king: Square, other: Square, answer: &mut AnswerText) {
     }
 }
 
+/// The letter of a man, or nothing where there is none.
 pub fn say_man(man: Option<Man>, answer: &mut AnswerText) {
     if let Some(man) = man {
         answer.put(letter_of(man).as_bytes());
