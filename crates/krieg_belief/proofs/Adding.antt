@@ -7,7 +7,7 @@ use Rattle.std.proofs.lemmas.List.{append-nil, append_assoc, map-append, length-
 use Rattle.indexmap.specs.IndexMap.{insert_entry}
 use Rattle.krieg_belief.proofs.Common.{Pos, Move, Side, is_same_side, is_legal, after, is_ended, Said, are_told, after_told, after_told_if_legal, Dialect, Line, Opens, Heard, has_opening, position_eq, Tale, begun, standing, after_reply, tales_after, stays, Entries, nowhere, game_of, kept, tale_of, tales_of, Numbered, AreKept, with_entry, stands_in, added, add_all, Adds, Link}
 use Rattle.krieg_moves.proofs.MoveLists.{moves_legal}
-use Rattle.krieg_words.specs.declared.line.Line.TheVariants.{Illegal, Done, Early, Over}
+use Rattle.krieg_wordtext.specs.declared.line.Line.TheVariants.{Illegal, Done, Early, Over}
 use Rattle.krieg_belief.proofs.Kept.{kept_append, games_length, tale_stays, tales_stay, numbered_up, numbered_push, grounded_more}
 
 with_numbered : (n : ℕ) (es : Entries) (q : Pos) (k : ℕ) → k < n → Numbered n es → Numbered n (with_entry es q k)

@@ -10,15 +10,15 @@ unfoldable pub use Rattle.krieg_moves.specs.Legal.{is_legal}
 unfoldable pub use Rattle.krieg_moves.specs.Moves.{moves, is_ended}
 pub use Rattle.krieg_text.specs.Writing.{HasLines, Pieces, PutsLines, Written, put_lines}
 pub use Rattle.krieg_fen.specs.declared.forms.TheConstants.{MOST_LISTED}
-pub use Rattle.krieg_words.specs.Line.{told_line}
+pub use Rattle.krieg_wordtext.specs.Line.{told_line}
 pub use Rattle.krieg_words.specs.ToldMoves.{are_told, after_told, after_told_if_legal}
 pub use Rattle.krieg_words.specs.ToldWords.{told}
 unfoldable pub use Rattle.krieg_words.specs.Words.{words_cmp}
 pub use Rattle.krieg_words.specs.Words.{Said}
 unfoldable pub use Rattle.krieg_words.specs.WordsOfMoves.{opening, words}
 pub use Rattle.krieg_words.specs.declared.dialects.Dialect.{Dialect}
-pub use Rattle.krieg_words.specs.declared.line.Line.{Line}
-pub use Rattle.krieg_words.specs.declared.line.Line.TheVariants.{Done, Early, Heard, Illegal, Opens, Over}
+pub use Rattle.krieg_wordtext.specs.declared.line.Line.{Line}
+pub use Rattle.krieg_wordtext.specs.declared.line.Line.TheVariants.{Done, Early, Heard, Illegal, Opens, Over}
 pub use Rattle.krieg_sheet.specs.Games.{Gives, OpensWith, IsConsistent}
 pub use Rattle.krieg_sheet.specs.Lists.{differs, list_fault, other_hand}
 pub use Rattle.krieg_sheet.specs.Places.{IsSheet}

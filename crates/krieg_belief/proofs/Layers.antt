@@ -5,7 +5,7 @@ use Rattle.std.specs.Ordering.{is_lt, ordering_then}
 use Rattle.std.specs.declared.cmp.Ordering.TheVariants.{Equal}
 use Rattle.std.proofs.lemmas.Bool.{both_ways, not-true}
 use Rattle.krieg_belief.proofs.Common.{is_same_side, move_cmp, move_lt, Pos, Side, Move, after, moves, are_told, Dialect, Line, Opens, Heard, In, Ascending, position_cmp, position_eq, Tale, tale_cmp, tale_lt, after_reply, standing, tales_after, firsts, tell, equal_position}
-use Rattle.krieg_words.specs.declared.line.Line.TheVariants.{Illegal, Done, Early, Over}
+use Rattle.krieg_wordtext.specs.declared.line.Line.TheVariants.{Illegal, Done, Early, Over}
 use Rattle.krieg_theory.proofs.Lists.{in_filter, filter_in, map_in, flat_in}
 use Rattle.krieg_belief.proofs.Facts.{kept_up, move_itself, position_itself, legal_up, place_same}
 use Rattle.krieg_belief.proofs.Orders.{appended, itself, then_assoc, less}

@@ -12,7 +12,7 @@ use Rattle.std.proofs.lemmas.List.Elements.{All-head, All-tail}
 use Rattle.krieg_belief.proofs.Common.{other, is_same_side, move_cmp, Pos, Side, Move, told_line, Dialect, Line, Event, Verdict, verdict, next, is_done, judge, judged, line_for, lines_for, own_line, others_line, tries_of, SheetState, position_cmp, position_total, same_position, ShownState, last_of, is_shown, their_moves, shown_cmp, Explains, IsLeast, events_by, ShownAreOnce}
 use Rattle.krieg_board.proofs.MenLemmas.{same_side_eq}
 use Rattle.krieg_board.proofs.MoveOrder.{move_total, move_equal}
-use Rattle.krieg_words.specs.declared.line.Line.TheVariants as line
+use Rattle.krieg_wordtext.specs.declared.line.Line.TheVariants as line
 use Rattle.krieg_umpire.specs.declared.verdict.Verdict.TheVariants.{Over, Early, Illegal, Done}
 use Rattle.krieg_pack.proofs.PositionSets.{same_members}
 use Rattle.krieg_belief.proofs.Least.{entries_heard}

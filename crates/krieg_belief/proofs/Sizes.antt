@@ -3,7 +3,7 @@ use Rattle.std.proofs.Common.{◌≡◌, suc, Bool, true, false, not, cond, List
 use Rattle.std.proofs.lemmas.Bool.{both_ways, not-true}
 use Rattle.std.proofs.lemmas.List.{length-map, map-append}
 use Rattle.krieg_belief.proofs.Common.{is_same_side, Pos, Side, Move, after, moves, are_told, Dialect, Line, Opens, Heard, In, position_eq, position_lt, IsAscending, Tale, begun, standing, stands_of, after_reply, tales_after, elsewhere, firsts, tell, tell_all, run}
-use Rattle.krieg_words.specs.declared.line.Line.TheVariants.{Illegal, Done, Early, Over}
+use Rattle.krieg_wordtext.specs.declared.line.Line.TheVariants.{Illegal, Done, Early, Over}
 use Rattle.krieg_theory.proofs.Lists.{in_filter, filter_in, in_map, map_in, in_flat, flat_in}
 use Rattle.krieg_theory.specs.Sets.{insert_once}
 use Rattle.krieg_pack.proofs.PositionSets.{position_order, in_set, set_in, same_sets, set_of_ascending}

@@ -6,7 +6,7 @@ use Rattle.std.specs.declared.cmp.Ordering.TheVariants.{Equal}
 use Rattle.std.proofs.lemmas.Bool.{and_from, and_parts, not-true, cond-false}
 use Rattle.std.proofs.lemmas.List.{append-nil}
 use Rattle.krieg_belief.proofs.Common.{is_same_side, move_cmp, Pos, Side, Move, after, moves, are_told, Dialect, Line, Opens, Heard, Gives, In, Tale, tale_cmp, tale_lt, after_reply, standing, tales_after, tell, tell_all}
-use Rattle.krieg_words.specs.declared.line.Line.TheVariants.{Illegal, Done, Early, Over}
+use Rattle.krieg_wordtext.specs.declared.line.Line.TheVariants.{Illegal, Done, Early, Over}
 use Rattle.krieg_theory.proofs.Lists.{in_filter, filter_in, in_map, map_in, in_flat, flat_in}
 use Rattle.krieg_belief.proofs.HiddenGames.{cond_in, in_cond, words_same, same_words, IsEntry, AreEntries}
 use Rattle.krieg_moves.proofs.Listed.{legal_listed, listed_legal}

@@ -5,7 +5,7 @@ use Rattle.std.proofs.lemmas.Bool.{both_ways}
 use Rattle.std.proofs.lemmas.List.Elements.{All-head, All-tail, All-cons, All-nil}
 use Rattle.krieg_belief.proofs.Common.{other, is_same_side, Pos, Side, White, Black, Move, is_legal, after, is_ended, Said, words, told_line, Dialect, Line, Event, Verdict, verdict, next, is_done, position_after, judge, judged, last, line_for, lines_for, own_line, others_line, tries_of, try_of, Gives, is_shown, events_by}
 use Rattle.krieg_board.proofs.MenLemmas.{same_side_eq, same_side_self, same_side_other}
-use Rattle.krieg_words.specs.declared.line.Line.TheVariants as line
+use Rattle.krieg_wordtext.specs.declared.line.Line.TheVariants as line
 use Rattle.krieg_umpire.specs.declared.verdict.Verdict.TheVariants.{Over, Early, Illegal, Done}
 
 turned_round : (a b : Side) (own : Bool) → is_same_side a b ≡ own → is_same_side b a ≡ own

@@ -11,7 +11,7 @@ use Rattle.krieg_board.specs.declared.men.Side.{Side}
 use Rattle.krieg_board.specs.declared.men.Move.{Move}
 use Rattle.krieg_words.specs.WordsOfMoves.{opening}
 use Rattle.krieg_words.specs.ToldWords.{told}
-use Rattle.krieg_words.specs.declared.line.Line.TheVariants.{Opens}
+use Rattle.krieg_wordtext.specs.declared.line.Line.TheVariants.{Opens}
 use Rattle.krieg_umpire.specs.Verdicts.{is_done}
 use Rattle.krieg_umpire.specs.Games.{judge, last}
 use Rattle.krieg_umpire.specs.Hearing.{heard}

@@ -10,8 +10,8 @@ use Rattle.krieg_words.specs.Words.{Said, words_cmp}
 use Rattle.krieg_words.specs.WordsOfMoves.{opening}
 use Rattle.krieg_words.specs.ToldWords.{told}
 use Rattle.krieg_words.specs.declared.dialects.Dialect.{Dialect}
-use Rattle.krieg_words.specs.declared.line.Line.{Line}
-use Rattle.krieg_words.specs.declared.line.Line.TheVariants.{Opens, Illegal, Done, Heard, Early, Over}
+use Rattle.krieg_wordtext.specs.declared.line.Line.{Line}
+use Rattle.krieg_wordtext.specs.declared.line.Line.TheVariants.{Opens, Illegal, Done, Heard, Early, Over}
 
 -- the words are told of the position at the start
 abbrev pub has_opening : Dialect → Said → Pos → Bool

@@ -11,8 +11,8 @@ use Rattle.krieg_moves.specs.Moves.{moves}
 use Rattle.krieg_words.specs.Words.{Said}
 use Rattle.krieg_words.specs.ToldMoves.{are_told}
 use Rattle.krieg_words.specs.declared.dialects.Dialect.{Dialect}
-use Rattle.krieg_words.specs.declared.line.Line.{Line}
-use Rattle.krieg_words.specs.declared.line.Line.TheVariants.{Opens, Illegal, Done, Heard, Early, Over}
+use Rattle.krieg_wordtext.specs.declared.line.Line.{Line}
+use Rattle.krieg_wordtext.specs.declared.line.Line.TheVariants.{Opens, Illegal, Done, Heard, Early, Over}
 use Rattle.krieg_pack.specs.Members.{set_of}
 use Rattle.krieg_belief.specs.Staying.{stays}
 

@@ -12,7 +12,8 @@ ghost use Rattle.krieg_belief.specs.Limits.{AllWithin, IsStop, IsLateStop};
 use crate::steps::{Hearing, StepStop, step};
 use krieg_pack::Belief;
 use krieg_sheet::{Sheet, list_line};
-use krieg_words::{Line, Words};
+use krieg_words::Words;
+use krieg_wordtext::Line;
 use std::alloc::Global;
 
 /// Why the possible positions of a sheet are not listed.

@@ -4,7 +4,7 @@ ghost use Rattle.krieg_theory.specs.Sets.{is_nil};
 ghost use Rattle.krieg_pack.specs.Members.{set_of};
 ghost use Rattle.krieg_belief.specs.Explained.{state_of};
 ghost use Rattle.krieg_belief.specs.Links.{AreKept, Grounded, IsFound, entry_at, numbered_tale, place_of, tales_of};
-ghost use Rattle.krieg_words.specs.declared.line.Line.{Line as SheetLine};
+ghost use Rattle.krieg_wordtext.specs.declared.line.Line.{Line as SheetLine};
 ghost use Rattle.krieg_belief.specs.Retold as spec;
 ghost use Rattle.krieg_belief.specs.Retold.{shown_of};
 
@@ -14,7 +14,7 @@ use krieg_board::{Move, NoMemory, Position, Side};
 use krieg_pack::{Belief, Packed, unpack};
 use krieg_sheet::Sheet;
 use krieg_umpire::Event;
-use krieg_words::Line;
+use krieg_wordtext::Line;
 use std::alloc::Global;
 use std::marker::Model;
 

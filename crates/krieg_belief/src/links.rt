@@ -16,7 +16,8 @@ use indexmap::IndexMap;
 use krieg_board::{Move, NoMemory, Position, Side};
 use krieg_moves::legal_moves;
 use krieg_pack::{Belief, Packed, pack, unpack};
-use krieg_words::{Dialect, Line, Words, after_told, after_told_if_legal};
+use krieg_words::{Dialect, Words, after_told, after_told_if_legal};
+use krieg_wordtext::Line;
 use std::alloc::Global;
 
 /// The last of the opponent's moves in a game, and the game before it: the number of a start, or behind them that of

@@ -3,7 +3,7 @@ ghost use Rattle.std.specs.List.{All, filter};
 ghost use Rattle.krieg_moves.specs.Legal as rule;
 ghost use Rattle.krieg_moves.specs.After as change;
 ghost use Rattle.krieg_words.specs.ToldMoves.{are_told};
-ghost use Rattle.krieg_words.specs.declared.line.Line.TheVariants.{Heard};
+ghost use Rattle.krieg_wordtext.specs.declared.line.Line.TheVariants.{Heard};
 ghost use Rattle.krieg_belief.specs.Staying as staying;
 ghost use Rattle.krieg_belief.specs.Steps as spec;
 ghost use Rattle.krieg_belief.specs.declared.steps.StepStop.TheVariants as stop;
@@ -11,7 +11,8 @@ ghost use Rattle.krieg_belief.specs.declared.steps.StepStop.TheVariants as stop;
 use krieg_board::{Move, NoMemory, Position, Side};
 use krieg_moves::{has_move, is_legal, legal_moves};
 use krieg_pack::{Belief, Packed, pack, trim, unpack};
-use krieg_words::{Dialect, Line, Words, after_told, after_told_if_legal, compare, opening, told};
+use krieg_words::{Dialect, Words, after_told, after_told_if_legal, compare, opening, told};
+use krieg_wordtext::Line;
 use std::alloc::Global;
 
 /// Who hears, and in which dialect he is told.

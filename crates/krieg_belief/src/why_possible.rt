@@ -12,7 +12,7 @@ use crate::links::{Link, Setting, Tales, begin, tell};
 use krieg_board::NoMemory;
 use krieg_pack::Packed;
 use krieg_sheet::Sheet;
-use krieg_words::Line;
+use krieg_wordtext::Line;
 use std::alloc::Global;
 
 /// The games after all entries, where after none of them they stand in more positions than the limit allows. The first

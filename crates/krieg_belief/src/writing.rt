@@ -11,7 +11,8 @@ use krieg_board::NoMemory;
 use krieg_fen::{Ranks, put_next};
 use krieg_text::{Text, put_number};
 use krieg_umpire::{Event, put_event};
-use krieg_words::{Dialect, put_dialect_line};
+use krieg_words::Dialect;
+use krieg_wordtext::put_dialect_line;
 use std::alloc::Global;
 
 /// Room for so many bytes of each game is found before the first is written. A game of three moves has as many.

@@ -4,7 +4,7 @@ pub use Rattle.krieg_board.specs.Pos.{Pos}
 pub use Rattle.krieg_board.specs.declared.men.Move.{Move}
 pub use Rattle.krieg_board.specs.declared.men.Side.{Side}
 unfoldable pub use Rattle.krieg_moves.specs.Moves.{is_ended, moves}
-pub use Rattle.krieg_words.specs.WordsReading.{silent}
+pub use Rattle.krieg_words.specs.ToldWords.{silent}
 pub use Rattle.krieg_words.specs.declared.dialects.Dialect.{Dialect}
 pub use Rattle.krieg_theory.specs.Game.{Game, IsGame}
 pub use Rattle.krieg_theory.specs.Plans.{IsOutset, IsWorst, Outset, Plan, all_starts, is_over, mates, opening_set, openings, wins_root}

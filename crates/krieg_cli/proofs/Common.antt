@@ -7,12 +7,12 @@ pub use Rattle.krieg_text.specs.Lines.{lines}
 pub use Rattle.krieg_text.specs.Reading.{whole}
 pub use Rattle.krieg_text.specs.declared.fault.TextFault.{TextFault}
 pub use Rattle.krieg_text.specs.declared.fault.TextKind.{TextKind}
-pub use Rattle.krieg_words.specs.Line.{told_line}
+pub use Rattle.krieg_wordtext.specs.Line.{told_line}
 pub use Rattle.krieg_words.specs.ToldWords.{told}
 unfoldable pub use Rattle.krieg_words.specs.WordsOfMoves.{opening}
 pub use Rattle.krieg_words.specs.declared.dialects.Dialect.{Dialect}
 pub use Rattle.krieg_words.specs.declared.dialects.Dialect.TheVariants.{Wild16}
-pub use Rattle.krieg_words.specs.declared.line.Line.{Line}
+pub use Rattle.krieg_wordtext.specs.declared.line.Line.{Line}
 unfoldable pub use Rattle.krieg_record.specs.RecordReading.{record_at}
 pub use Rattle.krieg_umpire.specs.declared.verdict.Event.{Event}
 unfoldable pub use Rattle.krieg_sheet.specs.SheetReading.{sheet_at}

@@ -7,7 +7,7 @@ use Rattle.krieg_plan.specs.declared.limits.TheConstants.{MOST_NODES, MOST_ON_PA
 use Rattle.krieg_planfile.specs.PlanReading as plan
 use Rattle.krieg_strategy.specs.declared.limits.TheConstants as strategy
 use Rattle.krieg_strategyfile.specs.StrategyText as shared
-use Rattle.krieg_refute.specs.declared.refutation.TheConstants.{MOST_CLAIMS, MOST_CLAIMED}
+use Rattle.krieg_refutation.specs.declared.refutation.TheConstants.{MOST_CLAIMS, MOST_CLAIMED}
 use Rattle.krieg_refutefile.specs.RefutationText as refutation
 use Rattle.krieg_args.specs.declared.command.TheConstants.{MOST_ASKS, MOST_SEED, MOST_FIND_MOVES, MOST_FIND_UNITS}
 use Rattle.krieg_outcome.specs.declared.limits.TheConstants.{JOB_MOVES, MOST_INPUT}

@@ -268,9 +268,9 @@ fn start_program<R: Env + AllocGlobal + Files<File = File>, S: Source, O: Sink, 
 /// Does all that the program does with the words that the system gives, over these streams, and gives the
 /// status with which the program ends.
 ///
-/// It is the status of `crate::run`, with the players of the four files where the words are those of `play`, the
-/// opponent at the two files where they are those of `lead`, and nobody for other words; where memory is not found for the words or the players, it is 11, with the same line on
-/// `err`, and nothing was read or written to `out`.
+/// It is the status of `run`, with the players of the four files where the words are those of `play`, the opponent at the two
+/// files where they are those of `lead`, and nobody for other words; where memory is not found for the words or the players, it
+/// is 11, with the same line on `err`, and nothing was read or written to `out`.
 pub fn start<R: Env + AllocGlobal + Files<File = File>, S: Source, O: Sink, E: Sink>(
     rt: &R,
     input: &mut S,
@@ -288,7 +288,7 @@ pub fn start<R: Env + AllocGlobal + Files<File = File>, S: Source, O: Sink, E: S
 /// Does all that the program `krieg_find` does with the words that the system gives, over these streams, and gives the status
 /// with which it ends.
 ///
-/// It is the status of `crate::run_find`, with the opponent at the two files where the words are those of `conduct`, and nobody
+/// It is the status of `run_find`, with the opponent at the two files where the words are those of `conduct`, and nobody
 /// for other words; where memory is not found for the words or the opponent, it is 11, with the same line on `err`, and nothing was
 /// read or written to `out`.
 pub fn start_find<R: Env + AllocGlobal + Files<File = File>, S: Source, O: Sink, E: Sink>(

@@ -5,7 +5,8 @@ use crate::stop::{FirstStop, LineStop};
 use krieg_board::{Move, Side, Square, only};
 use krieg_fen::{read_move, read_square};
 use krieg_text::read_number;
-use krieg_words::{Dialect, SILENT, Words, read_words_in};
+use krieg_words::{Dialect, SILENT, Words};
+use krieg_wordtext::read_words_in;
 use std::alloc::Global;
 
 /// The byte that stands for the one behind a backslash, or the byte itself where there is none before it.

@@ -8,8 +8,10 @@ use krieg_moves::is_legal;
 use krieg_pack::order;
 use krieg_words::{
     Dialect, Words, after_told, after_told_if_legal, compare, make_if_legal, make_move, opening,
-    read_line, read_line_in, read_words_in, told, told_line, tries, words_of, write_line_in,
-    write_words_in,
+    told, tries, words_of,
+};
+use krieg_wordtext::{
+    read_line, read_line_in, read_words_in, told_line, write_line_in, write_words_in,
 };
 use std::cmp::Ordering;
 

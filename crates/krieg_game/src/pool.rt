@@ -1,6 +1,6 @@
 ghost use Rattle.std.specs.Prelude.{◌≡◌, ◌∷◌, ◌++◌, [], List, map, IfOk, OnOk};
 ghost use Rattle.krieg_moves.specs.Moves as list;
-ghost use Rattle.krieg_words.specs.WordsReading.{silent};
+ghost use Rattle.krieg_words.specs.ToldWords.{silent};
 ghost use Rattle.krieg_words.specs.declared.dialects.Dialect.{Dialect as Saying};
 ghost use Rattle.krieg_words.specs.Words.{Said};
 ghost use Rattle.krieg_game.specs.Chess as spec;

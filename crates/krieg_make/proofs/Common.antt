@@ -31,7 +31,7 @@ unfoldable pub use Rattle.krieg_words.specs.PawnTries.{is_try, tries, tries_from
 pub use Rattle.krieg_words.specs.ToldWords.{no_kinds}
 unfoldable pub use Rattle.krieg_words.specs.WordsOfMoves.{words}
 pub use Rattle.krieg_words.specs.WordsOfMoves.{end_of, took_by}
-pub use Rattle.krieg_words.specs.WordsReading.{silent}
+pub use Rattle.krieg_words.specs.ToldWords.{silent}
 pub use Rattle.krieg_words.specs.declared.words.End.TheVariants.{Goes, Mate, Stalemate}
 pub use Rattle.krieg_words.specs.declared.words.Took.TheVariants.{Nothing}
 pub use Rattle.krieg_umpire.specs.Games.{judge, last}

@@ -7,7 +7,7 @@ use Rattle.krieg_board.specs.declared.men.Side.TheVariants.{White}
 use Rattle.krieg_moves.specs.After.{after}
 use Rattle.krieg_moves.specs.Legal.{is_legal}
 use Rattle.krieg_moves.specs.Moves.{plain_move, is_mate}
-use Rattle.krieg_words.specs.WordsReading.{silent}
+use Rattle.krieg_words.specs.ToldWords.{silent}
 use Rattle.krieg_umpire.specs.Games.{judge}
 use Rattle.krieg_umpire.specs.declared.verdict.Verdict.{Verdict}
 use Rattle.krieg_umpire.specs.declared.verdict.Verdict.TheVariants.{Early, Illegal, Done}

@@ -22,8 +22,8 @@ pub use Rattle.krieg_words.specs.ToldWords.{told}
 unfoldable pub use Rattle.krieg_words.specs.WordsOfMoves.{opening, words}
 pub use Rattle.krieg_words.specs.declared.dialects.Dialect.{Dialect}
 pub use Rattle.krieg_words.specs.declared.dialects.Dialect.TheVariants.{Wild16}
-pub use Rattle.krieg_words.specs.declared.line.Line.{Line}
-pub use Rattle.krieg_words.specs.declared.line.Line.TheVariants.{Done, Early, Heard, Illegal, Opens, Over}
+pub use Rattle.krieg_wordtext.specs.declared.line.Line.{Line}
+pub use Rattle.krieg_wordtext.specs.declared.line.Line.TheVariants.{Done, Early, Heard, Illegal, Opens, Over}
 pub use Rattle.krieg_umpire.specs.Games.{judge}
 pub use Rattle.krieg_sheet.specs.Games.{IsConsistent, Gives}
 pub use Rattle.krieg_sheet.specs.Places.{IsSheet}
@@ -86,9 +86,9 @@ pub use Rattle.krieg_solve.specs.declared.keys.KeyTry.{KeyTry}
 pub use Rattle.krieg_solve.specs.declared.keys.KeysAt.{KeysAt}
 pub use Rattle.krieg_solve.specs.declared.keys.Keys.{Keys as FoundKeys}
 pub use Rattle.krieg_search.specs.declared.stop.SearchStop.{SearchStop}
-pub use Rattle.krieg_refute.specs.Refutations.{claims_price, most_claimed, most_claims, refutes}
+pub use Rattle.krieg_refutation.specs.Refutations.{claims_price, most_claimed, most_claims, refutes}
 pub use Rattle.krieg_refute.specs.RefuteAnswers.{IsDenial, IsDenied, IsMated, IsOneSide, IsTaken, side_of}
-pub use Rattle.krieg_refute.specs.declared.refutation.Refutation.{Refutation}
+pub use Rattle.krieg_refutation.specs.declared.refutation.Refutation.{Refutation}
 pub use Rattle.krieg_refute.specs.declared.refuting.Denied.TheVariants.{Denial, Exists}
 unfoldable pub use Rattle.krieg_refutefile.specs.RefutationFormat.{refutation_at}
 unfoldable pub use Rattle.krieg_refutefile.specs.RefutationText.{refutation_text}

@@ -2,7 +2,7 @@
 use Rattle.std.proofs.Common.{◌≡◌, ℕ, ◌+◌, Bool, true, false, List, Ok, Err, sym, ◌∙◌, arith}
 use Rattle.krieg_outcome.proofs.Common.{Refutation, PartStop, IsPaid, refutes, claims_price, of_part, Decides, refuted_text, Judged, RefutationFails}
 use Rattle.krieg_parting.specs.declared.stop.PartStop.TheVariants as stop
-use Rattle.krieg_refute.specs.Exclusion.{NoneMates}
+use Rattle.krieg_refutation.specs.Exclusion.{NoneMates}
 use Rattle.krieg_refutefile.specs.Refutations.{state_of}
 use Rattle.krieg_refutefile.proofs.Agreeing.{refutes_same, price_same}
 

@@ -10,7 +10,7 @@ use Rattle.krieg_theory.proofs.Lists.{all_from}
 use Rattle.krieg_theory.proofs.Planned.{mates_shows}
 use Rattle.krieg_game.proofs.ChessLaws.{chess_is_game, outset_is_lawful}
 use Rattle.krieg_costs.specs.Refutation as theory
-use Rattle.krieg_refute.specs.declared.refutation.Claim.{Claim}
+use Rattle.krieg_refutation.specs.declared.refutation.Claim.{Claim}
 use Rattle.krieg_search.specs.declared.stop.SearchStop.TheVariants as stop
 use Rattle.krieg_refutefile.specs.Writable.{CanBeWritten}
 use Rattle.krieg_refutefile.proofs.Agreeing.{states_from, claims_again, positions_same, reasons_same}

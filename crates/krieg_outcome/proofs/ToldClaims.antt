@@ -7,7 +7,7 @@ use Rattle.std.proofs.lemmas.List.Elements.{All-nil, All-cons}
 use Rattle.krieg_outcome.proofs.Common.{Pos, move_lt, IsValid, Move, Dialect, position_lt, In, Ascending, same, is_nil, refused, legal_in_some, class, Reason, ByLife, ByStalemate, ByClass, ByRefused, cited, is_shown, holds, are_reasons, claim_holds, claims_hold, Key, chess, why_from, reason_from, claim_from, CitesBelow, IsToldWhy, IsToldReason, IsToldClaim, AreToldClaims}
 use Rattle.krieg_theory.proofs.Lists.{all_at, any_at, append_in}
 use Rattle.krieg_costs.specs.Refutation.{Claim}
-use Rattle.krieg_refute.specs.declared.refutation.Reason.{Reason as Told}
+use Rattle.krieg_refutation.specs.declared.refutation.Reason.{Reason as Told}
 use Rattle.krieg_outcome.proofs.BestFiles.{all_of, some_length}
 use Rattle.krieg_outcome.proofs.ClaimedSets.{IsWritten}
 use Rattle.krieg_outcome.proofs.ToldPlans.{AreValid, some_member, told_of_class, tried_on_board}

@@ -10,7 +10,7 @@ use Rattle.krieg_text.specs.Writing.{Pieces, alone, put_lines}
 use Rattle.krieg_fen.specs.ListText.{listing_lines}
 use Rattle.krieg_fen.specs.MoveText.{move_text}
 use Rattle.krieg_moves.specs.Legal.{is_legal}
-use Rattle.krieg_words.specs.Versions.{dialect_line}
+use Rattle.krieg_wordtext.specs.Versions.{dialect_line}
 use Rattle.krieg_words.specs.declared.dialects.Dialect.{Dialect}
 use Rattle.krieg_theory.specs.Sets.{In, Ascending}
 use Rattle.krieg_theory.specs.Split.{legal_in_some}

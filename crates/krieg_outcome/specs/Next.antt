@@ -3,7 +3,7 @@ use Rattle.std.specs.Prelude.{◌≡◌, ℕ, List, [], ◌∷◌, ◌++◌, Res
 use Rattle.krieg_fen.specs.MoveText.{move_text}
 use Rattle.krieg_text.specs.Lines.{lines}
 use Rattle.krieg_text.specs.Writing.{put_lines}
-use Rattle.krieg_words.specs.declared.line.Line.{Line}
+use Rattle.krieg_wordtext.specs.declared.line.Line.{Line}
 use Rattle.krieg_planfile.specs.HeardReading.{HeardState, heard_plan}
 use Rattle.krieg_strategyfile.specs.HeardStrategies.{heard_strategy}
 use Rattle.krieg_robot.specs.Followers.{follow_guide, next_of}

@@ -15,7 +15,7 @@ use Rattle.krieg_game.specs.Outset.{outset}
 use Rattle.krieg_claims.specs.Sizes.{AreMany}
 use Rattle.krieg_claims.specs.Written.{denial}
 use Rattle.krieg_plan.specs.Trees.{PlanTrees}
-use Rattle.krieg_refute.specs.Refutations.{most_claims, most_claimed}
+use Rattle.krieg_refutation.specs.Refutations.{most_claims, most_claimed}
 use Rattle.krieg_refutefile.specs.Refutations.{RefutationState, file_of, is_refutation}
 use Rattle.krieg_refutefile.specs.RefutationFormat.{refutation_at}
 use Rattle.krieg_refutefile.specs.RefutationText.{refutation_text}

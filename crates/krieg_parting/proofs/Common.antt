@@ -7,7 +7,7 @@ unfoldable pub use Rattle.krieg_moves.specs.After.{after}
 unfoldable pub use Rattle.krieg_moves.specs.Legal.{is_legal}
 unfoldable pub use Rattle.krieg_moves.specs.Moves.{is_ended, is_mate, moves}
 unfoldable pub use Rattle.krieg_words.specs.WordsOfMoves.{opening}
-pub use Rattle.krieg_words.specs.WordsReading.{silent}
+pub use Rattle.krieg_words.specs.ToldWords.{silent}
 pub use Rattle.krieg_words.specs.declared.dialects.Dialect.{Dialect}
 pub use Rattle.krieg_theory.specs.Plans.{is_over}
 pub use Rattle.krieg_theory.specs.Split.{all_outcomes, given, mates_at, refused, stale_in_some}

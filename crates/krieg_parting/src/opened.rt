@@ -1,7 +1,7 @@
 ghost use Rattle.std.specs.Prelude.{map, IfOk};
 ghost use Rattle.krieg_game.specs.Buckets.{Holds};
 ghost use Rattle.krieg_game.specs.ClassLaws.{opened};
-ghost use Rattle.krieg_words.specs.WordsReading.{silent};
+ghost use Rattle.krieg_words.specs.ToldWords.{silent};
 
 use krieg_board::NoMemory;
 use krieg_game::Pool;

@@ -42,15 +42,15 @@ pub use Rattle.krieg_fen.specs.Ranks.{Row, onto_row, row_of, squares_at}
 pub use Rattle.krieg_fen.specs.Spelling.{AreClocks, SpellRanks, Spells}
 pub use Rattle.krieg_fen.specs.declared.forms.Turn.{Turn}
 pub use Rattle.krieg_words.specs.Dialects.{dialect_rules, unnamed_dialect}
-unfoldable pub use Rattle.krieg_words.specs.LineReading.{line_in}
-pub use Rattle.krieg_words.specs.Parts.{Part, joined_by, text_if, texts}
+unfoldable pub use Rattle.krieg_wordtext.specs.LineReading.{line_in}
+pub use Rattle.krieg_wordtext.specs.Parts.{Part, joined_by, text_if, texts}
 pub use Rattle.krieg_words.specs.ToldWords.{no_kinds}
-unfoldable pub use Rattle.krieg_words.specs.Versions.{dialect_form}
-pub use Rattle.krieg_words.specs.Versions.{dialect_at, dialect_line}
+unfoldable pub use Rattle.krieg_wordtext.specs.Versions.{dialect_form}
+pub use Rattle.krieg_wordtext.specs.Versions.{dialect_at, dialect_line}
 pub use Rattle.krieg_words.specs.Words.{IsSaid, Said}
-unfoldable pub use Rattle.krieg_words.specs.WordsReading.{words_in}
-unfoldable pub use Rattle.krieg_words.specs.WordsText.{words_text}
-pub use Rattle.krieg_words.specs.WordsText.{checks_text, end_text, kind_names, spelled, took_text, tries_text, words_parts}
+unfoldable pub use Rattle.krieg_wordtext.specs.WordsReading.{words_in}
+unfoldable pub use Rattle.krieg_wordtext.specs.WordsText.{words_text}
+pub use Rattle.krieg_wordtext.specs.WordsText.{checks_text, end_text, kind_names, spelled, took_text, tries_text, words_parts}
 pub use Rattle.krieg_words.specs.declared.dialects.ChecksTold.{ChecksTold}
 pub use Rattle.krieg_words.specs.declared.dialects.ChecksTold.TheVariants.{Bare, ByKind}
 pub use Rattle.krieg_words.specs.declared.dialects.Dialect.{Dialect}
@@ -59,7 +59,7 @@ pub use Rattle.krieg_words.specs.declared.dialects.MenTold.{MenTold}
 pub use Rattle.krieg_words.specs.declared.dialects.MenTold.TheVariants.{Alike, Apart}
 pub use Rattle.krieg_words.specs.declared.dialects.TriesTold.{TriesTold}
 pub use Rattle.krieg_words.specs.declared.dialects.TriesTold.TheVariants.{Number, Untold}
-pub use Rattle.krieg_words.specs.declared.line.Line.{Line}
+pub use Rattle.krieg_wordtext.specs.declared.line.Line.{Line}
 pub use Rattle.krieg_words.specs.declared.words.End.{End}
 pub use Rattle.krieg_words.specs.declared.words.End.TheVariants.{Goes, Mate, Stalemate}
 pub use Rattle.krieg_words.specs.declared.words.Took.{Took}

@@ -9,8 +9,8 @@ use Rattle.krieg_text.proofs.Grammars.{Said, KeepsTo, line_keeps, bind_keeps, ma
 use Rattle.krieg_text.proofs.FormGrammars.{value_form}
 use Rattle.krieg_text.proofs.Locality.{IsLocal, ok_is, local_pure, local_taken, local_bind}
 use Rattle.krieg_text.proofs.Takings.{steps, taken_at, taken_again, Read}
-use Rattle.krieg_words.proofs.VersionFormats.{DialectPart, dialect_keeps}
-use Rattle.krieg_words.proofs.VersionSpellings.{line_is, line_read, form_read, local_dialect}
+use Rattle.krieg_wordtext.proofs.VersionFormats.{DialectPart, dialect_keeps}
+use Rattle.krieg_wordtext.proofs.VersionSpellings.{line_is, line_read, form_read, local_dialect}
 
 -- ---- what is read
 

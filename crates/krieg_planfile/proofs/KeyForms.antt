@@ -8,9 +8,9 @@ use Rattle.krieg_planfile.proofs.Common.{TextKind, OutOfPlace, behind, cut, ◌>
 use Rattle.krieg_text.proofs.Formats.{IsForm, named_form}
 use Rattle.krieg_text.proofs.NameLemmas.{behind_again, behind_spells, cut_again, cut_spells}
 use Rattle.krieg_text.proofs.Takings.{steps}
-use Rattle.krieg_words.proofs.CleanWords.{words_no_slash}
-use Rattle.krieg_words.proofs.PartLaws.{Free}
-use Rattle.krieg_words.proofs.WordsLaws.{words_spell, words_again}
+use Rattle.krieg_wordtext.proofs.CleanWords.{words_no_slash}
+use Rattle.krieg_wordtext.proofs.PartLaws.{Free}
+use Rattle.krieg_wordtext.proofs.WordsLaws.{words_spell, words_again}
 
 -- ---- the space before the slash
 

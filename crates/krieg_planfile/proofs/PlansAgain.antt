@@ -12,8 +12,8 @@ use Rattle.krieg_fen.proofs.ListSpellings.{written_spells}
 use Rattle.krieg_text.proofs.Writings.{put_lines_is, joined_alone, joined_each}
 use Rattle.krieg_theory.specs.Tree.{Nothing, Edge}
 use Rattle.krieg_words.specs.declared.dialects.Dialect.TheVariants.{Plain}
-use Rattle.krieg_words.proofs.CleanWords.{words_above}
-use Rattle.krieg_words.proofs.VersionTexts.{version_are}
+use Rattle.krieg_wordtext.proofs.CleanWords.{words_above}
+use Rattle.krieg_wordtext.proofs.VersionTexts.{version_are}
 use Rattle.krieg_planfile.proofs.NodesAgain.{count_size}
 use Rattle.krieg_planfile.proofs.PlanSpellings.{spelled_again}
 

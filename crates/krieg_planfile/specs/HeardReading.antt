@@ -4,9 +4,9 @@ use Rattle.krieg_text.specs.declared.fault.TextFault.{TextFault}
 use Rattle.krieg_text.specs.declared.fault.TextKind.{TextKind}
 use Rattle.krieg_text.specs.Outcomes.{◌>>=◌}
 use Rattle.krieg_text.specs.Reading.{LineReader, place, on}
-use Rattle.krieg_words.specs.LineReading.{line_in}
+use Rattle.krieg_wordtext.specs.LineReading.{line_in}
 use Rattle.krieg_words.specs.declared.dialects.Dialect.{Dialect}
-use Rattle.krieg_words.specs.declared.line.Line.{Line}
+use Rattle.krieg_wordtext.specs.declared.line.Line.{Line}
 use Rattle.krieg_planfile.specs.NodeForms.{or_syntax}
 use Rattle.krieg_planfile.specs.PlanFiles.{PlanState}
 use Rattle.krieg_planfile.specs.PlanReading.{plan_at}

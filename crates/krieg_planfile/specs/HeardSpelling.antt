@@ -8,9 +8,9 @@ use Rattle.krieg_text.specs.declared.fault.TextKind.TheVariants.{Syntax}
 use Rattle.krieg_text.specs.FirstBad.{FirstBad}
 use Rattle.krieg_text.specs.Languages.{Language, ◌⨾◌}
 use Rattle.krieg_text.specs.Reading.{LineReader, place, Gives}
-use Rattle.krieg_words.specs.LineReading.{line_in}
+use Rattle.krieg_wordtext.specs.LineReading.{line_in}
 use Rattle.krieg_words.specs.declared.dialects.Dialect.{Dialect}
-use Rattle.krieg_words.specs.declared.line.Line.{Line}
+use Rattle.krieg_wordtext.specs.declared.line.Line.{Line}
 use Rattle.krieg_planfile.specs.HeardReading.{HeardState, heard_by}
 
 -- a line of the dialect for each that was heard

@@ -10,7 +10,7 @@ use Rattle.krieg_fen.specs.MoveText.{move_of}
 use Rattle.krieg_text.specs.Names.{behind, cut}
 use Rattle.krieg_text.specs.Outcomes.{◌>>=◌}
 use Rattle.krieg_words.specs.Words.{Said}
-use Rattle.krieg_words.specs.WordsReading.{words_in}
+use Rattle.krieg_wordtext.specs.WordsReading.{words_in}
 use Rattle.krieg_words.specs.declared.dialects.Dialect.{Dialect}
 use Rattle.krieg_game.specs.Keys.{Key, key_lt}
 use Rattle.krieg_planfile.specs.declared.forms.Play.{Play}

@@ -7,7 +7,7 @@ use Rattle.krieg_text.specs.Writing.{Pieces}
 use Rattle.krieg_theory.specs.Tree.{Try, Maybe, Nothing, Just, Edges, NoEdges, Edge}
 use Rattle.krieg_words.specs.Words.{Said, IsSaid}
 use Rattle.krieg_words.specs.ToldWords.{Fits}
-use Rattle.krieg_words.specs.WordsText.{words_text}
+use Rattle.krieg_wordtext.specs.WordsText.{words_text}
 use Rattle.krieg_words.specs.declared.dialects.Dialect.{Dialect}
 use Rattle.krieg_game.specs.Keys.{Key}
 use Rattle.krieg_plan.specs.Trees.{NodeTree}

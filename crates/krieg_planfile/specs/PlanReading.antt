@@ -12,8 +12,8 @@ use Rattle.krieg_text.specs.Forms.{version_form, count_form, word_form}
 use Rattle.krieg_text.specs.Outcomes.{◌>>=◌}
 use Rattle.krieg_text.specs.Reading.{LineReader, taken}
 use Rattle.krieg_words.specs.Words.{Said}
-use Rattle.krieg_words.specs.WordsReading.{words_in}
-use Rattle.krieg_words.specs.Versions.{dialect_at}
+use Rattle.krieg_wordtext.specs.WordsReading.{words_in}
+use Rattle.krieg_wordtext.specs.Versions.{dialect_at}
 use Rattle.krieg_words.specs.declared.dialects.Dialect.{Dialect}
 use Rattle.krieg_game.specs.Keys.{Key, RootKey, root_lt}
 use Rattle.krieg_planfile.specs.NodeForms.{key_in, or_syntax, follows}

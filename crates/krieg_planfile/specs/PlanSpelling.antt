@@ -6,7 +6,7 @@ use Rattle.krieg_text.specs.Languages.{Language, One, Any, ◌⨾◌}
 use Rattle.krieg_fen.specs.Listing.{SpellsListing, ListingGrammar}
 use Rattle.krieg_text.specs.Writing.{Pieces, joined}
 use Rattle.krieg_theory.specs.Tree.{Try, Maybe, Nothing, Just, Edges, NoEdges, Edge}
-use Rattle.krieg_words.specs.Versions.{first_version, second_version}
+use Rattle.krieg_wordtext.specs.Versions.{first_version, second_version}
 use Rattle.krieg_words.specs.Dialects.{unnamed_dialect}
 use Rattle.krieg_words.specs.declared.dialects.Dialect.{Dialect}
 use Rattle.krieg_game.specs.Keys.{Key, RootKey}

@@ -3,8 +3,8 @@ use Rattle.std.specs.Prelude.{ℕ, Bool, List, [], ◌∷◌, ◌++◌, codes, m
 use Rattle.krieg_text.specs.Decimals.{number_text}
 use Rattle.krieg_fen.specs.ListText.{listing_lines}
 use Rattle.krieg_text.specs.Writing.{Pieces, alone, put_lines}
-use Rattle.krieg_words.specs.WordsText.{words_text}
-use Rattle.krieg_words.specs.Versions.{version_lines, second_version}
+use Rattle.krieg_wordtext.specs.WordsText.{words_text}
+use Rattle.krieg_wordtext.specs.Versions.{version_lines, second_version}
 use Rattle.krieg_words.specs.declared.dialects.Dialect.{Dialect}
 use Rattle.krieg_game.specs.Keys.{RootKey}
 use Rattle.krieg_plan.specs.Trees.{PlanTrees}

@@ -11,7 +11,8 @@ use krieg_plan::MOST_NODES;
 use krieg_text::{
     Cursor, LineSource, NumberFault, TextFault, TextKind, behind, cut, read_number_between,
 };
-use krieg_words::{Dialect, Words, compare, read_words_in};
+use krieg_words::{Dialect, Words, compare};
+use krieg_wordtext::read_words_in;
 
 /// What the line of a node says: its try, whether there is a node for the illegal case, and how many edges
 /// there are.

@@ -11,7 +11,8 @@ ghost use Rattle.krieg_planfile.specs.PlanSpelling.{SpellsPlan, PlanGrammar};
 use crate::reading::read_plan_lines;
 use krieg_plan::PlanFile;
 use krieg_text::{Cursor, LineSource, TextFault, TextKind};
-use krieg_words::{Dialect, Line, read_line_in};
+use krieg_words::Dialect;
+use krieg_wordtext::{Line, read_line_in};
 use std::alloc::Global;
 
 /// A plan file, and what its player heard.

@@ -13,7 +13,8 @@ use krieg_board::NoMemory;
 use krieg_fen::put_listing;
 use krieg_plan::{PlanFile, know_ordered};
 use krieg_text::{Text, put_number};
-use krieg_words::{Dialect, put_second_version, put_version_lines};
+use krieg_words::Dialect;
+use krieg_wordtext::{put_second_version, put_version_lines};
 
 /// Adds the lines of the version and of the dialect.
 fn put_heading(d: Dialect, waiting: bool, text: &mut Text) -> Result<(), NoMemory>

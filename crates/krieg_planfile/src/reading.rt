@@ -14,7 +14,8 @@ use krieg_board::{Position, Side};
 use krieg_fen::{Turn, read_listing};
 use krieg_plan::{MOST_NODES, MOST_ON_PATH, Plan, PlanFile};
 use krieg_text::{Cursor, LineSource, TextFault, read_count, read_version, read_word};
-use krieg_words::{Dialect, read_dialect_line};
+use krieg_words::Dialect;
+use krieg_wordtext::read_dialect_line;
 use std::alloc::Global;
 
 /// The next line, as the format's name with one of its two versions.

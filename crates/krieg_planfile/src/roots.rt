@@ -10,7 +10,8 @@ use crate::forms::key_in;
 use crate::nodes::read_node;
 use krieg_plan::{MOST_ON_PATH, Root, compare_heard};
 use krieg_text::{Cursor, LineSource, TextFault, TextKind, behind};
-use krieg_words::{Dialect, Words, compare, read_words_in};
+use krieg_words::{Dialect, Words, compare};
+use krieg_wordtext::read_words_in;
 use std::alloc::Global;
 
 /// What stands before a node at the root: the opening words, and the words of the opponent's move where he

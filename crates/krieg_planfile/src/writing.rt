@@ -13,7 +13,8 @@ use krieg_board::{Move, NoMemory};
 use krieg_fen::put_move;
 use krieg_plan::{Edge, Node, Root};
 use krieg_text::{Text, put_number};
-use krieg_words::{Dialect, Words, put_words_in};
+use krieg_words::{Dialect, Words};
+use krieg_wordtext::put_words_in;
 
 fn no_text(no: bool) -> &'static [u8]
     ensures { result.now ≡ spec.no_text no }

@@ -5,11 +5,11 @@ pub use Rattle.krieg_board.specs.declared.men.Move.{Move}
 pub use Rattle.krieg_board.specs.declared.men.Side.{Side}
 pub use Rattle.krieg_board.specs.declared.men.Side.TheVariants.{Black, White}
 unfoldable pub use Rattle.krieg_moves.specs.Moves.{is_ended}
-pub use Rattle.krieg_words.specs.Line.{told_line}
+pub use Rattle.krieg_wordtext.specs.Line.{told_line}
 unfoldable pub use Rattle.krieg_words.specs.WordsOfMoves.{opening}
 pub use Rattle.krieg_words.specs.declared.dialects.Dialect.TheVariants.{Wild16}
-pub use Rattle.krieg_words.specs.declared.line.Line.{Line}
-pub use Rattle.krieg_words.specs.declared.line.Line.TheVariants.{Opens}
+pub use Rattle.krieg_wordtext.specs.declared.line.Line.{Line}
+pub use Rattle.krieg_wordtext.specs.declared.line.Line.TheVariants.{Opens}
 pub use Rattle.krieg_umpire.specs.Games.{GameState, judge, judged, last}
 pub use Rattle.krieg_umpire.specs.Hearing.{heard, line_for, lines_for}
 pub use Rattle.krieg_umpire.specs.Verdicts.{next}

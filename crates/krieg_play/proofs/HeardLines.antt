@@ -1,7 +1,7 @@
 -- The lines of a game's log are what each side hears of its tries, in the words of the dialect that tells all.
 use Rattle.std.proofs.Common.{◌≡◌, ℕ, List, [], ◌∷◌, map, refl, sym, ap, ◌∙◌}
 use Rattle.krieg_play.proofs.Common.{Pos, Side, opening, told_line, Wild16, Line, heard, lines_for, GameState, judge, Judged, events_of, IsGameFrom, lines_of, lines_to}
-use Rattle.krieg_words.specs.declared.line.Line.TheVariants as line
+use Rattle.krieg_wordtext.specs.declared.line.Line.TheVariants as line
 
 pub told_wild : (l : Line) → told_line Wild16 l ≡ l
 told_wild (line.Opens w) = refl

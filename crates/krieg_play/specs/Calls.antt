@@ -5,8 +5,8 @@ use Rattle.krieg_board.specs.Pos.{Pos}
 use Rattle.krieg_board.specs.declared.men.Move.{Move}
 use Rattle.krieg_board.specs.declared.men.Side.{Side}
 use Rattle.krieg_words.specs.WordsOfMoves.{opening}
-use Rattle.krieg_words.specs.declared.line.Line.{Line}
-use Rattle.krieg_words.specs.declared.line.Line.TheVariants.{Opens}
+use Rattle.krieg_wordtext.specs.declared.line.Line.{Line}
+use Rattle.krieg_wordtext.specs.declared.line.Line.TheVariants.{Opens}
 use Rattle.krieg_umpire.specs.Hearing.{lines_for}
 use Rattle.krieg_umpire.specs.declared.verdict.Judged.{Judged}
 use Rattle.krieg_seats.specs.Accounts.{Account, Asked}

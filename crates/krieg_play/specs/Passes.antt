@@ -3,7 +3,7 @@ use Rattle.std.specs.Prelude.{◌≡◌, ℕ, ◌+◌, ◌<◌, List, [], ◌∷
 use Rattle.krieg_board.specs.Pos.{Pos}
 use Rattle.krieg_board.specs.declared.men.Side.{Side}
 use Rattle.krieg_board.specs.declared.men.Side.TheVariants.{White, Black}
-use Rattle.krieg_words.specs.declared.line.Line.{Line}
+use Rattle.krieg_wordtext.specs.declared.line.Line.{Line}
 use Rattle.krieg_umpire.specs.Games.{GameState}
 use Rattle.krieg_umpire.specs.declared.verdict.Event.{Event}
 use Rattle.krieg_umpire.specs.declared.verdict.Stop.{Stop}

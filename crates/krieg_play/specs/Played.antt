@@ -6,7 +6,7 @@ use Rattle.krieg_board.specs.declared.men.Side.{Side}
 use Rattle.krieg_board.specs.declared.men.Side.TheVariants.{White, Black}
 use Rattle.krieg_moves.specs.Moves.{is_ended}
 use Rattle.krieg_words.specs.declared.dialects.Dialect.TheVariants.{Wild16}
-use Rattle.krieg_words.specs.declared.line.Line.{Line}
+use Rattle.krieg_wordtext.specs.declared.line.Line.{Line}
 use Rattle.krieg_umpire.specs.Hearing.{heard}
 use Rattle.krieg_umpire.specs.Games.{GameState}
 use Rattle.krieg_umpire.specs.declared.verdict.Event.{Event}

@@ -3,9 +3,9 @@ use Rattle.std.specs.Prelude.{◌≡◌, ◌+◌, ◌⊎◌, List, [], ◌∷◌
 use Rattle.krieg_board.specs.Pos.{Pos}
 use Rattle.krieg_board.specs.declared.men.Side.{Side}
 use Rattle.krieg_board.specs.declared.men.Side.TheVariants.{White, Black}
-use Rattle.krieg_words.specs.Line.{told_line}
+use Rattle.krieg_wordtext.specs.Line.{told_line}
 use Rattle.krieg_words.specs.declared.dialects.Dialect.{Dialect}
-use Rattle.krieg_words.specs.declared.line.Line.{Line}
+use Rattle.krieg_wordtext.specs.declared.line.Line.{Line}
 use Rattle.krieg_umpire.specs.Hearing.{line_for}
 use Rattle.krieg_umpire.specs.Verdicts.{next}
 use Rattle.krieg_umpire.specs.Games.{GameState, judged}

@@ -16,7 +16,8 @@ use krieg_board::{NoMemory, Position, Side};
 use krieg_moves::has_move;
 use krieg_seats::Seat;
 use krieg_umpire::{Game, Stop};
-use krieg_words::{Line, opening};
+use krieg_words::opening;
+use krieg_wordtext::Line;
 use std::alloc::Global;
 
 /// A game that was played, and why it stopped.

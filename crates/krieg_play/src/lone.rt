@@ -5,7 +5,7 @@ use crate::telling::{ask_seat, tell_due};
 use krieg_board::{Position, Side};
 use krieg_seats::{Say, Seat, SeatFault};
 use krieg_umpire::Judged;
-use krieg_words::Line;
+use krieg_wordtext::Line;
 
 impl Player for Box<dyn Seat> {
     ghost use Rattle.krieg_play.specs.Calls.{AsksLone, ToldAll};

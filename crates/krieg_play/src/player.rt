@@ -6,7 +6,7 @@ use crate::AskOutcome;
 use krieg_board::{Position, Side};
 use krieg_seats::SeatFault;
 use krieg_umpire::Judged;
-use krieg_words::Line;
+use krieg_wordtext::Line;
 
 /// A side of a game: one player, or some who relieve one another.
 pub trait Player {

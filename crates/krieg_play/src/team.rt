@@ -10,7 +10,7 @@ use crate::{AskOutcome, relieved_turn};
 use krieg_board::{Position, Side};
 use krieg_seats::{Say, Seat, SeatFault};
 use krieg_umpire::Judged;
-use krieg_words::Line;
+use krieg_wordtext::Line;
 
 /// Asks the seat that sits.
 fn ask_first(seats: &mut Vec<Box<dyn Seat>>) -> Result<Say, SeatFault>

@@ -7,7 +7,8 @@ ghost use Rattle.krieg_play.specs.Calls.{lines_to, ToldAll};
 use krieg_board::{Position, Side};
 use krieg_seats::{Say, Seat, SeatFault};
 use krieg_umpire::{Judged, line_for};
-use krieg_words::{Line, opening};
+use krieg_words::opening;
+use krieg_wordtext::Line;
 
 /// Asks a seat.
 pub(crate) fn ask_seat(seat: &mut Box<dyn Seat>) -> Result<Say, SeatFault>

@@ -11,7 +11,8 @@ use crate::{AskOutcome, PlayFault, fault_of};
 use krieg_board::{Position, Side};
 use krieg_seats::SeatFault;
 use krieg_umpire::{Event, Game, Judged, line_for};
-use krieg_words::{Dialect, Line, told_line};
+use krieg_words::Dialect;
+use krieg_wordtext::{Line, told_line};
 
 /// Tells White and then Black the lines that are due to them.
 pub fn tell_both<W: Player, B: Player>(

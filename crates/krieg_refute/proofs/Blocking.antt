@@ -16,7 +16,7 @@ use Rattle.krieg_claims.proofs.StoredLosses.{block_lost, class_blocks, refused_b
 use Rattle.krieg_game.proofs.ChessLaws.{chess_is_game}
 use Rattle.krieg_search.proofs.Blocked.{keyed_some, keyed_none, alive}
 use Rattle.krieg_search.proofs.Adding.{adds_nothing, adds_then}
-use Rattle.krieg_refute.specs.declared.refutation.Claim.{Claim}
+use Rattle.krieg_refutation.specs.declared.refutation.Claim.{Claim}
 
 is_one : (i : ℕ) → (suc i == 1) ≡ (i == 0)
 is_one zero = refl

@@ -18,7 +18,7 @@ use Rattle.krieg_costs.specs.Refutation as theory
 use Rattle.krieg_game.proofs.ChessLaws.{chess_is_game, outset_is_lawful}
 use Rattle.krieg_search.specs.declared.stop.SearchStop.TheVariants as search
 use Rattle.krieg_search.specs.Decision as decided
-use Rattle.krieg_refute.specs.declared.refutation.Claim.{Claim}
+use Rattle.krieg_refutation.specs.declared.refutation.Claim.{Claim}
 
 is_stored : (o : Option (Option (Rattle.krieg_board.specs.declared.men.Move.Move))) → is_loss o ≡ true → o ≡ Some None
 is_stored None e = absurd (both_ways false refl e)

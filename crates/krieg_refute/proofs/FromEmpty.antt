@@ -4,7 +4,7 @@ use Rattle.std.proofs.lemmas.List.Elements.{All-nil, All-same}
 use Rattle.krieg_refute.proofs.Common.{Pos, Dialect, claimed, add_all, positions_in, reasons_in, AreFew, AreMany, Stands, chess, SetRows, SearchStop, Spent, Large, NoMemory, ClaimList, Draft, claims_over, claims_of, most_claims, most_claimed, pairs_in, IsClaimList, Claims, AreClaims}
 use Rattle.krieg_theory.specs.Sets.{In}
 use Rattle.krieg_claims.specs.Written as written
-use Rattle.krieg_refute.specs.declared.refutation.Claim.{Claim}
+use Rattle.krieg_refutation.specs.declared.refutation.Claim.{Claim}
 
 module _ (d : Dialect) (T : SetRows) (w : ClaimList) (ws : w.claims.items ≡ []) (ks : w.places.keys ≡ []) where
   nothing : pairs_in T w.places.keys ≡ []

@@ -12,7 +12,7 @@ use Rattle.krieg_claims.specs.Written as written
 use Rattle.krieg_claims.proofs.Standing.{stands_more}
 use Rattle.krieg_claims.proofs.Walking.{claims_more}
 use Rattle.krieg_game.proofs.ChessLaws.{chess_is_game}
-use Rattle.krieg_refute.specs.declared.refutation.Claim.{Claim}
+use Rattle.krieg_refutation.specs.declared.refutation.Claim.{Claim}
 
 module _ (d : Dialect) where
   -- the index of a pair that comes behind all others

@@ -8,7 +8,7 @@ use Rattle.krieg_costs.specs.Refutation.{Reason}
 use Rattle.krieg_claims.proofs.Adding.{all_more}
 use Rattle.krieg_claims.proofs.Walking.{walks_try, reasons_keep}
 use Rattle.krieg_game.proofs.ChessLaws.{chess_is_game}
-use Rattle.krieg_refute.specs.declared.refutation.Reason.{Reason as Reason'}
+use Rattle.krieg_refutation.specs.declared.refutation.Reason.{Reason as Reason'}
 
 module _ (d : Dialect) where
   abbrev pub told : List (List Pos × ℕ) → ℕ → List Pos → List Move → List (Move × Reason Key)

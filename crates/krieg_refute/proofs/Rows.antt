@@ -7,7 +7,7 @@ use Rattle.krieg_accounts.proofs.TryWalk.{legal_at}
 use Rattle.krieg_game.proofs.ChessLaws.{chess_is_game}
 use Rattle.krieg_search.proofs.Adding.{adds_then}
 use Rattle.krieg_search.proofs.Noted.{more_block}
-use Rattle.krieg_refute.specs.declared.refutation.Reason.{Reason as Reason'}
+use Rattle.krieg_refutation.specs.declared.refutation.Reason.{Reason as Reason'}
 use Rattle.krieg_refute.proofs.Blocking.{same_pairs}
 use Rattle.krieg_refute.proofs.Carrying.{AreTooMany}
 

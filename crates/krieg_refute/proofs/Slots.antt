@@ -2,7 +2,7 @@
 use Rattle.std.proofs.Common.{◌≡◌, ℕ, zero, suc, ◌<◌, List, [], ◌∷◌, ◌++◌, length, set, map, slice_index_or, Option, Some, None, refl, ap, ◌∙◌, arith}
 use Rattle.krieg_refute.proofs.Common.{Pos, SetRows, sets, set_at, SetPlace, Here, set_in, HaveSets}
 use Rattle.krieg_refute.specs.declared.claims.SetPlace.TheVariants.{In}
-use Rattle.krieg_refute.specs.declared.refutation.Claim.{Claim}
+use Rattle.krieg_refutation.specs.declared.refutation.Claim.{Claim}
 
 pub none_taken : (Bs : List (List Pos)) → map (set_in []) (map (λ B. Here B) Bs) ≡ map Some Bs
 none_taken [] = refl

@@ -25,11 +25,11 @@ use Rattle.krieg_search.specs.declared.openings.Opening.{Opening}
 use Rattle.krieg_search.specs.Openings.{AddsSets}
 use Rattle.krieg_search.specs.declared.notes.Question.{Question}
 use Rattle.krieg_refute.specs.declared.claiming.ClaimList.{ClaimList}
-use Rattle.krieg_refute.specs.declared.refutation.Claim.{Claim}
-use Rattle.krieg_refute.specs.declared.refutation.Reason.{Reason as Reason'}
-use Rattle.krieg_refute.specs.declared.refutation.Why.{Why}
+use Rattle.krieg_refutation.specs.declared.refutation.Claim.{Claim}
+use Rattle.krieg_refutation.specs.declared.refutation.Reason.{Reason as Reason'}
+use Rattle.krieg_refutation.specs.declared.refutation.Why.{Why}
 use Rattle.krieg_refute.specs.Drafts.{claims_over, AreWithin}
-use Rattle.krieg_refute.specs.Refutations.{why_of, reason_of, claims_of, most_claims, most_claimed}
+use Rattle.krieg_refutation.specs.Refutations.{why_of, reason_of, claims_of, most_claims, most_claimed}
 
 -- the set is stored as one that cannot be won within the number
 abbrev pub IsLost : SetRows → List Pos → ℕ → Type 0

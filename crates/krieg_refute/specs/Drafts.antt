@@ -7,7 +7,7 @@ use Rattle.krieg_table.specs.SetRows.{SetRows, sets, set_at}
 use Rattle.krieg_refute.specs.declared.claims.Draft.{Draft}
 use Rattle.krieg_refute.specs.declared.claims.SetPlace.{SetPlace}
 use Rattle.krieg_refute.specs.declared.claims.SetPlace.TheVariants.{Here, In}
-use Rattle.krieg_refute.specs.declared.refutation.Claim.{Claim}
+use Rattle.krieg_refutation.specs.declared.refutation.Claim.{Claim}
 
 -- the claim of the set with that number
 abbrev pub claim_over : SetRows → Draft → Claim

@@ -15,10 +15,10 @@ use Rattle.krieg_parting.specs.Turns.{IsOwnTurn, IsOthersTurn}
 use Rattle.krieg_search.specs.declared.stop.SearchStop.{SearchStop}
 use Rattle.krieg_search.specs.declared.stop.SearchStop.TheVariants.{Spent, Large, NoMemory}
 use Rattle.krieg_search.specs.Decision.{IsAccount, IsBetween}
-use Rattle.krieg_refute.specs.declared.refutation.Claim.{Claim}
+use Rattle.krieg_refutation.specs.declared.refutation.Claim.{Claim}
 use Rattle.krieg_refute.specs.declared.refuting.Denied.{Denied}
 use Rattle.krieg_refute.specs.declared.refuting.Denied.TheVariants.{Denial, Exists}
-use Rattle.krieg_refute.specs.Refutations.{claims_of, most_claims, most_claimed}
+use Rattle.krieg_refutation.specs.Refutations.{claims_of, most_claims, most_claimed}
 
 -- the side that is to move in the first member
 abbrev pub side_of : List Pos → Side

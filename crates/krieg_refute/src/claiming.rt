@@ -18,21 +18,19 @@ ghost use Rattle.krieg_search.specs.Remainders.{IsRemainder};
 ghost use Rattle.krieg_search.specs.Notes.{IsBlock, IsRow, AreNotes};
 ghost use Rattle.krieg_refute.specs.Blocking.{HasBlock, HasRow, IsNoted};
 ghost use Rattle.krieg_refute.specs.Claiming.{at_once_reason, IsLost, IsFirstLost, IsClaimList, IsNext, IsPushed, Claims, Reasons, Blocks};
-ghost use Rattle.krieg_refute.specs.Refutations.{why_of, reason_of, most_claims, most_claimed};
+ghost use Rattle.krieg_refutation.specs.Refutations.{why_of, reason_of, most_claims, most_claimed};
 ghost use Rattle.krieg_search.specs.Stretches.{AreCounted};
 
 use crate::claims::Draft;
-use crate::refutation::{MOST_CLAIMED, MOST_CLAIMS, Reason, Why};
 use indexmap::IndexSet;
 use krieg_board::{Move, NoMemory, Units};
 use krieg_game::Class;
 use krieg_moves::{after_if_legal, is_mate};
 use krieg_pack::{Belief, Packed, unpack};
 use krieg_parting::PartStop;
-use krieg_search::{
-    Block, Note, Notes, PackedKey, Question, Remainder, SearchStop, Way, left_by, number_of,
-};
-use krieg_split::tries;
+use krieg_refutation::{MOST_CLAIMED, MOST_CLAIMS, Reason, Why};
+use krieg_search::{Block, Note, Notes, Question, Remainder, SearchStop, Way, left_by, number_of};
+use krieg_split::{PackedKey, tries};
 use krieg_table::{SetResult, Table};
 use std::alloc::Global;
 

@@ -3,9 +3,9 @@ ghost use Rattle.krieg_table.specs.SetRows.{SetRows, sets};
 ghost use Rattle.krieg_refute.specs.Drafts.{claim_over, claims_over, AreWithin, HaveSets, set_in};
 ghost use Rattle.krieg_refute.specs.declared.claims.SetPlace.TheVariants as SetPlace;
 
-use crate::refutation::{Claim, Reason};
 use krieg_board::NoMemory;
 use krieg_pack::Belief;
+use krieg_refutation::{Claim, Reason};
 use krieg_table::Table;
 use std::alloc::Global;
 use std::mem;

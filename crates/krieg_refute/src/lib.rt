@@ -1,20 +1,13 @@
-//! Refutations: claims, each shown by those before it, that no plan mates within a number of moves.
+//! The claims that no plan mates a set of positions within a number of moves, read from what a search leaves; or that some plan does.
 //!
-//! `refute` writes the claims that no plan mates a set of positions, or finds that some plan does; `deny` looks whether a
-//! refutation holds, whoever wrote it. A claim says of a set that it cannot be won within a number of moves, for a reason
-//! at each try: with one move left the try does not mate everywhere; it stalemates somewhere; or an earlier claim denies
-//! what is possible after something that may be heard, or denies the members that refuse the try.
+//! `refute` answers in the claims of krieg_refutation, which has a check of them that knows nothing of a search. What it answers and
+//! takes stands in `RefuteAnswers` of `specs/`; which claims it writes says krieg_claims. `Drafts`, `Claiming` and `Blocking` are parts
+//! of the work.
 //!
-//! What makes a refutation hold stands in `Refutations` of `specs/`, in the terms of krieg_costs, and what `refute` answers
-//! and takes in `RefuteAnswers`; which claims it writes says krieg_claims. `TryResults`, `Reasons`, `Drafts`, `Claiming` and `Blocking`
-//! are parts of the work.
-//!
-//! `refute` searches by krieg_search and reads its table, in which each lost set has what blocks its tries, and nothing is
+//! It searches by krieg_search and reads its table, in which each lost set has what blocks its tries, and nothing is
 //! searched twice. The search notes what blocks them where more than one move is left; what it has not noted is found by one
 //! split more. `claiming` walks that table, each set behind those that it stands on. The sets of the claims that it gives are
 //! moved out of the table by `claims`, and the rest of the table is let go.
-//! `deny` takes nothing for granted: it makes each try in each claim's set. Where one move is left nothing that is heard
-//! matters: then both look only at what lives, and at what refuses the try, and all tries of a set are counted at once.
 //!
 //! ```
 //! let mut units = Units::new(81);
@@ -31,14 +24,7 @@
 
 mod claiming;
 mod claims;
-mod denial;
-mod reasons;
-mod refutation;
 mod refuting;
-mod try_result;
 
-pub use denial::deny;
-pub use krieg_parting::PartStop as DenyStop;
-pub use krieg_search::{PackedKey, SearchStop as RefuteStop};
-pub use refutation::{Claim, MOST_CLAIMED, MOST_CLAIMS, Reason, Refutation, Why};
+pub use krieg_search::SearchStop as RefuteStop;
 pub use refuting::{Denied, refute};

@@ -5,7 +5,7 @@ ghost use Rattle.krieg_table.specs.SetRows.{set_at};
 ghost use Rattle.krieg_search.specs.WonSets.{IsPaidFor};
 ghost use Rattle.krieg_search.specs.Openings.{AreNumbered};
 ghost use Rattle.krieg_search.specs.Notes.{AreNotes};
-ghost use Rattle.krieg_refute.specs.declared.refutation.Claim.{Claim};
+ghost use Rattle.krieg_refutation.specs.declared.refutation.Claim.{Claim};
 ghost use Rattle.krieg_refute.specs.Drafts.{claims_over, AreWithin};
 ghost use Rattle.krieg_refute.specs.RefuteAnswers as side;
 ghost use Rattle.krieg_refute.specs.RefuteAnswers.{IsOneSide, IsDenied, IsTaken};
@@ -13,10 +13,10 @@ ghost use Rattle.krieg_refute.specs.Claiming.{IsClaimList, IsLost, is_lost_openi
 
 use crate::claiming::{ClaimList, Setting, claim, is_lost};
 use crate::claims::{Draft, claims_of};
-use crate::refutation::Claim;
 use indexmap::IndexSet;
 use krieg_board::{MOST_MOVES, Side, Units};
 use krieg_pack::Belief;
+use krieg_refutation::Claim;
 use krieg_search::decide::{Decision, Findings, decide};
 use krieg_search::{Notes, Opening, Question, SearchStop, Way};
 use krieg_table::Table;

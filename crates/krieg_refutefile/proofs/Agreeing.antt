@@ -1,4 +1,4 @@
--- What is said of the state of a refutation is what krieg_refute says of the refutation.
+-- What is said of the state of a refutation is what krieg_refutation says of the refutation.
 use Rattle.std.proofs.Common.{◌≡◌, ℕ, true, ◌+◌, List, [], ◌∷◌, map, length, refl, ap}
 use Rattle.std.specs.Prelude.{◌&&◌}
 use Rattle.std.specs.List.{list_all}

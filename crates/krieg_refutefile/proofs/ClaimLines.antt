@@ -8,8 +8,8 @@ use Rattle.krieg_text.proofs.Free.{above_less}
 use Rattle.krieg_text.proofs.LineTexts.{line_append}
 use Rattle.krieg_text.proofs.NameLemmas.{cut_again, cut_spells}
 use Rattle.krieg_text.proofs.Numbers.{between_spells, between_again}
-use Rattle.krieg_words.proofs.CleanWords.{above_free}
-use Rattle.krieg_words.proofs.PartLaws.{Free}
+use Rattle.krieg_wordtext.proofs.CleanWords.{above_free}
+use Rattle.krieg_wordtext.proofs.PartLaws.{Free}
 use Rattle.krieg_format.proofs.Judged.{IsLine}
 use Rattle.krieg_format.proofs.Leaves.{formed_law}
 use Rattle.krieg_format.proofs.Writing.{IsWritten}

@@ -35,9 +35,9 @@ pub use Rattle.krieg_format.specs.Readers.{reader, repeated}
 pub use Rattle.krieg_format.specs.Tables.{table}
 pub use Rattle.krieg_format.specs.Written.{EachFits, Fits, each_text, written}
 pub use Rattle.krieg_words.specs.Dialects.{unnamed_dialect}
-unfoldable pub use Rattle.krieg_words.specs.Versions.{dialect_form}
-pub use Rattle.krieg_words.specs.Versions.{dialect_line}
-unfoldable pub use Rattle.krieg_words.specs.WordsText.{words_text}
+unfoldable pub use Rattle.krieg_wordtext.specs.Versions.{dialect_form}
+pub use Rattle.krieg_wordtext.specs.Versions.{dialect_line}
+unfoldable pub use Rattle.krieg_wordtext.specs.WordsText.{words_text}
 pub use Rattle.krieg_words.specs.declared.dialects.Dialect.{Dialect}
 pub use Rattle.krieg_words.specs.declared.dialects.Dialect.TheVariants.{Anytry, Wild16}
 pub use Rattle.krieg_theory.specs.Sets.{Ascending, In, IsOrder}
@@ -52,13 +52,13 @@ pub use Rattle.krieg_game.specs.Keys.{Key}
 pub use Rattle.krieg_game.specs.Outset.{outset}
 pub use Rattle.krieg_planfile.specs.NodeForms.{follows, key_in}
 pub use Rattle.krieg_planfile.specs.PlanFiles.{AreAlike}
-pub use Rattle.krieg_refute.specs.Refutations.{claim_of, claims_of, claims_price, is_own_turn, reason_of, refutes, why_of}
-pub use Rattle.krieg_refute.specs.declared.refutation.Claim.{Claim}
-pub use Rattle.krieg_refute.specs.declared.refutation.Reason.{Reason}
-pub use Rattle.krieg_refute.specs.declared.refutation.Refutation.{Refutation}
-pub use Rattle.krieg_refute.specs.declared.refutation.TheConstants.{MOST_CLAIMED, MOST_CLAIMS}
-pub use Rattle.krieg_refute.specs.declared.refutation.Why.{Why}
-pub use Rattle.krieg_refute.specs.declared.refutation.Why.TheVariants.{Class, Lives, Refused, Stale}
+pub use Rattle.krieg_refutation.specs.Refutations.{claim_of, claims_of, claims_price, is_own_turn, reason_of, refutes, why_of}
+pub use Rattle.krieg_refutation.specs.declared.refutation.Claim.{Claim}
+pub use Rattle.krieg_refutation.specs.declared.refutation.Reason.{Reason}
+pub use Rattle.krieg_refutation.specs.declared.refutation.Refutation.{Refutation}
+pub use Rattle.krieg_refutation.specs.declared.refutation.TheConstants.{MOST_CLAIMED, MOST_CLAIMS}
+pub use Rattle.krieg_refutation.specs.declared.refutation.Why.{Why}
+pub use Rattle.krieg_refutation.specs.declared.refutation.Why.TheVariants.{Class, Lives, Refused, Stale}
 unfoldable pub use Rattle.krieg_refutefile.specs.LineForms.{claim_form, reason_form}
 pub use Rattle.krieg_refutefile.specs.LineForms.{both_numbers, citing_form, claim_line, class_form, class_with, numbered, place_form, reason_by, reason_line, sizes_by, sizes_form, why_form, why_pieces}
 pub use Rattle.krieg_refutefile.specs.Parts.{AreTold, IsTold, claim_at, claim_lines, claims_at, head_lines, last_in, last_move, list_at, listed_at, member_at, reason_at, reasons_at, set_at, totals_of}

@@ -13,7 +13,7 @@ use Rattle.krieg_text.proofs.NameLemmas.{behind_again, behind_spells, cut_again,
 use Rattle.krieg_text.proofs.Numbers.{between_spells, between_again}
 use Rattle.krieg_fen.proofs.CleanTexts.{move_above, move_line}
 use Rattle.krieg_fen.proofs.MoveTexts.{move_spells, move_again}
-use Rattle.krieg_words.proofs.CleanWords.{words_above, above_free}
+use Rattle.krieg_wordtext.proofs.CleanWords.{words_above, above_free}
 use Rattle.krieg_planfile.proofs.KeyForms.{key_spells, key_again}
 use Rattle.krieg_format.proofs.Judged.{IsLine, Sample}
 use Rattle.krieg_format.proofs.Leaves.{formed_law, formed_some}

@@ -5,7 +5,7 @@ use Rattle.krieg_refutefile.proofs.Common.{Pos, Side, White, TextFault, TextKind
 use Rattle.krieg_text.proofs.FormSpellings.{number_read}
 use Rattle.krieg_fen.proofs.FormSpellings.{positions, side_spells, side_again}
 use Rattle.krieg_fen.proofs.ListGrammars.{lone_kings, kings_valid, written_form}
-use Rattle.krieg_words.proofs.VersionSpellings.{line_is, line_read}
+use Rattle.krieg_wordtext.proofs.VersionSpellings.{line_is, line_read}
 use Rattle.krieg_format.proofs.Judged.{IsLine, Sample, each_length}
 use Rattle.krieg_format.proofs.Leaves.{IsBeyond, formed_law, formed_some, literal_law, number_law, tested_law, which_law, telling_law}
 use Rattle.krieg_format.proofs.Reading.{Owes, format_reading}

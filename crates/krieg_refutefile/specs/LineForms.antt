@@ -14,14 +14,14 @@ use Rattle.krieg_text.specs.Names.{behind, cut, cut_last}
 use Rattle.krieg_text.specs.Outcomes.{◌>>=◌}
 use Rattle.krieg_text.specs.Writing.{Pieces}
 use Rattle.krieg_fen.specs.MoveText.{move_of, move_text}
-use Rattle.krieg_words.specs.WordsText.{words_text}
+use Rattle.krieg_wordtext.specs.WordsText.{words_text}
 use Rattle.krieg_words.specs.declared.dialects.Dialect.{Dialect}
 use Rattle.krieg_game.specs.Keys.{Key}
 use Rattle.krieg_planfile.specs.NodeForms.{key_in}
-use Rattle.krieg_refute.specs.declared.refutation.TheConstants.{MOST_CLAIMS, MOST_CLAIMED}
-use Rattle.krieg_refute.specs.declared.refutation.Why.{Why}
-use Rattle.krieg_refute.specs.declared.refutation.Why.TheVariants.{Lives, Stale, Class, Refused}
-use Rattle.krieg_refute.specs.declared.refutation.Reason.{Reason}
+use Rattle.krieg_refutation.specs.declared.refutation.TheConstants.{MOST_CLAIMS, MOST_CLAIMED}
+use Rattle.krieg_refutation.specs.declared.refutation.Why.{Why}
+use Rattle.krieg_refutation.specs.declared.refutation.Why.TheVariants.{Lives, Stale, Class, Refused}
+use Rattle.krieg_refutation.specs.declared.refutation.Reason.{Reason}
 
 -- ---- the line of a claim
 

@@ -9,10 +9,10 @@ use Rattle.krieg_text.specs.Outcomes.{◌>>=◌}
 use Rattle.krieg_text.specs.Writing.{Pieces, alone}
 use Rattle.krieg_fen.specs.Forms.{side_line}
 use Rattle.krieg_fen.specs.ListText.{position_line}
-use Rattle.krieg_words.specs.Versions.{dialect_line}
+use Rattle.krieg_wordtext.specs.Versions.{dialect_line}
 use Rattle.krieg_text.specs.Reading.{LineReader, taken}
 use Rattle.krieg_words.specs.declared.dialects.Dialect.{Dialect}
-use Rattle.krieg_refute.specs.declared.refutation.Reason.{Reason}
+use Rattle.krieg_refutation.specs.declared.refutation.Reason.{Reason}
 use Rattle.krieg_format.specs.Lines.{tested}
 use Rattle.krieg_format.specs.Descriptions.{line}
 use Rattle.krieg_format.specs.Readers.{repeated, reader}

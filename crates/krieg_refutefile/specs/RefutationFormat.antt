@@ -7,7 +7,7 @@ use Rattle.krieg_text.specs.Languages.{Language, One, Any, ◌⨾◌}
 use Rattle.krieg_text.specs.Reading.{LineReader}
 use Rattle.krieg_fen.specs.Forms.{side_form, position_form}
 use Rattle.krieg_words.specs.declared.dialects.Dialect.{Dialect}
-use Rattle.krieg_refute.specs.declared.refutation.Reason.{Reason}
+use Rattle.krieg_refutation.specs.declared.refutation.Reason.{Reason}
 use Rattle.krieg_format.specs.Lines.{tested, which, telling}
 use Rattle.krieg_format.specs.Descriptions.{Format, line, told, counted, also, made, times, Power}
 use Rattle.krieg_format.specs.Readers.{reader}

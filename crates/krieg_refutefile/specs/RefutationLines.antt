@@ -18,13 +18,13 @@ use Rattle.krieg_fen.specs.Forms.{side_line, side_form, position_form, has_turn}
 use Rattle.krieg_fen.specs.ListText.{position_line}
 use Rattle.krieg_fen.specs.Spelling.{Spells}
 use Rattle.krieg_words.specs.declared.dialects.Dialect.{Dialect}
-use Rattle.krieg_words.specs.Versions.{dialect_form, dialect_line}
+use Rattle.krieg_wordtext.specs.Versions.{dialect_form, dialect_line}
 use Rattle.krieg_pack.specs.Order.{position_lt}
 use Rattle.krieg_planfile.specs.NodeForms.{follows}
-use Rattle.krieg_refute.specs.declared.refutation.TheConstants.{MOST_CLAIMS, MOST_CLAIMED}
-use Rattle.krieg_refute.specs.declared.refutation.Why.{Why}
-use Rattle.krieg_refute.specs.declared.refutation.Why.TheVariants.{Lives, Stale, Class, Refused}
-use Rattle.krieg_refute.specs.declared.refutation.Reason.{Reason}
+use Rattle.krieg_refutation.specs.declared.refutation.TheConstants.{MOST_CLAIMS, MOST_CLAIMED}
+use Rattle.krieg_refutation.specs.declared.refutation.Why.{Why}
+use Rattle.krieg_refutation.specs.declared.refutation.Why.TheVariants.{Lives, Stale, Class, Refused}
+use Rattle.krieg_refutation.specs.declared.refutation.Reason.{Reason}
 use Rattle.krieg_format.specs.Lines.{Line, formed, number_line, literal}
 use Rattle.krieg_refutefile.specs.Refutations.{ClaimState}
 use Rattle.krieg_refutefile.specs.Writable.{IsToldReason}

@@ -14,12 +14,12 @@ use Rattle.krieg_costs.specs.Refutation.{ByLife, ByStalemate, ByClass, ByRefused
 use Rattle.krieg_game.specs.Keys.{Key}
 use Rattle.krieg_game.specs.Chess.{chess}
 use Rattle.krieg_game.specs.Outset.{outset}
-use Rattle.krieg_refute.specs.Refutations.{reason_of}
-use Rattle.krieg_refute.specs.declared.refutation.Why.{Why}
-use Rattle.krieg_refute.specs.declared.refutation.Why.TheVariants.{Lives, Stale, Class, Refused}
-use Rattle.krieg_refute.specs.declared.refutation.Reason.{Reason}
-use Rattle.krieg_refute.specs.declared.refutation.Claim.{Claim}
-use Rattle.krieg_refute.specs.declared.refutation.Refutation.{Refutation}
+use Rattle.krieg_refutation.specs.Refutations.{reason_of}
+use Rattle.krieg_refutation.specs.declared.refutation.Why.{Why}
+use Rattle.krieg_refutation.specs.declared.refutation.Why.TheVariants.{Lives, Stale, Class, Refused}
+use Rattle.krieg_refutation.specs.declared.refutation.Reason.{Reason}
+use Rattle.krieg_refutation.specs.declared.refutation.Claim.{Claim}
+use Rattle.krieg_refutation.specs.declared.refutation.Refutation.{Refutation}
 use Rattle.krieg_refutefile.specs.declared.writing.Denial.{Denial}
 
 -- the number of moves, the set, and the reasons why no try wins all of it within them

@@ -15,10 +15,10 @@ use Rattle.krieg_theory.specs.Sets.{Ascending}
 use Rattle.krieg_costs.specs.Sums.{total}
 use Rattle.krieg_planfile.specs.NodeText.{IsToldIn}
 use Rattle.krieg_planfile.specs.PlanFiles.{AreAlike}
-use Rattle.krieg_refute.specs.declared.refutation.TheConstants.{MOST_CLAIMS, MOST_CLAIMED}
-use Rattle.krieg_refute.specs.declared.refutation.Why.{Why}
-use Rattle.krieg_refute.specs.declared.refutation.Why.TheVariants.{Lives, Stale, Class, Refused}
-use Rattle.krieg_refute.specs.declared.refutation.Reason.{Reason}
+use Rattle.krieg_refutation.specs.declared.refutation.TheConstants.{MOST_CLAIMS, MOST_CLAIMED}
+use Rattle.krieg_refutation.specs.declared.refutation.Why.{Why}
+use Rattle.krieg_refutation.specs.declared.refutation.Why.TheVariants.{Lives, Stale, Class, Refused}
+use Rattle.krieg_refutation.specs.declared.refutation.Reason.{Reason}
 use Rattle.krieg_refutefile.specs.Refutations.{ClaimState, RefutationState}
 
 -- ---- reasons

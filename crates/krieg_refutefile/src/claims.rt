@@ -1,6 +1,6 @@
 ghost use Rattle.std.specs.Prelude.{◌≡◌, ◌<◌, ◌≤◌, ◌+◌, ◌^◌, nat_le, map, length};
 ghost use Rattle.std.specs.Option.{option_copied, option_map};
-ghost use Rattle.krieg_refute.specs.declared.refutation.Reason.{Reason as ReasonState};
+ghost use Rattle.krieg_refutation.specs.declared.refutation.Reason.{Reason as ReasonState};
 ghost use Rattle.krieg_board.specs.Order.{move_lt};
 ghost use Rattle.krieg_planfile.specs.NodeForms.{follows};
 ghost use Rattle.krieg_format.specs.Lines.{with_test, tested};
@@ -15,7 +15,7 @@ use crate::forms::{Sizes, claim_form, reason_form};
 use krieg_board::{Move, Position};
 use krieg_fen::position_form;
 use krieg_pack::{Belief, Packed, pack};
-use krieg_refute::{Claim, MOST_CLAIMED, Reason, Why};
+use krieg_refutation::{Claim, MOST_CLAIMED, Reason, Why};
 use krieg_text::{LineSource, OwnedCursor, TextFault, TextKind, count_form};
 use krieg_words::Dialect;
 use std::alloc::Global;

@@ -6,7 +6,7 @@ ghost use Rattle.krieg_refutefile.specs.LineForms as spec;
 use krieg_board::{MOST_MOVES, Move};
 use krieg_fen::read_move;
 use krieg_planfile::key_in;
-use krieg_refute::{MOST_CLAIMED, MOST_CLAIMS, PackedKey, Reason, Why};
+use krieg_refutation::{MOST_CLAIMED, MOST_CLAIMS, PackedKey, Reason, Why};
 use krieg_text::{NumberFault, TextKind, behind, cut, cut_last, is_name, read_number_between};
 use krieg_words::{Dialect, Words};
 

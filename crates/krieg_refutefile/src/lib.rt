@@ -1,9 +1,9 @@
-//! The text of refutations, which krieg_refute writes and checks: files that show that no plan mates.
+//! The text of refutations, which krieg_refute writes and krieg_refutation checks: files that show that no plan mates.
 //!
 //! A file names the dialect and the player's side, says within how many own moves no plan mates, and lists the positions.
 //! Then come claims, each with a number of moves, the positions of a set, and a reason for each try why it does not win all
 //! of the set within that number. A reason may cite a claim before its own. Reading asks for the form alone, that positions
-//! and moves ascend, and that what is cited stands before; whether the claims hold is for `deny` of krieg_refute.
+//! and moves ascend, and that what is cited stands before; whether the claims hold is for `deny` of krieg_refutation.
 //!
 //! The rules are the definitions of `specs/`: what a refutation is to contracts and when it refutes (`Refutations`), which
 //! have a text (`Writable`), the forms of the lines of a claim and how they are written (`LineForms`), and the format,

@@ -13,9 +13,10 @@ use crate::claims::read_claims;
 use krieg_board::{MOST_MOVES, Position, Side};
 use krieg_fen::{Turn, read_list_line, read_listed, read_side};
 use krieg_pack::{Packed, pack};
-use krieg_refute::{Claim, MOST_CLAIMS, Refutation};
+use krieg_refutation::{Claim, MOST_CLAIMS, Refutation};
 use krieg_text::{LineSource, OwnedCursor, TextFault, read_count, read_version, read_word};
-use krieg_words::{Dialect, read_dialect_line};
+use krieg_words::Dialect;
+use krieg_wordtext::read_dialect_line;
 use std::alloc::Global;
 
 // ---- what stands before the listed positions

@@ -5,7 +5,7 @@ ghost use Rattle.krieg_text.specs.Reading.{whole};
 ghost use Rattle.krieg_text.specs.Writing.{PutsPieces, PutsLines, Wrote, alone, put_lines};
 ghost use Rattle.krieg_fen.specs.ListText.{position_line};
 ghost use Rattle.krieg_words.specs.ToldWords.{Fits};
-ghost use Rattle.krieg_refute.specs.declared.refutation.Why.TheVariants.{Class};
+ghost use Rattle.krieg_refutation.specs.declared.refutation.Why.TheVariants.{Class};
 ghost use Rattle.krieg_refutefile.specs.RefutationFormat.{refutation_at};
 ghost use Rattle.krieg_refutefile.specs.LineForms as line;
 ghost use Rattle.krieg_refutefile.specs.RefutationText as spec;
@@ -18,9 +18,10 @@ use crate::pieces::Pieces;
 use krieg_board::{NoMemory, Side};
 use krieg_fen::{Ranks, put_move, put_next, put_side_line};
 use krieg_pack::{Belief, Packed, unpack};
-use krieg_refute::{Claim, PackedKey, Reason, Why};
+use krieg_refutation::{Claim, PackedKey, Reason, Why};
 use krieg_text::{Text, put_number};
-use krieg_words::{Dialect, put_dialect_line, put_words_in};
+use krieg_words::Dialect;
+use krieg_wordtext::{put_dialect_line, put_words_in};
 use std::alloc::Global;
 
 /// That no plan of the side mates all members of the set within so many own moves, with the claims that show it. It is given away to be

@@ -9,13 +9,13 @@ pub use Rattle.krieg_board.specs.declared.men.Side.TheVariants.{Black, White}
 unfoldable pub use Rattle.krieg_moves.specs.After.{after}
 unfoldable pub use Rattle.krieg_moves.specs.Legal.{is_legal}
 unfoldable pub use Rattle.krieg_moves.specs.Moves.{all_moves, in_check, is_ended, is_mate, is_stalemate, moves}
-pub use Rattle.krieg_words.specs.Line.{told_line}
+pub use Rattle.krieg_wordtext.specs.Line.{told_line}
 pub use Rattle.krieg_words.specs.ToldWords.{told}
 pub use Rattle.krieg_words.specs.Words.{Said}
 unfoldable pub use Rattle.krieg_words.specs.WordsOfMoves.{opening, words}
 pub use Rattle.krieg_words.specs.declared.dialects.Dialect.{Dialect}
-pub use Rattle.krieg_words.specs.declared.line.Line.{Line}
-pub use Rattle.krieg_words.specs.declared.line.Line.TheVariants.{Opens}
+pub use Rattle.krieg_wordtext.specs.declared.line.Line.{Line}
+pub use Rattle.krieg_wordtext.specs.declared.line.Line.TheVariants.{Opens}
 pub use Rattle.krieg_words.specs.declared.words.End.TheVariants.{Mate, Stalemate}
 pub use Rattle.krieg_umpire.specs.Games.{GameState, judge, judged, last}
 pub use Rattle.krieg_umpire.specs.Hearing.{heard, line_for, lines_for, others_line, own_line}

@@ -4,7 +4,7 @@ use Rattle.std.specs.List.{cons_option}
 use Rattle.std.proofs.lemmas.List.{map-append, append-nil}
 use Rattle.std.proofs.lemmas.List.Elements.{filter_map-append}
 use Rattle.krieg_robot.proofs.Common.{Pos, Side, opening, told_line, Dialect, Line, judge, judged, last, heard, line_for, lines_for, Event, Judged}
-use Rattle.krieg_words.specs.declared.line.Line.TheVariants as line
+use Rattle.krieg_wordtext.specs.declared.line.Line.TheVariants as line
 use Rattle.krieg_play.proofs.Judging.{judge_end}
 
 cons_of : (o : Option Line) (ls : List Line) → cons_option o ls ≡ option_to_list o ++ ls

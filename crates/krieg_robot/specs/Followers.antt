@@ -5,7 +5,7 @@ use Rattle.krieg_board.specs.Men.{is_same_side}
 use Rattle.krieg_board.specs.Pos.{Pos}
 use Rattle.krieg_board.specs.declared.men.Move.{Move}
 use Rattle.krieg_board.specs.declared.men.Side.{Side}
-use Rattle.krieg_words.specs.declared.line.Line.{Line}
+use Rattle.krieg_wordtext.specs.declared.line.Line.{Line}
 use Rattle.krieg_seats.specs.Accounts.{Account, once_asked}
 use Rattle.krieg_seats.specs.declared.seat.Say.{Say}
 use Rattle.krieg_seats.specs.declared.seat.Say.TheVariants.{Try, Leave}

@@ -5,7 +5,7 @@ use Rattle.krieg_board.specs.Pos.{Pos}
 use Rattle.krieg_board.specs.declared.men.Move.{Move}
 use Rattle.krieg_board.specs.declared.men.Side.{Side}
 use Rattle.krieg_moves.specs.Moves.{is_ended, is_mate}
-use Rattle.krieg_words.specs.declared.line.Line.{Line}
+use Rattle.krieg_wordtext.specs.declared.line.Line.{Line}
 use Rattle.krieg_umpire.specs.Verdicts.{is_done}
 use Rattle.krieg_umpire.specs.Hearing.{heard}
 use Rattle.krieg_umpire.specs.Games.{GameState}

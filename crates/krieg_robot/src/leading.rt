@@ -14,7 +14,8 @@ use krieg_board::{NoMemory, Position};
 use krieg_moves::has_move;
 use krieg_seats::Seat;
 use krieg_umpire::{Game, Stop};
-use krieg_words::{Line, opening, told_line};
+use krieg_words::opening;
+use krieg_wordtext::{Line, told_line};
 use std::alloc::Global;
 
 /// Goes on until the game stops.

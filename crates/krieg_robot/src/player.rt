@@ -5,7 +5,7 @@ use krieg_board::{Position, Side};
 use krieg_play::{AskOutcome, Player};
 use krieg_seats::SeatFault;
 use krieg_umpire::Judged;
-use krieg_words::Line;
+use krieg_wordtext::Line;
 
 impl<G: Guide> Player for GuidedSeat<G> {
     ghost use Rattle.krieg_robot.specs.Turns.{AsksOwn, HearsOwn};

@@ -12,7 +12,7 @@ use crate::place::{Place, change_by, go, next_of, next_try};
 use krieg_board::{Move, Position, Side};
 use krieg_play::AskOutcome;
 use krieg_seats::{Say, Seat, SeatFault};
-use krieg_words::Line;
+use krieg_wordtext::Line;
 use std::alloc::Global;
 use std::marker::Model;
 

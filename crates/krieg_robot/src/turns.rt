@@ -10,7 +10,7 @@ use krieg_play as play;
 use krieg_play::PlayFault;
 use krieg_seats::Seat;
 use krieg_umpire::{Game, Judged};
-use krieg_words::Line;
+use krieg_wordtext::Line;
 
 /// The answer of two players, as that of a game that is led.
 fn led_answer<A>(answer: Result<A, PlayFault>) -> Result<A, LeadFault>

@@ -3,22 +3,18 @@ pub use Rattle.krieg_board.specs.Men.{is_same_side}
 pub use Rattle.krieg_board.specs.Pos.{Pos}
 pub use Rattle.krieg_board.specs.declared.men.Move.{Move}
 pub use Rattle.krieg_board.specs.declared.men.Side.{Side}
-unfoldable pub use Rattle.krieg_words.specs.WordNumbers.{words_number}
-pub use Rattle.krieg_words.specs.Words.{IsSaid, Said}
 pub use Rattle.krieg_words.specs.declared.dialects.Dialect.{Dialect}
 pub use Rattle.krieg_words.specs.declared.dialects.Dialect.TheVariants.{Wild16}
-pub use Rattle.krieg_words.specs.declared.word_numbers.TheConstants.{WORDS_LIMIT}
 pub use Rattle.krieg_theory.specs.Can.{begins, can, first_try}
 pub use Rattle.krieg_theory.specs.Laws.{BeginsIsWon, CanBegins, CanIsWon, CanPlanIsMated, CanonPlanIsComputed, CanonPlanIsLeast, CanonPlanIsOne, CanonPlanIsThere}
 pub use Rattle.krieg_theory.specs.Plans.{can_plan, is_over, opening_set, openings}
-pub use Rattle.krieg_theory.specs.Sets.{In, is_nil, same}
+pub use Rattle.krieg_theory.specs.Sets.{In, is_nil}
 pub use Rattle.krieg_theory.specs.Split.{class, keys, legal_in_some, refused, stale_in_some, tries}
 pub use Rattle.krieg_costs.specs.Backing.{floor_price}
 pub use Rattle.krieg_costs.specs.Block.{Lives, LostRefused, NoBlock, Stale, block, by_class, lives_in_some, pair_of}
 pub use Rattle.krieg_costs.specs.Cost.{first_made, made, price}
 pub use Rattle.krieg_costs.specs.Laws.{BackingIsLeast, FloorIsAtMostFresh, FreshIsAtMostCost, ReachIsLeast, RefutationExcludes}
 pub use Rattle.krieg_costs.specs.Reach.{fresh, reach_of}
-pub use Rattle.krieg_costs.specs.Refutation.{is_within}
 pub use Rattle.krieg_costs.specs.Sums.{IsOnce, once, total}
 pub use Rattle.krieg_accounts.specs.Answers.{AnswersSets, LostBelow, classes, opening_sets}
 pub use Rattle.krieg_accounts.specs.Charges.{charged}
@@ -28,8 +24,6 @@ pub use Rattle.krieg_accounts.specs.Stretch.{CoversPair, CoversSet, CoversSets, 
 pub use Rattle.krieg_pack.specs.Order.{position_lt}
 pub use Rattle.krieg_game.specs.Chess.{chess}
 pub use Rattle.krieg_game.specs.Classes.{class_pair}
-unfoldable pub use Rattle.krieg_game.specs.KeyNumbers.{key_at, key_number}
-pub use Rattle.krieg_game.specs.KeyNumbers.{AreSaid}
 pub use Rattle.krieg_game.specs.Keys.{Key, RootKey}
 unfoldable pub use Rattle.krieg_game.specs.Outset.{starts, waits}
 pub use Rattle.krieg_game.specs.Outset.{outset}
@@ -56,7 +50,6 @@ pub use Rattle.krieg_search.specs.Remainders.{FailsAtOnce, IsRemainder, Leaves}
 pub use Rattle.krieg_search.specs.LostParts.{HasLostPart}
 pub use Rattle.krieg_search.specs.Notes.{AreNotes, IsBlock, IsLostPart, IsRow, NoteState, Rows, items_of, notes_in, same_asked}
 pub use Rattle.krieg_search.specs.Openings.{AddsSets, AreAdded, AreNumbered, IsAdded, IsOpened, opening_in}
-pub use Rattle.krieg_search.specs.PackedKey.{IsPacked, bytes_of, number_of, unpacked}
 pub use Rattle.krieg_search.specs.Stretches.{AreCounted, IsAtWork, IsNumbered, IsReady, IsSearched, Stretches, TellsSet, TellsSets, TellsTry, sets_of}
 pub use Rattle.krieg_search.specs.Stops.{stop_of}
 pub use Rattle.krieg_search.specs.Tries.{IsTold, move_of}

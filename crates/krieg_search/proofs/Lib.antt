@@ -2,7 +2,6 @@ mod Common
 pub mod Searching
 pub mod Leaving
 pub mod Blocked
-mod PackedHeards
 pub mod Noted
 pub mod Telling
 pub mod Trying
@@ -11,7 +10,6 @@ mod Tries
 mod Numbers
 mod Noting
 pub mod NextNotes
-pub mod SetParts
 pub mod Checking
 mod Asking
 pub mod Adding

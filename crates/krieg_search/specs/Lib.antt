@@ -8,6 +8,5 @@ pub mod LostParts
 pub mod Notes
 pub mod Blocks
 pub mod Blockers
-pub mod PackedKey
 pub mod Stops
 pub mod Laws

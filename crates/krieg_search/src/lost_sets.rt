@@ -2,10 +2,10 @@ ghost use Rattle.std.specs.Prelude.{◌≡◌, ◌<◌, true};
 ghost use Rattle.krieg_search.specs.LostParts.{HasLostPart};
 
 use crate::way::Way;
-use crate::within::is_within;
 use indexmap::IndexMap;
 use krieg_board::{Position, Side};
 use krieg_pack::{Belief, Packed, unpack};
+use krieg_split::is_within;
 use krieg_table::Table;
 use std::alloc::Global;
 

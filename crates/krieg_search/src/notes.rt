@@ -3,9 +3,9 @@ ghost use Rattle.krieg_words.specs.declared.dialects.Dialect.{Dialect};
 ghost use Rattle.krieg_table.specs.SetRows.{SetRows};
 ghost use Rattle.krieg_search.specs.Notes.{AreNotes, IsRow, row_of, items_of};
 
-use crate::packed_key::PackedKey;
 use indexmap::IndexMap;
 use krieg_board::{Move, NoMemory};
+use krieg_split::PackedKey;
 use std::alloc::Global;
 use std::marker::Model;
 

@@ -16,7 +16,6 @@ use crate::blockers::{Blocker, Blockers};
 use crate::lost_sets::LostSets;
 use crate::notes::{Block, Notes, add};
 use crate::number::number_of;
-use crate::packed_key::PackedKey;
 use crate::remainder::{Remainder, is_cut, left_of, squares_for};
 use crate::stop::SearchStop;
 use crate::try_list::{Try, move_of_try, tries_for};
@@ -24,6 +23,7 @@ use crate::way::Way;
 use krieg_board::{Move, NoMemory, Units};
 use krieg_game::Class;
 use krieg_sight::{Sight, some_is_no_mate};
+use krieg_split::PackedKey;
 use krieg_table::{OpenSet, SetResult, Table};
 
 /// A search goes so many levels deep at most, which take less than 6 MB of the stack.

@@ -2,7 +2,7 @@
 use Rattle.std.specs.Prelude.{◌≡◌, ℕ, ◌≤◌, List, [], ◌∷◌, ◌++◌, Result, Ok, Err}
 use Rattle.krieg_ports.specs.Faults.{one_more, Rose}
 use Rattle.krieg_board.specs.declared.men.Move.{Move}
-use Rattle.krieg_words.specs.declared.line.Line.{Line}
+use Rattle.krieg_wordtext.specs.declared.line.Line.{Line}
 use Rattle.krieg_seats.specs.declared.seat.Say.{Say}
 use Rattle.krieg_seats.specs.declared.seat.Say.TheVariants.{Try, Leave}
 use Rattle.krieg_seats.specs.declared.seat.SeatFault.{SeatFault}

@@ -7,7 +7,7 @@ ghost use Rattle.krieg_seats.specs.Scripts.{when_asked, after_asked, after_told,
 
 use crate::seat::{Say, Seat, SeatFault};
 use krieg_board::Move;
-use krieg_words::Line;
+use krieg_wordtext::Line;
 use std::alloc::Global;
 use std::marker::Model;
 

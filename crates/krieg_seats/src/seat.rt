@@ -3,7 +3,7 @@ ghost use Rattle.std.specs.Prelude.{◌≡◌};
 ghost use Rattle.krieg_seats.specs.Accounts.{Account, Asked, Told};
 
 use krieg_board::Move;
-use krieg_words::Line;
+use krieg_wordtext::Line;
 
 /// What a player says when he is asked.
 #[derive(Clone, Copy)]

@@ -5,7 +5,7 @@ ghost use Rattle.krieg_ports.specs.Bytes.{AppendsPrefix};
 ghost use Rattle.krieg_ports.specs.Faults.{one_more};
 ghost use Rattle.std.specs.Io.KnownBytes.{Appends};
 ghost use Rattle.krieg_text.specs.Lines.{ended_line};
-ghost use Rattle.krieg_words.specs.Line.{line_text};
+ghost use Rattle.krieg_wordtext.specs.Line.{line_text};
 ghost use Rattle.krieg_words.specs.declared.dialects.Dialect.TheVariants.{Wild16};
 ghost use Rattle.krieg_seats.specs.Accounts.{new_account, Asked, Told};
 ghost use Rattle.krieg_seats.specs.Saying.{lines_left, ReadsLine};
@@ -16,7 +16,7 @@ use crate::saying::next_say;
 use crate::seat::{Say, Seat, SeatFault};
 use krieg_board::Move;
 use krieg_ports::{Adapter, AdapterOut, Failed, write_all};
-use krieg_words::{Line, write_line};
+use krieg_wordtext::{Line, write_line};
 use std::alloc::Global;
 use std::io::{Read, Write};
 

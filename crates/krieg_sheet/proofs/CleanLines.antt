@@ -6,8 +6,8 @@ use Rattle.std.proofs.lemmas.List.Elements.{All-tail}
 use Rattle.krieg_sheet.proofs.Common.{MOST_LISTED, is_line, AreLines, position_text, list_head, Dialect, Line, Opens, Said, line_text, IsLine, version_lines, SheetState, IsTold, IsOpening, IsSheet, opens_lines}
 use Rattle.krieg_text.proofs.LineTexts.{line_above, lines_append}
 use Rattle.krieg_fen.proofs.CleanTexts.{positions_are, list_head_are}
-use Rattle.krieg_words.proofs.CleanWords as words
-use Rattle.krieg_words.proofs.VersionTexts.{version_are}
+use Rattle.krieg_wordtext.proofs.CleanWords as words
+use Rattle.krieg_wordtext.proofs.VersionTexts.{version_are}
 use Rattle.krieg_sheet.proofs.SheetTexts.{written_lines}
 
 line_line : (d : Dialect) (l : Line) → IsLine l → is_line (line_text d l) ≡ true

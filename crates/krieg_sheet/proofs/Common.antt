@@ -24,15 +24,15 @@ pub use Rattle.krieg_fen.specs.ListText.{position_line}
 pub use Rattle.krieg_fen.specs.Listing.{ListingGrammar, SpellList, SpellsListing, list_head}
 pub use Rattle.krieg_fen.specs.declared.forms.TheConstants.{MOST_LISTED}
 pub use Rattle.krieg_fen.specs.declared.forms.Turn.TheVariants.{Either}
-unfoldable pub use Rattle.krieg_words.specs.Line.{line_text}
-pub use Rattle.krieg_words.specs.Line.{IsLine, LineFits}
-unfoldable pub use Rattle.krieg_words.specs.LineReading.{line_in}
-unfoldable pub use Rattle.krieg_words.specs.Versions.{version_at}
-pub use Rattle.krieg_words.specs.Versions.{SpellVersion, version_lines}
+unfoldable pub use Rattle.krieg_wordtext.specs.Line.{line_text}
+pub use Rattle.krieg_wordtext.specs.Line.{IsLine, LineFits}
+unfoldable pub use Rattle.krieg_wordtext.specs.LineReading.{line_in}
+unfoldable pub use Rattle.krieg_wordtext.specs.Versions.{version_at}
+pub use Rattle.krieg_wordtext.specs.Versions.{SpellVersion, version_lines}
 pub use Rattle.krieg_words.specs.Words.{Said}
 pub use Rattle.krieg_words.specs.declared.dialects.Dialect.{Dialect}
-pub use Rattle.krieg_words.specs.declared.line.Line.{Line}
-pub use Rattle.krieg_words.specs.declared.line.Line.TheVariants.{Done, Early, Heard, Illegal, Opens, Over}
+pub use Rattle.krieg_wordtext.specs.declared.line.Line.{Line}
+pub use Rattle.krieg_wordtext.specs.declared.line.Line.TheVariants.{Done, Early, Heard, Illegal, Opens, Over}
 pub use Rattle.krieg_sheet.specs.Games.{IsConsistent}
 pub use Rattle.krieg_sheet.specs.Lists.{differs, list_fault, other_hand}
 pub use Rattle.krieg_sheet.specs.Places.{IsKept, IsOpening, IsSheet, IsTold, OpeningFits}

@@ -9,7 +9,7 @@ use Rattle.krieg_text.proofs.Formats.{reading_by}
 use Rattle.krieg_text.proofs.Grammars.{untold, KeepsTo, bind_keeps, then_keeps}
 use Rattle.krieg_fen.proofs.ListGrammars.{listing_keeps}
 use Rattle.krieg_text.proofs.LoopGrammars.{Goes, HasLoopForm, loop_keeps}
-use Rattle.krieg_words.proofs.VersionFormats.{version_keeps}
+use Rattle.krieg_wordtext.proofs.VersionFormats.{version_keeps}
 use Rattle.krieg_sheet.proofs.SheetsAgain.{spelled_again}
 use Rattle.krieg_sheet.proofs.SheetsSpell.{sheet_spells}
 

@@ -10,8 +10,8 @@ use Rattle.krieg_sheet.proofs.Common.{is_same_side, Pos, Side, TextFault, OutOfP
 use Rattle.krieg_fen.proofs.Listings.{listing_reads}
 use Rattle.krieg_text.proofs.Takings.{Read, read_whole, taken_again}
 use Rattle.krieg_text.proofs.LineTexts.{lines_again}
-use Rattle.krieg_words.proofs.VersionSpellings.{version_reads}
-use Rattle.krieg_words.proofs.LineLaws.{line_again}
+use Rattle.krieg_wordtext.proofs.VersionSpellings.{version_reads}
+use Rattle.krieg_wordtext.proofs.LineLaws.{line_again}
 use Rattle.krieg_sheet.proofs.Entering.{turn_behind_push, over_behind_push}
 use Rattle.krieg_sheet.proofs.Entries.{entries_last, entries_more}
 use Rattle.krieg_sheet.proofs.CleanLines.{sheet_are}

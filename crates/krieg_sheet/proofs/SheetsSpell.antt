@@ -10,8 +10,8 @@ use Rattle.krieg_sheet.proofs.Common.{Pos, Side, TextFault, TextKind, OutOfPlace
 use Rattle.krieg_text.proofs.Locality.{ok_is}
 use Rattle.krieg_fen.proofs.Listings.{listing_spells}
 use Rattle.krieg_text.proofs.Takings.{steps, whole_read}
-use Rattle.krieg_words.proofs.LineLaws.{line_spells}
-use Rattle.krieg_words.proofs.VersionSpellings.{version_spells}
+use Rattle.krieg_wordtext.proofs.LineLaws.{line_spells}
+use Rattle.krieg_wordtext.proofs.VersionSpellings.{version_spells}
 
 -- the lines after the positions
 abbrev NextIs : SheetState → List ℕ → Option Line → Type 0

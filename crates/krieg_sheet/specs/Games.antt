@@ -12,8 +12,8 @@ use Rattle.krieg_words.specs.Words.{Said}
 use Rattle.krieg_words.specs.WordsOfMoves.{words, opening}
 use Rattle.krieg_words.specs.ToldWords.{told}
 use Rattle.krieg_words.specs.declared.dialects.Dialect.{Dialect}
-use Rattle.krieg_words.specs.declared.line.Line.{Line}
-use Rattle.krieg_words.specs.declared.line.Line.TheVariants.{Opens, Illegal, Done, Heard, Early, Over}
+use Rattle.krieg_wordtext.specs.declared.line.Line.{Line}
+use Rattle.krieg_wordtext.specs.declared.line.Line.TheVariants.{Opens, Illegal, Done, Heard, Early, Over}
 use Rattle.krieg_sheet.specs.Sheets.{SheetState}
 
 -- A hidden game from p gives the entries to the side who, the opponent's moves in it are rs, and it ends in q.

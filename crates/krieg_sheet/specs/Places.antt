@@ -6,9 +6,9 @@ use Rattle.krieg_board.specs.Validity.{IsValid}
 use Rattle.krieg_board.specs.declared.men.Side.{Side}
 use Rattle.krieg_words.specs.Words.{Said, IsSaid}
 use Rattle.krieg_words.specs.ToldWords.{Fits}
-use Rattle.krieg_words.specs.Line.{LineFits, IsLine}
+use Rattle.krieg_wordtext.specs.Line.{LineFits, IsLine}
 use Rattle.krieg_words.specs.declared.dialects.Dialect.{Dialect}
-use Rattle.krieg_words.specs.declared.line.Line.{Line}
+use Rattle.krieg_wordtext.specs.declared.line.Line.{Line}
 use Rattle.krieg_sheet.specs.declared.sheet.SheetFault.{SheetFault}
 use Rattle.krieg_sheet.specs.Sheets.{SheetState, new_sheet}
 use Rattle.krieg_sheet.specs.Turns.{first_turn, over_at_first, are_in_place, turn_of, is_over}

@@ -8,11 +8,11 @@ use Rattle.krieg_text.specs.Outcomes.{◌>>=◌}
 use Rattle.krieg_text.specs.Reading.{LineReader, Step, goes_on, stops, up_to_last}
 use Rattle.krieg_fen.specs.Forms.{listing_at}
 use Rattle.krieg_words.specs.Words.{Said}
-use Rattle.krieg_words.specs.LineReading.{line_in}
+use Rattle.krieg_wordtext.specs.LineReading.{line_in}
 use Rattle.krieg_words.specs.declared.dialects.Dialect.{Dialect}
-use Rattle.krieg_words.specs.Versions.{version_at}
-use Rattle.krieg_words.specs.declared.line.Line.{Line}
-use Rattle.krieg_words.specs.declared.line.Line.TheVariants.{Opens}
+use Rattle.krieg_wordtext.specs.Versions.{version_at}
+use Rattle.krieg_wordtext.specs.declared.line.Line.{Line}
+use Rattle.krieg_wordtext.specs.declared.line.Line.TheVariants.{Opens}
 use Rattle.krieg_sheet.specs.Sheets.{SheetState, new_sheet, entered}
 use Rattle.krieg_sheet.specs.Turns.{is_in_place}
 

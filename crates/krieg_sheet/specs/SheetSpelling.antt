@@ -3,10 +3,10 @@ use Rattle.std.specs.Prelude.{◌≡◌, ℕ, List, [], ◌∷◌, ◌++◌, cod
 use Rattle.krieg_fen.specs.declared.forms.Turn.TheVariants.{Either}
 use Rattle.krieg_text.specs.Languages.{Language, One, Many, Any, ◌⨾◌}
 use Rattle.krieg_fen.specs.Listing.{SpellsListing, ListingGrammar}
-use Rattle.krieg_words.specs.Line.{line_text}
-use Rattle.krieg_words.specs.LineReading.{line_in}
-use Rattle.krieg_words.specs.Versions.{SpellVersion}
-use Rattle.krieg_words.specs.declared.line.Line.{Line}
+use Rattle.krieg_wordtext.specs.Line.{line_text}
+use Rattle.krieg_wordtext.specs.LineReading.{line_in}
+use Rattle.krieg_wordtext.specs.Versions.{SpellVersion}
+use Rattle.krieg_wordtext.specs.declared.line.Line.{Line}
 use Rattle.krieg_sheet.specs.Sheets.{SheetState}
 use Rattle.krieg_sheet.specs.SheetText.{opens_lines}
 

@@ -6,11 +6,11 @@ use Rattle.krieg_fen.specs.ListText.{position_line}
 use Rattle.krieg_fen.specs.ListText as list
 use Rattle.krieg_text.specs.Writing.{Pieces, alone, put_lines}
 use Rattle.krieg_words.specs.Words.{Said}
-use Rattle.krieg_words.specs.Line.{line_text}
-use Rattle.krieg_words.specs.Versions.{version_lines}
+use Rattle.krieg_wordtext.specs.Line.{line_text}
+use Rattle.krieg_wordtext.specs.Versions.{version_lines}
 use Rattle.krieg_words.specs.declared.dialects.Dialect.{Dialect}
-use Rattle.krieg_words.specs.declared.line.Line.{Line}
-use Rattle.krieg_words.specs.declared.line.Line.TheVariants.{Opens}
+use Rattle.krieg_wordtext.specs.declared.line.Line.{Line}
+use Rattle.krieg_wordtext.specs.declared.line.Line.TheVariants.{Opens}
 use Rattle.krieg_sheet.specs.Sheets.{SheetState, new_sheet}
 
 -- the lines before the positions: version and dialect, side, number of positions

@@ -4,7 +4,7 @@ use Rattle.krieg_board.specs.Pos.{Pos}
 use Rattle.krieg_board.specs.declared.men.Side.{Side}
 use Rattle.krieg_words.specs.Words.{Said}
 use Rattle.krieg_words.specs.declared.dialects.Dialect.{Dialect}
-use Rattle.krieg_words.specs.declared.line.Line.{Line}
+use Rattle.krieg_wordtext.specs.declared.line.Line.{Line}
 
 -- the umpire's dialect, the player's side, the positions of which the game began in one, the opening words where they were heard, and the lines that the player heard then
 pub record SheetState : Type 0 where

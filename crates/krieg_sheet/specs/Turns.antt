@@ -5,9 +5,9 @@ use Rattle.krieg_board.specs.Men.{other, is_same_side}
 use Rattle.krieg_board.specs.declared.men.Side.{Side}
 use Rattle.krieg_board.specs.declared.men.Side.TheVariants.{White}
 use Rattle.krieg_words.specs.Words.{Said}
-use Rattle.krieg_words.specs.WordsText.{has_ended}
-use Rattle.krieg_words.specs.declared.line.Line.{Line}
-use Rattle.krieg_words.specs.declared.line.Line.TheVariants.{Opens, Illegal, Done, Heard, Early, Over}
+use Rattle.krieg_wordtext.specs.WordsText.{has_ended}
+use Rattle.krieg_wordtext.specs.declared.line.Line.{Line}
+use Rattle.krieg_wordtext.specs.declared.line.Line.TheVariants.{Opens, Illegal, Done, Heard, Early, Over}
 use Rattle.krieg_sheet.specs.Sheets.{SheetState}
 
 -- words after which no move is made

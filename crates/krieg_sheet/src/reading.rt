@@ -2,7 +2,7 @@ ghost use Rattle.std.specs.Prelude.{◌≡◌, ◌+◌, true, IfSome, IfOk, OnOk
 ghost use Rattle.krieg_text.specs.Lines.{lines};
 ghost use Rattle.krieg_text.specs.Formats.{IsReading};
 ghost use Rattle.krieg_text.specs.Reading.{taken, whole, Gives, GivesOn, Passed};
-ghost use Rattle.krieg_words.specs.Line.{LineFits};
+ghost use Rattle.krieg_wordtext.specs.Line.{LineFits};
 ghost use Rattle.krieg_sheet.specs.Places.{IsSheet};
 ghost use Rattle.krieg_sheet.specs.SheetReading as spec;
 ghost use Rattle.krieg_sheet.specs.SheetSpelling.{SpellsSheet, SheetGrammar};
@@ -10,7 +10,8 @@ ghost use Rattle.krieg_sheet.specs.SheetSpelling.{SpellsSheet, SheetGrammar};
 use crate::sheet::Sheet;
 use krieg_fen::{Turn, read_listing};
 use krieg_text::{Cursor, LineSource, TextFault, TextKind, is_name};
-use krieg_words::{Dialect, Line, read_line_in, read_version_lines};
+use krieg_words::Dialect;
+use krieg_wordtext::{Line, read_line_in, read_version_lines};
 use std::alloc::Global;
 
 /// The dialect, by the lines of the version.

@@ -2,7 +2,7 @@ ghost use Rattle.std.specs.Prelude.{◌≡◌, ◌↔◌, ◌≢◌, ℕ, IfOk, 
 ghost use Rattle.std.specs.List.{All};
 ghost use Rattle.krieg_board.specs.Validity.{IsValid};
 ghost use Rattle.krieg_words.specs.ToldWords.{Fits};
-ghost use Rattle.krieg_words.specs.Line.{LineFits};
+ghost use Rattle.krieg_wordtext.specs.Line.{LineFits};
 ghost use Rattle.krieg_sheet.specs.Sheets.{new_sheet, entered};
 ghost use Rattle.krieg_sheet.specs.Turns as turns;
 ghost use Rattle.krieg_sheet.specs.Lists as lists;
@@ -13,7 +13,8 @@ ghost use Rattle.krieg_sheet.specs.Places.{IsSheet, OpeningFits};
 use crate::list::list_fault;
 use crate::turns::{ends, first_turn, may_stand, over_after, over_at_first, turn_after};
 use krieg_board::{Position, Side};
-use krieg_words::{Dialect, Line, Words, know_line, know_words};
+use krieg_words::{Dialect, Words, know_words};
+use krieg_wordtext::{Line, know_line};
 use std::alloc::{AllocFailed, Global};
 use std::marker::Model;
 use thiserror::Error;

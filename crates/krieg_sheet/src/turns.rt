@@ -1,9 +1,10 @@
 ghost use Rattle.std.specs.Prelude.{◌≡◌};
-ghost use Rattle.krieg_words.specs.WordsText.{has_ended};
+ghost use Rattle.krieg_wordtext.specs.WordsText.{has_ended};
 ghost use Rattle.krieg_sheet.specs.Turns as spec;
 
 use krieg_board::{Position, Side};
-use krieg_words::{Line, Words, has_ended};
+use krieg_words::Words;
+use krieg_wordtext::{Line, has_ended};
 
 /// Whether these words end the game.
 pub(crate) fn ends(w: &Words) -> bool

@@ -3,7 +3,7 @@ ghost use Rattle.krieg_board.specs.declared.men.Side.{Side as BoardSide};
 ghost use Rattle.krieg_text.specs.Lines.{lines};
 ghost use Rattle.krieg_text.specs.Reading.{whole};
 ghost use Rattle.krieg_text.specs.Writing.{PutsLines, alone, Appends};
-ghost use Rattle.krieg_words.specs.Line.{LineFits};
+ghost use Rattle.krieg_wordtext.specs.Line.{LineFits};
 ghost use Rattle.krieg_sheet.specs.Places.{OpeningFits, IsSheet};
 ghost use Rattle.krieg_sheet.specs.SheetReading.{sheet_at};
 ghost use Rattle.krieg_sheet.specs.SheetSpelling.{SpellsSheet};
@@ -13,7 +13,8 @@ use crate::sheet::Sheet;
 use krieg_board::{NoMemory, Side};
 use krieg_fen::{put_list, put_list_head};
 use krieg_text::Text;
-use krieg_words::{Dialect, Line, Words, put_line_in, put_version_lines, version_line_count};
+use krieg_words::{Dialect, Words};
+use krieg_wordtext::{Line, put_line_in, put_version_lines, version_line_count};
 
 /// Adds the lines of a sheet that stand before `n` positions: the version and the dialect, the side, and
 /// the number of positions. After them `put_listed` adds each position, and `put_end` the last line.

@@ -7,15 +7,18 @@ pub use Rattle.krieg_board.specs.declared.men.Side.{Side}
 unfoldable pub use Rattle.krieg_moves.specs.After.{after}
 unfoldable pub use Rattle.krieg_moves.specs.Legal.{is_legal}
 unfoldable pub use Rattle.krieg_moves.specs.Moves.{all_moves, is_mate, moves}
-pub use Rattle.krieg_words.specs.Words.{Said}
-pub use Rattle.krieg_words.specs.WordsReading.{silent}
+unfoldable pub use Rattle.krieg_words.specs.WordNumbers.{words_number}
+pub use Rattle.krieg_words.specs.Words.{IsSaid, Said}
+pub use Rattle.krieg_words.specs.ToldWords.{silent}
 pub use Rattle.krieg_words.specs.declared.dialects.Dialect.{Dialect}
 pub use Rattle.krieg_words.specs.declared.dialects.Dialect.TheVariants.{Wild16}
+pub use Rattle.krieg_words.specs.declared.word_numbers.TheConstants.{WORDS_LIMIT}
 pub use Rattle.krieg_theory.specs.Can.{begins, can}
 pub use Rattle.krieg_theory.specs.Sets.{Ascending, In, as_set, at_key, insert_once, is_nil, same}
 pub use Rattle.krieg_theory.specs.Split.{all_outcomes, class, given, keys, legal_in_some, refused, stale_in_some}
 pub use Rattle.krieg_costs.specs.Block.{lives_in_some}
 pub use Rattle.krieg_costs.specs.Cost.{first_made, made}
+pub use Rattle.krieg_costs.specs.Refutation.{is_within}
 pub use Rattle.krieg_costs.specs.Sums.{total}
 unfoldable pub use Rattle.krieg_pack.specs.Members.{set_of}
 pub use Rattle.krieg_pack.specs.Members.{IsAscending}
@@ -23,6 +26,8 @@ pub use Rattle.krieg_pack.specs.Order.{position_lt}
 pub use Rattle.krieg_game.specs.Chess.{chess}
 pub use Rattle.krieg_game.specs.ClassLaws.{both_heard, first_outcomes, opened, opening_sets}
 pub use Rattle.krieg_game.specs.Classes.{class_pair, classes_in}
+unfoldable pub use Rattle.krieg_game.specs.KeyNumbers.{key_at, key_number}
+pub use Rattle.krieg_game.specs.KeyNumbers.{AreSaid}
 pub use Rattle.krieg_game.specs.Keys.{Key, RootKey, key_lt}
 pub use Rattle.krieg_game.specs.Outcomes.{KeyedPosition}
 unfoldable pub use Rattle.krieg_game.specs.Outset.{starts, waits}
@@ -41,6 +46,7 @@ pub use Rattle.krieg_split.specs.Laws.{ClassesAreSets, RefusedIsSet}
 unfoldable pub use Rattle.krieg_split.specs.MoveSets.{move_set}
 pub use Rattle.krieg_split.specs.MoveSets.{AllBefore, IsPut}
 pub use Rattle.krieg_split.specs.Openings.{heard_first, opened_pair, opened_set}
+pub use Rattle.krieg_split.specs.PackedKey.{IsPacked, bytes_of, number_of, unpacked}
 pub use Rattle.krieg_split.specs.Tallies.{AreTallies, tally_of, tally_with}
 pub use Rattle.krieg_parting.specs.Turns.{IsOthersTurn, IsOwnTurn}
 pub use Rattle.krieg_split.specs.Units.{Charges, IsPaid}

@@ -6,3 +6,5 @@ mod Renaming
 mod FirstMoves
 mod TryLists
 mod Tallying
+mod PackedHeards
+pub mod SetParts

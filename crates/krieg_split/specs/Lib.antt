@@ -7,3 +7,4 @@ pub mod Openings
 pub mod Laws
 pub mod MoveSets
 pub mod Tallies
+pub mod PackedKey

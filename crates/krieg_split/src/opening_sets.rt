@@ -4,7 +4,7 @@ ghost use Rattle.krieg_game.specs.Classes.{class_pair, classes_in};
 ghost use Rattle.krieg_game.specs.ClassLaws.{opened, opening_sets};
 ghost use Rattle.krieg_parting.specs.Turns.{IsOwnTurn};
 ghost use Rattle.krieg_split.specs.Openings.{opened_pair, opened_set, heard_first};
-ghost use Rattle.krieg_words.specs.WordsReading.{silent};
+ghost use Rattle.krieg_words.specs.ToldWords.{silent};
 
 use krieg_board::NoMemory;
 use krieg_game::Class;

@@ -30,10 +30,10 @@ pub use Rattle.krieg_format.specs.Readers.{reader, repeated}
 pub use Rattle.krieg_format.specs.Written.{EachFits, Fits, each_text, written}
 pub use Rattle.krieg_words.specs.Dialects.{unnamed_dialect}
 pub use Rattle.krieg_words.specs.ToldWords.{no_kinds}
-unfoldable pub use Rattle.krieg_words.specs.Versions.{dialect_form}
-pub use Rattle.krieg_words.specs.Versions.{dialect_line}
+unfoldable pub use Rattle.krieg_wordtext.specs.Versions.{dialect_form}
+pub use Rattle.krieg_wordtext.specs.Versions.{dialect_line}
 pub use Rattle.krieg_words.specs.Words.{Said}
-unfoldable pub use Rattle.krieg_words.specs.WordsText.{words_text}
+unfoldable pub use Rattle.krieg_wordtext.specs.WordsText.{words_text}
 pub use Rattle.krieg_words.specs.declared.dialects.Dialect.{Dialect}
 pub use Rattle.krieg_words.specs.declared.dialects.Dialect.TheVariants.{Anytry, Wild16}
 pub use Rattle.krieg_words.specs.declared.words.End.TheVariants.{Goes}

@@ -9,7 +9,7 @@ use Rattle.krieg_text.proofs.Formats.{IsForm}
 use Rattle.krieg_text.proofs.Free.{above_less}
 use Rattle.krieg_text.proofs.LineTexts.{line_above, line_append}
 use Rattle.krieg_text.proofs.Numbers.{between_spells, between_again}
-use Rattle.krieg_words.proofs.CleanWords.{above_free, words_above}
+use Rattle.krieg_wordtext.proofs.CleanWords.{above_free, words_above}
 use Rattle.krieg_planfile.proofs.KeyForms.{any_on, any_root}
 use Rattle.krieg_format.proofs.Judged.{IsLine, Sample}
 use Rattle.krieg_format.proofs.Leaves.{formed_law, formed_some}

@@ -4,7 +4,7 @@ use Rattle.std.specs.List.{flat_map}
 use Rattle.krieg_board.specs.declared.men.Move.{Move}
 use Rattle.krieg_text.specs.Writing.{Pieces, alone}
 use Rattle.krieg_fen.specs.ListText.{listing_lines}
-use Rattle.krieg_words.specs.Versions.{dialect_line}
+use Rattle.krieg_wordtext.specs.Versions.{dialect_line}
 use Rattle.krieg_words.specs.declared.dialects.Dialect.{Dialect}
 use Rattle.krieg_game.specs.Keys.{Key, RootKey}
 use Rattle.krieg_strategy.specs.Nodes.{Node}

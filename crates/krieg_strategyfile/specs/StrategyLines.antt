@@ -16,7 +16,7 @@ use Rattle.krieg_fen.specs.Forms.{side_line, side_form, position_form}
 use Rattle.krieg_fen.specs.ListText.{position_line}
 use Rattle.krieg_fen.specs.Spelling.{Spells}
 use Rattle.krieg_words.specs.declared.dialects.Dialect.{Dialect}
-use Rattle.krieg_words.specs.Versions.{dialect_form, dialect_line}
+use Rattle.krieg_wordtext.specs.Versions.{dialect_form, dialect_line}
 use Rattle.krieg_game.specs.Keys.{Key, RootKey, key_lt, root_lt}
 use Rattle.krieg_planfile.specs.NodeForms.{follows}
 use Rattle.krieg_planfile.specs.NodeText.{IsToldKey}

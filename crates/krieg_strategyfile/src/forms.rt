@@ -11,7 +11,8 @@ use krieg_fen::read_move;
 use krieg_planfile::key_in;
 use krieg_strategy::{MOST_EDGES, MOST_NODES};
 use krieg_text::{NumberFault, TextKind, behind, cut, cut_last, read_number_between};
-use krieg_words::{Dialect, Words, read_words_in};
+use krieg_words::{Dialect, Words};
+use krieg_wordtext::read_words_in;
 
 /// What the line of a node says: its try, the number of the node to go on with if it is illegal, and how many edges there
 /// are.

@@ -12,7 +12,7 @@ use crate::reading::read_parts;
 use krieg_planfile::read_heard;
 use krieg_strategy::Strategy;
 use krieg_text::{Cursor, TextFault};
-use krieg_words::Line;
+use krieg_wordtext::Line;
 use std::alloc::Global;
 
 /// A strategy, and what its player heard.

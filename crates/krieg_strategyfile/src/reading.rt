@@ -17,7 +17,8 @@ use krieg_board::{Position, Side};
 use krieg_fen::{Turn, read_listing};
 use krieg_strategy::{MOST_NODES, MOST_ROOTS, MOST_WORST, Nodes, Strategy, StrategyRoot};
 use krieg_text::{Cursor, LineSource, TextFault, read_count, read_version, read_word};
-use krieg_words::{Dialect, read_dialect_line};
+use krieg_words::Dialect;
+use krieg_wordtext::read_dialect_line;
 use std::alloc::Global;
 
 /// The format's name with its one version, and the dialect.

@@ -21,7 +21,8 @@ use krieg_board::NoMemory;
 use krieg_fen::{put_listing, put_move};
 use krieg_strategy::{Nodes, Strategy, StrategyEdge, StrategyNode, StrategyRoot};
 use krieg_text::{Text, put_number};
-use krieg_words::{Dialect, Words, put_dialect_line, put_words_in};
+use krieg_words::{Dialect, Words};
+use krieg_wordtext::{put_dialect_line, put_words_in};
 use std::alloc::Global;
 
 /// Adds the line of a name and a number.

@@ -4,7 +4,7 @@ ghost use Rattle.std.specs.Prelude.{◌≤◌, length};
 
 use krieg_fen::read_move;
 use krieg_seats::{Say, Seat, SeatFault, StreamSeat};
-use krieg_words::read_line;
+use krieg_wordtext::read_line;
 use std::alloc::Global;
 use std::io;
 use std::io::ErrorKind::{BrokenPipe, Interrupted};

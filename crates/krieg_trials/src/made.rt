@@ -2,7 +2,8 @@
 // memory.
 
 use krieg_board::Square;
-use krieg_words::{End, Kinds, Took, Words, write_words};
+use krieg_words::{End, Kinds, Took, Words};
+use krieg_wordtext::write_words;
 
 /// What is captured for a number below 129: nothing, then a pawn and then a piece on each square.
 fn took_at(number: usize) -> Took {

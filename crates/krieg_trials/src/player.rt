@@ -8,7 +8,7 @@ use krieg_planfile::read_plan;
 use krieg_robot::GuidedSeat;
 use krieg_seats::{Say, ScriptSeat, Seat, SeatFault, StreamSeat};
 use krieg_text::TextFault;
-use krieg_words::Line;
+use krieg_wordtext::Line;
 use std::alloc::Global;
 use std::io::Cursor;
 use std::mem;

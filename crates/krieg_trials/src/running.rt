@@ -9,7 +9,7 @@ use krieg_cli::{Bench, run, run_find};
 use krieg_fen::write_move;
 use krieg_ports::{Sink, Source};
 use krieg_seats::Seat;
-use krieg_words::{Line, write_line};
+use krieg_wordtext::{Line, write_line};
 use std::alloc::Global;
 
 /// Adds the moves, a space before each.

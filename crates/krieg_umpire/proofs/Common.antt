@@ -24,19 +24,19 @@ pub use Rattle.krieg_fen.specs.Forms.{side_mark}
 unfoldable pub use Rattle.krieg_fen.specs.MoveText.{move_text}
 pub use Rattle.krieg_fen.specs.MoveText.{IsOnBoard, move_of}
 pub use Rattle.krieg_fen.specs.Spelling.{Spells}
-pub use Rattle.krieg_words.specs.Line.{IsLine, told_line}
+pub use Rattle.krieg_wordtext.specs.Line.{IsLine, told_line}
 unfoldable pub use Rattle.krieg_words.specs.PawnTries.{tries}
 pub use Rattle.krieg_words.specs.ToldWords.{told}
-unfoldable pub use Rattle.krieg_words.specs.Versions.{version_at}
-pub use Rattle.krieg_words.specs.Versions.{SpellVersion, version_lines}
+unfoldable pub use Rattle.krieg_wordtext.specs.Versions.{version_at}
+pub use Rattle.krieg_wordtext.specs.Versions.{SpellVersion, version_lines}
 pub use Rattle.krieg_words.specs.Words.{IsSaid, Said}
 unfoldable pub use Rattle.krieg_words.specs.WordsOfMoves.{opening, words}
 pub use Rattle.krieg_words.specs.WordsOfMoves.{end_of}
-pub use Rattle.krieg_words.specs.WordsText.{has_ended}
+pub use Rattle.krieg_wordtext.specs.WordsText.{has_ended}
 pub use Rattle.krieg_words.specs.declared.dialects.Dialect.{Dialect}
 pub use Rattle.krieg_words.specs.declared.dialects.Dialect.TheVariants.{Anytry, Plain, Wild16}
-pub use Rattle.krieg_words.specs.declared.line.Line.{Line}
-pub use Rattle.krieg_words.specs.declared.line.Line.TheVariants.{Opens}
+pub use Rattle.krieg_wordtext.specs.declared.line.Line.{Line}
+pub use Rattle.krieg_wordtext.specs.declared.line.Line.TheVariants.{Opens}
 pub use Rattle.krieg_sheet.specs.Places.{IsTold}
 unfoldable pub use Rattle.krieg_sheet.specs.SheetText.{sheet_text}
 pub use Rattle.krieg_sheet.specs.SheetText.{entry_line}

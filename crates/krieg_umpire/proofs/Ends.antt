@@ -6,7 +6,7 @@ use Rattle.krieg_moves.specs.After.{after}
 use Rattle.krieg_moves.specs.Moves.{in_check, is_ended, is_mate, is_stalemate}
 use Rattle.krieg_words.specs.Words.{Said}
 use Rattle.krieg_words.specs.WordsOfMoves.{words}
-use Rattle.krieg_words.specs.WordsText.{has_ended}
+use Rattle.krieg_wordtext.specs.WordsText.{has_ended}
 use Rattle.krieg_words.specs.declared.words.End.TheVariants.{Goes, Mate, Stalemate}
 
 -- by whether the side to move is in check, and whether it has no move

@@ -3,7 +3,7 @@ use Rattle.std.proofs.Common.{◌≡◌, Bool, true, false, not, cond, List, [],
 use Rattle.std.specs.List.{cons_option}
 use Rattle.krieg_umpire.proofs.Common.{other, is_same_side, Pos, Side, White, Black, Move, is_legal, after, in_check, is_ended, is_mate, is_stalemate, Said, words, opening, end_of, has_ended, told, told_line, Dialect, Wild16, Anytry, Plain, Line, Event, Verdict, Over, Early, Illegal, Done, verdict, next, position_after, judge, judged, line_for, lines_for, own_line, others_line, ends, are_in_place}
 use Rattle.krieg_moves.proofs.Turns.{side_after}
-use Rattle.krieg_words.specs.declared.line.Line.TheVariants as line
+use Rattle.krieg_wordtext.specs.declared.line.Line.TheVariants as line
 use Rattle.krieg_umpire.proofs.Ends.{ended_so}
 
 -- words end the game exactly where the position has no legal move

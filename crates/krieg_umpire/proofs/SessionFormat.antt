@@ -17,8 +17,8 @@ use Rattle.krieg_fen.proofs.MoveTexts.{move_spells, move_again}
 use Rattle.krieg_text.proofs.NameLemmas.{behind_spells, behind_again}
 use Rattle.krieg_text.proofs.Takings.{loop_refused}
 use Rattle.krieg_text.proofs.Writings.{put_lines_is, joined_alone}
-use Rattle.krieg_words.proofs.VersionFormats.{version_format, version_keeps}
-use Rattle.krieg_words.proofs.VersionTexts.{version_are}
+use Rattle.krieg_wordtext.proofs.VersionFormats.{version_format, version_keeps}
+use Rattle.krieg_wordtext.proofs.VersionTexts.{version_are}
 use Rattle.krieg_sheet.proofs.SheetsAgain.{sheet_again}
 use Rattle.krieg_umpire.proofs.SheetsOfGames.{sheets_in_place}
 

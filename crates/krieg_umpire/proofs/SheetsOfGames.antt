@@ -6,9 +6,10 @@ use Rattle.std.proofs.lemmas.List.Elements.{All-nil, All-cons, All-head, All-tai
 use Rattle.krieg_umpire.proofs.Common.{is_same_side, Pos, IsValid, Side, Move, IsOnBoard, is_legal, is_ended, Said, IsSaid, tries, words, opening, told_line, IsLine, Dialect, Line, Event, Verdict, Over, Early, Illegal, Done, verdict, next, position_after, judge, judged, line_for, lines_for, own_line, others_line, are_in_place, IsTold, AreTries, SheetsAreInPlace}
 use Rattle.krieg_moves.proofs.LegalMoves.{legal}
 use Rattle.krieg_moves.proofs.KeepsValid.{valid_after}
-use Rattle.krieg_words.specs.declared.line.Line.TheVariants as line
+use Rattle.krieg_wordtext.specs.declared.line.Line.TheVariants as line
 use Rattle.krieg_words.proofs.SaidLaws.{opening_said, words_said}
-use Rattle.krieg_words.proofs.ToldLaws.{told_fits, told_line_fits, told_said}
+use Rattle.krieg_words.proofs.ToldLaws.{told_fits, told_said}
+use Rattle.krieg_wordtext.proofs.ToldLines.{told_line_fits}
 use Rattle.krieg_umpire.proofs.InPlace.{opening_ends, entries_in_place}
 
 -- what a dialect tells of a line is a line

@@ -6,7 +6,7 @@ use Rattle.std.proofs.lemmas.List.{map-append, append-nil}
 use Rattle.std.proofs.lemmas.List.Elements.{filter_map-append}
 use Rattle.std.proofs.lemmas.Grind.{flat_map-append}
 use Rattle.krieg_umpire.proofs.Common.{Pos, Side, Appends, opening, told, told_line, Dialect, Line, Event, Judged, next, judge, judged, last, line_for, lines_for, strip, entry_line, sheet_text, heard_lines, both_lines, marked_line, umpire_text}
-use Rattle.krieg_words.proofs.ToldLaws.{told_line_fits}
+use Rattle.krieg_wordtext.proofs.ToldLines.{told_line_fits}
 use Rattle.krieg_umpire.proofs.Stripping.{lines_strip}
 
 pub ruleset fitting = (told_line_fits)

@@ -6,10 +6,10 @@ use Rattle.krieg_board.specs.Pos.{Pos}
 use Rattle.krieg_board.specs.declared.men.Side.{Side}
 use Rattle.krieg_board.specs.declared.men.Move.{Move}
 use Rattle.krieg_words.specs.WordsOfMoves.{opening}
-use Rattle.krieg_words.specs.Line.{told_line}
+use Rattle.krieg_wordtext.specs.Line.{told_line}
 use Rattle.krieg_words.specs.declared.dialects.Dialect.{Dialect}
-use Rattle.krieg_words.specs.declared.line.Line.{Line}
-use Rattle.krieg_words.specs.declared.line.Line.TheVariants as line
+use Rattle.krieg_wordtext.specs.declared.line.Line.{Line}
+use Rattle.krieg_wordtext.specs.declared.line.Line.TheVariants as line
 use Rattle.krieg_umpire.specs.declared.verdict.Event.{Event}
 use Rattle.krieg_umpire.specs.declared.verdict.Judged.{Judged}
 use Rattle.krieg_umpire.specs.declared.verdict.Verdict.{Verdict}

@@ -13,7 +13,7 @@ use Rattle.krieg_text.specs.Reading.{LineReader, taken, Step, goes_on, stops, up
 use Rattle.krieg_fen.specs.Forms.{position_form, start_form}
 use Rattle.krieg_text.specs.Formats.{named, one_of}
 use Rattle.krieg_words.specs.declared.dialects.Dialect.{Dialect}
-use Rattle.krieg_words.specs.Versions.{version_at}
+use Rattle.krieg_wordtext.specs.Versions.{version_at}
 use Rattle.krieg_umpire.specs.declared.verdict.Event.{Event}
 use Rattle.krieg_umpire.specs.declared.verdict.Stop.{Stop}
 use Rattle.krieg_umpire.specs.declared.verdict.Stop.TheVariants.{Ended, Left, AsksUsed}

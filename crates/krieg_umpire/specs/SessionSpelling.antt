@@ -6,7 +6,7 @@ use Rattle.krieg_fen.specs.Forms.{position_form, start_form, side_mark}
 use Rattle.krieg_text.specs.Languages.{Language, One, Many, Any, Behind, UpToLast, ◌⨾◌}
 use Rattle.krieg_fen.specs.MoveText.{move_text, IsOnBoard}
 use Rattle.krieg_fen.specs.Spelling.{Spells}
-use Rattle.krieg_words.specs.Versions.{SpellVersion}
+use Rattle.krieg_wordtext.specs.Versions.{SpellVersion}
 use Rattle.krieg_umpire.specs.declared.verdict.Event.{Event}
 use Rattle.krieg_umpire.specs.declared.verdict.Stop.{Stop}
 use Rattle.krieg_umpire.specs.Sessions.{SessionState}

@@ -4,7 +4,7 @@ use Rattle.krieg_board.specs.declared.men.Side.TheVariants.{White, Black}
 use Rattle.krieg_fen.specs.FenText.{position_text}
 use Rattle.krieg_fen.specs.MoveText.{move_text}
 use Rattle.krieg_text.specs.Writing.{Pieces, alone, put_lines}
-use Rattle.krieg_words.specs.Versions.{version_lines}
+use Rattle.krieg_wordtext.specs.Versions.{version_lines}
 use Rattle.krieg_umpire.specs.declared.verdict.Event.{Event}
 use Rattle.krieg_umpire.specs.declared.verdict.Stop.{Stop}
 use Rattle.krieg_umpire.specs.declared.verdict.Stop.TheVariants.{Ended, Left, AsksUsed}

@@ -8,10 +8,10 @@ use Rattle.krieg_board.specs.declared.men.Side.TheVariants.{White, Black}
 use Rattle.krieg_text.specs.Writing.{Pieces, put_lines}
 use Rattle.krieg_words.specs.WordsOfMoves.{opening}
 use Rattle.krieg_words.specs.ToldWords.{told}
-use Rattle.krieg_words.specs.Line.{told_line, line_text}
+use Rattle.krieg_wordtext.specs.Line.{told_line, line_text}
 use Rattle.krieg_words.specs.declared.dialects.Dialect.{Dialect}
-use Rattle.krieg_words.specs.declared.line.Line.{Line}
-use Rattle.krieg_words.specs.declared.line.Line.TheVariants.{Opens}
+use Rattle.krieg_wordtext.specs.declared.line.Line.{Line}
+use Rattle.krieg_wordtext.specs.declared.line.Line.TheVariants.{Opens}
 use Rattle.krieg_umpire.specs.declared.verdict.Event.{Event}
 use Rattle.krieg_umpire.specs.declared.verdict.Judged.{Judged}
 use Rattle.krieg_umpire.specs.Games.{judge}

@@ -6,7 +6,8 @@ ghost use Rattle.krieg_umpire.specs.Games.{judge, judged, last};
 use crate::verdict::{Event, Judged, Verdict};
 use krieg_board::{NoMemory, Position};
 use krieg_moves::has_move;
-use krieg_words::{has_ended, make_if_legal};
+use krieg_words::make_if_legal;
+use krieg_wordtext::has_ended;
 use std::alloc::Global;
 use std::marker::Model;
 

@@ -4,7 +4,7 @@ ghost use Rattle.krieg_umpire.specs.Laws.{HearsNoMore};
 
 use crate::verdict::{Judged, Verdict};
 use krieg_board::{Move, Side};
-use krieg_words::Line;
+use krieg_wordtext::Line;
 
 fn own_line(mv: &Move, verdict: &Verdict) -> Line
     ensures { result ≡ spec.own_line mv.now verdict.now }

@@ -15,7 +15,8 @@ use crate::verdict::{Event, Stop};
 use krieg_board::{Position, Side};
 use krieg_fen::{position_form, read_move, start_form};
 use krieg_text::{Cursor, LineSource, TextFault, TextKind, behind, is_name};
-use krieg_words::{Dialect, read_version_lines};
+use krieg_words::Dialect;
+use krieg_wordtext::read_version_lines;
 use std::alloc::Global;
 
 /// A line after the start.

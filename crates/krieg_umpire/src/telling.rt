@@ -1,9 +1,9 @@
 ghost use Rattle.std.specs.Prelude.{◌∷◌, [], IfSome, map};
 ghost use Rattle.std.specs.List.{flat_map};
 ghost use Rattle.krieg_text.specs.Writing.{PutsText, PutsLines, Appends};
-ghost use Rattle.krieg_words.specs.Line.{told_line};
+ghost use Rattle.krieg_wordtext.specs.Line.{told_line};
 ghost use Rattle.krieg_words.specs.WordsOfMoves.{opening};
-ghost use Rattle.krieg_words.specs.declared.line.Line.TheVariants.{Opens};
+ghost use Rattle.krieg_wordtext.specs.declared.line.Line.TheVariants.{Opens};
 ghost use Rattle.krieg_umpire.specs.Games.{judge};
 ghost use Rattle.krieg_umpire.specs.Hearing.{line_for, strip};
 ghost use Rattle.krieg_sheet.specs.SheetText.{entry_line, sheet_lines};
@@ -17,7 +17,8 @@ use krieg_board::{NoMemory, Position, Side};
 use krieg_fen::{put_listed, side_mark};
 use krieg_sheet::{put_end, put_entry, put_head};
 use krieg_text::Text;
-use krieg_words::{Dialect, Line, opening, put_line_in, told_line};
+use krieg_words::{Dialect, opening};
+use krieg_wordtext::{Line, put_line_in, told_line};
 use std::alloc::Global;
 
 /// Adds the line as the dialect tells it.

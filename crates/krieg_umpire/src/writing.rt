@@ -13,7 +13,7 @@ use crate::verdict::{Event, Stop};
 use krieg_board::{NoMemory, Side};
 use krieg_fen::{put_move, put_position, side_mark};
 use krieg_text::Text;
-use krieg_words::put_version_lines;
+use krieg_wordtext::put_version_lines;
 
 /// Adds the line of a try, without its line feed.
 pub fn put_event(event: &Event, text: &mut Text) -> Result<(), NoMemory>

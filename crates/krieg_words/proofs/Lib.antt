@@ -11,15 +11,5 @@ pub mod SaidLaws
 pub mod ToldLaws
 pub mod ToldMoves
 pub mod HandsKept
-pub mod PartLaws
-pub mod NameLaws
-pub mod CleanWords
-pub mod FormLaws
-pub mod WordsLaws
-pub mod LineLaws
-pub mod WordsWritten
 pub mod DialectNames
-pub mod VersionTexts
-pub mod VersionSpellings
-pub mod VersionFormats
 pub mod WordNumbers

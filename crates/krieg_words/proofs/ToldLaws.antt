@@ -1,6 +1,6 @@
 -- What a dialect tells of words, it can tell again unchanged.
-use Rattle.std.proofs.Common.{◌≡◌, ℕ, cond, ◌==◌, refl, ap, ◌≤◌, lit≤}
-use Rattle.krieg_words.proofs.Common.{Kinds, bits_of, Took, Piece, Dialect, MenTold, Apart, Alike, ChecksTold, ByKind, Bare, TriesTold, Number, Any, Untold, Line, Opens, Done, Heard, Said, IsSaid, IsTaken, MOST_TRIES, dialect_rules, told, took_told, checks_told, tries_told, no_kinds, some_kind, Fits, told_line, LineFits}
+use Rattle.std.proofs.Common.{◌≡◌, ℕ, cond, ◌==◌, refl, ◌≤◌, lit≤}
+use Rattle.krieg_words.proofs.Common.{Kinds, bits_of, Took, Piece, Dialect, MenTold, Apart, Alike, ChecksTold, ByKind, Bare, TriesTold, Number, Any, Untold, Said, IsSaid, IsTaken, MOST_TRIES, dialect_rules, told, took_told, checks_told, tries_told, no_kinds, some_kind, Fits}
 use Rattle.krieg_words.specs.declared.words.Took.TheVariants.{Nothing, Pawn}
 use Rattle.krieg_words.proofs.Cases.{by_test}
 
@@ -26,13 +26,6 @@ told_fits d w = λ i. record {
   checks = checks_twice (dialect_rules d).checks w.checks i;
   tries = tries_twice (dialect_rules d).tries w.tries i;
 }
-
--- a told line fits the dialect
-pub told_line_fits : (d : Dialect) (l : Line) → LineFits d (told_line d l)
-told_line_fits d (Opens w) = ap Opens (told_fits d w)
-told_line_fits d (Done m w) = ap (Done m) (told_fits d w)
-told_line_fits d (Heard w) = ap Heard (told_fits d w)
-told_line_fits d _ = refl
 
 told_taken : (men : MenTold) (t : Took) → IsTaken t → IsTaken (took_told men t)
 told_taken Apart t h = h

@@ -7,9 +7,3 @@ pub mod WordsOfMoves
 pub mod Dialects
 pub mod ToldWords
 pub mod ToldMoves
-pub mod Parts
-pub mod WordsText
-pub mod WordsReading
-pub mod Line
-pub mod LineReading
-pub mod Versions

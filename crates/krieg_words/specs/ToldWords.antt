@@ -2,6 +2,7 @@
 use Rattle.std.specs.Prelude.{◌≡◌, ℕ, ◌==◌, true, false, if◌then◌else◌}
 use Rattle.krieg_words.specs.Kinds.{bits_of}
 use Rattle.krieg_words.specs.declared.kinds.Kinds.{Kinds}
+use Rattle.krieg_words.specs.declared.words.End.TheVariants.{Goes}
 use Rattle.krieg_words.specs.declared.words.Took.{Took}
 use Rattle.krieg_words.specs.declared.words.Took.TheVariants.{Nothing, Pawn, Piece}
 use Rattle.krieg_words.specs.declared.dialects.Dialect.{Dialect}
@@ -28,6 +29,10 @@ took_told Alike took = as_piece took
 -- no check
 abbrev pub no_kinds : Kinds
 no_kinds = record { knight = false; short = false; long = false; rank = false; file = false }
+
+-- what is heard where there is nothing to say, and the game goes on
+abbrev pub silent : Said
+silent = record { end = Goes; took = Nothing; checks = no_kinds; tries = 0 }
 
 -- the kinds whose number is 1
 abbrev pub some_kind : Kinds

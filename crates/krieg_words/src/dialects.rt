@@ -2,8 +2,6 @@ ghost use Rattle.std.specs.Prelude.{◌≡◌, IfSome, Some};
 ghost use Rattle.krieg_words.specs.Dialects.{dialect_rules, dialect_text, dialect_of};
 ghost use Rattle.krieg_words.specs.declared.dialects.Dialect.{Dialect as SomeDialect};
 
-use krieg_text::is_name;
-
 /// How much the umpire tells.
 #[derive(Clone, Copy)]
 pub enum Dialect {
@@ -63,10 +61,10 @@ pub struct DialectRules {
 }
 
 /// The dialect of a text of version 1, which names none.
-pub(crate) const UNNAMED_DIALECT: Dialect = Dialect::Wild16;
+pub const UNNAMED_DIALECT: Dialect = Dialect::Wild16;
 
 /// What the dialect tells, and how it is written.
-pub(crate) fn dialect_rules(d: Dialect) -> DialectRules
+pub fn dialect_rules(d: Dialect) -> DialectRules
     ensures { result ≡ dialect_rules d }
 {
     match d {
@@ -110,11 +108,11 @@ pub fn read_dialect(text: &[u8]) -> Option<Dialect>
     ensures found { IfSome result (λ d. text.now ≡ dialect_text d) }
     ensures only { (d : SomeDialect) → text.now ≡ dialect_text d → result ≡ Some d }
 {
-    if is_name(b"wild16", text) {
+    if text == dialect_name(Dialect::Wild16) {
         Some(Dialect::Wild16)
-    } else if is_name(b"anytry", text) {
+    } else if text == dialect_name(Dialect::Anytry) {
         Some(Dialect::Anytry)
-    } else if is_name(b"plain", text) {
+    } else if text == dialect_name(Dialect::Plain) {
         Some(Dialect::Plain)
     } else {
         None

@@ -6,7 +6,7 @@ use crate::kinds::{Kinds, NO_KINDS};
 use crate::words::{Took, Words};
 
 /// A check without its kinds is told as one on a file.
-pub(crate) const SOME_KIND: Kinds = Kinds {
+pub const SOME_KIND: Kinds = Kinds {
     knight: false,
     short: false,
     long: false,

@@ -7,7 +7,7 @@ use crate::commands::counted::counted;
 use crate::ending::Ending;
 use crate::refusal::Refusal;
 use krieg_board::{NoMemory, Units};
-use krieg_refute::{Refutation, deny};
+use krieg_refutation::{Refutation, deny};
 use krieg_refutefile::read_refutation;
 use std::alloc::Global;
 

@@ -21,7 +21,8 @@ use krieg_search::Way;
 use krieg_solve::laws::keys_are_won;
 use krieg_solve::{KeyAnswer, KeyTry, Keys, KeysAt, find_keys};
 use krieg_text::Text;
-use krieg_words::{Dialect, put_dialect_line};
+use krieg_words::Dialect;
+use krieg_wordtext::put_dialect_line;
 use std::alloc::Global;
 
 // ---- the text

@@ -11,7 +11,7 @@ use krieg_planfile::{HeardPlan, read_heard_plan};
 use krieg_robot::{Guide, GuidedSeat, Next};
 use krieg_seats::Seat;
 use krieg_text::Text;
-use krieg_words::Line;
+use krieg_wordtext::Line;
 use std::alloc::Global;
 
 /// Adds the line that says what a player does next.

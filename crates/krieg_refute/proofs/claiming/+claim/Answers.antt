@@ -8,7 +8,7 @@ use Rattle.krieg_theory.proofs.Steps.{refused_lt}
 use Rattle.krieg_claims.specs.Written as written
 use Rattle.krieg_game.proofs.ChessLaws.{chess_is_game}
 use Rattle.krieg_search.proofs.Adding.{adds_nothing, adds_then, still_paid}
-use Rattle.krieg_refute.specs.declared.refutation.Reason.{Reason}
+use Rattle.krieg_refutation.specs.declared.refutation.Reason.{Reason}
 use Rattle.krieg_refute.proofs.Reasoning.{walked_more, reasons_more}
 use Rattle.krieg_claims.proofs.Walking.{walks_there}
 use Rattle.krieg_search.specs.contracts.notes.QuestionPartialEq.TheImpl as derived_eq

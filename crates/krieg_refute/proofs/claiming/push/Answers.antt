@@ -5,7 +5,7 @@ use Rattle.krieg_refute.proofs.Common.{Pos, place_of, Stands, AreFew, AreMany, p
 use Rattle.krieg_theory.specs.Sets.{In}
 use Rattle.krieg_theory.proofs.Lists.{in_map}
 use Rattle.krieg_claims.specs.Written as written
-use Rattle.krieg_refute.specs.declared.refutation.Claim.{Claim}
+use Rattle.krieg_refutation.specs.declared.refutation.Claim.{Claim}
 use Rattle.krieg_refute.proofs.Pushing.{claims_are, pairs_more, all_numbered, stand, place_is, too_many, still_few}
 use Rattle.krieg_refute.proofs.claiming.push.Goals as goal
 

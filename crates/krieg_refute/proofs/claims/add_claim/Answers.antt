@@ -1,7 +1,7 @@
 use Rattle.std.proofs.Common.{rules, ◌≡◌, ◌++◌, [], ◌∷◌, List, length, is_some, Some, sym, ap, ◌∙◌}
 use Rattle.krieg_refute.proofs.Common.{set_at, claim_over, set_in}
 use Rattle.krieg_refute.specs.declared.claims.SetPlace.TheVariants.{In}
-use Rattle.krieg_refute.specs.declared.refutation.Claim.{Claim}
+use Rattle.krieg_refutation.specs.declared.refutation.Claim.{Claim}
 use Rattle.krieg_refute.proofs.Slots.{slot_within, slot_has, taken}
 use Rattle.krieg_refute.proofs.claims.add_claim.Goals as goal
 

@@ -2,7 +2,7 @@ use Rattle.std.proofs.Common.{rules, suc, ◌≡◌, ◌++◌, [], ◌∷◌, Li
 use Rattle.std.proofs.lemmas.List.{append-nil, nil_from_length}
 use Rattle.std.specs.Vec.Iter.{into_iter_items}
 use Rattle.krieg_refute.proofs.Common.{sets, Draft, claim_over, claims_over, AreWithin, set_in}
-use Rattle.krieg_refute.specs.declared.refutation.Claim.{Claim}
+use Rattle.krieg_refutation.specs.declared.refutation.Claim.{Claim}
 use Rattle.krieg_refute.proofs.Slots.{none_taken}
 use Rattle.krieg_refute.proofs.claims.claims_of.Goals as goal
 

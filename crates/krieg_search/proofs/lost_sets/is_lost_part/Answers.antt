@@ -1,6 +1,6 @@
 use Rattle.std.proofs.Common.{◌≡◌, List, Some, None, sym, subst, ◌∙◌, arith}
 use Rattle.krieg_search.proofs.Common.{Pos, position_lt, stored, entries}
-use Rattle.krieg_search.proofs.SetParts.{within_in}
+use Rattle.krieg_split.proofs.SetParts.{within_in}
 use Rattle.krieg_search.proofs.Trying.{some_is}
 use Rattle.krieg_search.proofs.lost_sets.is_lost_part.Goals as goal
 

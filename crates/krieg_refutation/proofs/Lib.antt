@@ -1,0 +1,9 @@
+mod Common
+mod Membership
+mod ClassesAt
+mod SameMoves
+mod Holding
+mod ClaimTests
+mod OpeningSets
+mod LastTries
+mod Excluding

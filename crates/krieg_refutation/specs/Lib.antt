@@ -1,0 +1,4 @@
+pub mod Refutations
+pub mod Exclusion
+pub mod TryResults
+pub mod Reasons

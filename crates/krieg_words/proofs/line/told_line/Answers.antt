@@ -1,8 +1,0 @@
-use Rattle.krieg_words.proofs.ToldLaws.{told_line_fits}
-use Rattle.krieg_words.proofs.line.told_line.Goals as goal
-
-pub returns-clause-value : goal.returns-clause-value
-returns-clause-value c = c.line_told.ensures
-
-pub returns-clause-fits : goal.returns-clause-fits
-returns-clause-fits c = rw c.line_told.ensures (told_line_fits c.args.d c.args.l)
