@@ -4,13 +4,13 @@ pub use Rattle.krieg_board.specs.Attacks.{can_reach, is_adjacent, is_forward, ma
 pub use Rattle.krieg_board.specs.Board.{Board, is_man, is_of, man_at}
 unfoldable pub use Rattle.krieg_board.specs.Boards.{empty_board}
 unfoldable pub use Rattle.krieg_board.specs.Hand.{has_same_men, same_hand}
-pub use Rattle.krieg_board.specs.Hand.{is_same_man}
+pub use Rattle.krieg_board.specs.Hand.{has_same_rights, is_same_man, is_same_of}
 pub use Rattle.krieg_board.specs.Men.{is_same_side, other}
 pub use Rattle.krieg_board.specs.Pos.{Pos}
 unfoldable pub use Rattle.krieg_board.specs.Squares.{every_square, some_square, squares}
 pub use Rattle.krieg_board.specs.Squares.{gathered, rank_of, square_at}
 unfoldable pub use Rattle.krieg_board.specs.Validity.{first_fault, has_pawns_inside}
-pub use Rattle.krieg_board.specs.Validity.{IsValid}
+pub use Rattle.krieg_board.specs.Validity.{IsValid, has_kings, is_pawn, is_small}
 pub use Rattle.krieg_board.specs.declared.men.Kind.{Kind}
 pub use Rattle.krieg_board.specs.declared.men.Kind.TheVariants.{King, Pawn, Rook}
 pub use Rattle.krieg_board.specs.declared.men.Man.{Man}
@@ -44,11 +44,11 @@ pub use Rattle.krieg_sheet.specs.Lists.{differs, list_fault, other_hand}
 pub use Rattle.krieg_sheet.specs.declared.sheet.SheetFault.TheVariants.{Count}
 pub use Rattle.krieg_make.specs.Laws.{AreCounted, AreDistinct, AreListedOnce, RookMates, RoundsAreAlike, round_verdicts}
 unfoldable pub use Rattle.krieg_make.specs.MadePositions.{made_board, made_position, pair_at, pairs}
-pub use Rattle.krieg_make.specs.MadePositions.{man, pairs_above, pawn_place}
+pub use Rattle.krieg_make.specs.MadePositions.{man, pairs_above}
 unfoldable pub use Rattle.krieg_make.specs.MadeSessions.{made_tries}
 pub use Rattle.krieg_make.specs.MadeSessions.{event, knight_move, knight_moves, mover, round_of}
 unfoldable pub use Rattle.krieg_make.specs.MadeSheets.{made_positions}
 pub use Rattle.krieg_make.specs.MadeSheets.{made_count, made_list, made_number}
-pub use Rattle.krieg_make.specs.Named.{f3, f6, g1, g8, h7}
+pub use Rattle.krieg_make.specs.Named.{c1, f3, f6, g1, g8, h7}
 unfoldable pub use Rattle.krieg_make.specs.Start.{start_position}
 pub use Rattle.krieg_make.specs.declared.position.TheConstants.{POSITION_COUNT}

@@ -1,4 +1,5 @@
 mod Common
+mod Walks
 mod StartText
 mod Numbers
 mod PairNumbers

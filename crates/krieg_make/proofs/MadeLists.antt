@@ -1,25 +1,38 @@
 -- Lists of made positions: they look the same to White, so that a sheet may list them.
-use Rattle.std.proofs.Common.{◌≡◌, ℕ, zero, suc, ◌+◌, ◌<◌, ◌≤◌, Bool, true, List, [], ◌∷◌, ◌++◌, length, map, cond, None, Some, refl, ◌∙◌, ap, arith}
-use Rattle.std.proofs.lemmas.Bool.{le-leb}
+use Rattle.std.proofs.Common.{◌≡◌, ℕ, zero, suc, ◌+◌, ◌<◌, ◌≤◌, Bool, true, ◌&&◌, List, [], ◌∷◌, ◌++◌, length, map, cond, None, Some, refl, ◌∙◌, ap, arith}
+use Rattle.std.proofs.lemmas.Bool.{le-leb, and_from}
 use Rattle.std.proofs.lemmas.List.Elements.{All-nil, All-cons, All-head, All-tail}
 use Rattle.std.specs.List.{All, list_all, range_with_len}
 use Rattle.std.proofs.lemmas.List.FromFn.{length-map-range_with_len, map-range_with_len_more}
-use Rattle.krieg_make.proofs.Common.{empty_board, same_hand, has_same_men, Pos, squares, every_square, White, MOST_LISTED, list_fault, other_hand, differs, Count, AreCounted, made_board, made_position, pair_at, pairs, made_count, made_number, made_positions, made_list, POSITION_COUNT}
+use Rattle.krieg_make.proofs.Common.{man_at, empty_board, is_same_of, same_hand, has_same_men, has_same_rights, is_same_side, Pos, White, MOST_LISTED, list_fault, other_hand, differs, Count, AreCounted, made_board, made_position, pair_at, pairs, made_count, made_number, made_positions, made_list, POSITION_COUNT}
+use Rattle.krieg_board.proofs.SquareTests.{every_square_all}
 use Rattle.krieg_moves.proofs.Hands.{Alike, same_hand_alike, alike_same_hand, alike_back, alike_through}
 use Rattle.krieg_make.proofs.Numbers.{all_within}
+use Rattle.krieg_make.proofs.Walks.{walk, walked}
 
 looks_like_first : ℕ → Bool
-looks_like_first i = same_hand (made_position 0) (made_position i) White
+looks_like_first i = walk (λ s. is_same_of White) 0 (made_position 0).board (made_position i).board
 
 all_look_alike : list_all looks_like_first (range_with_len 0 POSITION_COUNT) ≡ true
-unfolding looks_like_first made_position made_board pair_at pairs empty_board same_hand has_same_men every_square squares
+unfolding looks_like_first walk made_position made_board pair_at pairs empty_board
 all_look_alike = refl
 
+first_length : length (made_position 0).board ≡ 64
+unfolding made_position made_board pair_at pairs empty_board
+first_length = refl
+
+same_rest : (i : ℕ) → (has_same_rights White (made_position 0).rights (made_position i).rights && is_same_side (made_position 0).side (made_position i).side) ≡ true
+unfolding made_position
+same_rest i = refl
+
 first_hand : (i : ℕ) → i < POSITION_COUNT → Alike White (made_position 0) (made_position i)
-unfolding looks_like_first
+unfolding looks_like_first same_hand has_same_men
 first_hand i h =
+    let a = (made_position 0).board in
+    let b = (made_position i).board in
     let tested : looks_like_first i ≡ true = all_within looks_like_first 0 POSITION_COUNT i (omega arith) h all_look_alike in
-    same_hand_alike White (made_position 0) (made_position i) tested
+    same_hand_alike White (made_position 0) (made_position i)
+    (and_from (has_same_men White a b) _ (every_square_all (λ s. is_same_of White (man_at a s) (man_at b s)) (λ s l. walked (λ s. is_same_of White) 0 a b tested s s (omega (arith, first_length)) (omega arith))) (same_rest i))
 
 -- White sees no difference between two made positions
 pub one_hand : (i j : ℕ) → i < POSITION_COUNT → j < POSITION_COUNT → same_hand (made_position i) (made_position j) White ≡ true

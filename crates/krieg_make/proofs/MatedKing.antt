@@ -16,6 +16,7 @@ use Rattle.krieg_moves.proofs.MoveLists.{is_nil_filter}
 use Rattle.krieg_moves.proofs.Movers.{Mover, mover, not_enemy}
 use Rattle.krieg_moves.proofs.Pawns.{step, double_step, attack_forward}
 use Rattle.krieg_moves.proofs.Shapes.{attack_reaches, board_after_plain, found_man}
+use Rattle.krieg_make.proofs.Walks.{implied}
 
 -- that side is to move, and nobody may castle
 abbrev pub to_move : Side → Board → Pos
@@ -36,10 +37,6 @@ Agree b c = (s : ℕ) → 47 < s → s < 64 → man_at b s ≡ man_at c s
 -- black men stand everywhere below
 unfoldable pub is_filled : Board → Bool
 is_filled c = every_square (λ s. not (nat_lt s 48) || is_of Black (man_at c s))
-
-pub implied : (a b : Bool) → a ≡ true → (not a || b) ≡ true → b ≡ true
-implied true b e h = h
-implied false b e h = cc
 
 pub below_or_not : (s : ℕ) → (s < 48) ⊎ (47 < s)
 below_or_not s = grind arith
