@@ -190,11 +190,15 @@ kept_more f (y ∷ ys) m = go (f y) (kept_more f ys m)
     go true h = ap (λ (t : List Move). y ∷ t) h
     go false h = h
 
+pub mapped_more : {A : Type 0} (f : Move → Bool) (g : Move → A) (ms : List Move) (i : ℕ) (m : Move) → i < length ms → m ≡ get_or ms i m →
+    map g (filter f (take (i + 1) ms)) ≡ map g (filter f (take i ms)) ++ map g (filter f (m ∷ []))
+mapped_more f g ms i m h at =
+    ap (λ (t : List Move). map g (filter f t)) (take_more ms i m h ∙ ap (λ (y : Move). take i ms ++ y ∷ []) (sym at))
+    ∙ (ap (map g) (kept_more f (take i ms) m) ∙ map-append g (filter f (take i ms)) (filter f (m ∷ [])))
+
 pub replies_more : (f : Move → Bool) (x : Tale) (ms : List Move) (i : ℕ) (m : Move) → i < length ms → m ≡ get_or ms i m →
     map (after_reply x) (filter f (take (i + 1) ms)) ≡ map (after_reply x) (filter f (take i ms)) ++ map (after_reply x) (filter f (m ∷ []))
-replies_more f x ms i m h at =
-    ap (λ (t : List Move). map (after_reply x) (filter f t)) (take_more ms i m h ∙ ap (λ (y : Move). take i ms ++ y ∷ []) (sym at))
-    ∙ (ap (map (after_reply x)) (kept_more f (take i ms) m) ∙ map-append (after_reply x) (filter f (take i ms)) (filter f (m ∷ [])))
+replies_more f x = mapped_more f (after_reply x)
 
 -- the moves in the list of a position are legal
 pub ruleset listed = (moves_legal)

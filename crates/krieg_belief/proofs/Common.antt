@@ -34,7 +34,7 @@ pub use Rattle.krieg_umpire.specs.declared.verdict.Event.{Event}
 pub use Rattle.krieg_umpire.specs.declared.verdict.Verdict.{Verdict}
 pub use Rattle.krieg_theory.specs.Sets.{In, Ascending}
 unfoldable pub use Rattle.krieg_pack.specs.Members.{set_of}
-pub use Rattle.krieg_pack.specs.Members.{IsAscending, IsSetOf}
+pub use Rattle.krieg_pack.specs.Members.{IsAscending}
 pub use Rattle.krieg_pack.specs.Order.{position_cmp, position_eq, position_lt}
 pub use Rattle.krieg_pack.specs.OrderLaws.{position_total}
 pub use Rattle.krieg_pack.specs.SameNumbers.{equal_position, same_position}

@@ -10,6 +10,7 @@ pub mod TriedGames
 pub mod Least
 pub mod Kept
 pub mod Adding
+pub mod Heard
 pub mod Firsts
 pub mod Sizes
 pub mod Lines

@@ -53,7 +53,6 @@ pub use Rattle.krieg_belief.specs.Possible.{HaveOneHand, IsPossible}
 pub use Rattle.krieg_seats.specs.Accounts.{Account}
 pub use Rattle.krieg_play.specs.Broken.{Refuses}
 pub use Rattle.krieg_play.specs.Calls.{FirstChanges}
-pub use Rattle.krieg_play.specs.Games.{events_of}
 pub use Rattle.krieg_play.specs.Played.{Sides}
 pub use Rattle.krieg_play.specs.declared.outcome.PlayFault.{PlayFault}
 pub use Rattle.krieg_play.specs.declared.outcome.PlayFault.TheVariants.{Vacant}

@@ -13,11 +13,7 @@ use std::alloc::Global;
 fn events(alloc: Global, log: &[Judged]) -> Result<Vec<Event>, NoMemory>
     ensures { IfOk result (λ events. events.items ≡ events_of log.now) }
 {
-    let mut events = Vec::new(alloc);
-    for judged in log {
-        events.push(judged.event)?;
-    }
-    Ok(events)
+    Ok(log.iter().map(|judged| judged.event).collect(alloc)?)
 }
 
 /// The text of the session of a game that began in that position and stopped so.
