@@ -1,5 +1,5 @@
 -- Each made position is valid: all of them are looked at, one after another.
-use Rattle.std.proofs.Common.{◌≡◌, ℕ, ◌%◌, ◌<◌, Bool, true, false, not, ◌&&◌, ◌||◌, ◌==◌, cond, length, None, refl, ap, ◌∙◌, arith}
+use Rattle.std.proofs.Common.{◌≡◌, ℕ, ◌%◌, ◌<◌, Bool, true, false, not, ◌&&◌, ◌||◌, ◌==◌, cond, length, None, refl, ◌∙◌, arith}
 use Rattle.std.proofs.lemmas.Bool.{and_parts, eqb-true}
 use Rattle.std.specs.List.{list_all, range_with_len}
 use Rattle.krieg_make.proofs.Common.{Board, Black, White, is_between, is_clear, is_king_attacked, every_square, squares, rank_of, man_at, square_at, empty_board, IsValid, first_fault, has_kings, has_pawns_inside, is_pawn, is_small, made_board, made_position, pair_at, pairs, POSITION_COUNT}
