@@ -1,5 +1,5 @@
 -- The tries that are done are those by the side to move whose moves are legal.
-use Rattle.std.proofs.Common.{◌≡◌, Bool, true, false, not, cond, ◌&&◌, List, [], ◌∷◌, Ok, Err, refl, sym, ap, ◌∙◌, subst, arith}
+use Rattle.std.proofs.Common.{◌≡◌, Bool, true, false, not, cond, ◌&&◌, List, [], ◌∷◌, refl, sym, ap, ◌∙◌, subst, arith}
 use Rattle.std.proofs.lemmas.Bool.{and_parts}
 use Rattle.krieg_board.specs.Men.{is_same_side}
 use Rattle.krieg_board.specs.Pos.{Pos}
@@ -12,14 +12,13 @@ use Rattle.krieg_moves.specs.Legal.{is_legal}
 use Rattle.krieg_moves.specs.Moves.{moves, is_nil, is_ended}
 use Rattle.krieg_moves.proofs.Listed.{legal_listed}
 use Rattle.std.specs.List.{Contains}
-use Rattle.std.specs.Prelude.{Result, IfOk}
 use Rattle.krieg_words.specs.WordsOfMoves.{words}
 use Rattle.krieg_umpire.specs.declared.verdict.Event.{Event}
 use Rattle.krieg_umpire.specs.declared.verdict.Verdict.{Verdict}
 use Rattle.krieg_umpire.specs.declared.verdict.Verdict.TheVariants.{Over, Early, Illegal, Done}
 use Rattle.krieg_umpire.specs.Verdicts.{verdict, is_done, position_after, next}
 use Rattle.krieg_umpire.specs.Games.{judge}
-use Rattle.krieg_record.specs.Records.{RecordState, AreLegal, IsRecord}
+use Rattle.krieg_record.specs.Records.{AreLegal, IsRecord}
 use Rattle.krieg_record.proofs.RecordTexts.{text_again}
 use Rattle.krieg_fen.specs.MoveText.{IsOnBoard}
 use Rattle.krieg_moves.proofs.LegalMoves.{legal}
@@ -124,10 +123,4 @@ unsans_again r is = sessions_again (session_of r) (record { valid = is.valid; tr
 
 pub ruleset laws = (done_legal, done_tries, sans_again, unsans_again)
 
-pub code_record : {X E : Type 0} (view : X → RecordState) (answer : Result X E) (s : SessionState) → IsValid s.start → IfOk answer (λ x. view x ≡ record_of s) → IfOk answer (λ x. IsRecord (view x))
-code_record view (Ok x) s valid e = subst IsRecord (sym e) (record_is s valid)
-code_record view (Err f) s valid e = tt
-
 pub ruleset done = (done_more, done_same)
-
-pub ruleset records = (code_record)

@@ -49,28 +49,46 @@ fn add_try(event: &Event, p: &mut Position, moves: &mut Vec<Move>) -> Result<(),
     }
 }
 
-fn scored(alloc: Global, s: &Session) -> Result<Record, NoMemory>
-    ensures { IfOk result (λ r. game.state_of r ≡ spec.record_of (session.state_of s.now)) }
+/// The moves of the tries that are done from this position on, in their order.
+fn moves_of(alloc: Global, start: &Position, events: &[Event]) -> Result<Vec<Move>, NoMemory>
+    ensures { IfOk result (λ ms. ms.items ≡ spec.done_moves (judge start.now events.now)) }
 {
     let mut moves = Vec::new(alloc);
-    let mut p = s.start;
-    for event in &s.events {
+    let mut p = *start;
+    for event in events {
         add_try(event, &mut p, &mut moves)?;
     }
-    Ok(Record {
-        start: s.start,
-        moves,
-    })
+    Ok(moves)
 }
 
 /// The record of the session: where it starts, and the moves of its tries that were done.
-#[tactic(auto, using(crate::proofs::DoneMoves::records))]
+#[tactic(auto, using(crate::proofs::DoneMoves::done_legal))]
 pub fn record_of(alloc: Global, s: &Session) -> Result<Record, NoMemory>
     ensures value { IfOk result (λ r. game.state_of r ≡ spec.record_of (session.state_of s.now)) }
     ensures game { IfOk result (λ r. IsRecord (game.state_of r)) }
 {
     know_valid(&s.start);
-    scored(alloc, s)
+    Ok(Record {
+        start: s.start,
+        moves: moves_of(alloc, &s.start, &s.events)?,
+    })
+}
+
+/// Each move as a try by the side to move.
+fn tries_of(alloc: Global, start: &Position, moves: &[Move]) -> Result<Vec<Event>, NoMemory>
+    requires { AreLegal start.now moves.now }
+    ensures { IfOk result (λ es. es.items ≡ spec.tries_of start.now moves.now) }
+{
+    let mut events = Vec::with_capacity(alloc, moves.len())?;
+    let mut p = *start;
+    for mv in moves {
+        events.push(Event {
+            who: p.side(),
+            mv: *mv,
+        })?;
+        p = after(&p, *mv);
+    }
+    Ok(events)
 }
 
 /// The session of the record: each move is a try by the side to move, in wild16, and why the game stopped
@@ -79,19 +97,10 @@ pub fn session_of(alloc: Global, r: &Record) -> Result<Session, NoMemory>
     requires { AreLegal r.now.start r.now.moves.items }
     ensures { IfOk result (λ s. session.state_of s ≡ spec.session_of (game.state_of r.now)) }
 {
-    let mut events = Vec::with_capacity(alloc, r.moves.len())?;
-    let mut p = r.start;
-    for mv in &r.moves {
-        events.push(Event {
-            who: p.side(),
-            mv: *mv,
-        })?;
-        p = after(&p, *mv);
-    }
     Ok(Session {
         dialect: Dialect::Wild16,
         start: r.start,
-        events,
+        events: tries_of(alloc, &r.start, &r.moves)?,
         stop: None,
     })
 }
